@@ -1,0 +1,5 @@
+pub mod formers
+pub mod Same
+pub mod Format
+pub mod Forms
+pub mod Reads

@@ -1,0 +1,67 @@
+//! Plain data: values that contracts compare, whose copies are equal and whose `==` is exact.
+ghost use Rattle.std.specs.Prelude.{◌≡◌, ◌↔◌, IsTrue, IfOk};
+ghost use Rattle.std.specs.Bool.{Decides};
+ghost use Rattle.std.specs.Cmp.Lexicographic.{bytes_decides, pointwise_decides};
+ghost use Rattle.std.proofs.lemmas.Bool.Decides.{Decides-eqb};
+ghost use Rattle.wire.specs.Same.{pair_same, pair_Decides};
+
+use crate::{Items, Text};
+use bytes::Bytes;
+use std::alloc::AllocError;
+
+/// Values whose copies are equal to them, and whose `==` is `≡`.
+pub trait Plain: Clone + PartialEq {
+    ghost copies: { (a b : Self) → Self.is_clone a b → b ≡ a };
+
+    ghost compares: { (a b : Self) → Decides (Self.eq a b) (a ≡ b) };
+}
+
+impl Plain for u16 {
+    ghost copies = { λ a b h. h };
+
+    ghost compares = { Decides-eqb };
+}
+
+impl Plain for u32 {
+    ghost copies = { λ a b h. h };
+
+    ghost compares = { Decides-eqb };
+}
+
+impl Plain for Text {
+    ghost copies = { λ a b h. h };
+
+    ghost compares = { bytes_decides };
+}
+
+impl Plain for Bytes {
+    ghost copies = { λ a b h. h };
+
+    ghost compares = { bytes_decides };
+}
+
+impl<A: Plain, B: Plain> Plain for (A, B) {
+    ghost copies = { λ a b h. pair_same a b (A.copies a.0 b.0 h.0) (B.copies a.1 b.1 h.1) };
+
+    ghost compares = { λ a b. pair_Decides a b (A.eq a.0 b.0) (B.eq a.1 b.1) (A.compares a.0 b.0) (B.compares a.1 b.1) };
+}
+
+impl<T: Plain> Plain for Items<T> {
+    ghost copies = { λ a b h. h };
+
+    ghost compares = { pointwise_decides T.compares };
+}
+
+/// Whether two values are equal.
+pub fn is_same<T: Plain>(a: &T, b: &T) -> bool
+    ensures { IsTrue result ↔ (a.now ≡ b.now) }
+{
+    *a == *b
+}
+
+/// An equal value, where there is memory for it.
+pub fn copy_of<T: Plain>(a: &T) -> Result<T, AllocError>
+    ensures { IfOk result (λ c. c ≡ a.now) }
+{
+    a.clone()
+}
