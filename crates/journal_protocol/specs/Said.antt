@@ -1,0 +1,12 @@
+-- The text of an error.
+use Rattle.std.specs.Prelude.{ℕ, List, string_bytes}
+use Rattle.journal_protocol.specs.declared.said.Said.TheInside.{Inside}
+use Rattle.journal_protocol.specs.declared.said.Source.{Source}
+use Rattle.journal_protocol.specs.declared.said.Source.TheVariants.{Fixed, Own}
+
+abbrev pub source_text : Source → List ℕ
+source_text (Fixed s) = s.now
+source_text (Own s) = string_bytes s
+
+abbrev pub said : Inside → List ℕ
+said i = source_text i.text
