@@ -1,5 +1,8 @@
 -- Errors, and what is written of them.
-use Rattle.std.specs.Prelude.{ℕ, List, [], Option, None}
+use Rattle.std.specs.Prelude.{ℕ, ◌/◌, ◌^◌, ◌-◌, min, List, [], ◌∷◌, Option, Some, None}
+use Rattle.std.specs.Option.{option_map}
+use Rattle.std.specs.Duration.{as_nanos}
+use Rattle.std.specs.declared.time.Duration.{Duration}
 use Rattle.wire.specs.declared.fault.Fault.{Fault}
 use Rattle.wire.specs.declared.fault.Fault.TheVariants.{Memory, Malformed}
 use Rattle.journal_protocol.specs.declared.error.Error.{Error}
@@ -7,7 +10,9 @@ use Rattle.journal_protocol.specs.declared.error.RelatedCommand.{RelatedCommand}
 use Rattle.journal_protocol.specs.declared.error.ErrorBehavior.TheVariants.{Retry}
 use Rattle.journal_protocol.specs.declared.faults.NamedFault.{NamedFault}
 use Rattle.journal_protocol.specs.declared.faults.NamedFault.TheVariants as fault
+use Rattle.journal_protocol.specs.declared.control.ErrorMessage.{ErrorMessage}
 use Rattle.journal_protocol.specs.Faults.{code_of, text_of}
+use Rattle.journal_protocol.specs.Types.{type_number}
 
 -- an error that is retried and has nothing else set
 abbrev pub plain_error : ℕ → List ℕ → Option RelatedCommand → Error
@@ -23,3 +28,28 @@ abbrev pub fault_error : Fault → Error
 fault_error Memory = no_memory
 fault_error Malformed = named_error fault.BadMessage None
 
+-- an empty name is no name
+abbrev pub name_of : List ℕ → Option (List ℕ)
+name_of [] = None
+name_of (c ∷ cs) = Some (c ∷ cs)
+
+-- whole milliseconds, as far as a u64 goes
+abbrev pub millis_of : Duration → ℕ
+millis_of d = min (as_nanos d / 1_000_000) (2 ^ 64 - 1)
+
+abbrev pub related_name : Option RelatedCommand → Option (List ℕ)
+related_name None = None
+related_name (Some r) = name_of r.name
+
+-- what is written of an error
+abbrev pub error_message : Error → ErrorMessage
+error_message e = record {
+  code = e.code;
+  message = e.message;
+  stacktrace = e.stacktrace;
+  behavior = e.behavior;
+  index = option_map (λ r. r.index) e.related_command;
+  ty = option_map (λ r. type_number r.ty) e.related_command;
+  name = related_name e.related_command;
+  delay = option_map millis_of e.next_retry_delay;
+}

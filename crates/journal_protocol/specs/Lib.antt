@@ -3,3 +3,8 @@ pub mod Faults
 pub mod Said
 pub mod Errors
 pub mod Versions
+pub mod Encoding
+pub mod Parts
+pub mod Futures
+pub mod Bodies
+pub mod Same

@@ -1,10 +1,10 @@
 //! The errors of the layer. One that a named fault makes takes no memory, so want of memory has a form.
-ghost use Rattle.std.specs.Prelude.{◌≡◌, [], Some, None, string_bytes};
+ghost use Rattle.std.specs.Prelude.{◌≡◌, [], Some, None, IfOk, string_bytes};
 ghost use Rattle.wire.specs.declared.fault.Fault.TheVariants as wire_fault;
-ghost use Rattle.journal_protocol.specs.Errors.{plain_error, named_error, no_memory, fault_error};
+ghost use Rattle.journal_protocol.specs.Errors.{plain_error, named_error, no_memory, fault_error, error_message, name_of, millis_of};
 
-use crate::{MessageType, NamedFault, Said};
-use std::alloc::AllocError;
+use crate::{ErrorMessage, MessageType, NamedFault, Said};
+use std::alloc::{AllocError, Global};
 use std::time::Duration;
 use wire::{Fault, Text};
 
@@ -93,6 +93,30 @@ impl Error {
     {
         self.message.as_str()
     }
+
+    /// What is written of the error on the wire.
+    pub fn to_message(&self, alloc: Global) -> Result<ErrorMessage, AllocError>
+        ensures { IfOk result (λ m. m ≡ error_message self.now) }
+    {
+        let (index, ty, name) = match &self.related_command {
+            None => (None, None, None),
+            Some(related) => (
+                Some(related.index),
+                Some(related.ty.number() as u32),
+                name_of(&related.name)?,
+            ),
+        };
+        Ok(ErrorMessage {
+            code: self.code as u32,
+            message: Text::from_str(alloc, self.message.as_str())?,
+            stacktrace: Text::from_str(alloc, self.stacktrace.as_str())?,
+            behavior: self.behavior,
+            index,
+            ty,
+            name,
+            delay: self.next_retry_delay.map(millis_of),
+        })
+    }
 }
 
 impl From<AllocError> for Error {
@@ -111,5 +135,22 @@ impl From<Fault> for Error {
             Fault::Memory => Error::named(NamedFault::Memory, None),
             Fault::Malformed => Error::named(NamedFault::BadMessage, None),
         }
+    }
+}
+
+/// Whole milliseconds, as far as they go.
+fn millis_of(delay: Duration) -> u64
+    ensures { result ≡ millis_of delay }
+{
+    u64::try_from(delay.as_millis()).unwrap_or(u64::MAX)
+}
+
+fn name_of(name: &Text) -> Result<Option<Text>, AllocError>
+    ensures { IfOk result (λ n. n ≡ name_of name.now) }
+{
+    if name.as_str().is_empty() {
+        Ok(None)
+    } else {
+        Ok(Some(name.clone()?))
     }
 }
