@@ -8,3 +8,8 @@ pub mod Parts
 pub mod Futures
 pub mod Bodies
 pub mod Same
+pub mod Message
+pub mod Frames
+pub mod Stream
+pub mod Runs
+pub mod Headers

@@ -14,6 +14,9 @@ use Rattle.journal_protocol.specs.contracts.notification.NotificationIdPartialEq
 use Rattle.journal_protocol.specs.contracts.notification.NotificationResultPartialEq.TheImpl as results
 use Rattle.journal_protocol.specs.contracts.notification.NotificationPartialEq.TheImpl as notifications
 use Rattle.journal_protocol.specs.contracts.start.StartPartialEq.TheImpl as starts
+use Rattle.journal_protocol.specs.contracts.error.ErrorBehaviorPartialEq.TheImpl as behaviors
+use Rattle.journal_protocol.specs.contracts.control.ErrorMessagePartialEq.TheImpl as error_messages
+use Rattle.journal_protocol.specs.declared.error.ErrorBehavior.TheVariants.{Retry, Pause, Fail}
 
 pub failure_exact : Exact (failures.ghosts).eq
 failure_exact = exact_on failure_parts (λ p. record { code = p.0; message = p.1.0; metadata = p.1.1 }) (λ _. refl) (exact_pair Decides-eqb (exact_pair bytes_decides (pointwise_decides (exact_pair bytes_decides bytes_decides))))
@@ -48,3 +51,18 @@ start_exact = exact_on
     (λ _. refl)
     (exact_pair bytes_decides (exact_pair bytes_decides (exact_pair bytes_decides (exact_pair Decides-eqb (exact_pair (pointwise_decides (exact_pair bytes_decides bytes_decides)) (exact_pair exact_bool (exact_pair Decides-eqb
     (exact_pair Decides-eqb (exact_pair Decides-eqb (exact_pair (exact_option bytes_decides) (exact_pair (exact_option bytes_decides) (exact_option bytes_decides))))))))))))
+
+pub behavior_exact : Exact (behaviors.ghosts).eq
+behavior_exact Retry Retry = (λ _. refl, λ _. refl)
+behavior_exact Pause Pause = (λ _. refl, λ _. refl)
+behavior_exact Fail Fail = (λ _. refl, λ _. refl)
+behavior_exact _ _ = (λ e. absurd cc, λ e. absurd cc)
+
+pub error_exact : Exact (error_messages.ghosts).eq
+error_exact = exact_on
+    (λ m. (m.code, (m.message, (m.stacktrace, (m.behavior, (m.index, (m.ty, (m.name, m.delay))))))))
+    (λ (code, (message, (stacktrace, (behavior, (index, (ty, (name, delay))))))).
+        record { code = code; message = message; stacktrace = stacktrace; behavior = behavior; index = index; ty = ty; name = name; delay = delay })
+    (λ _. refl)
+    (exact_pair Decides-eqb (exact_pair bytes_decides (exact_pair bytes_decides (exact_pair behavior_exact (exact_pair (exact_option Decides-eqb) (exact_pair (exact_option Decides-eqb)
+    (exact_pair (exact_option bytes_decides) (exact_option Decides-eqb))))))))

@@ -1,8 +1,8 @@
 //! Whose `==` says whether two values are the same.
 ghost use Rattle.std.proofs.Common.{rules};
-ghost use Rattle.journal_protocol.specs.Same.{failure_exact, value_exact, id_exact, result_exact, notification_exact, start_exact};
+ghost use Rattle.journal_protocol.specs.Same.{failure_exact, value_exact, id_exact, result_exact, notification_exact, start_exact, error_exact};
 
-use crate::{Failure, Notification, NotificationId, NotificationResult, Start, ValueOrFailure};
+use crate::{ErrorMessage, Failure, Notification, NotificationId, NotificationResult, Start, ValueOrFailure};
 use wire::Plain;
 
 impl Plain for ValueOrFailure {
@@ -39,4 +39,10 @@ impl Plain for NotificationResult {
     ghost copies = { λ a b. Prim.search rules };
 
     ghost compares = { result_exact };
+}
+
+impl Plain for ErrorMessage {
+    ghost copies = { λ a b. Prim.search rules };
+
+    ghost compares = { error_exact };
 }

@@ -1,5 +1,5 @@
 //! The types of messages and their numbers.
-ghost use Rattle.std.specs.Prelude.{◌≡◌, ◌≤◌, ◌↔◌, IsTrue};
+ghost use Rattle.std.specs.Prelude.{◌≡◌, ◌≤◌, ◌↔◌, IsTrue, IfSome};
 ghost use Rattle.journal_protocol.specs.Types.{type_number, type_at};
 
 /// What a frame holds. Its number stands at the front of the frame.
@@ -77,7 +77,8 @@ impl MessageType {
 
     #[tactic(auto, unfolding(crate::specs::Types::type_at))]
     pub fn from_number(number: u16) -> Option<MessageType>
-        ensures { result ≡ type_at number }
+        ensures found { result ≡ type_at number }
+        ensures numbered { IfSome result (λ ty. type_number ty ≡ number) }
     {
         match number {
             1 => Some(MessageType::Start),

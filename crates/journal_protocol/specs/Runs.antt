@@ -1,0 +1,15 @@
+-- A stream as messages.
+use Rattle.std.specs.Prelude.{◌≡◌, ℕ, ◌<◌, ◌^◌, List, ◌++◌, length}
+use Rattle.std.specs.List.{flat_map, AllByRecursion}
+use Rattle.journal_protocol.specs.declared.message.Message.{Message}
+use Rattle.journal_protocol.specs.Message.{encoding, body, IsValid}
+use Rattle.journal_protocol.specs.Stream.{IsPart}
+
+-- a message whose body is no longer than its length can say
+abbrev pub IsWhole : Message → Type 0
+IsWhole m = IsValid m × (length (body m) < 2 ^ 64)
+
+pub record Splits (stream : List ℕ) (messages : List Message) (rest : List ℕ) : Type 0 where
+  pub whole : stream ≡ flat_map encoding messages ++ rest
+  pub each : AllByRecursion IsWhole messages
+  pub partial : IsPart rest

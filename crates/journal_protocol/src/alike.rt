@@ -1,0 +1,78 @@
+//! Whether replay takes two messages for one.
+ghost use Rattle.std.specs.Prelude.{◌≡◌, ◌↔◌, IsTrue};
+ghost use Rattle.journal_protocol.specs.Headers.{HeaderEqual, IsStart, IsSuspension, IsError, IsEnd, IsInput, IsSleep, IsOutput, IsNotification};
+
+use crate::{ErrorMessage, Message, Notification, OutputCommand, SleepCommand, Start, Suspension};
+use crate::future::same_future;
+use wire::is_same;
+
+/// Whether two messages are of one type and alike, but for what replay doesn't look at. With `ignore_payloads`
+/// payloads aren't looked at either.
+pub fn header_eq(a: &Message, b: &Message, ignore_payloads: bool) -> bool
+    ensures { IsTrue result ↔ HeaderEqual ignore_payloads a.now b.now }
+{
+    match a {
+        Message::Start(a) => is_start(a, b),
+        Message::Suspension(a) => is_suspension(a, b),
+        Message::Error(a) => is_error(a, b),
+        Message::End => matches!(b, Message::End),
+        Message::Input(_) => matches!(b, Message::Input(_)),
+        Message::Sleep(a) => is_sleep(a, b),
+        Message::Output(a) => is_output(a, b, ignore_payloads),
+        Message::Notification(a) => is_notification(a, b),
+    }
+}
+
+fn is_start(a: &Start, message: &Message) -> bool
+    ensures { IsTrue result ↔ IsStart a.now message.now }
+{
+    match message {
+        Message::Start(b) => is_same(a, b),
+        _ => false,
+    }
+}
+
+fn is_suspension(a: &Suspension, message: &Message) -> bool
+    ensures { IsTrue result ↔ IsSuspension a.now message.now }
+{
+    match message {
+        Message::Suspension(b) => same_future(&a.future, &b.future),
+        _ => false,
+    }
+}
+
+fn is_error(a: &ErrorMessage, message: &Message) -> bool
+    ensures { IsTrue result ↔ IsError a.now message.now }
+{
+    match message {
+        Message::Error(b) => is_same(a, b),
+        _ => false,
+    }
+}
+
+fn is_sleep(a: &SleepCommand, message: &Message) -> bool
+    ensures { IsTrue result ↔ IsSleep a.now message.now }
+{
+    match message {
+        Message::Sleep(b) => a.result_completion_id == b.result_completion_id && is_same(&a.name, &b.name),
+        _ => false,
+    }
+}
+
+fn is_output(a: &OutputCommand, message: &Message, ignore_payloads: bool) -> bool
+    ensures { IsTrue result ↔ IsOutput ignore_payloads a.now message.now }
+{
+    match message {
+        Message::Output(b) => ignore_payloads || is_same(&a.result, &b.result),
+        _ => false,
+    }
+}
+
+fn is_notification(a: &Notification, message: &Message) -> bool
+    ensures { IsTrue result ↔ IsNotification a.now message.now }
+{
+    match message {
+        Message::Notification(b) => is_same(a, b),
+        _ => false,
+    }
+}
