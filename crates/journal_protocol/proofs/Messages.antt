@@ -1,6 +1,7 @@
 -- A valid message is known by its type and its body.
 use Rattle.std.proofs.Common.{◌≡◌, [], ◌++◌, refl, ap, arith}
 use Rattle.wire.specs.Format.{Format}
+use Rattle.wire.proofs.Read.{one_form}
 use Rattle.journal_protocol.specs.Types.{type_number}
 use Rattle.journal_protocol.specs.Bodies.{start_format, suspension_format, error_format, input_format, sleep_format, output_format, notification_format}
 use Rattle.journal_protocol.specs.Encoding.{start, suspension, error, input, sleep, output, notification}
@@ -16,7 +17,7 @@ use Rattle.journal_protocol.specs.declared.message.Message.TheVariants as messag
 use Rattle.journal_protocol.specs.Message.{body, type_of, IsValid}
 
 one_body : {A : Type 0} (f : Format A) (a b : A) → f.valid a → f.valid b → f.spelling a ≡ f.spelling b → a ≡ b
-one_body f a b v w e = (f.one_form a b [] [] v w (ap (λ t. t ++ []) e)).0
+one_body f a b v w e = (one_form f a b [] [] v w (ap (λ t. t ++ []) e)).0
 
 start_one : (a b : start_type.Start) → start_format.valid a → start_format.valid b → start a ≡ start b → a ≡ b
 start_one = one_body start_format

@@ -9,6 +9,7 @@ pub mod Futures
 pub mod Bodies
 pub mod Same
 pub mod Message
+pub mod Reading
 pub mod Frames
 pub mod Stream
 pub mod Runs
