@@ -1,7 +1,7 @@
 pub mod Nested
 pub mod Layers
+pub mod Equal
 pub mod Numbers
-pub mod Messages
 pub mod Reading
 pub mod Frames
 pub mod Streams

@@ -10,8 +10,7 @@ use Rattle.wire.specs.declared.fault.Fault.{Fault}
 use Rattle.wire.specs.declared.fault.Fault.TheVariants.{Memory, Malformed}
 use Rattle.wire.proofs.Read.{read_on, one_reading, items_begin, items_more, items_none, items_end}
 use Rattle.journal_protocol.specs.declared.future.Future.{Future}
-use Rattle.journal_protocol.specs.declared.future.Future.TheOpen.{Future-F}
-use Rattle.journal_protocol.specs.declared.future.Future.TheViews.{out-Future, roll-Future, roll-out-Future}
+use Rattle.journal_protocol.specs.declared.future.Future.TheViews.{out-Future, roll-out-Future}
 use Rattle.journal_protocol.specs.Futures.{Head, head, head_of, head_long, head_format, future, future_format, future_valid, future_out, valid_here, valid_nested, valid_made, future_reads, future_is, layer_of, layer_read, layer_is, read_layer, read_future}
 
 -- ---- reading

@@ -1,5 +1,5 @@
 -- A body is read exactly where it is a message's.
-use Rattle.std.proofs.Common.{◌≡◌, ℕ, List, [], ◌++◌, Option, Some, None, refl, sym, ap, ◌∙◌, subst}
+use Rattle.std.proofs.Common.{◌≡◌, ℕ, List, Option, Some, None, refl, sym, ap, ◌∙◌, subst}
 use Rattle.std.specs.Prelude.{Result, Ok, Err}
 use Rattle.std.specs.Option.{option_map}
 use Rattle.wire.specs.Format.{Format}
@@ -106,6 +106,14 @@ message_read (message.Notification a) v = made_read message.Notification notific
 
 pub message_there : (ty : MessageType) (b : List ℕ) (m : Message) → IsValid m → type_of m ≡ ty → b ≡ body m → message_in ty b ≡ Some m
 message_there ty b m v t e = (λ i. message_in (sym t i) (e i)) ∙ message_read m v
+
+abbrev message_or : Message → Option Message → Message
+message_or m None = m
+message_or m (Some n) = n
+
+-- A valid message is known by its type and its body.
+pub one_message : (a b : Message) → type_of a ≡ type_of b → IsValid a → IsValid b → body a ≡ body b → a ≡ b
+one_message a b t v w e = ap (message_or a) (sym (message_read a v) ∙ (λ i. message_in (t i) (e i)) ∙ message_read b w)
 
 pub start_read : (a : Start) → start_format.valid a → start_in (start a) ≡ Some a
 unfolding start_in

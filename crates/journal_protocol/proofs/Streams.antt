@@ -13,7 +13,7 @@ use Rattle.journal_protocol.specs.Message.{frame, encoding, body, type_of, IsVal
 use Rattle.journal_protocol.specs.Stream.{IsPart}
 use Rattle.journal_protocol.specs.Runs.{IsWhole}
 use Rattle.journal_protocol.proofs.Numbers.{small_number, one_number}
-use Rattle.journal_protocol.proofs.Messages.{one_message}
+use Rattle.journal_protocol.proofs.Reading.{one_message}
 
 split : (m : Message) (ms : List Message) (r : List ℕ) → flat_map encoding (m ∷ ms) ++ r ≡ u16s (type_number (type_of m)) ++ (bytes (body m) ++ (flat_map encoding ms ++ r))
 split m ms r = ap (λ t. t ++ r) (flat_map-cons encoding m ms) ∙ append_assoc (encoding m) (flat_map encoding ms) r ∙ append_assoc (u16s (type_number (type_of m))) (bytes (body m)) (flat_map encoding ms ++ r)

@@ -1,5 +1,5 @@
 -- The format of a future.
-use Rattle.std.specs.Prelude.{◌≡◌, ℕ, zero, suc, ◌<◌, ◌≤◌, ◌^◌, List, [], ◌∷◌, ◌++◌, length, map, Option, Some, None, refl}
+use Rattle.std.specs.Prelude.{◌≡◌, ℕ, zero, suc, ◌<◌, ◌≤◌, ◌^◌, List, [], ◌∷◌, ◌++◌, length, map, Some, None, refl}
 use Rattle.std.specs.List.{flat_map, AllByRecursion}
 use Rattle.std.proofs.Common.{ap, sym, ◌∙◌, subst, append_assoc, arith}
 use Rattle.std.proofs.lemmas.List.{length-append}
@@ -9,7 +9,7 @@ use Rattle.journal_protocol.specs.declared.future.FutureKind.{FutureKind}
 use Rattle.journal_protocol.specs.declared.future.FutureKind.TheVariants.{FirstCompleted, AllCompleted, FirstSucceededOrAllFailed, AllSucceededOrFirstFailed, Unknown}
 use Rattle.journal_protocol.specs.declared.future.Future.{Future}
 use Rattle.journal_protocol.specs.declared.future.Future.TheOpen.{Future-F}
-use Rattle.journal_protocol.specs.declared.future.Future.TheViews.{out-Future, roll-Future, roll-out-Future, out-roll-Future}
+use Rattle.journal_protocol.specs.declared.future.Future.TheViews.{out-Future, roll-Future, out-roll-Future}
 use Rattle.journal_protocol.specs.declared.future.Future.TheFolds.{fold-Future, fold-roll-Future, fold_out-Future, ind-Future, every-Future, every_here-Future, every_held-Future, every_made-Future}
 
 abbrev pub kind : FutureKind → List ℕ
@@ -195,7 +195,7 @@ layers_read zero l rest v w h s = absurd (omega (arith, s, head_long (head_of l)
 layers_read (suc n) l rest v w h s =
     let m : length (flat_map future l.nested ++ rest) ≤ n = omega (arith, s, head_long (head_of l), length-append (layer l) rest, length-append (head (head_of l)) (list future l.nested), list_long l.nested, length-append (flat_map future l.nested) rest) in
     layer_read (read_layers n) l rest v.0 (counted_read future (read_layers n) l.nested rest v.1
-      (items_read future (λ f. future_valid f × Again f) (read_layers n) n (λ f rest p k. p.1 n rest p.0 k) l.nested rest (both future_valid Again l.nested w h) m))
+    (items_read future (λ f. future_valid f × Again f) (read_layers n) n (λ f rest p k. p.1 n rest p.0 k) l.nested rest (both future_valid Again l.nested w h) m))
 
 again : (f : Future) → Again f
 again = ind-Future Again (λ l y is n rest v s.

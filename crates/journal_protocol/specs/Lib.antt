@@ -14,3 +14,5 @@ pub mod Frames
 pub mod Stream
 pub mod Runs
 pub mod Headers
+pub mod FutureEqual
+pub mod HeaderEqual

@@ -1,5 +1,5 @@
 -- The formats of what messages are made of.
-use Rattle.std.specs.Prelude.{◌≡◌, ℕ, List, ◌++◌, refl}
+use Rattle.std.specs.Prelude.{◌≡◌, ℕ, List, refl}
 use Rattle.wire.specs.Format.{Format, Reading, IsReadBack, IsSpelled, read_as, read_nothing, read_byte, choose, no_case, read_case}
 use Rattle.wire.specs.Forms.{case_reads, case_is, cases_are, no_case_is, nothing_format, u32_format, bytes_format, text_format, pair_format, list_format, via, spelled}
 use Rattle.journal_protocol.specs.Encoding.{header, failure, behavior, value_or_failure, notification_id, notification_result}
