@@ -5,6 +5,7 @@ pub mod Errors
 pub mod Versions
 pub mod Encoding
 pub mod Parts
+pub mod Choices
 pub mod Futures
 pub mod Bodies
 pub mod Same

@@ -1,4 +1,4 @@
-//! The messages that end an attempt: why it waits, what failed.
+//! What an attempt tells of itself: what it waits for, what failed.
 ghost use Rattle.std.specs.Prelude.{◌≡◌};
 
 use crate::{ErrorBehavior, Future};
@@ -10,6 +10,13 @@ use wire::{Fault, Text, Wire};
 #[derive(Debug, Drop, PartialEq, Eq)]
 pub struct Suspension {
     pub future: Future,
+}
+
+/// What the attempt waits for while it goes on.
+#[derive(Debug, Drop, PartialEq, Eq)]
+pub struct AwaitingOn {
+    pub future: Future,
+    pub executing_side_effects: bool,
 }
 
 /// The attempt failed.
@@ -38,6 +45,26 @@ impl Wire for Suspension {
     fn get(alloc: Global, input: &mut Bytes) -> Result<Suspension, Fault> {
         let future = Future::get(alloc, input)?;
         Ok(Suspension { future })
+    }
+}
+
+#[tactic(auto, unfolding(crate::specs::Encoding::awaiting_on))]
+impl Wire for AwaitingOn {
+    ghost use Rattle.journal_protocol.specs.Bodies.{awaiting_on_format};
+
+    ghost format = { awaiting_on_format };
+
+    fn put(&self, out: &mut Vec<u8>) -> Result<(), AllocError> {
+        self.future.put(out)?;
+        self.executing_side_effects.put(out)
+    }
+
+    fn get(alloc: Global, input: &mut Bytes) -> Result<AwaitingOn, Fault> {
+        let (future, executing_side_effects) = <(Future, bool)>::get(alloc, input)?;
+        Ok(AwaitingOn {
+            future,
+            executing_side_effects,
+        })
     }
 }
 

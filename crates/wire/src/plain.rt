@@ -2,8 +2,9 @@
 ghost use Rattle.std.specs.Prelude.{◌≡◌, ◌↔◌, IsTrue, IfOk};
 ghost use Rattle.std.specs.Bool.{Decides};
 ghost use Rattle.std.specs.Cmp.Lexicographic.{bytes_decides, pointwise_decides};
+ghost use Rattle.std.proofs.Common.{rules};
 ghost use Rattle.std.proofs.lemmas.Bool.Decides.{Decides-eqb};
-ghost use Rattle.wire.specs.Same.{pair_same, pair_Decides};
+ghost use Rattle.wire.specs.Same.{pair_same, pair_Decides, exact_option};
 
 use crate::{Items, Text};
 use bytes::Bytes;
@@ -44,6 +45,12 @@ impl<A: Plain, B: Plain> Plain for (A, B) {
     ghost copies = { λ a b h. pair_same a b (A.copies a.0 b.0 h.0) (B.copies a.1 b.1 h.1) };
 
     ghost compares = { λ a b. pair_Decides a b (A.eq a.0 b.0) (B.eq a.1 b.1) (A.compares a.0 b.0) (B.compares a.1 b.1) };
+}
+
+impl<T: Plain> Plain for Option<T> {
+    ghost copies = { λ a b h. Prim.search (rules, T.copies) };
+
+    ghost compares = { exact_option T.compares };
 }
 
 impl<T: Plain> Plain for Items<T> {
