@@ -3,23 +3,114 @@ use Rattle.std.specs.Prelude.{◌≡◌, Bool, true, false}
 use Rattle.journal_protocol.specs.declared.start.Start as starts
 use Rattle.journal_protocol.specs.declared.control.Suspension as suspensions
 use Rattle.journal_protocol.specs.declared.control.ErrorMessage.{ErrorMessage}
+use Rattle.journal_protocol.specs.declared.runs.ProposeRunCompletion as proposals
+use Rattle.journal_protocol.specs.declared.runs.ProposeRunCompletionAck as acks
+use Rattle.journal_protocol.specs.declared.control.AwaitingOn as awaiting
+use Rattle.journal_protocol.specs.declared.state.GetStateEphemeralCommand as ephemeral_commands
+use Rattle.journal_protocol.specs.declared.state.GetStateEphemeralNotification as ephemeral_notifications
+use Rattle.journal_protocol.specs.declared.state.GetEagerStateCommand.{GetEagerStateCommand}
+use Rattle.journal_protocol.specs.declared.state.GetLazyStateCommand.{GetLazyStateCommand}
+use Rattle.journal_protocol.specs.declared.state.GetEagerStateKeysCommand.{GetEagerStateKeysCommand}
+use Rattle.journal_protocol.specs.declared.state.GetLazyStateKeysCommand.{GetLazyStateKeysCommand}
+use Rattle.journal_protocol.specs.declared.state.SetStateCommand.{SetStateCommand}
+use Rattle.journal_protocol.specs.declared.state.ClearStateCommand.{ClearStateCommand}
+use Rattle.journal_protocol.specs.declared.state.ClearAllStateCommand.{ClearAllStateCommand}
 use Rattle.journal_protocol.specs.declared.commands.SleepCommand.{SleepCommand}
+use Rattle.journal_protocol.specs.declared.calls.CallCommand.{CallCommand}
+use Rattle.journal_protocol.specs.declared.calls.OneWayCallCommand.{OneWayCallCommand}
+use Rattle.journal_protocol.specs.declared.signals.CompleteAwakeableCommand.{CompleteAwakeableCommand}
+use Rattle.journal_protocol.specs.declared.signals.SendSignalCommand.{SendSignalCommand}
+use Rattle.journal_protocol.specs.declared.promises.PromiseCommand.{PromiseCommand}
+use Rattle.journal_protocol.specs.declared.promises.CompletePromiseCommand.{CompletePromiseCommand}
+use Rattle.journal_protocol.specs.declared.runs.RunCommand.{RunCommand}
+use Rattle.journal_protocol.specs.declared.invocations.InvocationCommand.{InvocationCommand}
 use Rattle.journal_protocol.specs.declared.commands.OutputCommand.{OutputCommand}
 use Rattle.journal_protocol.specs.declared.notification.Notification as notifications
+use Rattle.journal_protocol.specs.declared.calls.CallRequest.{CallRequest}
 use Rattle.journal_protocol.specs.declared.message.Message.{Message}
-use Rattle.journal_protocol.specs.declared.message.Message.TheVariants.{Start, Suspension, Error, End, Input, Sleep, Output, Notification}
+use Rattle.journal_protocol.specs.declared.message.Message.TheVariants.{Start, Suspension, Error, End, ProposeRunCompletion, ProposeRunCompletionAck, AwaitingOn, GetStateEphemeralCommand, GetStateEphemeralNotification, Input, GetEagerState, GetLazyState, GetEagerStateKeys, GetLazyStateKeys, SetState, ClearState, ClearAllState, Sleep, Call, OneWayCall, CompleteAwakeable, SendSignal, GetPromise, PeekPromise, CompletePromise, Run, AttachInvocation, GetInvocationOutput, Output, Notification}
 
 -- what isn't looked at where payloads are ignored
 abbrev pub Unless : Bool → Type 0 → Type 0
 Unless true P = Unit {0}
 Unless false P = P
 
+-- ---- what is looked at of each message
+
+abbrev pub ProposeRunCompletionAlike : Bool → proposals.ProposeRunCompletion → proposals.ProposeRunCompletion → Type 0
+ProposeRunCompletionAlike ignore a b = (a.id ≡ b.id) × Unless ignore (a.result ≡ b.result)
+
+abbrev pub ProposeRunCompletionAckAlike : acks.ProposeRunCompletionAck → acks.ProposeRunCompletionAck → Type 0
+ProposeRunCompletionAckAlike a b = a.id ≡ b.id
+
+abbrev pub AwaitingOnAlike : awaiting.AwaitingOn → awaiting.AwaitingOn → Type 0
+AwaitingOnAlike a b = (a.future ≡ b.future) × (a.executing_side_effects ≡ b.executing_side_effects)
+
+abbrev pub GetStateEphemeralCommandAlike : ephemeral_commands.GetStateEphemeralCommand → ephemeral_commands.GetStateEphemeralCommand → Type 0
+GetStateEphemeralCommandAlike a b = (a.id ≡ b.id) × (a.key ≡ b.key)
+
+abbrev pub GetStateEphemeralNotificationAlike : Bool → ephemeral_notifications.GetStateEphemeralNotification → ephemeral_notifications.GetStateEphemeralNotification → Type 0
+GetStateEphemeralNotificationAlike ignore a b = (a.id ≡ b.id) × Unless ignore (a.result ≡ b.result)
+
+abbrev pub GetEagerStateAlike : Bool → GetEagerStateCommand → GetEagerStateCommand → Type 0
+GetEagerStateAlike ignore a b = (a.name ≡ b.name) × (a.key ≡ b.key) × Unless ignore (a.result ≡ b.result)
+
+abbrev pub GetLazyStateAlike : GetLazyStateCommand → GetLazyStateCommand → Type 0
+GetLazyStateAlike a b = (a.name ≡ b.name) × (a.key ≡ b.key) × (a.result_completion_id ≡ b.result_completion_id)
+
+abbrev pub GetEagerStateKeysAlike : Bool → GetEagerStateKeysCommand → GetEagerStateKeysCommand → Type 0
+GetEagerStateKeysAlike ignore a b = Unless ignore (a.value ≡ b.value) × (a.name ≡ b.name)
+
+abbrev pub GetLazyStateKeysAlike : GetLazyStateKeysCommand → GetLazyStateKeysCommand → Type 0
+GetLazyStateKeysAlike a b = (a.result_completion_id ≡ b.result_completion_id) × (a.name ≡ b.name)
+
+abbrev pub SetStateAlike : Bool → SetStateCommand → SetStateCommand → Type 0
+SetStateAlike ignore a b = (a.name ≡ b.name) × (a.key ≡ b.key) × Unless ignore (a.value ≡ b.value)
+
+abbrev pub ClearStateAlike : ClearStateCommand → ClearStateCommand → Type 0
+ClearStateAlike a b = (a.name ≡ b.name) × (a.key ≡ b.key)
+
+abbrev pub ClearAllStateAlike : ClearAllStateCommand → ClearAllStateCommand → Type 0
+ClearAllStateAlike a b = a.name ≡ b.name
+
 -- the wake up time isn't looked at
 abbrev pub SleepAlike : SleepCommand → SleepCommand → Type 0
 SleepAlike a b = (a.result_completion_id ≡ b.result_completion_id) × (a.name ≡ b.name)
 
+abbrev pub RequestAlike : Bool → CallRequest → CallRequest → Type 0
+RequestAlike ignore a b = (a.service_name ≡ b.service_name) × (a.handler_name ≡ b.handler_name) × (a.key ≡ b.key) × (a.idempotency_key ≡ b.idempotency_key) × (a.scope ≡ b.scope)
+    × (a.limit_key ≡ b.limit_key) × (a.headers ≡ b.headers) × Unless ignore (a.parameter ≡ b.parameter) × (a.invocation_id_notification_idx ≡ b.invocation_id_notification_idx) × (a.name ≡ b.name)
+
+abbrev pub CallAlike : Bool → CallCommand → CallCommand → Type 0
+CallAlike ignore a b = RequestAlike ignore a.request b.request × (a.result_completion_id ≡ b.result_completion_id)
+
+-- the invoke time isn't looked at
+abbrev pub OneWayCallAlike : Bool → OneWayCallCommand → OneWayCallCommand → Type 0
+OneWayCallAlike ignore a b = RequestAlike ignore a.request b.request
+
+abbrev pub CompleteAwakeableAlike : Bool → CompleteAwakeableCommand → CompleteAwakeableCommand → Type 0
+CompleteAwakeableAlike ignore a b = (a.awakeable_id ≡ b.awakeable_id) × Unless ignore (a.result ≡ b.result)
+
+abbrev pub SendSignalAlike : Bool → SendSignalCommand → SendSignalCommand → Type 0
+SendSignalAlike ignore a b = (a.target_invocation_id ≡ b.target_invocation_id) × (a.signal ≡ b.signal) × Unless ignore (a.result ≡ b.result)
+
+abbrev pub PromiseAlike : PromiseCommand → PromiseCommand → Type 0
+PromiseAlike a b = (a.key ≡ b.key) × (a.result_completion_id ≡ b.result_completion_id)
+
+abbrev pub CompletePromiseAlike : Bool → CompletePromiseCommand → CompletePromiseCommand → Type 0
+CompletePromiseAlike ignore a b = (a.key ≡ b.key) × Unless ignore (a.completion ≡ b.completion) × (a.result_completion_id ≡ b.result_completion_id)
+
+abbrev pub RunAlike : RunCommand → RunCommand → Type 0
+RunAlike a b = (a.name ≡ b.name) × (a.result_completion_id ≡ b.result_completion_id)
+
+abbrev pub InvocationAlike : InvocationCommand → InvocationCommand → Type 0
+InvocationAlike a b = (a.target ≡ b.target) × (a.result_completion_id ≡ b.result_completion_id)
+
 abbrev pub OutputAlike : Bool → OutputCommand → OutputCommand → Type 0
 OutputAlike ignore a b = Unless ignore (a.result ≡ b.result)
+
+abbrev pub NotificationAlike : Bool → notifications.Notification → notifications.Notification → Type 0
+NotificationAlike ignore a b = (a.id ≡ b.id) × Unless ignore (a.result ≡ b.result)
 
 -- ---- one type with another message
 
@@ -39,22 +130,110 @@ abbrev pub IsEnd : Message → Type 0
 IsEnd End = Unit {0}
 IsEnd _ = ⊥
 
+abbrev pub IsProposeRunCompletion : Bool → proposals.ProposeRunCompletion → Message → Type 0
+IsProposeRunCompletion ignore a (ProposeRunCompletion b) = ProposeRunCompletionAlike ignore a b
+IsProposeRunCompletion ignore a _ = ⊥
+
+abbrev pub IsProposeRunCompletionAck : acks.ProposeRunCompletionAck → Message → Type 0
+IsProposeRunCompletionAck a (ProposeRunCompletionAck b) = ProposeRunCompletionAckAlike a b
+IsProposeRunCompletionAck a _ = ⊥
+
+abbrev pub IsAwaitingOn : awaiting.AwaitingOn → Message → Type 0
+IsAwaitingOn a (AwaitingOn b) = AwaitingOnAlike a b
+IsAwaitingOn a _ = ⊥
+
+abbrev pub IsGetStateEphemeralCommand : ephemeral_commands.GetStateEphemeralCommand → Message → Type 0
+IsGetStateEphemeralCommand a (GetStateEphemeralCommand b) = GetStateEphemeralCommandAlike a b
+IsGetStateEphemeralCommand a _ = ⊥
+
+abbrev pub IsGetStateEphemeralNotification : Bool → ephemeral_notifications.GetStateEphemeralNotification → Message → Type 0
+IsGetStateEphemeralNotification ignore a (GetStateEphemeralNotification b) = GetStateEphemeralNotificationAlike ignore a b
+IsGetStateEphemeralNotification ignore a _ = ⊥
+
 -- no field is looked at
 abbrev pub IsInput : Message → Type 0
 IsInput (Input _) = Unit {0}
 IsInput _ = ⊥
 
+abbrev pub IsGetEagerState : Bool → GetEagerStateCommand → Message → Type 0
+IsGetEagerState ignore a (GetEagerState b) = GetEagerStateAlike ignore a b
+IsGetEagerState ignore a _ = ⊥
+
+abbrev pub IsGetLazyState : GetLazyStateCommand → Message → Type 0
+IsGetLazyState a (GetLazyState b) = GetLazyStateAlike a b
+IsGetLazyState a _ = ⊥
+
+abbrev pub IsGetEagerStateKeys : Bool → GetEagerStateKeysCommand → Message → Type 0
+IsGetEagerStateKeys ignore a (GetEagerStateKeys b) = GetEagerStateKeysAlike ignore a b
+IsGetEagerStateKeys ignore a _ = ⊥
+
+abbrev pub IsGetLazyStateKeys : GetLazyStateKeysCommand → Message → Type 0
+IsGetLazyStateKeys a (GetLazyStateKeys b) = GetLazyStateKeysAlike a b
+IsGetLazyStateKeys a _ = ⊥
+
+abbrev pub IsSetState : Bool → SetStateCommand → Message → Type 0
+IsSetState ignore a (SetState b) = SetStateAlike ignore a b
+IsSetState ignore a _ = ⊥
+
+abbrev pub IsClearState : ClearStateCommand → Message → Type 0
+IsClearState a (ClearState b) = ClearStateAlike a b
+IsClearState a _ = ⊥
+
+abbrev pub IsClearAllState : ClearAllStateCommand → Message → Type 0
+IsClearAllState a (ClearAllState b) = ClearAllStateAlike a b
+IsClearAllState a _ = ⊥
+
 abbrev pub IsSleep : SleepCommand → Message → Type 0
 IsSleep a (Sleep b) = SleepAlike a b
 IsSleep a _ = ⊥
+
+abbrev pub IsCall : Bool → CallCommand → Message → Type 0
+IsCall ignore a (Call b) = CallAlike ignore a b
+IsCall ignore a _ = ⊥
+
+abbrev pub IsOneWayCall : Bool → OneWayCallCommand → Message → Type 0
+IsOneWayCall ignore a (OneWayCall b) = OneWayCallAlike ignore a b
+IsOneWayCall ignore a _ = ⊥
+
+abbrev pub IsCompleteAwakeable : Bool → CompleteAwakeableCommand → Message → Type 0
+IsCompleteAwakeable ignore a (CompleteAwakeable b) = CompleteAwakeableAlike ignore a b
+IsCompleteAwakeable ignore a _ = ⊥
+
+abbrev pub IsSendSignal : Bool → SendSignalCommand → Message → Type 0
+IsSendSignal ignore a (SendSignal b) = SendSignalAlike ignore a b
+IsSendSignal ignore a _ = ⊥
+
+abbrev pub IsGetPromise : PromiseCommand → Message → Type 0
+IsGetPromise a (GetPromise b) = PromiseAlike a b
+IsGetPromise a _ = ⊥
+
+abbrev pub IsPeekPromise : PromiseCommand → Message → Type 0
+IsPeekPromise a (PeekPromise b) = PromiseAlike a b
+IsPeekPromise a _ = ⊥
+
+abbrev pub IsCompletePromise : Bool → CompletePromiseCommand → Message → Type 0
+IsCompletePromise ignore a (CompletePromise b) = CompletePromiseAlike ignore a b
+IsCompletePromise ignore a _ = ⊥
+
+abbrev pub IsRun : RunCommand → Message → Type 0
+IsRun a (Run b) = RunAlike a b
+IsRun a _ = ⊥
+
+abbrev pub IsAttachInvocation : InvocationCommand → Message → Type 0
+IsAttachInvocation a (AttachInvocation b) = InvocationAlike a b
+IsAttachInvocation a _ = ⊥
+
+abbrev pub IsGetInvocationOutput : InvocationCommand → Message → Type 0
+IsGetInvocationOutput a (GetInvocationOutput b) = InvocationAlike a b
+IsGetInvocationOutput a _ = ⊥
 
 abbrev pub IsOutput : Bool → OutputCommand → Message → Type 0
 IsOutput ignore a (Output b) = OutputAlike ignore a b
 IsOutput ignore a _ = ⊥
 
-abbrev pub IsNotification : notifications.Notification → Message → Type 0
-IsNotification a (Notification b) = a ≡ b
-IsNotification a _ = ⊥
+abbrev pub IsNotification : Bool → notifications.Notification → Message → Type 0
+IsNotification ignore a (Notification b) = NotificationAlike ignore a b
+IsNotification ignore a _ = ⊥
 
 -- the two are of one type, and alike in what is looked at
 abbrev pub HeaderEqual : Bool → Message → Message → Type 0
@@ -62,7 +241,29 @@ HeaderEqual ignore (Start a) m = IsStart a m
 HeaderEqual ignore (Suspension a) m = IsSuspension a m
 HeaderEqual ignore (Error a) m = IsError a m
 HeaderEqual ignore End m = IsEnd m
+HeaderEqual ignore (ProposeRunCompletion a) m = IsProposeRunCompletion ignore a m
+HeaderEqual ignore (ProposeRunCompletionAck a) m = IsProposeRunCompletionAck a m
+HeaderEqual ignore (AwaitingOn a) m = IsAwaitingOn a m
+HeaderEqual ignore (GetStateEphemeralCommand a) m = IsGetStateEphemeralCommand a m
+HeaderEqual ignore (GetStateEphemeralNotification a) m = IsGetStateEphemeralNotification ignore a m
 HeaderEqual ignore (Input _) m = IsInput m
+HeaderEqual ignore (GetEagerState a) m = IsGetEagerState ignore a m
+HeaderEqual ignore (GetLazyState a) m = IsGetLazyState a m
+HeaderEqual ignore (GetEagerStateKeys a) m = IsGetEagerStateKeys ignore a m
+HeaderEqual ignore (GetLazyStateKeys a) m = IsGetLazyStateKeys a m
+HeaderEqual ignore (SetState a) m = IsSetState ignore a m
+HeaderEqual ignore (ClearState a) m = IsClearState a m
+HeaderEqual ignore (ClearAllState a) m = IsClearAllState a m
 HeaderEqual ignore (Sleep a) m = IsSleep a m
+HeaderEqual ignore (Call a) m = IsCall ignore a m
+HeaderEqual ignore (OneWayCall a) m = IsOneWayCall ignore a m
+HeaderEqual ignore (CompleteAwakeable a) m = IsCompleteAwakeable ignore a m
+HeaderEqual ignore (SendSignal a) m = IsSendSignal ignore a m
+HeaderEqual ignore (GetPromise a) m = IsGetPromise a m
+HeaderEqual ignore (PeekPromise a) m = IsPeekPromise a m
+HeaderEqual ignore (CompletePromise a) m = IsCompletePromise ignore a m
+HeaderEqual ignore (Run a) m = IsRun a m
+HeaderEqual ignore (AttachInvocation a) m = IsAttachInvocation a m
+HeaderEqual ignore (GetInvocationOutput a) m = IsGetInvocationOutput a m
 HeaderEqual ignore (Output a) m = IsOutput ignore a m
-HeaderEqual ignore (Notification a) m = IsNotification a m
+HeaderEqual ignore (Notification a) m = IsNotification ignore a m

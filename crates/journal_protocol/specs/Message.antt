@@ -6,8 +6,8 @@ use Rattle.wire.specs.declared.fault.Fault.TheVariants.{Memory, Malformed}
 use Rattle.journal_protocol.specs.Types.{type_number}
 use Rattle.journal_protocol.specs.declared.types.MessageType.{MessageType}
 use Rattle.journal_protocol.specs.declared.types.MessageType.TheVariants as type
-use Rattle.journal_protocol.specs.Encoding.{start, suspension, error, input, sleep, output, notification}
-use Rattle.journal_protocol.specs.Bodies.{start_format, suspension_format, error_format, input_format, sleep_format, output_format, notification_format}
+use Rattle.journal_protocol.specs.Encoding.{start, suspension, error, propose_run_completion, propose_run_completion_ack, awaiting_on, get_state_ephemeral_command, get_state_ephemeral_notification, input, get_eager_state, get_lazy_state, get_eager_state_keys, get_lazy_state_keys, set_state, clear_state, clear_all_state, sleep, call, one_way_call, complete_awakeable, send_signal, promise, complete_promise, run, invocation, output, notification}
+use Rattle.journal_protocol.specs.Bodies.{start_format, suspension_format, error_format, propose_run_completion_format, propose_run_completion_ack_format, awaiting_on_format, get_state_ephemeral_command_format, get_state_ephemeral_notification_format, input_format, get_eager_state_format, get_lazy_state_format, get_eager_state_keys_format, get_lazy_state_keys_format, set_state_format, clear_state_format, clear_all_state_format, sleep_format, call_format, one_way_call_format, complete_awakeable_format, send_signal_format, promise_format, complete_promise_format, run_format, invocation_format, output_format, notification_format}
 use Rattle.journal_protocol.specs.declared.error.Error as errors
 use Rattle.journal_protocol.specs.Errors.{fault_error}
 use Rattle.journal_protocol.specs.declared.message.Message.{Message}
@@ -18,8 +18,30 @@ type_of (message.Start _) = type.Start
 type_of (message.Suspension _) = type.Suspension
 type_of (message.Error _) = type.Error
 type_of message.End = type.End
+type_of (message.ProposeRunCompletion _) = type.ProposeRunCompletion
+type_of (message.ProposeRunCompletionAck _) = type.ProposeRunCompletionAck
+type_of (message.AwaitingOn _) = type.AwaitingOn
+type_of (message.GetStateEphemeralCommand _) = type.GetStateEphemeralCommand
+type_of (message.GetStateEphemeralNotification _) = type.GetStateEphemeralNotification
 type_of (message.Input _) = type.InputCommand
+type_of (message.GetEagerState _) = type.GetEagerStateCommand
+type_of (message.GetLazyState _) = type.GetLazyStateCommand
+type_of (message.GetEagerStateKeys _) = type.GetEagerStateKeysCommand
+type_of (message.GetLazyStateKeys _) = type.GetLazyStateKeysCommand
+type_of (message.SetState _) = type.SetStateCommand
+type_of (message.ClearState _) = type.ClearStateCommand
+type_of (message.ClearAllState _) = type.ClearAllStateCommand
 type_of (message.Sleep _) = type.SleepCommand
+type_of (message.Call _) = type.CallCommand
+type_of (message.OneWayCall _) = type.OneWayCallCommand
+type_of (message.CompleteAwakeable _) = type.CompleteAwakeableCommand
+type_of (message.SendSignal _) = type.SendSignalCommand
+type_of (message.GetPromise _) = type.GetPromiseCommand
+type_of (message.PeekPromise _) = type.PeekPromiseCommand
+type_of (message.CompletePromise _) = type.CompletePromiseCommand
+type_of (message.Run _) = type.RunCommand
+type_of (message.AttachInvocation _) = type.AttachInvocationCommand
+type_of (message.GetInvocationOutput _) = type.GetInvocationOutputCommand
 type_of (message.Output _) = type.OutputCommand
 type_of (message.Notification _) = type.Notification
 
@@ -28,8 +50,30 @@ body (message.Start m) = start m
 body (message.Suspension m) = suspension m
 body (message.Error m) = error m
 body message.End = []
+body (message.ProposeRunCompletion m) = propose_run_completion m
+body (message.ProposeRunCompletionAck m) = propose_run_completion_ack m
+body (message.AwaitingOn m) = awaiting_on m
+body (message.GetStateEphemeralCommand m) = get_state_ephemeral_command m
+body (message.GetStateEphemeralNotification m) = get_state_ephemeral_notification m
 body (message.Input m) = input m
+body (message.GetEagerState m) = get_eager_state m
+body (message.GetLazyState m) = get_lazy_state m
+body (message.GetEagerStateKeys m) = get_eager_state_keys m
+body (message.GetLazyStateKeys m) = get_lazy_state_keys m
+body (message.SetState m) = set_state m
+body (message.ClearState m) = clear_state m
+body (message.ClearAllState m) = clear_all_state m
 body (message.Sleep m) = sleep m
+body (message.Call m) = call m
+body (message.OneWayCall m) = one_way_call m
+body (message.CompleteAwakeable m) = complete_awakeable m
+body (message.SendSignal m) = send_signal m
+body (message.GetPromise m) = promise m
+body (message.PeekPromise m) = promise m
+body (message.CompletePromise m) = complete_promise m
+body (message.Run m) = run m
+body (message.AttachInvocation m) = invocation m
+body (message.GetInvocationOutput m) = invocation m
 body (message.Output m) = output m
 body (message.Notification m) = notification m
 
@@ -46,8 +90,30 @@ IsValid (message.Start m) = start_format.valid m
 IsValid (message.Suspension m) = suspension_format.valid m
 IsValid (message.Error m) = error_format.valid m
 IsValid message.End = Unit {0}
+IsValid (message.ProposeRunCompletion m) = propose_run_completion_format.valid m
+IsValid (message.ProposeRunCompletionAck m) = propose_run_completion_ack_format.valid m
+IsValid (message.AwaitingOn m) = awaiting_on_format.valid m
+IsValid (message.GetStateEphemeralCommand m) = get_state_ephemeral_command_format.valid m
+IsValid (message.GetStateEphemeralNotification m) = get_state_ephemeral_notification_format.valid m
 IsValid (message.Input m) = input_format.valid m
+IsValid (message.GetEagerState m) = get_eager_state_format.valid m
+IsValid (message.GetLazyState m) = get_lazy_state_format.valid m
+IsValid (message.GetEagerStateKeys m) = get_eager_state_keys_format.valid m
+IsValid (message.GetLazyStateKeys m) = get_lazy_state_keys_format.valid m
+IsValid (message.SetState m) = set_state_format.valid m
+IsValid (message.ClearState m) = clear_state_format.valid m
+IsValid (message.ClearAllState m) = clear_all_state_format.valid m
 IsValid (message.Sleep m) = sleep_format.valid m
+IsValid (message.Call m) = call_format.valid m
+IsValid (message.OneWayCall m) = one_way_call_format.valid m
+IsValid (message.CompleteAwakeable m) = complete_awakeable_format.valid m
+IsValid (message.SendSignal m) = send_signal_format.valid m
+IsValid (message.GetPromise m) = promise_format.valid m
+IsValid (message.PeekPromise m) = promise_format.valid m
+IsValid (message.CompletePromise m) = complete_promise_format.valid m
+IsValid (message.Run m) = run_format.valid m
+IsValid (message.AttachInvocation m) = invocation_format.valid m
+IsValid (message.GetInvocationOutput m) = invocation_format.valid m
 IsValid (message.Output m) = output_format.valid m
 IsValid (message.Notification m) = notification_format.valid m
 

@@ -1,10 +1,23 @@
 //! Whether replay takes two messages for one.
 ghost use Rattle.std.specs.Prelude.{◌≡◌, ◌↔◌, IsTrue};
-ghost use Rattle.journal_protocol.specs.Headers.{HeaderEqual, IsStart, IsSuspension, IsError, IsEnd, IsInput, IsSleep, IsOutput, IsNotification};
-ghost use Rattle.journal_protocol.specs.HeaderEqual.{header_equal, start_equal, suspension_equal, error_equal, sleep_equal, output_equal, notification_equal};
+ghost use Rattle.journal_protocol.specs.Headers.{HeaderEqual, IsStart, IsSuspension, IsError, IsEnd, IsInput, IsSleep, IsOutput};
+ghost use Rattle.journal_protocol.specs.HeaderEqual.{header_equal, start_equal, suspension_equal, error_equal, sleep_equal, output_equal};
 
+use crate::alike_calls::{
+    is_attach_invocation, is_call, is_complete_awakeable, is_complete_promise,
+    is_get_invocation_output, is_get_promise, is_one_way_call, is_peek_promise, is_run,
+    is_send_signal,
+};
+use crate::alike_runtime::{
+    is_awaiting_on, is_get_state_ephemeral_command, is_get_state_ephemeral_notification,
+    is_notification, is_propose_run_completion, is_propose_run_completion_ack,
+};
+use crate::alike_state::{
+    is_clear_all_state, is_clear_state, is_get_eager_state, is_get_eager_state_keys,
+    is_get_lazy_state, is_get_lazy_state_keys, is_set_state,
+};
 use crate::future::same_future;
-use crate::{ErrorMessage, Message, Notification, OutputCommand, SleepCommand, Start, Suspension};
+use crate::{ErrorMessage, Message, OutputCommand, SleepCommand, Start, Suspension};
 use wire::is_same;
 
 /// Whether two messages are of one type and alike, but for what replay doesn't look at. With `ignore_payloads`
@@ -19,10 +32,34 @@ pub fn header_eq(a: &Message, b: &Message, ignore_payloads: bool) -> bool
         Message::Suspension(a) => is_suspension(a, b),
         Message::Error(a) => is_error(a, b),
         Message::End => matches!(b, Message::End),
+        Message::ProposeRunCompletion(a) => is_propose_run_completion(a, b, ignore_payloads),
+        Message::ProposeRunCompletionAck(a) => is_propose_run_completion_ack(a, b),
+        Message::AwaitingOn(a) => is_awaiting_on(a, b),
+        Message::GetStateEphemeralCommand(a) => is_get_state_ephemeral_command(a, b),
+        Message::GetStateEphemeralNotification(a) => {
+            is_get_state_ephemeral_notification(a, b, ignore_payloads)
+        }
         Message::Input(_) => matches!(b, Message::Input(_)),
+        Message::GetEagerState(a) => is_get_eager_state(a, b, ignore_payloads),
+        Message::GetLazyState(a) => is_get_lazy_state(a, b),
+        Message::GetEagerStateKeys(a) => is_get_eager_state_keys(a, b, ignore_payloads),
+        Message::GetLazyStateKeys(a) => is_get_lazy_state_keys(a, b),
+        Message::SetState(a) => is_set_state(a, b, ignore_payloads),
+        Message::ClearState(a) => is_clear_state(a, b),
+        Message::ClearAllState(a) => is_clear_all_state(a, b),
         Message::Sleep(a) => is_sleep(a, b),
+        Message::Call(a) => is_call(a, b, ignore_payloads),
+        Message::OneWayCall(a) => is_one_way_call(a, b, ignore_payloads),
+        Message::CompleteAwakeable(a) => is_complete_awakeable(a, b, ignore_payloads),
+        Message::SendSignal(a) => is_send_signal(a, b, ignore_payloads),
+        Message::GetPromise(a) => is_get_promise(a, b),
+        Message::PeekPromise(a) => is_peek_promise(a, b),
+        Message::CompletePromise(a) => is_complete_promise(a, b, ignore_payloads),
+        Message::Run(a) => is_run(a, b),
+        Message::AttachInvocation(a) => is_attach_invocation(a, b),
+        Message::GetInvocationOutput(a) => is_get_invocation_output(a, b),
         Message::Output(a) => is_output(a, b, ignore_payloads),
-        Message::Notification(a) => is_notification(a, b),
+        Message::Notification(a) => is_notification(a, b, ignore_payloads),
     }
 }
 
@@ -73,16 +110,6 @@ fn is_output(a: &OutputCommand, message: &Message, ignore_payloads: bool) -> boo
 {
     match message {
         Message::Output(b) => ignore_payloads || is_same(&a.result, &b.result),
-        _ => false,
-    }
-}
-
-fn is_notification(a: &Notification, message: &Message) -> bool
-    ensures alike { IsTrue result ↔ IsNotification a.now message.now }
-    ensures test { result ≡ notification_equal a.now message.now }
-{
-    match message {
-        Message::Notification(b) => is_same(a, b),
         _ => false,
     }
 }

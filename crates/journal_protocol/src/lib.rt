@@ -2,6 +2,9 @@
 #![tactic(auto)]
 
 mod alike;
+mod alike_calls;
+mod alike_runtime;
+mod alike_state;
 mod calls;
 mod commands;
 mod control;

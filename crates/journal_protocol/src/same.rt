@@ -1,9 +1,10 @@
 //! Whose `==` says whether two values are the same.
 ghost use Rattle.std.proofs.Common.{rules};
-ghost use Rattle.journal_protocol.specs.Same.{failure_exact, value_exact, id_exact, result_exact, notification_exact, start_exact, error_exact};
+ghost use Rattle.journal_protocol.specs.Same.{failure_exact, value_exact, id_exact, result_exact, notification_exact, start_exact, error_exact, void_or_value_exact, signal_exact, signal_result_exact, target_exact};
 
 use crate::{
-    ErrorMessage, Failure, Notification, NotificationId, NotificationResult, Start, ValueOrFailure,
+    ErrorMessage, Failure, InvocationTarget, Notification, NotificationId, NotificationResult,
+    Signal, SignalResult, Start, ValueOrFailure, VoidOrValue,
 };
 use wire::Plain;
 
@@ -47,4 +48,28 @@ impl Plain for ErrorMessage {
     ghost copies = { λ a b. Prim.search rules };
 
     ghost compares = { error_exact };
+}
+
+impl Plain for VoidOrValue {
+    ghost copies = { λ a b. Prim.search rules };
+
+    ghost compares = { void_or_value_exact };
+}
+
+impl Plain for Signal {
+    ghost copies = { λ a b. Prim.search rules };
+
+    ghost compares = { signal_exact };
+}
+
+impl Plain for SignalResult {
+    ghost copies = { λ a b. Prim.search rules };
+
+    ghost compares = { signal_result_exact };
+}
+
+impl Plain for InvocationTarget {
+    ghost copies = { λ a b. Prim.search rules };
+
+    ghost compares = { target_exact };
 }

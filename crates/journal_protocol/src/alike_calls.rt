@@ -1,0 +1,155 @@
+//! Whether a command on other invocations, promises or runs is alike another message.
+ghost use Rattle.std.specs.Prelude.{◌≡◌, ◌↔◌, IsTrue};
+ghost use Rattle.journal_protocol.specs.Headers.{IsCall, IsOneWayCall, IsCompleteAwakeable, IsSendSignal, IsGetPromise, IsPeekPromise, IsCompletePromise, IsRun, IsAttachInvocation, IsGetInvocationOutput, RequestAlike, PromiseAlike, InvocationAlike};
+ghost use Rattle.journal_protocol.specs.HeaderEqual.{call_equal, one_way_call_equal, complete_awakeable_equal, send_signal_equal, get_promise_equal, peek_promise_equal, complete_promise_equal, run_equal, attach_invocation_equal, get_invocation_output_equal, request_equal, promise_equal, invocation_equal};
+
+use crate::{
+    CallCommand, CallRequest, CompleteAwakeableCommand, CompletePromiseCommand, InvocationCommand,
+    Message, OneWayCallCommand, PromiseCommand, RunCommand, SendSignalCommand,
+};
+use wire::is_same;
+
+pub fn is_call(a: &CallCommand, message: &Message, ignore_payloads: bool) -> bool
+    ensures alike { IsTrue result ↔ IsCall ignore_payloads a.now message.now }
+    ensures test { result ≡ call_equal ignore_payloads a.now message.now }
+{
+    match message {
+        Message::Call(b) => same_request(&a.request, &b.request, ignore_payloads)
+            && a.result_completion_id == b.result_completion_id,
+        _ => false,
+    }
+}
+
+pub fn is_one_way_call(a: &OneWayCallCommand, message: &Message, ignore_payloads: bool) -> bool
+    ensures alike { IsTrue result ↔ IsOneWayCall ignore_payloads a.now message.now }
+    ensures test { result ≡ one_way_call_equal ignore_payloads a.now message.now }
+{
+    match message {
+        Message::OneWayCall(b) => same_request(&a.request, &b.request, ignore_payloads),
+        _ => false,
+    }
+}
+
+pub fn is_complete_awakeable(
+    a: &CompleteAwakeableCommand,
+    message: &Message,
+    ignore_payloads: bool,
+) -> bool
+    ensures alike { IsTrue result ↔ IsCompleteAwakeable ignore_payloads a.now message.now }
+    ensures test { result ≡ complete_awakeable_equal ignore_payloads a.now message.now }
+{
+    match message {
+        Message::CompleteAwakeable(b) => is_same(&a.awakeable_id, &b.awakeable_id)
+            && (ignore_payloads || is_same(&a.result, &b.result)),
+        _ => false,
+    }
+}
+
+pub fn is_send_signal(a: &SendSignalCommand, message: &Message, ignore_payloads: bool) -> bool
+    ensures alike { IsTrue result ↔ IsSendSignal ignore_payloads a.now message.now }
+    ensures test { result ≡ send_signal_equal ignore_payloads a.now message.now }
+{
+    match message {
+        Message::SendSignal(b) => is_same(&a.target_invocation_id, &b.target_invocation_id)
+            && is_same(&a.signal, &b.signal)
+            && (ignore_payloads || is_same(&a.result, &b.result)),
+        _ => false,
+    }
+}
+
+pub fn is_get_promise(a: &PromiseCommand, message: &Message) -> bool
+    ensures alike { IsTrue result ↔ IsGetPromise a.now message.now }
+    ensures test { result ≡ get_promise_equal a.now message.now }
+{
+    match message {
+        Message::GetPromise(b) => same_promise(a, b),
+        _ => false,
+    }
+}
+
+pub fn is_peek_promise(a: &PromiseCommand, message: &Message) -> bool
+    ensures alike { IsTrue result ↔ IsPeekPromise a.now message.now }
+    ensures test { result ≡ peek_promise_equal a.now message.now }
+{
+    match message {
+        Message::PeekPromise(b) => same_promise(a, b),
+        _ => false,
+    }
+}
+
+pub fn is_complete_promise(
+    a: &CompletePromiseCommand,
+    message: &Message,
+    ignore_payloads: bool,
+) -> bool
+    ensures alike { IsTrue result ↔ IsCompletePromise ignore_payloads a.now message.now }
+    ensures test { result ≡ complete_promise_equal ignore_payloads a.now message.now }
+{
+    match message {
+        Message::CompletePromise(b) => is_same(&a.key, &b.key)
+            && (ignore_payloads || is_same(&a.completion, &b.completion))
+            && a.result_completion_id == b.result_completion_id,
+        _ => false,
+    }
+}
+
+pub fn is_run(a: &RunCommand, message: &Message) -> bool
+    ensures alike { IsTrue result ↔ IsRun a.now message.now }
+    ensures test { result ≡ run_equal a.now message.now }
+{
+    match message {
+        Message::Run(b) => is_same(&a.name, &b.name)
+            && a.result_completion_id == b.result_completion_id,
+        _ => false,
+    }
+}
+
+pub fn is_attach_invocation(a: &InvocationCommand, message: &Message) -> bool
+    ensures alike { IsTrue result ↔ IsAttachInvocation a.now message.now }
+    ensures test { result ≡ attach_invocation_equal a.now message.now }
+{
+    match message {
+        Message::AttachInvocation(b) => same_invocation(a, b),
+        _ => false,
+    }
+}
+
+pub fn is_get_invocation_output(a: &InvocationCommand, message: &Message) -> bool
+    ensures alike { IsTrue result ↔ IsGetInvocationOutput a.now message.now }
+    ensures test { result ≡ get_invocation_output_equal a.now message.now }
+{
+    match message {
+        Message::GetInvocationOutput(b) => same_invocation(a, b),
+        _ => false,
+    }
+}
+
+fn same_request(a: &CallRequest, b: &CallRequest, ignore_payloads: bool) -> bool
+    ensures alike { IsTrue result ↔ RequestAlike ignore_payloads a.now b.now }
+    ensures test { result ≡ request_equal ignore_payloads a.now b.now }
+{
+    is_same(&a.service_name, &b.service_name)
+        && is_same(&a.handler_name, &b.handler_name)
+        && is_same(&a.key, &b.key)
+        && is_same(&a.idempotency_key, &b.idempotency_key)
+        && is_same(&a.scope, &b.scope)
+        && is_same(&a.limit_key, &b.limit_key)
+        && is_same(&a.headers, &b.headers)
+        && (ignore_payloads || is_same(&a.parameter, &b.parameter))
+        && a.invocation_id_notification_idx == b.invocation_id_notification_idx
+        && is_same(&a.name, &b.name)
+}
+
+fn same_promise(a: &PromiseCommand, b: &PromiseCommand) -> bool
+    ensures alike { IsTrue result ↔ PromiseAlike a.now b.now }
+    ensures test { result ≡ promise_equal a.now b.now }
+{
+    is_same(&a.key, &b.key) && a.result_completion_id == b.result_completion_id
+}
+
+fn same_invocation(a: &InvocationCommand, b: &InvocationCommand) -> bool
+    ensures alike { IsTrue result ↔ InvocationAlike a.now b.now }
+    ensures test { result ≡ invocation_equal a.now b.now }
+{
+    is_same(&a.target, &b.target) && a.result_completion_id == b.result_completion_id
+}

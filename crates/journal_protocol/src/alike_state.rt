@@ -1,0 +1,96 @@
+//! Whether a command on state is alike another message.
+ghost use Rattle.std.specs.Prelude.{◌≡◌, ◌↔◌, IsTrue};
+ghost use Rattle.journal_protocol.specs.Headers.{IsGetEagerState, IsGetLazyState, IsGetEagerStateKeys, IsGetLazyStateKeys, IsSetState, IsClearState, IsClearAllState};
+ghost use Rattle.journal_protocol.specs.HeaderEqual.{get_eager_state_equal, get_lazy_state_equal, get_eager_state_keys_equal, get_lazy_state_keys_equal, set_state_equal, clear_state_equal, clear_all_state_equal};
+
+use crate::{
+    ClearAllStateCommand, ClearStateCommand, GetEagerStateCommand, GetEagerStateKeysCommand,
+    GetLazyStateCommand, GetLazyStateKeysCommand, Message, SetStateCommand,
+};
+use wire::is_same;
+
+pub fn is_get_eager_state(
+    a: &GetEagerStateCommand,
+    message: &Message,
+    ignore_payloads: bool,
+) -> bool
+    ensures alike { IsTrue result ↔ IsGetEagerState ignore_payloads a.now message.now }
+    ensures test { result ≡ get_eager_state_equal ignore_payloads a.now message.now }
+{
+    match message {
+        Message::GetEagerState(b) => is_same(&a.name, &b.name)
+            && is_same(&a.key, &b.key)
+            && (ignore_payloads || is_same(&a.result, &b.result)),
+        _ => false,
+    }
+}
+
+pub fn is_get_lazy_state(a: &GetLazyStateCommand, message: &Message) -> bool
+    ensures alike { IsTrue result ↔ IsGetLazyState a.now message.now }
+    ensures test { result ≡ get_lazy_state_equal a.now message.now }
+{
+    match message {
+        Message::GetLazyState(b) => is_same(&a.name, &b.name)
+            && is_same(&a.key, &b.key)
+            && a.result_completion_id == b.result_completion_id,
+        _ => false,
+    }
+}
+
+pub fn is_get_eager_state_keys(
+    a: &GetEagerStateKeysCommand,
+    message: &Message,
+    ignore_payloads: bool,
+) -> bool
+    ensures alike { IsTrue result ↔ IsGetEagerStateKeys ignore_payloads a.now message.now }
+    ensures test { result ≡ get_eager_state_keys_equal ignore_payloads a.now message.now }
+{
+    match message {
+        Message::GetEagerStateKeys(b) => (ignore_payloads || is_same(&a.value, &b.value))
+            && is_same(&a.name, &b.name),
+        _ => false,
+    }
+}
+
+pub fn is_get_lazy_state_keys(a: &GetLazyStateKeysCommand, message: &Message) -> bool
+    ensures alike { IsTrue result ↔ IsGetLazyStateKeys a.now message.now }
+    ensures test { result ≡ get_lazy_state_keys_equal a.now message.now }
+{
+    match message {
+        Message::GetLazyStateKeys(b) => a.result_completion_id == b.result_completion_id
+            && is_same(&a.name, &b.name),
+        _ => false,
+    }
+}
+
+pub fn is_set_state(a: &SetStateCommand, message: &Message, ignore_payloads: bool) -> bool
+    ensures alike { IsTrue result ↔ IsSetState ignore_payloads a.now message.now }
+    ensures test { result ≡ set_state_equal ignore_payloads a.now message.now }
+{
+    match message {
+        Message::SetState(b) => is_same(&a.name, &b.name)
+            && is_same(&a.key, &b.key)
+            && (ignore_payloads || is_same(&a.value, &b.value)),
+        _ => false,
+    }
+}
+
+pub fn is_clear_state(a: &ClearStateCommand, message: &Message) -> bool
+    ensures alike { IsTrue result ↔ IsClearState a.now message.now }
+    ensures test { result ≡ clear_state_equal a.now message.now }
+{
+    match message {
+        Message::ClearState(b) => is_same(&a.name, &b.name) && is_same(&a.key, &b.key),
+        _ => false,
+    }
+}
+
+pub fn is_clear_all_state(a: &ClearAllStateCommand, message: &Message) -> bool
+    ensures alike { IsTrue result ↔ IsClearAllState a.now message.now }
+    ensures test { result ≡ clear_all_state_equal a.now message.now }
+{
+    match message {
+        Message::ClearAllState(b) => is_same(&a.name, &b.name),
+        _ => false,
+    }
+}
