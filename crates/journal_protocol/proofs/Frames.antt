@@ -83,10 +83,13 @@ framed_long ty n bs l = grind (arith, nat_tests)
 -- ---- what is not there yet
 
 pub no_type : (bs : List ℕ) → length bs < 2 → IsPart bs × (next_of bs ≡ Partial)
-no_type bs l = (record {
-  no_frame = λ ty b rest f e. omega (arith, ap length (e ∙ frame_parts (type_number ty) b rest), length-append (u16s (type_number ty)) (u64s (length b) ++ (b ++ rest)), two (type_number ty));
-  well_formed = λ m. omega (arith, ap length m.4, length-append (u16s m.0) m.1, two m.0);
-}, next_short bs l)
+no_type bs l = (
+  record {
+    no_frame = λ ty b rest f e. omega (arith, ap length (e ∙ frame_parts (type_number ty) b rest), length-append (u16s (type_number ty)) (u64s (length b) ++ (b ++ rest)), two (type_number ty));
+    well_formed = λ m. omega (arith, ap length m.4, length-append (u16s m.0) m.1, two m.0);
+  },
+  next_short bs l,
+)
 
 pub wrong_type : (bs rest : List ℕ) (n : ℕ) → n < 2 ^ 16 → None ≡ type_at n → bs ≡ u16s n ++ rest → IsMalformed bs × (next_of bs ≡ Malformed)
 wrong_type bs rest n l k e =
@@ -99,12 +102,15 @@ right_type : (bs rest : List ℕ) (n : ℕ) (ty : MessageType) → n < 2 ^ 16 �
 right_type bs rest n ty l k e m = none_some ty (sym m.3 ∙ ap type_at (u16_form m.0 n m.1 rest m.2 l (sym m.4 ∙ e)).0 ∙ sym k)
 
 pub no_length : (bs rest : List ℕ) (n : ℕ) (ty : MessageType) → n < 2 ^ 16 → Some ty ≡ type_at n → bs ≡ u16s n ++ rest → length rest < 8 → IsPart bs × (next_of bs ≡ Partial)
-no_length bs rest n ty l k e s = (record {
-  no_frame = λ ty' b more f e'.
-    let h = u16_form n (type_number ty') rest (u64s (length b) ++ (b ++ more)) l (small_number ty') (sym e ∙ e' ∙ frame_parts (type_number ty') b more) in
-    omega (arith, ap length h.1, length-append (u64s (length b)) (b ++ more), eight (length b));
-  well_formed = right_type bs rest n ty l k e;
-}, next_typed bs (Some ty) (omega (arith, number_long bs rest n e)) (ap type_at (number_read bs rest n l e) ∙ sym k) ∙ typed_short ty bs (omega (arith, number_long bs rest n e)))
+no_length bs rest n ty l k e s = (
+  record {
+    no_frame = λ ty' b more f e'.
+        let h = u16_form n (type_number ty') rest (u64s (length b) ++ (b ++ more)) l (small_number ty') (sym e ∙ e' ∙ frame_parts (type_number ty') b more) in
+        omega (arith, ap length h.1, length-append (u64s (length b)) (b ++ more), eight (length b));
+    well_formed = right_type bs rest n ty l k e;
+  },
+  next_typed bs (Some ty) (omega (arith, number_long bs rest n e)) (ap type_at (number_read bs rest n l e) ∙ sym k) ∙ typed_short ty bs (omega (arith, number_long bs rest n e)),
+)
 
 -- a type's number and a length
 pub next_framed : (bs rest after : List ℕ) (n : ℕ) (ty : MessageType) (len : ℕ) → n < 2 ^ 16 → Some ty ≡ type_at n → bs ≡ u16s n ++ rest → len < 2 ^ 64 → rest ≡ u64s len ++ after → next_of bs ≡ framed ty len after
@@ -115,13 +121,16 @@ next_framed bs rest after n ty len l k e l' e2 =
     ∙ ap (framed ty len) (body_read bs rest after n len e e2)
 
 pub no_body : (bs rest after : List ℕ) (n : ℕ) (ty : MessageType) (len : ℕ) → n < 2 ^ 16 → Some ty ≡ type_at n → bs ≡ u16s n ++ rest → len < 2 ^ 64 → rest ≡ u64s len ++ after → length after < len → IsPart bs × (next_of bs ≡ Partial)
-no_body bs rest after n ty len l k e l' e2 s = (record {
-  no_frame = λ ty' b more f e'.
-    let h = u16_form n (type_number ty') rest (u64s (length b) ++ (b ++ more)) l (small_number ty') (sym e ∙ e' ∙ frame_parts (type_number ty') b more) in
-    let g = u64_form len (length b) after (b ++ more) l' f (sym e2 ∙ h.1) in
-    omega (arith, g.0, ap length g.1, length-append b more);
-  well_formed = right_type bs rest n ty l k e;
-}, next_framed bs rest after n ty len l k e l' e2 ∙ framed_short ty len after s)
+no_body bs rest after n ty len l k e l' e2 s = (
+  record {
+    no_frame = λ ty' b more f e'.
+        let h = u16_form n (type_number ty') rest (u64s (length b) ++ (b ++ more)) l (small_number ty') (sym e ∙ e' ∙ frame_parts (type_number ty') b more) in
+        let g = u64_form len (length b) after (b ++ more) l' f (sym e2 ∙ h.1) in
+        omega (arith, g.0, ap length g.1, length-append b more);
+    well_formed = right_type bs rest n ty l k e;
+  },
+  next_framed bs rest after n ty len l k e l' e2 ∙ framed_short ty len after s,
+)
 
 pub whole_frame : (bs rest after b : List ℕ) (n : ℕ) (ty : MessageType) (len : ℕ) → n < 2 ^ 16 → Some ty ≡ type_at n → type_number ty ≡ n → bs ≡ u16s n ++ rest → len < 2 ^ 64 → rest ≡ u64s len ++ after → len ≤ length after → b ≡ take len after
     → (10 + len ≤ length bs) × (length b < 2 ^ 64) × (bs ≡ frame ty b ++ drop (10 + len) bs) × (next_of bs ≡ Whole (record { ty = ty; body = b }) (drop (10 + len) bs))
@@ -130,8 +139,9 @@ whole_frame bs rest after b n ty len l k r e l' e2 s t =
     let parts : bs ≡ (u16s n ++ bytes b) ++ drop len after = e ∙ ap (λ r. u16s n ++ r) (e2 ∙ ap (λ n. u64s n ++ after) (sym lb) ∙ ap (λ r. u64s (length b) ++ r) (sym (take-append-drop len after) ∙ ap (λ r. r ++ drop len after) (sym t))) ∙ sym (frame_parts n b (drop len after)) in
     let flen : length (u16s n ++ bytes b) ≡ 10 + len = omega (arith, length-append (u16s n) (bytes b), two n, ap length (bytes_is b), length-append (u64s (length b)) b, eight (length b), lb) in
     let rest_is : drop (10 + len) bs ≡ drop len after = ap (λ x. drop (10 + len) x) parts ∙ drop_at (u16s n ++ bytes b) (drop len after) (10 + len) flen in
-    let spelled : bs ≡ (u16s n ++ bytes b) ++ drop (10 + len) bs = parts ∙ ap (λ r. (u16s n ++ bytes b) ++ r) (sym rest_is) in
-    (omega (arith, ap length parts, length-append (u16s n ++ bytes b) (drop len after), flen),
-     omega (arith, lb),
-     spelled ∙ ap (λ m. (u16s m ++ bytes b) ++ drop (10 + len) bs) (sym r),
-     next_framed bs rest after n ty len l k e l' e2 ∙ framed_long ty len after s ∙ ap (λ x. Whole (record { ty = ty; body = x }) (drop len after)) (sym t) ∙ ap (Whole (record { ty = ty; body = b })) (sym rest_is))
+    let spelled : bs ≡ (u16s n ++ bytes b) ++ drop (10 + len) bs = parts ∙ ap (λ r. (u16s n ++ bytes b) ++ r) (sym rest_is) in (
+      omega (arith, ap length parts, length-append (u16s n ++ bytes b) (drop len after), flen),
+      omega (arith, lb),
+      spelled ∙ ap (λ m. (u16s m ++ bytes b) ++ drop (10 + len) bs) (sym r),
+      next_framed bs rest after n ty len l k e l' e2 ∙ framed_long ty len after s ∙ ap (λ x. Whole (record { ty = ty; body = x }) (drop len after)) (sym t) ∙ ap (Whole (record { ty = ty; body = b })) (sym rest_is),
+    )

@@ -51,9 +51,10 @@ shorter old x count fs mid b =
 
 pub read : (old : List ℕ) (l : Future-F Future) (mid : List ℕ) (count : ℕ) → length l.nested ≡ count → Begun old (head_of l) count l.nested mid → future_valid (roll-Future l) × (old ≡ future (roll-Future l) ++ mid)
 read old l mid count e b =
-    let r = list_read future_format l.nested count b.rest mid e b.front in
-    (valid_made l (b.valid, r.0.0) r.0.1,
-     b.parts ∙ ap (λ t. head (head_of l) ++ t) r.1 ∙ sym (append_assoc (head (head_of l)) (list future l.nested) mid) ∙ ap (λ t. t ++ mid) (sym (future_roll l)))
+    let r = list_read future_format l.nested count b.rest mid e b.front in (
+      valid_made l (b.valid, r.0.0) r.0.1,
+      b.parts ∙ ap (λ t. head (head_of l) ++ t) r.1 ∙ sym (append_assoc (head (head_of l)) (list future l.nested) mid) ∙ ap (λ t. t ++ mid) (sym (future_roll l)),
+    )
 
 pub written : (f : Future) (i : ℕ) (old new : List ℕ) (fs : List Future) → fs ≡ (out-Future f).nested → length fs ≤ i → new ≡ old ++ (head (head_of (out-Future f)) ++ (u64s (length (out-Future f).nested) ++ flat_map future (take i (out-Future f).nested))) → new ≡ old ++ future f
 unfolding list

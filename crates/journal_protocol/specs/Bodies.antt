@@ -82,7 +82,7 @@ notification_format = spelled notification notification_by_parts notification_sa
 
 abbrev pub start_by_parts : Format Start
 start_by_parts = via (λ s. (s.id, (s.debug_id, (s.key, (s.known_entries, (s.state, (s.partial, (s.retry_count, (s.duration, (s.random_seed, (s.scope, (s.limit_key, s.idempotency_key)))))))))))) (λ (id, (debug_id, (key, (known_entries, (state, (partial, (retry_count, (duration, (random_seed, (scope, (limit_key, idempotency_key))))))))))).
-        record { id = id; debug_id = debug_id; key = key; known_entries = known_entries; state = state; partial = partial; retry_count = retry_count; duration = duration; random_seed = random_seed; scope = scope; limit_key = limit_key; idempotency_key = idempotency_key }) (λ _. refl)
+    record { id = id; debug_id = debug_id; key = key; known_entries = known_entries; state = state; partial = partial; retry_count = retry_count; duration = duration; random_seed = random_seed; scope = scope; limit_key = limit_key; idempotency_key = idempotency_key }) (λ _. refl)
     (pair_format bytes_format (pair_format text_format (pair_format text_format (pair_format u32_format (pair_format (list_format (pair_format bytes_format bytes_format)) (pair_format flag_format (pair_format u32_format
     (pair_format u64_format (pair_format u64_format (pair_format (option_format text_format) (pair_format (option_format text_format) (option_format text_format))))))))))))
 
@@ -97,7 +97,7 @@ start_format = spelled start start_by_parts start_same
 
 abbrev pub error_by_parts : Format ErrorMessage
 error_by_parts = via (λ m. (m.code, (m.message, (m.stacktrace, (m.behavior, (m.index, (m.ty, (m.name, m.delay)))))))) (λ (code, (message, (stacktrace, (behavior, (index, (ty, (name, delay))))))).
-        record { code = code; message = message; stacktrace = stacktrace; behavior = behavior; index = index; ty = ty; name = name; delay = delay }) (λ _. refl)
+    record { code = code; message = message; stacktrace = stacktrace; behavior = behavior; index = index; ty = ty; name = name; delay = delay }) (λ _. refl)
     (pair_format u32_format (pair_format text_format (pair_format text_format (pair_format behavior_format (pair_format (option_format u32_format) (pair_format (option_format u32_format)
     (pair_format (option_format text_format) (option_format u64_format))))))))
 

@@ -148,7 +148,7 @@ future_form = ind-Future One (λ l y is b x z v w e.
     let h = head_format.one_form (head_of l) (head_of m) (list future l.nested ++ x) (list future m.nested ++ z) lv.0 wv.0 e1 in
     let ns : map (λ e. e.0) y.nested ≡ l.nested = ap (λ (t : Future-F Future). t.nested) is in
     let n = subst (λ (as' : List Future). length as' < 2 ^ 64 → AllByRecursion future_valid as' → list future as' ++ x ≡ list future m.nested ++ z → (as' ≡ m.nested) × (x ≡ z)) ns
-        (λ k q r. nested_list y.nested m.nested x z k wv.1 q wk r) lv.1 lk h.1 in
+    (λ k q r. nested_list y.nested m.nested x z k wv.1 q wk r) lv.1 lk h.1 in
     (ap roll-Future (layer_same l m h.0 n.0) ∙ roll-out-Future b, n.1))
 
 abbrev pub future_format : Format Future

@@ -47,7 +47,7 @@ pub start_exact : Exact (starts.ghosts).eq
 start_exact = exact_on
     (λ s. (s.id, (s.debug_id, (s.key, (s.known_entries, (s.state, (s.partial, (s.retry_count, (s.duration, (s.random_seed, (s.scope, (s.limit_key, s.idempotency_key))))))))))))
     (λ (id, (debug_id, (key, (known_entries, (state, (partial, (retry_count, (duration, (random_seed, (scope, (limit_key, idempotency_key))))))))))).
-        record { id = id; debug_id = debug_id; key = key; known_entries = known_entries; state = state; partial = partial; retry_count = retry_count; duration = duration; random_seed = random_seed; scope = scope; limit_key = limit_key; idempotency_key = idempotency_key })
+    record { id = id; debug_id = debug_id; key = key; known_entries = known_entries; state = state; partial = partial; retry_count = retry_count; duration = duration; random_seed = random_seed; scope = scope; limit_key = limit_key; idempotency_key = idempotency_key })
     (λ _. refl)
     (exact_pair bytes_decides (exact_pair bytes_decides (exact_pair bytes_decides (exact_pair Decides-eqb (exact_pair (pointwise_decides (exact_pair bytes_decides bytes_decides)) (exact_pair exact_bool (exact_pair Decides-eqb
     (exact_pair Decides-eqb (exact_pair Decides-eqb (exact_pair (exact_option bytes_decides) (exact_pair (exact_option bytes_decides) (exact_option bytes_decides))))))))))))
@@ -62,7 +62,7 @@ pub error_exact : Exact (error_messages.ghosts).eq
 error_exact = exact_on
     (λ m. (m.code, (m.message, (m.stacktrace, (m.behavior, (m.index, (m.ty, (m.name, m.delay))))))))
     (λ (code, (message, (stacktrace, (behavior, (index, (ty, (name, delay))))))).
-        record { code = code; message = message; stacktrace = stacktrace; behavior = behavior; index = index; ty = ty; name = name; delay = delay })
+    record { code = code; message = message; stacktrace = stacktrace; behavior = behavior; index = index; ty = ty; name = name; delay = delay })
     (λ _. refl)
     (exact_pair Decides-eqb (exact_pair bytes_decides (exact_pair bytes_decides (exact_pair behavior_exact (exact_pair (exact_option Decides-eqb) (exact_pair (exact_option Decides-eqb)
     (exact_pair (exact_option bytes_decides) (exact_option Decides-eqb))))))))

@@ -2,8 +2,8 @@
 ghost use Rattle.std.specs.Prelude.{◌≡◌, ◌↔◌, IsTrue};
 ghost use Rattle.journal_protocol.specs.Headers.{HeaderEqual, IsStart, IsSuspension, IsError, IsEnd, IsInput, IsSleep, IsOutput, IsNotification};
 
-use crate::{ErrorMessage, Message, Notification, OutputCommand, SleepCommand, Start, Suspension};
 use crate::future::same_future;
+use crate::{ErrorMessage, Message, Notification, OutputCommand, SleepCommand, Start, Suspension};
 use wire::is_same;
 
 /// Whether two messages are of one type and alike, but for what replay doesn't look at. With `ignore_payloads`
@@ -54,7 +54,8 @@ fn is_sleep(a: &SleepCommand, message: &Message) -> bool
     ensures { IsTrue result ↔ IsSleep a.now message.now }
 {
     match message {
-        Message::Sleep(b) => a.result_completion_id == b.result_completion_id && is_same(&a.name, &b.name),
+        Message::Sleep(b) => a.result_completion_id == b.result_completion_id
+            && is_same(&a.name, &b.name),
         _ => false,
     }
 }

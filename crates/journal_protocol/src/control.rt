@@ -68,7 +68,16 @@ impl Wire for ErrorBehavior {
 
 type Parts = (
     u32,
-    (Text, (Text, (ErrorBehavior, (Option<u32>, (Option<u32>, (Option<Text>, Option<u64>)))))),
+    (
+        Text,
+        (
+            Text,
+            (
+                ErrorBehavior,
+                (Option<u32>, (Option<u32>, (Option<Text>, Option<u64>))),
+            ),
+        ),
+    ),
 );
 
 #[tactic(auto, unfolding(crate::specs::Encoding::error))]
@@ -89,7 +98,9 @@ impl Wire for ErrorMessage {
     }
 
     fn get(alloc: Global, input: &mut Bytes) -> Result<ErrorMessage, Fault> {
-        let (code, (message, (stacktrace, (behavior, (index, (ty, (name, delay))))))) = Parts::get(alloc, input)?;
+        let (code, (message, (stacktrace, (behavior, (index, (ty, (name, delay))))))) = Parts::get(
+            alloc, input,
+        )?;
         Ok(ErrorMessage {
             code,
             message,

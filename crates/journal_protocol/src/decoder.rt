@@ -10,7 +10,7 @@ use std::marker::Model;
 use wire::Fault;
 
 /// Frames out of the pieces of a stream. Contracts see the bytes that wait.
-#[derive(Drop)]
+#[derive(Debug, Drop)]
 pub struct Decoder {
     alloc: Global,
     waiting: Vec<u8>,

@@ -52,44 +52,28 @@ impl NamedFault {
     {
         match self {
             NamedFault::BadRequest => 400,
-            NamedFault::MissingContentType => 415,
-            NamedFault::BadContentType => 415,
-            NamedFault::UnsupportedMediaType => 415,
-            NamedFault::CommandTypeMismatch => 570,
-            NamedFault::CommandMismatch => 570,
-            NamedFault::UncompletedDoProgressDuringReplay => 570,
-            NamedFault::UnsupportedFeature => 573,
-            NamedFault::UnsupportedFeatureForNegotiatedVersion => 573,
+            NamedFault::MissingContentType
+            | NamedFault::BadContentType
+            | NamedFault::UnsupportedMediaType => 415,
+            NamedFault::CommandTypeMismatch
+            | NamedFault::CommandMismatch
+            | NamedFault::UncompletedDoProgressDuringReplay => 570,
+            NamedFault::UnsupportedFeature | NamedFault::UnsupportedFeatureForNegotiatedVersion =>
+                573,
             NamedFault::Closed => 598,
             NamedFault::Suspended => 599,
-            NamedFault::Memory => 500,
-            NamedFault::EmptyIdempotencyKey => 500,
-            NamedFault::EmptyScope => 500,
-            NamedFault::EmptyLimitKey => 500,
-            NamedFault::OutOfBoundsDuration => 500,
-            NamedFault::ExhaustedCompletionIds => 500,
-            NamedFault::ExhaustedSignalIds => 500,
-            NamedFault::ExhaustedHandles => 500,
-            NamedFault::ExhaustedCommandIndexes => 500,
-            NamedFault::ExhaustedEphemeralIds => 500,
-            NamedFault::NoPendingRun => 500,
-            NamedFault::BadMessage => 571,
-            NamedFault::BadEagerStateKey => 571,
-            NamedFault::KnownEntriesIsZero => 571,
-            NamedFault::UnexpectedEntryMessage => 571,
-            NamedFault::UnexpectedState => 571,
-            NamedFault::UnexpectedInputMessage => 571,
-            NamedFault::InputClosedWhileWaitingEntries => 571,
-            NamedFault::UnavailableEntry => 571,
-            NamedFault::EmptyGetEagerState => 571,
-            NamedFault::EmptyGetEagerStateKeys => 571,
-            NamedFault::BadProposeRunCompletionAck => 571,
-            NamedFault::InputClosedWhileWaitingEphemeralNotifications => 571,
-            NamedFault::EphemeralCommandDuringReplay => 571,
-            NamedFault::EphemeralStateGetWithClosedInput => 571,
-            NamedFault::EmptyGetStateEphemeralNotification => 571,
-            NamedFault::UnexpectedInvocationIdResult => 571,
-            NamedFault::StateKeyIsNotUtf8 => 571,
+            NamedFault::Memory
+            | NamedFault::EmptyIdempotencyKey
+            | NamedFault::EmptyScope
+            | NamedFault::EmptyLimitKey
+            | NamedFault::OutOfBoundsDuration
+            | NamedFault::ExhaustedCompletionIds
+            | NamedFault::ExhaustedSignalIds
+            | NamedFault::ExhaustedHandles
+            | NamedFault::ExhaustedCommandIndexes
+            | NamedFault::ExhaustedEphemeralIds
+            | NamedFault::NoPendingRun => 500,
+            _ => 571,
         }
     }
 
@@ -106,7 +90,8 @@ impl NamedFault {
             NamedFault::CommandMismatch => "CommandMismatchError",
             NamedFault::UncompletedDoProgressDuringReplay => "UncompletedDoProgressDuringReplay",
             NamedFault::UnsupportedFeature => "UNSUPPORTED_FEATURE",
-            NamedFault::UnsupportedFeatureForNegotiatedVersion => "UnsupportedFeatureForNegotiatedVersion",
+            NamedFault::UnsupportedFeatureForNegotiatedVersion =>
+                "UnsupportedFeatureForNegotiatedVersion",
             NamedFault::Closed => "ClosedError",
             NamedFault::Suspended => "SUSPENDED",
             NamedFault::Memory => "",
@@ -131,10 +116,12 @@ impl NamedFault {
             NamedFault::EmptyGetEagerState => "EMPTY_GET_EAGER_STATE",
             NamedFault::EmptyGetEagerStateKeys => "EMPTY_GET_EAGER_STATE_KEYS",
             NamedFault::BadProposeRunCompletionAck => "BadProposeRunCompletionAck",
-            NamedFault::InputClosedWhileWaitingEphemeralNotifications => "INPUT_CLOSED_WHILE_WAITING_EPHEMERAL_NOTIFICATIONS",
+            NamedFault::InputClosedWhileWaitingEphemeralNotifications =>
+                "INPUT_CLOSED_WHILE_WAITING_EPHEMERAL_NOTIFICATIONS",
             NamedFault::EphemeralCommandDuringReplay => "EPHEMERAL_COMMAND_DURING_REPLAY",
             NamedFault::EphemeralStateGetWithClosedInput => "EphemeralStateGetWithClosedInput",
-            NamedFault::EmptyGetStateEphemeralNotification => "EMPTY_GET_STATE_EPHEMERAL_NOTIFICATION",
+            NamedFault::EmptyGetStateEphemeralNotification =>
+                "EMPTY_GET_STATE_EPHEMERAL_NOTIFICATION",
             NamedFault::UnexpectedInvocationIdResult => "unexpected result for an invocation id",
             NamedFault::StateKeyIsNotUtf8 => "state key is not UTF-8",
         }

@@ -74,7 +74,9 @@ fn put_future(future: &Future, out: &mut Vec<u8>) -> Result<(), AllocError>
 fn get_future(alloc: Global, input: &mut Bytes) -> Result<Future, Fault>
     ensures { Reads future_format input.old result input.new }
 {
-    let (kind, (waiting_completions, (waiting_signals, waiting_named_signals))) = Head::get(alloc, input)?;
+    let (kind, (waiting_completions, (waiting_signals, waiting_named_signals))) = Head::get(
+        alloc, input,
+    )?;
     let count = u64::get(alloc, input)?;
     let mut nested = Items::new(alloc);
     for _ in 0..count {

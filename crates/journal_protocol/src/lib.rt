@@ -8,7 +8,6 @@ mod decoder;
 mod error;
 mod faults;
 mod future;
-
 mod headers;
 mod message;
 mod notification;
@@ -20,13 +19,13 @@ mod stream;
 mod types;
 mod version;
 
+pub use alike::header_eq;
 pub use commands::{InputCommand, OutputCommand, SleepCommand};
 pub use control::{ErrorMessage, Suspension};
 pub use decoder::Decoder;
 pub use error::{Error, ErrorBehavior, RelatedCommand};
 pub use faults::NamedFault;
 pub use future::{Future, FutureKind};
-pub use alike::header_eq;
 pub use headers::HeaderMap;
 pub use message::{Encoder, Message, RawMessage};
 pub use notification::{Notification, NotificationId, NotificationResult};

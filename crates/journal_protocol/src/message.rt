@@ -3,7 +3,10 @@ ghost use Rattle.std.specs.Prelude.{◌≡◌, ◌++◌, IfOk, OnOk};
 ghost use Rattle.journal_protocol.specs.Runs.{IsWhole};
 ghost use Rattle.journal_protocol.specs.Message.{body, encoding, type_of, IsValid, DecodesTo, Decodes};
 
-use crate::{Error, ErrorMessage, InputCommand, MessageType, Notification, OutputCommand, SleepCommand, Start, Suspension};
+use crate::{
+    Error, ErrorMessage, InputCommand, MessageType, Notification, OutputCommand, SleepCommand,
+    Start, Suspension,
+};
 use bytes::Bytes;
 use std::alloc::{AllocError, Global};
 use wire::{Fault, Wire, whole};
@@ -22,7 +25,7 @@ pub enum Message {
 }
 
 /// A frame whose body isn't decoded yet.
-#[derive(Debug, Drop)]
+#[derive(Debug, Drop, Clone, PartialEq, Eq)]
 pub struct RawMessage {
     pub ty: MessageType,
     pub body: Bytes,
@@ -62,7 +65,7 @@ impl Message {
 }
 
 /// Writes messages as frames.
-#[derive(Drop)]
+#[derive(Debug, Drop)]
 pub struct Encoder {
     alloc: Global,
 }

@@ -2,7 +2,9 @@
 ghost use Rattle.std.proofs.Common.{rules};
 ghost use Rattle.journal_protocol.specs.Same.{failure_exact, value_exact, id_exact, result_exact, notification_exact, start_exact, error_exact};
 
-use crate::{ErrorMessage, Failure, Notification, NotificationId, NotificationResult, Start, ValueOrFailure};
+use crate::{
+    ErrorMessage, Failure, Notification, NotificationId, NotificationResult, Start, ValueOrFailure,
+};
 use wire::Plain;
 
 impl Plain for ValueOrFailure {

@@ -23,7 +23,10 @@ pub struct Start {
 
 type Parts = (
     Bytes,
-    (Text, (Text, (u32, (Items<(Bytes, Bytes)>, (bool, (u32, Rest)))))),
+    (
+        Text,
+        (Text, (u32, (Items<(Bytes, Bytes)>, (bool, (u32, Rest))))),
+    ),
 );
 
 type Rest = (u64, (u64, (Option<Text>, (Option<Text>, Option<Text>))));
@@ -50,7 +53,8 @@ impl Wire for Start {
     }
 
     fn get(alloc: Global, input: &mut Bytes) -> Result<Start, Fault> {
-        let (id, (debug_id, (key, (known_entries, (state, (partial, (retry_count, rest))))))) = Parts::get(alloc, input)?;
+        let (id, (debug_id, (key, (known_entries, (state, (partial, (retry_count, rest))))))) =
+            Parts::get(alloc, input)?;
         let (duration, (random_seed, (scope, (limit_key, idempotency_key)))) = rest;
         Ok(Start {
             id,
