@@ -10,11 +10,15 @@ is_false : (b : Bool) → (b ≡ true → ⊥) → b ≡ false
 is_false true h = absurd (h refl)
 is_false false h = refl
 
+-- the test of bytes that are no text
+pub not_text : (bytes : List ℕ) → (IsUtf8 bytes → ⊥) → is_utf8 bytes ≡ false
+not_text bytes fails = is_false (is_utf8 bytes) (λ t. fails (IsUtf8-from_is_utf8 bytes t))
+
 -- one that is no text, at its place
 pub some_no_text : (keys : List (List ℕ)) (i : ℕ) (key : List ℕ) → i < length keys → key ≡ get_or keys i key → (IsUtf8 key → ⊥)
     → list_all is_utf8 keys ≡ list_all is_utf8 (drop i keys) → list_all is_utf8 keys ≡ false
 some_no_text keys i key l e fails rest =
-    rest ∙ ap (list_all is_utf8) (from_place keys i key l e) ∙ rw (is_false (is_utf8 key) (λ t. fails (IsUtf8-from_is_utf8 key t))) refl
+    rest ∙ ap (list_all is_utf8) (from_place keys i key l e) ∙ rw (not_text key fails) refl
 
 -- one more that is a text
 pub text_more : (keys : List (List ℕ)) (i : ℕ) (key : List ℕ) → i < length keys → key ≡ get_or keys i key → IsUtf8 key

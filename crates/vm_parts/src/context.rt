@@ -1,5 +1,5 @@
 //! What an attempt knows of itself: its counters, its last command, what Start told it, and the state.
-ghost use Rattle.std.specs.Prelude.{◌≡◌, ◌<◌, ◌+◌, ◌^◌};
+ghost use Rattle.std.specs.Prelude.{◌≡◌, ◌<◌, ◌+◌, ◌^◌, IfNone};
 ghost use Rattle.vm_parts.specs.Counting.{fresh_counters, next_index, missing};
 
 use bytes::Bytes;
@@ -82,7 +82,10 @@ impl Counters {
 
     /// The first kind of number of which too few are left for a call with a command.
     pub fn missing(&self, ids: u32, signals: u32, handles: u32) -> Option<NamedFault>
-        ensures { result ≡ missing ids signals handles self.now }
+        ensures found { result ≡ missing ids signals handles self.now }
+        ensures ids_left { IfNone result (self.now.completion + ids < 2 ^ 32) }
+        ensures signals_left { IfNone result (self.now.signal + signals < 2 ^ 32) }
+        ensures handles_left { IfNone result (self.now.handle + handles < 2 ^ 32) }
     {
         if u32::MAX - self.completion < ids {
             Some(NamedFault::ExhaustedCompletionIds)
