@@ -49,8 +49,6 @@ flattens o (Ok (Ok a)) old new h = rw h refl
 flattens o (Ok (Err e)) old new h = inl (rw h refl)
 flattens {A = A} o (Err e) old new h = elim h as (λ _. Does {A = A} (flat o) (Err e) old new) [ inl x ↦ inl (rw x refl) | inr x ↦ inr x ]
 
-pub does_flat : {A : Type 0} (o : Outcome (Result A Error)) (given : Result (Result A Error) Fault) (r : Result (Result A Error) Error) (s : Result A Error) (old mid new : Machine) → Lives old.failure (Ok tt) → Gives o given old mid → Settles given r mid new → s ≡ flattened r → Does (flat (called o old)) s old new
-does_flat {A = A} o given r s old mid new l g t e = subst (λ (x : Result A Error). Does (flat (called o old)) x old new) (sym e) (flattens (called o old) r old new (does_called o given r old mid new l g t))
-
-pub fails_flat : {A : Type 0} (o : Outcome (Result A Error)) (e : Error) (old : Machine) → Lives old.failure (Err e) → Does (flat (called o old)) (Err e) old old
-fails_flat o e old l = flattens (called o old) (Err e) old old (does_failed o e old l)
+-- a call whose answer may be an error, from the call that keeps it as an answer
+pub flattens_call : {A : Type 0} (o : Outcome (Result A Error)) (r : Result (Result A Error) Error) (s : Result A Error) (old new : Machine) → Does (called o old) r old new → s ≡ flattened r → Does (flat (called o old)) s old new
+flattens_call {A = A} o r s old new d e = subst (λ (x : Result A Error). Does (flat (called o old)) x old new) (sym e) (flattens (called o old) r old new d)

@@ -1,12 +1,15 @@
 //! `CoreVM`: the VM over a decoder and a machine.
-ghost use Rattle.std.specs.Prelude.{◌≡◌, ◌/◌, None, string_bytes};
+ghost use Rattle.std.specs.Prelude.{◌≡◌, ◌/◌, [], length, min, None, IfOk, string_bytes};
+ghost use Rattle.std.specs.List.{concat};
 ghost use Rattle.std.specs.Duration.{as_nanos};
 ghost use Rattle.journal_protocol.specs.Errors.{named_error};
 ghost use Rattle.vm_machine.specs.declared.fault.Fault.TheVariants.{Refused};
-ghost use Rattle.vm_machine.specs.Outcomes.{Gives};
-ghost use Rattle.invocation_vm.specs.Calls.{has_metadata, output_step, sleep_step};
+ghost use Rattle.vm_machine.specs.Outcomes.{Gives, Lives};
+ghost use Rattle.invocation_vm.specs.Calls.{future_step, has_metadata, output_step, sleep_step};
+ghost use Rattle.invocation_vm.specs.Seen.{seen};
+ghost use Rattle.invocation_vm.specs.Views.{Calls};
 
-use crate::output::joined;
+use crate::output::{joined, len_of};
 use crate::versions::{response_head, version_in};
 use crate::vm::VM;
 use bytes::Bytes;
@@ -91,7 +94,50 @@ fn write_output(
     Ok(())
 }
 
-#[tactic(auto, using(crate::proofs::Calls::does_flat, crate::proofs::Calls::fails_flat, crate::proofs::Calls::does_called, crate::proofs::Calls::does_failed, crate::proofs::Feeds::leaves_called, crate::proofs::Feeds::stays_called))]
+#[tactic(auto, using(crate::proofs::Calls::does_called, crate::proofs::Calls::does_failed))]
+impl CoreVM {
+    /// The first error of a failed VM.
+    pub fn first_error(&self) -> VMResult<()>
+        ensures { Lives (seen self.now).machine.failure result }
+    {
+        self.machine.live()
+    }
+
+    /// As `do_await`, where an error by which the VM doesn't fail is an answer.
+    pub fn try_await(&mut self, future: UnresolvedFuture) -> VMResult<VMResult<AwaitResponse>>
+        ensures { Calls (future_step future) result (seen self.old) (seen self.new) }
+    {
+        if let Err(error) = self.machine.live() {
+            return Err(error);
+        }
+        let UnresolvedFuture::Single(handle) = future;
+        let given = self.machine.await_one(handle);
+        self.machine.settle(given)
+    }
+
+    /// The bytes that wait to be sent, which stay there.
+    pub fn waiting_output(&self) -> Result<Bytes, AllocError>
+        ensures { IfOk result (λ bytes. bytes ≡ concat (seen self.now).machine.output) }
+    {
+        joined(self.machine.alloc, self.machine.output.items())
+    }
+
+    /// How many bytes wait to be sent, as far as a `usize` goes.
+    pub fn waiting_len(&self) -> usize
+        ensures { result ≡ min (length (concat (seen self.now).machine.output)) usize.MAX }
+    {
+        len_of(self.machine.output.items())
+    }
+
+    /// Drops the bytes that wait to be sent, once they were sent.
+    pub fn clear_output(&mut self)
+        ensures { seen self.new ≡ record (seen self.old) { machine = record (seen self.old).machine { output = [] } } }
+    {
+        self.machine.output.clear();
+    }
+}
+
+#[tactic(auto, using(crate::proofs::Calls::flattens_call, crate::proofs::Calls::does_called, crate::proofs::Calls::does_failed, crate::proofs::Feeds::leaves_called, crate::proofs::Feeds::stays_called))]
 impl VM for CoreVM {
     ghost view = { λ s. record { undecoded = s.decoder; machine = s.machine } };
 
@@ -136,11 +182,11 @@ impl VM for CoreVM {
     }
 
     fn take_output(&mut self) -> Result<Bytes, AllocError> {
-        let bytes = match joined(self.machine.alloc, self.machine.output.items()) {
+        let bytes = match self.waiting_output() {
             Ok(bytes) => bytes,
             Err(error) => return Err(error),
         };
-        self.machine.output.clear();
+        self.clear_output();
         Ok(bytes)
     }
 
@@ -153,12 +199,7 @@ impl VM for CoreVM {
     }
 
     fn do_await(&mut self, future: UnresolvedFuture) -> VMResult<AwaitResponse> {
-        if let Err(error) = self.machine.live() {
-            return Err(error);
-        }
-        let UnresolvedFuture::Single(handle) = future;
-        let given = self.machine.await_one(handle);
-        flatten(self.machine.settle(given))
+        flatten(self.try_await(future))
     }
 
     fn take_notification(&mut self, handle: NotificationHandle) -> VMResult<Option<Value>> {

@@ -49,7 +49,7 @@ impl From<EphemeralCompletionId> for u32 {
 }
 
 /// What an await answers.
-#[derive(Debug, Drop, PartialEq, Eq)]
+#[derive(Clone, Copy, Debug, PartialEq, Eq)]
 pub enum AwaitResponse {
     /// The future is done, or can be acted on.
     AnyCompleted,
@@ -58,12 +58,6 @@ pub enum AwaitResponse {
         waiting_input: bool,
         waiting_run_proposal: bool,
     },
-    /// The run of this handle is to be executed.
-    ExecuteRun(NotificationHandle),
-    /// The invocation was cancelled.
-    CancelSignalReceived,
-    /// The ephemeral command of this id has its result.
-    EphemeralNotificationReady(EphemeralCompletionId),
 }
 
 /// How far a VM is, as a handler's runner sees it.
