@@ -9,7 +9,8 @@ use Rattle.journal_protocol.specs.declared.types.MessageType.{MessageType}
 use Rattle.journal_protocol.specs.declared.notification.NotificationId.TheVariants.{CompletionId}
 use Rattle.journal_protocol.specs.Errors.{named_error}
 use Rattle.journal_protocol.specs.Message.{encoding, type_of}
-use Rattle.journal_protocol.specs.Reading.{message_in, header_equal}
+use Rattle.journal_protocol.specs.Reading.{message_in}
+use Rattle.journal_protocol.specs.HeaderEqual.{header_equal}
 use Rattle.journal_protocol.specs.Types.{type_number}
 use Rattle.vm_parts.specs.declared.options.NonDeterministicChecksOption.{NonDeterministicChecksOption}
 use Rattle.vm_parts.specs.declared.options.NonDeterministicChecksOption.TheVariants as checks

@@ -28,6 +28,7 @@ pub enum Answer {
     Handle(NotificationHandle),
     Unit,
     Awake,
+    Cancelled,
     Taken(Option<Value>),
     Completed(bool),
 }
