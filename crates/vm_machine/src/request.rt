@@ -5,7 +5,10 @@ ghost use Rattle.vm_machine.specs.Requests.{command_of, name_of, ids_of, is_unst
 
 use crate::machine::empty_text;
 use bytes::Bytes;
-use journal_protocol::{ClearAllStateCommand, ClearStateCommand, CompleteAwakeableCommand, Message, OutputCommand, SendSignalCommand, SetStateCommand, Signal, SignalResult, SleepCommand, ValueOrFailure};
+use journal_protocol::{
+    ClearAllStateCommand, ClearStateCommand, CompleteAwakeableCommand, Message, OutputCommand,
+    SendSignalCommand, SetStateCommand, Signal, SignalResult, SleepCommand, ValueOrFailure,
+};
 use std::alloc::{AllocError, Global};
 use vm_parts::{CommandType, PayloadOptions};
 use wire::{Text, copy_of};
@@ -28,8 +31,13 @@ pub enum Request {
         name: Text,
         options: PayloadOptions,
     },
-    ClearState { key: Text, name: Text },
-    ClearAllState { name: Text },
+    ClearState {
+        key: Text,
+        name: Text,
+    },
+    ClearAllState {
+        name: Text,
+    },
     CompleteAwakeable {
         id: Text,
         result: ValueOrFailure,
@@ -41,7 +49,9 @@ pub enum Request {
         signal: Text,
         result: ValueOrFailure,
     },
-    CancelInvocation { target: Text },
+    CancelInvocation {
+        target: Text,
+    },
 }
 
 /// The built-in signal that cancels an invocation.
@@ -121,7 +131,12 @@ impl Request {
             Request::Output { result: value, .. } => Ok(Message::Output(OutputCommand {
                 result: copy_of(value)?,
             })),
-            Request::SetState { key, value, name, .. } => Ok(Message::SetState(SetStateCommand {
+            Request::SetState {
+                key,
+                value,
+                name,
+                ..
+            } => Ok(Message::SetState(SetStateCommand {
                 name: copy_of(name)?,
                 key: copy_of(key)?,
                 value: value.clone()?,
@@ -133,11 +148,19 @@ impl Request {
             Request::ClearAllState { name } => Ok(Message::ClearAllState(ClearAllStateCommand {
                 name: copy_of(name)?,
             })),
-            Request::CompleteAwakeable { id, result: value, .. } => Ok(Message::CompleteAwakeable(CompleteAwakeableCommand {
+            Request::CompleteAwakeable {
+                id,
+                result: value,
+                ..
+            } => Ok(Message::CompleteAwakeable(CompleteAwakeableCommand {
                 awakeable_id: copy_of(id)?,
                 result: copy_of(value)?,
             })),
-            Request::CompleteSignal { target, signal, result: value } => Ok(Message::SendSignal(SendSignalCommand {
+            Request::CompleteSignal {
+                target,
+                signal,
+                result: value,
+            } => Ok(Message::SendSignal(SendSignalCommand {
                 target_invocation_id: copy_of(target)?,
                 signal: Signal::Name(copy_of(signal)?),
                 result: signal_result(value)?,

@@ -9,8 +9,8 @@ ghost use Rattle.vm_machine.specs.Inputs.{Quiets};
 use crate::fault::Fault;
 use crate::machine::Machine;
 use crate::phase::is_from_v7;
-use journal_protocol::{Encoder, Error, ErrorBehavior, Message, NamedFault};
 use bytes::Bytes;
+use journal_protocol::{Encoder, Error, ErrorBehavior, Message, NamedFault};
 use std::alloc::{AllocError, Global};
 use vm_parts::JournalMismatchRetryBehavior;
 
