@@ -16,6 +16,8 @@ mod said;
 mod same;
 mod start;
 mod stream;
+#[cfg(test)]
+mod tests;
 mod types;
 mod version;
 
