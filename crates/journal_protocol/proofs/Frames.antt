@@ -6,7 +6,8 @@ use Rattle.std.proofs.lemmas.Nat.{from_be_bytes-to_be_bytes_2, from_be_bytes-to_
 use Rattle.std.proofs.lemmas.Bool.Decides.{nat_tests}
 use Rattle.std.proofs.Math.Seq.{take-append_seam}
 use Rattle.wire.specs.Format.{u16s, u64s, bytes}
-use Rattle.wire.specs.Forms.{u16_form, u64_form}
+use Rattle.wire.specs.Forms.{u16_format, u64_format}
+use Rattle.wire.proofs.Read.{one_form}
 use Rattle.journal_protocol.specs.Types.{type_number, type_at}
 use Rattle.journal_protocol.specs.declared.types.MessageType.{MessageType}
 use Rattle.journal_protocol.specs.Message.{frame}
@@ -99,13 +100,13 @@ none_some : (ty : MessageType) → None ≡ Some ty → ⊥
 none_some ty e = cc
 
 right_type : (bs rest : List ℕ) (n : ℕ) (ty : MessageType) → n < 2 ^ 16 → Some ty ≡ type_at n → bs ≡ u16s n ++ rest → IsMalformed bs → ⊥
-right_type bs rest n ty l k e m = none_some ty (sym m.3 ∙ ap type_at (u16_form m.0 n m.1 rest m.2 l (sym m.4 ∙ e)).0 ∙ sym k)
+right_type bs rest n ty l k e m = none_some ty (sym m.3 ∙ ap type_at (one_form u16_format m.0 n m.1 rest m.2 l (sym m.4 ∙ e)).0 ∙ sym k)
 
 pub no_length : (bs rest : List ℕ) (n : ℕ) (ty : MessageType) → n < 2 ^ 16 → Some ty ≡ type_at n → bs ≡ u16s n ++ rest → length rest < 8 → IsPart bs × (next_of bs ≡ Partial)
 no_length bs rest n ty l k e s = (
   record {
     no_frame = λ ty' b more f e'.
-        let h = u16_form n (type_number ty') rest (u64s (length b) ++ (b ++ more)) l (small_number ty') (sym e ∙ e' ∙ frame_parts (type_number ty') b more) in
+        let h = one_form u16_format n (type_number ty') rest (u64s (length b) ++ (b ++ more)) l (small_number ty') (sym e ∙ e' ∙ frame_parts (type_number ty') b more) in
         omega (arith, ap length h.1, length-append (u64s (length b)) (b ++ more), eight (length b));
     well_formed = right_type bs rest n ty l k e;
   },
@@ -124,8 +125,8 @@ pub no_body : (bs rest after : List ℕ) (n : ℕ) (ty : MessageType) (len : ℕ
 no_body bs rest after n ty len l k e l' e2 s = (
   record {
     no_frame = λ ty' b more f e'.
-        let h = u16_form n (type_number ty') rest (u64s (length b) ++ (b ++ more)) l (small_number ty') (sym e ∙ e' ∙ frame_parts (type_number ty') b more) in
-        let g = u64_form len (length b) after (b ++ more) l' f (sym e2 ∙ h.1) in
+        let h = one_form u16_format n (type_number ty') rest (u64s (length b) ++ (b ++ more)) l (small_number ty') (sym e ∙ e' ∙ frame_parts (type_number ty') b more) in
+        let g = one_form u64_format len (length b) after (b ++ more) l' f (sym e2 ∙ h.1) in
         omega (arith, g.0, ap length g.1, length-append b more);
     well_formed = right_type bs rest n ty l k e;
   },

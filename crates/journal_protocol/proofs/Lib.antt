@@ -1,8 +1,8 @@
-pub mod Cases
 pub mod Nested
 pub mod Layers
+pub mod Equal
 pub mod Numbers
-pub mod Messages
+pub mod Reading
 pub mod Frames
 pub mod Streams
 pub mod Cuts

@@ -4,7 +4,8 @@ use Rattle.std.specs.List.{flat_map, AllByRecursion}
 use Rattle.std.proofs.lemmas.List.{append-nil, length-append}
 use Rattle.std.proofs.lemmas.List.Concat.{flat_map-cons, flat_map-append}
 use Rattle.wire.specs.Format.{u16s, bytes}
-use Rattle.wire.specs.Forms.{u16_form, bytes_form}
+use Rattle.wire.specs.Forms.{u16_format, bytes_format}
+use Rattle.wire.proofs.Read.{one_form}
 use Rattle.journal_protocol.specs.Types.{type_number}
 use Rattle.journal_protocol.specs.declared.types.MessageType.{MessageType}
 use Rattle.journal_protocol.specs.declared.message.Message.{Message}
@@ -12,7 +13,7 @@ use Rattle.journal_protocol.specs.Message.{frame, encoding, body, type_of, IsVal
 use Rattle.journal_protocol.specs.Stream.{IsPart}
 use Rattle.journal_protocol.specs.Runs.{IsWhole}
 use Rattle.journal_protocol.proofs.Numbers.{small_number, one_number}
-use Rattle.journal_protocol.proofs.Messages.{one_message}
+use Rattle.journal_protocol.proofs.Reading.{one_message}
 
 split : (m : Message) (ms : List Message) (r : List ℕ) → flat_map encoding (m ∷ ms) ++ r ≡ u16s (type_number (type_of m)) ++ (bytes (body m) ++ (flat_map encoding ms ++ r))
 split m ms r = ap (λ t. t ++ r) (flat_map-cons encoding m ms) ∙ append_assoc (encoding m) (flat_map encoding ms) r ∙ append_assoc (u16s (type_number (type_of m))) (bytes (body m)) (flat_map encoding ms ++ r)
@@ -26,8 +27,8 @@ one_stream [] [] q r v w p s e = refl
 one_stream [] (n ∷ ns) q r v w p s e = absurd (no_more n ns r q w.0 p e)
 one_stream (m ∷ ms) [] q r v w p s e = absurd (no_more m ms q r v.0 s (sym e))
 one_stream (m ∷ ms) (n ∷ ns) q r v w p s e =
-    let a = u16_form (type_number (type_of m)) (type_number (type_of n)) (bytes (body m) ++ (flat_map encoding ms ++ q)) (bytes (body n) ++ (flat_map encoding ns ++ r)) (small_number (type_of m)) (small_number (type_of n)) (sym (split m ms q) ∙ e ∙ split n ns r) in
-    let b = bytes_form (body m) (body n) (flat_map encoding ms ++ q) (flat_map encoding ns ++ r) v.0.1 w.0.1 a.1 in
+    let a = one_form u16_format (type_number (type_of m)) (type_number (type_of n)) (bytes (body m) ++ (flat_map encoding ms ++ q)) (bytes (body n) ++ (flat_map encoding ns ++ r)) (small_number (type_of m)) (small_number (type_of n)) (sym (split m ms q) ∙ e ∙ split n ns r) in
+    let b = one_form bytes_format (body m) (body n) (flat_map encoding ms ++ q) (flat_map encoding ns ++ r) v.0.1 w.0.1 a.1 in
     let h = one_message m n (one_number (type_of m) (type_of n) a.0) v.0.0 w.0.0 b.0 in
     let k = one_stream ms ns q r v.1 w.1 p s b.1 in
     λ i. h i ∷ k i

@@ -1,16 +1,15 @@
 -- The format of a future.
-use Rattle.std.specs.Prelude.{◌≡◌, ℕ, ◌<◌, ◌^◌, List, [], ◌∷◌, ◌++◌, length, map, refl}
+use Rattle.std.specs.Prelude.{◌≡◌, ℕ, zero, suc, ◌<◌, ◌≤◌, ◌^◌, List, [], ◌∷◌, ◌++◌, length, map, Some, None, refl}
 use Rattle.std.specs.List.{flat_map, AllByRecursion}
 use Rattle.std.proofs.Common.{ap, sym, ◌∙◌, subst, append_assoc, arith}
-use Rattle.std.proofs.lemmas.List.Concat.{flat_map-cons}
-use Rattle.std.proofs.lemmas.List.{length-map}
-use Rattle.wire.specs.Format.{Format, BeginsWithNone, u32s, u64s, bytes, list, fields}
-use Rattle.wire.specs.Forms.{u32_format, u64_format, text_format, pair_format, list_format}
+use Rattle.std.proofs.lemmas.List.{length-append}
+use Rattle.wire.specs.Format.{Format, Reading, IsReadBack, IsSpelled, read_as, read_nothing, read_byte, choose, no_case, read_case, read_pair, read_list, u32s, u64s, bytes, list, fields}
+use Rattle.wire.specs.Forms.{then_some, same_some, case_is, cases_are, no_case_is, pair_is, items_read, counted_read, counted_are, nothing_format, u32_format, text_format, pair_format, list_format}
 use Rattle.journal_protocol.specs.declared.future.FutureKind.{FutureKind}
 use Rattle.journal_protocol.specs.declared.future.FutureKind.TheVariants.{FirstCompleted, AllCompleted, FirstSucceededOrAllFailed, AllSucceededOrFirstFailed, Unknown}
 use Rattle.journal_protocol.specs.declared.future.Future.{Future}
 use Rattle.journal_protocol.specs.declared.future.Future.TheOpen.{Future-F}
-use Rattle.journal_protocol.specs.declared.future.Future.TheViews.{out-Future, roll-Future, roll-out-Future, out-roll-Future}
+use Rattle.journal_protocol.specs.declared.future.Future.TheViews.{out-Future, roll-Future, out-roll-Future}
 use Rattle.journal_protocol.specs.declared.future.Future.TheFolds.{fold-Future, fold-roll-Future, fold_out-Future, ind-Future, every-Future, every_here-Future, every_held-Future, every_made-Future}
 
 abbrev pub kind : FutureKind → List ℕ
@@ -20,16 +19,35 @@ kind FirstSucceededOrAllFailed = 2 ∷ []
 kind AllSucceededOrFirstFailed = 3 ∷ []
 kind Unknown = 4 ∷ []
 
-pub kind_form : (a b : FutureKind) (x y : List ℕ) → Unit {0} → Unit {0} → kind a ++ x ≡ kind b ++ y → (a ≡ b) × (x ≡ y)
-kind_form FirstCompleted FirstCompleted x y p q e = (refl, cc)
-kind_form AllCompleted AllCompleted x y p q e = (refl, cc)
-kind_form FirstSucceededOrAllFailed FirstSucceededOrAllFailed x y p q e = (refl, cc)
-kind_form AllSucceededOrFirstFailed AllSucceededOrFirstFailed x y p q e = (refl, cc)
-kind_form Unknown Unknown x y p q e = (refl, cc)
-kind_form _ _ x y p q e = absurd cc
+unfoldable pub read_kind : Reading FutureKind
+read_kind = read_case (
+    choose 0 (read_as (λ _. FirstCompleted) read_nothing) (
+    choose 1 (read_as (λ _. AllCompleted) read_nothing) (
+    choose 2 (read_as (λ _. FirstSucceededOrAllFailed) read_nothing) (
+    choose 3 (read_as (λ _. AllSucceededOrFirstFailed) read_nothing) (
+    choose 4 (read_as (λ _. Unknown) read_nothing) (
+    no_case))))))
+
+pub kind_reads : IsReadBack kind (λ _. Unit {0}) read_kind
+unfolding read_kind read_byte
+kind_reads FirstCompleted rest v = refl
+kind_reads AllCompleted rest v = refl
+kind_reads FirstSucceededOrAllFailed rest v = refl
+kind_reads AllSucceededOrFirstFailed rest v = refl
+kind_reads Unknown rest v = refl
+
+pub kind_is : IsSpelled kind (λ _. Unit {0}) read_kind
+unfolding read_kind
+kind_is = cases_are kind (λ _. Unit {0}) _ (
+    case_is kind (λ _. Unit {0}) 0 (λ _. FirstCompleted) nothing_format _ (λ _ v. v) (λ _. refl) (
+    case_is kind (λ _. Unit {0}) 1 (λ _. AllCompleted) nothing_format _ (λ _ v. v) (λ _. refl) (
+    case_is kind (λ _. Unit {0}) 2 (λ _. FirstSucceededOrAllFailed) nothing_format _ (λ _ v. v) (λ _. refl) (
+    case_is kind (λ _. Unit {0}) 3 (λ _. AllSucceededOrFirstFailed) nothing_format _ (λ _ v. v) (λ _. refl) (
+    case_is kind (λ _. Unit {0}) 4 (λ _. Unknown) nothing_format _ (λ _ v. v) (λ _. refl) (
+    no_case_is kind (λ _. Unit {0})))))))
 
 abbrev pub kind_format : Format FutureKind
-kind_format = record { spelling = kind; valid = λ _. Unit {0}; none = BeginsWithNone kind (λ _. Unit {0}); none_begins = λ _ h. h; one_form = kind_form }
+kind_format = record { spelling = kind; valid = (λ _. Unit {0}); read = read_kind; reads = kind_reads; read_is = kind_is }
 
 -- what stands before the nested futures
 abbrev pub Head : Type 0
@@ -108,48 +126,87 @@ unfolding future_valid held
 valid_made l v h = every_made-Future LayerFits l (record { kind = l.kind; waiting_completions = l.waiting_completions; waiting_signals = l.waiting_signals; waiting_named_signals = l.waiting_named_signals; nested = held (every-Future LayerFits) l.nested h })
     (λ i. record { kind = l.kind; waiting_completions = l.waiting_completions; waiting_signals = l.waiting_signals; waiting_named_signals = l.waiting_named_signals; nested = held_are (every-Future LayerFits) l.nested h i }) v
 
--- ---- no future's bytes begin another's
+-- ---- reading a future
 
-abbrev One : Future → Type 0
-One a = (b : Future) (x y : List ℕ) → future_valid a → future_valid b → future a ++ x ≡ future b ++ y → (a ≡ b) × (x ≡ y)
+-- the future of a head and its nested futures
+abbrev pub layer_of : Head × List Future → Future
+layer_of p = roll-Future (record { kind = p.0.0; waiting_completions = p.0.1.0; waiting_signals = p.0.1.1.0; waiting_named_signals = p.0.1.1.1; nested = p.1 })
 
-nested_form : (ps : List ((f : Future) × One f)) (bs : List Future) (x y : List ℕ) → length ps ≡ length bs → AllByRecursion future_valid (map (λ e. e.0) ps) → AllByRecursion future_valid bs
-    → flat_map future (map (λ e. e.0) ps) ++ x ≡ flat_map future bs ++ y → (map (λ e. e.0) ps ≡ bs) × (x ≡ y)
-nested_form [] [] x y l p q e = (refl, e)
-nested_form [] (b ∷ bs) x y l p q e = absurd (omega arith)
-nested_form (a ∷ as') [] x y l p q e = absurd (omega arith)
-nested_form (a ∷ as') (b ∷ bs) x y l p q e =
-    let split = λ (c : Future) (cs : List Future) (z : List ℕ). ap (λ t. t ++ z) (flat_map-cons future c cs) ∙ append_assoc (future c) (flat_map future cs) z in
-    let h = a.1 b (flat_map future (map (λ e. e.0) as') ++ x) (flat_map future bs ++ y) p.0 q.0 (sym (split a.0 (map (λ e. e.0) as') x) ∙ e ∙ split b bs y) in
-    let k = nested_form as' bs x y (omega arith) p.1 q.1 h.1 in
-    (λ i. h.0 i ∷ k.0 i, k.1)
+-- a future whose nested ones are read so
+abbrev pub read_layer : Reading Future → Reading Future
+read_layer r = read_as layer_of (read_pair head_format.read (read_list r))
 
-nested_list : (ps : List ((f : Future) × One f)) (bs : List Future) (x y : List ℕ) → length (map (λ e. e.0) ps) < 2 ^ 64 → length bs < 2 ^ 64 → AllByRecursion future_valid (map (λ e. e.0) ps) → AllByRecursion future_valid bs
-    → list future (map (λ e. e.0) ps) ++ x ≡ list future bs ++ y → (map (λ e. e.0) ps ≡ bs) × (x ≡ y)
+-- a future of no more than so many layers
+unfoldable pub read_layers : ℕ → Reading Future
+read_layers zero bs = None
+read_layers (suc n) bs = read_layer (read_layers n) bs
+
+-- Each layer takes a byte at least.
+unfoldable pub read_future : Reading Future
+read_future bs = read_layers (length bs) bs
+
+pub layer_is : (r : Reading Future) → IsSpelled future future_valid r → IsSpelled future future_valid (read_layer r)
+layer_is r h bs f rest e =
+    let k = then_some (read_pair head_format.read (read_list r) bs) (λ p rest. Some (layer_of p, rest)) f rest e in
+    let s = same_some (layer_of k.0) f k.1 rest k.3 in
+    let q = pair_is head head_format.valid head_format.read (list future) (λ fs. (length fs < 2 ^ 64) × AllByRecursion future_valid fs) (read_list r) head_format.read_is (counted_are future future_valid r h) bs k.0 k.1 k.2 in
+    let l : Future-F Future = record { kind = k.0.0.0; waiting_completions = k.0.0.1.0; waiting_signals = k.0.0.1.1.0; waiting_named_signals = k.0.0.1.1.1; nested = k.0.1 } in
+    (subst future_valid s.0 (valid_made l (q.0.0, q.0.1.0) q.0.1.1), q.1 ∙ ap (λ t. t ++ k.1) (sym (future_roll l)) ∙ (λ i. future (s.0 i) ++ s.1 i))
+
+layers_are : (n : ℕ) → IsSpelled future future_valid (read_layers n)
+unfolding read_layers
+layers_are zero bs f rest e = absurd cc
+layers_are (suc n) bs f rest e = layer_is (read_layers n) (layers_are n) bs f rest e
+
+pub future_is : IsSpelled future future_valid read_future
+unfolding read_future
+future_is bs f rest e = layers_are (length bs) bs f rest e
+
+kind_long : (k : FutureKind) → 0 < length (kind k)
+kind_long FirstCompleted = omega arith
+kind_long AllCompleted = omega arith
+kind_long FirstSucceededOrAllFailed = omega arith
+kind_long AllSucceededOrFirstFailed = omega arith
+kind_long Unknown = omega arith
+
+pub head_long : (h : Head) → 0 < length (head h)
+head_long h = omega (arith, kind_long h.0, length-append (kind h.0) (fields (list u32s h.1.0 ∷ list u32s h.1.1.0 ∷ list bytes h.1.1.1 ∷ [])))
+
+-- A layer is read where its nested futures are.
+pub layer_read : (r : Reading Future) (l : Future-F Future) (rest : List ℕ) → head_format.valid (head_of l) → read_list r (list future l.nested ++ rest) ≡ Some (l.nested, rest) → read_layer r (layer l ++ rest) ≡ Some (roll-Future l, rest)
+unfolding read_pair
+layer_read r l rest v e = rw (append_assoc (head (head_of l)) (list future l.nested) rest, head_format.reads (head_of l) (list future l.nested ++ rest) v, e) refl
+
+-- a future that is read in as many layers as it has bytes, with what follows
+abbrev Again : Future → Type 0
+Again f = (n : ℕ) (rest : List ℕ) → future_valid f → length (future f ++ rest) ≤ n → read_layers n (future f ++ rest) ≡ Some (f, rest)
+
+both : (P Q : Future → Type 0) (fs : List Future) → AllByRecursion P fs → AllByRecursion Q fs → AllByRecursion (λ f. P f × Q f) fs
+both P Q [] p q = tt
+both P Q (f ∷ fs) p q = ((p.0, q.0), both P Q fs p.1 q.1)
+
+list_long : (fs : List Future) → length (flat_map future fs) ≤ length (list future fs)
 unfolding list
-nested_list ps bs x y l m p q e =
-    let as' : List Future = map (λ e. e.0) ps in
-    let e' : u64s (length as') ++ (flat_map future as' ++ x) ≡ u64s (length bs) ++ (flat_map future bs ++ y) = sym (append_assoc (u64s (length as')) (flat_map future as') x) ∙ e ∙ append_assoc (u64s (length bs)) (flat_map future bs) y in
-    let h = u64_format.one_form (length as') (length bs) (flat_map future as' ++ x) (flat_map future bs ++ y) l m e' in
-    nested_form ps bs x y (sym (length-map ps (λ e. e.0)) ∙ h.0) p q h.1
+list_long fs = omega (arith, length-append (u64s (length fs)) (flat_map future fs))
 
--- a layer by its two parts
-layer_same : (l m : Future-F Future) → head_of l ≡ head_of m → l.nested ≡ m.nested → l ≡ m
-layer_same l m h k = λ i. record { kind = (h i).0; waiting_completions = (h i).1.0; waiting_signals = (h i).1.1.0; waiting_named_signals = (h i).1.1.1; nested = k i }
+layers_read : (n : ℕ) (l : Future-F Future) (rest : List ℕ) → LayerFits l → AllByRecursion future_valid l.nested → AllByRecursion Again l.nested → length (layer l ++ rest) ≤ n → read_layers n (layer l ++ rest) ≡ Some (roll-Future l, rest)
+unfolding read_layers
+layers_read zero l rest v w h s = absurd (omega (arith, s, head_long (head_of l), length-append (layer l) rest, length-append (head (head_of l)) (list future l.nested)))
+layers_read (suc n) l rest v w h s =
+    let m : length (flat_map future l.nested ++ rest) ≤ n = omega (arith, s, head_long (head_of l), length-append (layer l) rest, length-append (head (head_of l)) (list future l.nested), list_long l.nested, length-append (flat_map future l.nested) rest) in
+    layer_read (read_layers n) l rest v.0 (counted_read future (read_layers n) l.nested rest v.1
+    (items_read future (λ f. future_valid f × Again f) (read_layers n) n (λ f rest p k. p.1 n rest p.0 k) l.nested rest (both future_valid Again l.nested w h) m))
 
-pub future_form : (a : Future) → One a
-future_form = ind-Future One (λ l y is b x z v w e.
-    let m = out-Future b in
+again : (f : Future) → Again f
+again = ind-Future Again (λ l y is n rest v s.
     let lv = subst LayerFits (out-roll-Future l) (valid_here (roll-Future l) v) in
-    let lk = subst (λ (t : Future-F Future). AllByRecursion future_valid t.nested) (out-roll-Future l) (valid_nested (roll-Future l) v) in
-    let wv = valid_here b w in
-    let wk = valid_nested b w in
-    let e1 : head (head_of l) ++ (list future l.nested ++ x) ≡ head (head_of m) ++ (list future m.nested ++ z) = sym (append_assoc (head (head_of l)) (list future l.nested) x) ∙ ap (λ t. t ++ x) (sym (future_roll l)) ∙ e ∙ ap (λ t. t ++ z) (future_out b) ∙ append_assoc (head (head_of m)) (list future m.nested) z in
-    let h = head_format.one_form (head_of l) (head_of m) (list future l.nested ++ x) (list future m.nested ++ z) lv.0 wv.0 e1 in
-    let ns : map (λ e. e.0) y.nested ≡ l.nested = ap (λ (t : Future-F Future). t.nested) is in
-    let n = subst (λ (as' : List Future). length as' < 2 ^ 64 → AllByRecursion future_valid as' → list future as' ++ x ≡ list future m.nested ++ z → (as' ≡ m.nested) × (x ≡ z)) ns
-    (λ k q r. nested_list y.nested m.nested x z k wv.1 q wk r) lv.1 lk h.1 in
-    (ap roll-Future (layer_same l m h.0 n.0) ∙ roll-out-Future b, n.1))
+    let lw = subst (λ (t : Future-F Future). AllByRecursion future_valid t.nested) (out-roll-Future l) (valid_nested (roll-Future l) v) in
+    let h = subst (λ (t : Future-F Future). AllByRecursion Again t.nested) is (each_held y.nested) in
+    ap (λ t. read_layers n (t ++ rest)) (future_roll l) ∙ layers_read n l rest lv lw h (subst (λ t. length (t ++ rest) ≤ n) (future_roll l) s))
+
+pub future_reads : IsReadBack future future_valid read_future
+unfolding read_future
+future_reads f rest v = again f (length (future f ++ rest)) rest v (omega arith)
 
 abbrev pub future_format : Format Future
-future_format = record { spelling = future; valid = future_valid; none = BeginsWithNone future future_valid; none_begins = λ _ h. h; one_form = λ a b x y. future_form a b x y }
+future_format = record { spelling = future; valid = future_valid; read = read_future; reads = future_reads; read_is = future_is }

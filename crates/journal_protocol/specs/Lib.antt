@@ -9,7 +9,10 @@ pub mod Futures
 pub mod Bodies
 pub mod Same
 pub mod Message
+pub mod Reading
 pub mod Frames
 pub mod Stream
 pub mod Runs
 pub mod Headers
+pub mod FutureEqual
+pub mod HeaderEqual

@@ -1,8 +1,7 @@
 -- The formats of what messages are made of.
-use Rattle.std.specs.Prelude.{◌≡◌, ℕ, List, ◌++◌, refl}
-use Rattle.std.proofs.Common.{ap}
-use Rattle.wire.specs.Format.{Format, BeginsWithNone}
-use Rattle.wire.specs.Forms.{u32_format, bytes_format, text_format, pair_format, list_format, via, spelled}
+use Rattle.std.specs.Prelude.{◌≡◌, ℕ, List, refl}
+use Rattle.wire.specs.Format.{Format, Reading, IsReadBack, IsSpelled, read_as, read_nothing, read_byte, choose, no_case, read_case}
+use Rattle.wire.specs.Forms.{case_reads, case_is, cases_are, no_case_is, nothing_format, u32_format, bytes_format, text_format, pair_format, list_format, via, spelled}
 use Rattle.journal_protocol.specs.Encoding.{header, failure, behavior, value_or_failure, notification_id, notification_result}
 use Rattle.journal_protocol.specs.declared.error.ErrorBehavior.{ErrorBehavior}
 use Rattle.journal_protocol.specs.declared.error.ErrorBehavior.TheVariants.{Retry, Pause, Fail}
@@ -22,7 +21,7 @@ abbrev pub header_parts : Header → List ℕ × List ℕ
 header_parts h = (h.key, h.value)
 
 abbrev pub header_format : Format Header
-header_format = spelled header (via header_parts (λ p. record { key = p.0; value = p.1 }) (λ _. refl) texts_format) (λ _. refl)
+header_format = spelled header (via header_parts (λ p. record { key = p.0; value = p.1 }) (λ _. refl) (λ _. refl) texts_format) (λ _. refl)
 
 abbrev pub failure_parts : Failure → ℕ × (List ℕ × List (List ℕ × List ℕ))
 failure_parts f = (f.code, (f.message, f.metadata))
@@ -35,10 +34,7 @@ unfolding failure
 failure_same f = refl
 
 abbrev pub failure_format : Format Failure
-failure_format = spelled failure (via failure_parts (λ p. record { code = p.0; message = p.1.0; metadata = p.1.1 }) (λ _. refl) failure_parts_format) failure_same
-
-pub failure_none : (bs : List ℕ) (f : Failure) (rest : List ℕ) → failure_format.none bs → failure_format.valid f → bs ≡ failure f ++ rest → ⊥
-failure_none bs f rest h v e = failure_format.none_begins bs h f rest v e
+failure_format = spelled failure (via failure_parts (λ p. record { code = p.0; message = p.1.0; metadata = p.1.1 }) (λ _. refl) (λ _. refl) failure_parts_format) failure_same
 
 -- ---- a value or a failure
 
@@ -46,13 +42,26 @@ abbrev pub value_valid : ValueOrFailure → Type 0
 value_valid (value.Value bs) = bytes_format.valid bs
 value_valid (value.Failure f) = failure_format.valid f
 
-pub value_form : (a b : ValueOrFailure) (x y : List ℕ) → value_valid a → value_valid b → value_or_failure a ++ x ≡ value_or_failure b ++ y → (a ≡ b) × (x ≡ y)
-value_form (value.Value a) (value.Value b) x y p q e = let h = bytes_format.one_form a b x y p q cc in (ap value.Value h.0, h.1)
-value_form (value.Failure a) (value.Failure b) x y p q e = let h = failure_format.one_form a b x y p q cc in (ap value.Failure h.0, h.1)
-value_form _ _ x y p q e = absurd cc
+unfoldable pub read_value : Reading ValueOrFailure
+read_value = read_case (
+    choose 0 (read_as value.Value bytes_format.read) (
+    choose 1 (read_as value.Failure failure_format.read) (
+    no_case)))
+
+pub value_reads : IsReadBack value_or_failure value_valid read_value
+unfolding read_value read_byte
+value_reads (value.Value a) rest v = case_reads value.Value bytes_format a rest v
+value_reads (value.Failure a) rest v = case_reads value.Failure failure_format a rest v
+
+pub value_is : IsSpelled value_or_failure value_valid read_value
+unfolding read_value
+value_is = cases_are value_or_failure value_valid _ (
+    case_is value_or_failure value_valid 0 value.Value bytes_format _ (λ _ v. v) (λ _. refl) (
+    case_is value_or_failure value_valid 1 value.Failure failure_format _ (λ _ v. v) (λ _. refl) (
+    no_case_is value_or_failure value_valid)))
 
 abbrev pub value_format : Format ValueOrFailure
-value_format = record { spelling = value_or_failure; valid = value_valid; none = BeginsWithNone value_or_failure value_valid; none_begins = λ _ h. h; one_form = value_form }
+value_format = record { spelling = value_or_failure; valid = value_valid; read = read_value; reads = value_reads; read_is = value_is }
 
 -- ---- ids
 
@@ -61,14 +70,29 @@ id_valid (id.CompletionId n) = u32_format.valid n
 id_valid (id.SignalId n) = u32_format.valid n
 id_valid (id.SignalName name) = text_format.valid name
 
-pub id_form : (a b : NotificationId) (x y : List ℕ) → id_valid a → id_valid b → notification_id a ++ x ≡ notification_id b ++ y → (a ≡ b) × (x ≡ y)
-id_form (id.CompletionId a) (id.CompletionId b) x y p q e = let h = u32_format.one_form a b x y p q cc in (ap id.CompletionId h.0, h.1)
-id_form (id.SignalId a) (id.SignalId b) x y p q e = let h = u32_format.one_form a b x y p q cc in (ap id.SignalId h.0, h.1)
-id_form (id.SignalName a) (id.SignalName b) x y p q e = let h = text_format.one_form a b x y p q cc in (ap id.SignalName h.0, h.1)
-id_form _ _ x y p q e = absurd cc
+unfoldable pub read_id : Reading NotificationId
+read_id = read_case (
+    choose 0 (read_as id.CompletionId u32_format.read) (
+    choose 1 (read_as id.SignalId u32_format.read) (
+    choose 2 (read_as id.SignalName text_format.read) (
+    no_case))))
+
+pub id_reads : IsReadBack notification_id id_valid read_id
+unfolding read_id read_byte
+id_reads (id.CompletionId a) rest v = case_reads id.CompletionId u32_format a rest v
+id_reads (id.SignalId a) rest v = case_reads id.SignalId u32_format a rest v
+id_reads (id.SignalName a) rest v = case_reads id.SignalName text_format a rest v
+
+pub id_is : IsSpelled notification_id id_valid read_id
+unfolding read_id
+id_is = cases_are notification_id id_valid _ (
+    case_is notification_id id_valid 0 id.CompletionId u32_format _ (λ _ v. v) (λ _. refl) (
+    case_is notification_id id_valid 1 id.SignalId u32_format _ (λ _ v. v) (λ _. refl) (
+    case_is notification_id id_valid 2 id.SignalName text_format _ (λ _ v. v) (λ _. refl) (
+    no_case_is notification_id id_valid))))
 
 abbrev pub id_format : Format NotificationId
-id_format = record { spelling = notification_id; valid = id_valid; none = BeginsWithNone notification_id id_valid; none_begins = λ _ h. h; one_form = id_form }
+id_format = record { spelling = notification_id; valid = id_valid; read = read_id; reads = id_reads; read_is = id_is }
 
 -- ---- results
 
@@ -79,24 +103,58 @@ result_valid (result.Failure f) = failure_format.valid f
 result_valid (result.StateKeys keys) = (list_format bytes_format).valid keys
 result_valid (result.InvocationId name) = text_format.valid name
 
-pub result_form : (a b : NotificationResult) (x y : List ℕ) → result_valid a → result_valid b → notification_result a ++ x ≡ notification_result b ++ y → (a ≡ b) × (x ≡ y)
-result_form result.Void result.Void x y p q e = (refl, cc)
-result_form (result.Value a) (result.Value b) x y p q e = let h = bytes_format.one_form a b x y p q cc in (ap result.Value h.0, h.1)
-result_form (result.Failure a) (result.Failure b) x y p q e = let h = failure_format.one_form a b x y p q cc in (ap result.Failure h.0, h.1)
-result_form (result.StateKeys a) (result.StateKeys b) x y p q e = let h = (list_format bytes_format).one_form a b x y p q cc in (ap result.StateKeys h.0, h.1)
-result_form (result.InvocationId a) (result.InvocationId b) x y p q e = let h = text_format.one_form a b x y p q cc in (ap result.InvocationId h.0, h.1)
-result_form _ _ x y p q e = absurd cc
+unfoldable pub read_result : Reading NotificationResult
+read_result = read_case (
+    choose 0 (read_as (λ _. result.Void) read_nothing) (
+    choose 1 (read_as result.Value bytes_format.read) (
+    choose 2 (read_as result.Failure failure_format.read) (
+    choose 3 (read_as result.StateKeys (list_format bytes_format).read) (
+    choose 4 (read_as result.InvocationId text_format.read) (
+    no_case))))))
+
+pub result_reads : IsReadBack notification_result result_valid read_result
+unfolding read_result read_byte
+result_reads result.Void rest v = refl
+result_reads (result.Value a) rest v = case_reads result.Value bytes_format a rest v
+result_reads (result.Failure a) rest v = case_reads result.Failure failure_format a rest v
+result_reads (result.StateKeys a) rest v = case_reads result.StateKeys (list_format bytes_format) a rest v
+result_reads (result.InvocationId a) rest v = case_reads result.InvocationId text_format a rest v
+
+pub result_is : IsSpelled notification_result result_valid read_result
+unfolding read_result
+result_is = cases_are notification_result result_valid _ (
+    case_is notification_result result_valid 0 (λ _. result.Void) nothing_format _ (λ _ v. v) (λ _. refl) (
+    case_is notification_result result_valid 1 result.Value bytes_format _ (λ _ v. v) (λ _. refl) (
+    case_is notification_result result_valid 2 result.Failure failure_format _ (λ _ v. v) (λ _. refl) (
+    case_is notification_result result_valid 3 result.StateKeys (list_format bytes_format) _ (λ _ v. v) (λ _. refl) (
+    case_is notification_result result_valid 4 result.InvocationId text_format _ (λ _ v. v) (λ _. refl) (
+    no_case_is notification_result result_valid))))))
 
 abbrev pub result_format : Format NotificationResult
-result_format = record { spelling = notification_result; valid = result_valid; none = BeginsWithNone notification_result result_valid; none_begins = λ _ h. h; one_form = result_form }
+result_format = record { spelling = notification_result; valid = result_valid; read = read_result; reads = result_reads; read_is = result_is }
 
 -- ---- what is to be done after an error
 
-pub behavior_form : (a b : ErrorBehavior) (x y : List ℕ) → Unit {0} → Unit {0} → behavior a ++ x ≡ behavior b ++ y → (a ≡ b) × (x ≡ y)
-behavior_form Retry Retry x y p q e = (refl, cc)
-behavior_form Pause Pause x y p q e = (refl, cc)
-behavior_form Fail Fail x y p q e = (refl, cc)
-behavior_form _ _ x y p q e = absurd cc
+unfoldable pub read_behavior : Reading ErrorBehavior
+read_behavior = read_case (
+    choose 0 (read_as (λ _. Retry) read_nothing) (
+    choose 1 (read_as (λ _. Pause) read_nothing) (
+    choose 2 (read_as (λ _. Fail) read_nothing) (
+    no_case))))
+
+pub behavior_reads : IsReadBack behavior (λ _. Unit {0}) read_behavior
+unfolding read_behavior read_byte
+behavior_reads Retry rest v = refl
+behavior_reads Pause rest v = refl
+behavior_reads Fail rest v = refl
+
+pub behavior_is : IsSpelled behavior (λ _. Unit {0}) read_behavior
+unfolding read_behavior
+behavior_is = cases_are behavior (λ _. Unit {0}) _ (
+    case_is behavior (λ _. Unit {0}) 0 (λ _. Retry) nothing_format _ (λ _ v. v) (λ _. refl) (
+    case_is behavior (λ _. Unit {0}) 1 (λ _. Pause) nothing_format _ (λ _ v. v) (λ _. refl) (
+    case_is behavior (λ _. Unit {0}) 2 (λ _. Fail) nothing_format _ (λ _ v. v) (λ _. refl) (
+    no_case_is behavior (λ _. Unit {0})))))
 
 abbrev pub behavior_format : Format ErrorBehavior
-behavior_format = record { spelling = behavior; valid = λ _. Unit {0}; none = BeginsWithNone behavior (λ _. Unit {0}); none_begins = λ _ h. h; one_form = behavior_form }
+behavior_format = record { spelling = behavior; valid = (λ _. Unit {0}); read = read_behavior; reads = behavior_reads; read_is = behavior_is }

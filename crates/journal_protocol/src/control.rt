@@ -41,6 +41,7 @@ impl Wire for Suspension {
     }
 }
 
+#[tactic(auto, unfolding(crate::specs::Parts::read_behavior))]
 impl Wire for ErrorBehavior {
     ghost use Rattle.journal_protocol.specs.Parts.{behavior_format};
 

@@ -25,6 +25,7 @@ pub struct Future {
     pub nested: Items<Future>,
 }
 
+#[tactic(auto, unfolding(crate::specs::Futures::read_kind))]
 impl Wire for FutureKind {
     ghost use Rattle.journal_protocol.specs.Futures.{kind_format};
 

@@ -1,5 +1,7 @@
 //! Messages as frames: writing one, and reading the body of one.
 ghost use Rattle.std.specs.Prelude.{◌≡◌, ◌++◌, IfOk, OnOk};
+ghost use Rattle.wire.specs.Reads.{Read};
+ghost use Rattle.journal_protocol.specs.Reading.{start_in, suspension_in, error_in, end_in, input_in, sleep_in, output_in, notification_in, message_in};
 ghost use Rattle.journal_protocol.specs.Runs.{IsWhole};
 ghost use Rattle.journal_protocol.specs.Message.{body, encoding, type_of, IsValid, DecodesTo, Decodes};
 
@@ -90,29 +92,94 @@ impl Encoder {
     }
 }
 
+#[tactic(auto, unfolding(crate::specs::Reading::start_in, crate::specs::Reading::suspension_in, crate::specs::Reading::error_in, crate::specs::Reading::end_in, crate::specs::Reading::input_in, crate::specs::Reading::sleep_in, crate::specs::Reading::output_in, crate::specs::Reading::notification_in))]
 impl RawMessage {
-    /// The message that the body spells.
-    pub fn read(&self, alloc: Global) -> Result<Message, Fault>
-        ensures { DecodesTo self.now.ty self.now.body result }
+    /// The start that the body spells, whatever the type.
+    pub fn read_start(&self, alloc: Global) -> Result<Start, Fault>
+        ensures { Read (start_in self.now.body) result }
     {
-        let body = &self.body;
+        whole(alloc, &self.body)
+    }
+
+    fn read_suspension(&self, alloc: Global) -> Result<Suspension, Fault>
+        ensures { Read (suspension_in self.now.body) result }
+    {
+        whole(alloc, &self.body)
+    }
+
+    fn read_error(&self, alloc: Global) -> Result<ErrorMessage, Fault>
+        ensures { Read (error_in self.now.body) result }
+    {
+        whole(alloc, &self.body)
+    }
+
+    fn read_end(&self) -> Result<(), Fault>
+        ensures { Read (end_in self.now.body) result }
+    {
+        if self.body.is_empty() {
+            Ok(())
+        } else {
+            Err(Fault::Malformed)
+        }
+    }
+
+    /// The input that the body spells, whatever the type.
+    pub fn read_input(&self, alloc: Global) -> Result<InputCommand, Fault>
+        ensures { Read (input_in self.now.body) result }
+    {
+        whole(alloc, &self.body)
+    }
+
+    fn read_sleep(&self, alloc: Global) -> Result<SleepCommand, Fault>
+        ensures { Read (sleep_in self.now.body) result }
+    {
+        whole(alloc, &self.body)
+    }
+
+    fn read_output(&self, alloc: Global) -> Result<OutputCommand, Fault>
+        ensures { Read (output_in self.now.body) result }
+    {
+        whole(alloc, &self.body)
+    }
+
+    /// The notification that the body spells, whatever the type.
+    pub fn read_notification(&self, alloc: Global) -> Result<Notification, Fault>
+        ensures { Read (notification_in self.now.body) result }
+    {
+        whole(alloc, &self.body)
+    }
+}
+
+#[tactic(auto, unfolding(crate::specs::Reading::message_in))]
+impl RawMessage {
+    fn read_typed(&self, alloc: Global) -> Result<Message, Fault>
+        ensures { Read (message_in self.now.ty self.now.body) result }
+    {
         match self.ty {
-            MessageType::Start => Ok(Message::Start(whole(alloc, body)?)),
-            MessageType::Suspension => Ok(Message::Suspension(whole(alloc, body)?)),
-            MessageType::Error => Ok(Message::Error(whole(alloc, body)?)),
+            MessageType::Start => Ok(Message::Start(self.read_start(alloc)?)),
+            MessageType::Suspension => Ok(Message::Suspension(self.read_suspension(alloc)?)),
+            MessageType::Error => Ok(Message::Error(self.read_error(alloc)?)),
             MessageType::End => {
-                if body.is_empty() {
-                    Ok(Message::End)
-                } else {
-                    Err(Fault::Malformed)
-                }
+                self.read_end()?;
+                Ok(Message::End)
             }
-            MessageType::InputCommand => Ok(Message::Input(whole(alloc, body)?)),
-            MessageType::SleepCommand => Ok(Message::Sleep(whole(alloc, body)?)),
-            MessageType::OutputCommand => Ok(Message::Output(whole(alloc, body)?)),
-            MessageType::Notification => Ok(Message::Notification(whole(alloc, body)?)),
+            MessageType::InputCommand => Ok(Message::Input(self.read_input(alloc)?)),
+            MessageType::SleepCommand => Ok(Message::Sleep(self.read_sleep(alloc)?)),
+            MessageType::OutputCommand => Ok(Message::Output(self.read_output(alloc)?)),
+            MessageType::Notification => Ok(Message::Notification(self.read_notification(alloc)?)),
             _ => Err(Fault::Malformed),
         }
+    }
+}
+
+impl RawMessage {
+    /// The message that the body spells.
+    #[tactic(auto, using(crate::proofs::Reading::decodes))]
+    pub fn read(&self, alloc: Global) -> Result<Message, Fault>
+        ensures read { Read (message_in self.now.ty self.now.body) result }
+        ensures decodes { DecodesTo self.now.ty self.now.body result }
+    {
+        self.read_typed(alloc)
     }
 
     /// As `read`, the fault as the error that it is for the one who sent the frame.

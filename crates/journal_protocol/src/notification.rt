@@ -28,6 +28,7 @@ pub struct Notification {
     pub result: NotificationResult,
 }
 
+#[tactic(auto, unfolding(crate::specs::Parts::read_id))]
 impl Wire for NotificationId {
     ghost use Rattle.journal_protocol.specs.Parts.{id_format};
 
@@ -60,6 +61,7 @@ impl Wire for NotificationId {
     }
 }
 
+#[tactic(auto, unfolding(crate::specs::Parts::read_result))]
 impl Wire for NotificationResult {
     ghost use Rattle.journal_protocol.specs.Parts.{result_format};
 

@@ -71,6 +71,7 @@ impl Wire for Failure {
     }
 }
 
+#[tactic(auto, unfolding(crate::specs::Parts::read_value))]
 impl Wire for ValueOrFailure {
     ghost use Rattle.journal_protocol.specs.Parts.{value_format};
 

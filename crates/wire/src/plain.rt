@@ -54,7 +54,8 @@ impl<T: Plain> Plain for Items<T> {
 
 /// Whether two values are equal.
 pub fn is_same<T: Plain>(a: &T, b: &T) -> bool
-    ensures { IsTrue result ↔ (a.now ≡ b.now) }
+    ensures same { IsTrue result ↔ (a.now ≡ b.now) }
+    ensures test { result ≡ T.eq a.now b.now }
 {
     *a == *b
 }

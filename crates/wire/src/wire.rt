@@ -4,10 +4,9 @@ ghost use Rattle.wire.specs.Format.{Format};
 ghost use Rattle.wire.specs.Forms.{nothing_format, byte_format, u16_format, u32_format, u64_format, flag_format, bytes_format, text_format, pair_format, option_format, list_format};
 ghost use Rattle.wire.specs.Reads.{Reads, ReadsAll};
 
-use crate::Fault;
+use crate::{Fault, Items, Text};
 use bytes::Bytes;
 use std::alloc::{AllocError, Global};
-use crate::{Items, Text};
 
 /// A type whose values have a place in a message.
 pub trait Wire: Drop {
@@ -36,6 +35,7 @@ impl Wire for () {
     }
 }
 
+#[tactic(auto, unfolding(crate::specs::Format::read_byte))]
 impl Wire for u8 {
     ghost format = { byte_format };
 
@@ -112,7 +112,7 @@ impl Wire for u64 {
     }
 }
 
-#[tactic(auto, unfolding(crate::specs::Format::flag))]
+#[tactic(auto, unfolding(crate::specs::Format::flag, crate::specs::Format::read_flag, crate::specs::Format::read_byte))]
 impl Wire for bool {
     ghost format = { flag_format };
 
@@ -136,7 +136,7 @@ impl Wire for bool {
     }
 }
 
-#[tactic(auto, unfolding(crate::specs::Format::bytes, crate::specs::Format::u64s))]
+#[tactic(auto, unfolding(crate::specs::Format::bytes, crate::specs::Format::u64s, crate::specs::Format::read_bytes))]
 impl Wire for Bytes {
     ghost format = { bytes_format };
 
@@ -154,7 +154,7 @@ impl Wire for Bytes {
     }
 }
 
-#[tactic(auto, unfolding(crate::specs::Format::bytes, crate::specs::Format::u64s))]
+#[tactic(auto, unfolding(crate::specs::Format::bytes, crate::specs::Format::u64s, crate::specs::Format::read_bytes, crate::specs::Format::read_text), using(crate::proofs::Read::is_text, crate::proofs::Read::no_text))]
 impl Wire for Text {
     ghost format = { text_format };
 
@@ -180,6 +180,7 @@ impl Wire for Text {
     }
 }
 
+#[tactic(auto, unfolding(crate::specs::Format::read_pair))]
 impl<A: Wire, B: Wire> Wire for (A, B) {
     ghost format = { pair_format A.format B.format };
 
@@ -195,7 +196,7 @@ impl<A: Wire, B: Wire> Wire for (A, B) {
     }
 }
 
-#[tactic(auto, unfolding(crate::specs::Format::option, crate::specs::Format::flag))]
+#[tactic(auto, unfolding(crate::specs::Format::option, crate::specs::Format::flag, crate::specs::Format::read_option))]
 impl<T: Wire> Wire for Option<T> {
     ghost format = { option_format T.format };
 
@@ -219,7 +220,7 @@ impl<T: Wire> Wire for Option<T> {
     }
 }
 
-#[tactic(auto, unfolding(crate::specs::Format::list, crate::specs::Format::u64s))]
+#[tactic(auto, unfolding(crate::specs::Format::list, crate::specs::Format::u64s, crate::specs::Format::read_list))]
 impl<T: Wire> Wire for Items<T> {
     ghost format = { list_format T.format };
 

@@ -42,11 +42,11 @@ module _ (from to : RattleType) (h : from.Denot → to.Denot) where
   pub the_places : Alike from to h → Alike (items.the_row from) (items.the_row to) ((the_former this).map from.Denot to.Denot h)
   the_places alike =
       view_places field (list this) view (λ X Y k u. refl) (λ X u. refl)
-        from.Denot to.Denot h (items.the_row from).coded (items.the_row to).coded
-        (invariant from.Denot) (invariant to.Denot) (λ u p q. refl) (λ u p q. refl) (λ u e. tt) (λ u e. tt)
-        (over (inside.the_row from)) (over (inside.the_row to))
-        (struct_places (inside.the_type from) (inside.the_type to) (vec.mapped h, tt) _ (λ d. refl) refl
-          (laid _ _ _ (vec.the_places global.the_row ghosts from to h alike), tt))
+      from.Denot to.Denot h (items.the_row from).coded (items.the_row to).coded
+      (invariant from.Denot) (invariant to.Denot) (λ u p q. refl) (λ u p q. refl) (λ u e. tt) (λ u e. tt)
+      (over (inside.the_row from)) (over (inside.the_row to))
+      (struct_places (inside.the_type from) (inside.the_type to) (vec.mapped h, tt) _ (λ d. refl) refl
+      (laid _ _ _ (vec.the_places global.the_row ghosts from to h alike), tt))
 
   pub the_codes_placed : Recodes from to h → Recodes (items.the_row from) (items.the_row to) ((the_former this).map from.Denot to.Denot h)
   the_codes_placed recoded xs = sym (code_map from.coded.code to.coded.code h (λ x. sym (recoded x)) xs)

@@ -1,0 +1,54 @@
+-- What a call does, from what its event gave and what the error rule made of it.
+use Rattle.std.proofs.Common.{◌≡◌, ◌⊎◌, inl, inr, ⊎_elim, ◌∙◌, sym, ap, refl, subst, Option, Some, None, Result, Ok, Err, rules, arith}
+use Rattle.journal_protocol.specs.declared.error.Error.{Error}
+use Rattle.journal_protocol.specs.Errors.{no_memory}
+use Rattle.vm_machine.specs.declared.fault.Fault.{Fault}
+use Rattle.vm_machine.specs.declared.fault.Fault.TheVariants as fault
+use Rattle.vm_machine.specs.declared.machine.Machine.{Machine}
+use Rattle.vm_machine.specs.Outcomes.{Outcome, Done, Failed, Gives, Does, Lives, Settles, settled, called, called_at, IsStarved, starved, ruled, failed, flat, flattened}
+
+-- the case of want of memory
+starves : {A : Type 0} (o : Outcome A) (old mid new : Machine) → mid.output ≡ old.output → new ≡ starved mid → Does o (Err no_memory) old new
+starves o old mid new g s = inr (record { error = refl; failed = rw s refl; output = rw s g })
+
+pub settles : {A : Type 0} (o : Outcome A) (given : Result A Fault) (r : Result A Error) (old mid new : Machine) → Gives o given old mid → Settles given r mid new → Does (settled o) r old new
+settles o (Ok a) r old mid new g s = rw (s.0, s.1, g) refl
+settles o (Err fault.Memory) r old mid new g s = rw s.0 (starves (settled o) old mid new g s.1)
+settles o (Err (fault.Refused e)) r old mid new g s =
+    elim s as (λ _. Does (settled o) r old new) [
+      | inl h ↦ rw (h.0, h.1, g.0) (inl refl)
+      | inr h ↦ rw h.0 (starves (settled o) old mid new g.1 h.1)
+    ]
+
+at_failure : {A : Type 0} (f : Option Error) (o : Outcome A) (r : Result A Error) (old new : Machine) → Lives f (Ok tt) → Does (settled o) r old new → Does (called_at f o old) r old new
+at_failure None o r old new l h = h
+at_failure (Some e) o r old new l h = elim l as (λ _. Does (Failed e old) r old new) [ inl x ↦ cc | inr x ↦ cc ]
+
+pub does_called : {A : Type 0} (o : Outcome A) (given : Result A Fault) (r : Result A Error) (old mid new : Machine) → Lives old.failure (Ok tt) → Gives o given old mid → Settles given r mid new → Does (called o old) r old new
+unfolding called
+does_called o given r old mid new l g s = at_failure old.failure o r old new l (settles o given r old mid new g s)
+
+err_is_ok : (e : Error) → Err e ≡ Ok (tt {0}) → ⊥
+err_is_ok e h = cc
+
+first_error : {A : Type 0} (f : Option Error) (o : Outcome A) (e : Error) (old : Machine) → old.failure ≡ f → Lives f (Err e) → Does (called_at f o old) (Err e) old old
+first_error None o e old is l = absurd (err_is_ok e l)
+first_error {A = A} (Some d) o e old is l =
+    elim l as (λ _. Does {A = A} (Failed d old) (Err e) old old) [
+      | inl h ↦ inl (cc)
+      | inr h ↦ inr (record { error = cc; failed = rw is refl; output = refl })
+    ]
+
+pub does_failed : {A : Type 0} (o : Outcome A) (e : Error) (old : Machine) → Lives old.failure (Err e) → Does (called o old) (Err e) old old
+unfolding called
+does_failed o e old l = first_error old.failure o e old refl l
+
+-- a call whose answer may be an error
+pub flattens : {A : Type 0} (o : Outcome (Result A Error)) (r : Result (Result A Error) Error) (old new : Machine) → Does o r old new → Does (flat o) (flattened r) old new
+flattens o (Ok (Ok a)) old new h = rw h refl
+flattens o (Ok (Err e)) old new h = inl (rw h refl)
+flattens {A = A} o (Err e) old new h = elim h as (λ _. Does {A = A} (flat o) (Err e) old new) [ inl x ↦ inl (rw x refl) | inr x ↦ inr x ]
+
+-- a call whose answer may be an error, from the call that keeps it as an answer
+pub flattens_call : {A : Type 0} (o : Outcome (Result A Error)) (r : Result (Result A Error) Error) (s : Result A Error) (old new : Machine) → Does (called o old) r old new → s ≡ flattened r → Does (flat (called o old)) s old new
+flattens_call {A = A} o r s old new d e = subst (λ (x : Result A Error). Does (flat (called o old)) x old new) (sym e) (flattens (called o old) r old new d)

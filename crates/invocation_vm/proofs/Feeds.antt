@@ -1,0 +1,108 @@
+-- What the frames that come leave, one after another.
+use Rattle.std.proofs.Common.{◌≡◌, ◌⊎◌, inl, inr, ℕ, ◌<◌, Bool, true, false, List, [], ◌∷◌, length, Option, Some, None, Result, Ok, Err, sym, ap, refl, ◌∙◌, subst, arith, rules}
+use Rattle.std.specs.Prelude.{IsErr, is_some}
+use Rattle.std.proofs.lemmas.Bool.{false≢true}
+use Rattle.std.specs.declared.alloc.AllocError.{AllocError}
+use Rattle.journal_protocol.specs.declared.message.RawMessage.{RawMessage}
+use Rattle.journal_protocol.specs.declared.error.Error.{Error}
+use Rattle.journal_protocol.specs.Errors.{no_memory}
+use Rattle.journal_protocol.specs.Frames.{NextFrame, Whole, Partial, Malformed, next_of}
+use Rattle.journal_protocol.proofs.Cuts.{whole_shorter}
+use Rattle.vm_machine.specs.declared.fault.Fault.{Fault}
+use Rattle.vm_machine.specs.declared.fault.Fault.TheVariants as fault
+use Rattle.vm_machine.specs.declared.machine.Machine.{Machine}
+use Rattle.vm_machine.specs.Inputs.{message_step, malformed_step, Quiets}
+use Rattle.vm_machine.specs.Outcomes.{Outcome, Done, Failed, Gives, called, called_at, settled, IsStarved, starved}
+use Rattle.invocation_vm.specs.Frames.{frames_of}
+use Rattle.invocation_vm.specs.Views.{View, received, spoiled, all_received, consumed, left_by, Goes, Leaves}
+use Rattle.invocation_vm.proofs.Cuts.{frames_of-next, consumed_failed}
+
+-- no whole frame is there
+pub consumed_none : (bytes : List ℕ) (m : Machine) → next_of bytes ≡ Partial → m.failure ≡ None → consumed (frames_of bytes) m ≡ record { undecoded = bytes; machine = m }
+consumed_none bytes m h k = rw (frames_of-next bytes, h) (rw k refl)
+
+-- one frame after the other
+pub consumed_some : (bytes rest : List ℕ) (raw : RawMessage) (m : Machine) → next_of bytes ≡ Whole raw rest → consumed (frames_of bytes) m ≡ consumed (frames_of rest) (received raw m)
+consumed_some bytes rest raw m h = rw (frames_of-next bytes, h) refl
+
+-- the machine that a quiet call leaves
+pub left_called : (o : Outcome Unit) (given : Result Unit Fault) (old mid new : Machine) → old.failure ≡ None → Gives o given old mid → Quiets given (Ok tt) mid new → left_by (called o old) ≡ new
+unfolding called
+left_called o (Ok a) old mid new l g s = rw (l, g, s.1) refl
+left_called o (Err fault.Memory) old mid new l g s = absurd (false≢true s.0)
+left_called o (Err (fault.Refused e)) old mid new l g s =
+    elim s as (λ _. left_by (called o old) ≡ new) [
+      | inl h ↦ rw (l, g.0, h.1) refl
+      | inr h ↦ absurd (false≢true h.0)
+    ]
+
+err_ok : (e : AllocError) → Err e ≡ Ok (tt {0}) → ⊥
+err_ok e h = cc
+
+-- a quiet call that found no memory
+pub starved_called : (o : Outcome Unit) (given : Result Unit Fault) (e : AllocError) (old mid new : Machine) → Gives o given old mid → Quiets given (Err e) mid new → IsStarved no_memory old new
+starved_called o (Ok a) e old mid new g s = absurd (err_ok e s.0)
+starved_called o (Err fault.Memory) e old mid new g s = record { error = refl; failed = rw s.1 refl; output = rw s.1 g }
+starved_called o (Err (fault.Refused d)) e old mid new g s =
+    elim s as (λ _. IsStarved no_memory old new) [
+      | inl h ↦ absurd (err_ok e h.0)
+      | inr h ↦ record { error = refl; failed = rw h.1 refl; output = rw h.1 g.1 }
+    ]
+
+failure_of : (o : Option Error) → is_some o ≡ false → o ≡ None
+failure_of None h = refl
+failure_of (Some e) h = cc
+
+-- where a quiet call leaves no failure, it has written nothing
+same_output : (given : Result Unit Fault) (mid new : Machine) → Quiets given (Ok tt) mid new → is_some new.failure ≡ false → new.output ≡ mid.output
+same_output (Ok a) mid new s h = rw s.1 refl
+same_output (Err fault.Memory) mid new s h = absurd (false≢true s.0)
+same_output (Err (fault.Refused e)) mid new s h =
+    elim s as (λ _. new.output ≡ mid.output) [
+      | inl k ↦ absurd (false≢true (sym h ∙ rw k.1 refl))
+      | inr k ↦ absurd (false≢true k.0)
+    ]
+
+received_is : (given : Result Unit Fault) (raw : RawMessage) (m mid new : Machine) → m.failure ≡ None → Gives (message_step raw m) given m mid → Quiets given (Ok tt) mid new → received raw m ≡ new
+unfolding received
+received_is given raw m mid new l g s = left_called (message_step raw m) given m mid new l g s
+
+pub goes_on : (given : Result Unit Fault) (raw : RawMessage) (bytes rest : List ℕ) (m mid new : Machine) → m.failure ≡ None → next_of bytes ≡ Whole raw rest → Gives (message_step raw m) given m mid → Quiets given (Ok tt) mid new → mid.output ≡ m.output → is_some new.failure ≡ false → Goes true (record { undecoded = bytes; machine = m }) (record { undecoded = rest; machine = new })
+goes_on given raw bytes rest m mid new l f g s o h =
+    (failure_of new.failure h, whole_shorter bytes raw rest f, same_output given mid new s h ∙ o, sym (consumed_some bytes rest raw m f ∙ ap (λ (w : Machine). consumed (frames_of rest) w) (received_is given raw m mid new l g s)))
+
+failed_at : (o : Option Error) (bytes : List ℕ) (new : Machine) → new.failure ≡ o → is_some o ≡ true → consumed (frames_of bytes) new ≡ record { undecoded = []; machine = new }
+failed_at None bytes new e h = absurd (false≢true h)
+failed_at (Some e) bytes new i h = consumed_failed (frames_of bytes) new e i
+
+pub ends : (given : Result Unit Fault) (raw : RawMessage) (bytes rest none : List ℕ) (m mid new : Machine) → m.failure ≡ None → next_of bytes ≡ Whole raw rest → Gives (message_step raw m) given m mid → Quiets given (Ok tt) mid new → is_some new.failure ≡ true → none ≡ [] → Goes false (record { undecoded = bytes; machine = m }) (record { undecoded = none; machine = new })
+ends given raw bytes rest none m mid new l f g s h n =
+    rw n (sym (consumed_some bytes rest raw m f ∙ (ap (λ (w : Machine). consumed (frames_of rest) w) (received_is given raw m mid new l g s) ∙ failed_at new.failure rest new refl h)))
+
+-- a quiet call
+pub leaves_called : (o : Outcome Unit) (given : Result Unit Fault) (r : Result Unit AllocError) (bytes : List ℕ) (old mid new : Machine) → is_some old.failure ≡ false → Gives o given old mid → Quiets given r mid new → Leaves (record { undecoded = bytes; machine = left_by (called o old) }) r (record { undecoded = bytes; machine = old }) (record { undecoded = bytes; machine = new })
+leaves_called o given (Ok t) bytes old mid new l g s =
+    record { ok = ap (λ (m : Machine). record { undecoded = bytes; machine = m }) (sym (left_called o given old mid new (failure_of old.failure l) g s)); err = tt }
+leaves_called o given (Err e) bytes old mid new l g s = record { ok = tt; err = starved_called o given e old mid new g s }
+
+stays_left : {A : Type 0} (f : Option Error) (o : Outcome A) (old : Machine) → is_some f ≡ true → left_by (called_at f o old) ≡ old
+stays_left None o old h = absurd (false≢true h)
+stays_left (Some e) o old h = refl
+
+pub stays_called : {A : Type 0} (o : Outcome A) (old : Machine) → is_some old.failure ≡ true → left_by (called o old) ≡ old
+unfolding called
+stays_called o old h = stays_left old.failure o old h
+
+-- ---- bytes that no frame begins with
+
+pub consumed_garbage : (bytes : List ℕ) (m : Machine) → next_of bytes ≡ Malformed → consumed (frames_of bytes) m ≡ record { undecoded = []; machine = spoiled m }
+consumed_garbage bytes m h = rw (frames_of-next bytes, h) refl
+
+spoiled_is : (given : Result Unit Fault) (m mid new : Machine) → m.failure ≡ None → Gives (malformed_step m) given m mid → Quiets given (Ok tt) mid new → spoiled m ≡ new
+unfolding spoiled
+spoiled_is given m mid new l g s = left_called (malformed_step m) given m mid new l g s
+
+pub ends_in_garbage : (given : Result Unit Fault) (bytes none : List ℕ) (m mid new : Machine) → m.failure ≡ None → next_of bytes ≡ Malformed → Gives (malformed_step m) given m mid → Quiets given (Ok tt) mid new → none ≡ []
+    → Goes false (record { undecoded = bytes; machine = m }) (record { undecoded = none; machine = new })
+ends_in_garbage given bytes none m mid new l f g s n =
+    rw n (sym (consumed_garbage bytes m f ∙ ap (λ (w : Machine). record { undecoded = []; machine = w }) (spoiled_is given m mid new l g s)))

@@ -1,0 +1,4 @@
+pub mod Calls
+pub mod Concats
+pub mod Cuts
+pub mod Feeds

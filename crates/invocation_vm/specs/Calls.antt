@@ -1,0 +1,42 @@
+-- The calls of a VM, as events of its machine.
+use Rattle.std.specs.Prelude.{ℕ, Bool, true, false, ◌&&◌, not, if◌then◌else◌, nat_lt, List, [], ◌∷◌, Result}
+use Rattle.journal_protocol.specs.declared.error.Error.{Error}
+use Rattle.journal_protocol.specs.declared.faults.NamedFault.TheVariants as fault
+use Rattle.vm_parts.specs.declared.options.PayloadOptions.{PayloadOptions}
+use Rattle.vm_parts.specs.declared.types.AwaitResponse.{AwaitResponse}
+use Rattle.vm_parts.specs.declared.types.NotificationHandle.{NotificationHandle}
+use Rattle.vm_parts.specs.declared.types.UnresolvedFuture.{UnresolvedFuture}
+use Rattle.vm_parts.specs.declared.types.UnresolvedFuture.TheVariants.{Single}
+use Rattle.vm_parts.specs.declared.values.NonEmptyValue.{NonEmptyValue}
+use Rattle.vm_parts.specs.declared.values.NonEmptyValue.TheVariants.{Success, Failure}
+use Rattle.vm_parts.specs.Values.{value_message}
+use Rattle.vm_machine.specs.declared.machine.Machine.{Machine}
+use Rattle.vm_machine.specs.declared.request.Request.TheVariants as request
+use Rattle.vm_machine.specs.Awaits.{await_step}
+use Rattle.vm_machine.specs.Commands.{issued, unit_of}
+use Rattle.vm_machine.specs.Outcomes.{Outcome, refused}
+use Rattle.vm_machine.specs.Phases.{is_from_v6}
+
+-- a sleep to a time in whole milliseconds, as far as a u64 goes
+abbrev pub sleep_step : ℕ → List ℕ → Machine → Outcome NotificationHandle
+sleep_step millis name v =
+    if nat_lt millis 18446744073709551616 then issued (request.Sleep millis name) v
+    else refused fault.OutOfBoundsDuration v
+
+abbrev pub is_empty : {A : Type 0} → List A → Bool
+is_empty [] = true
+is_empty (x ∷ xs) = false
+
+-- metadata on a failure needs V6
+abbrev pub has_metadata : NonEmptyValue → Bool
+has_metadata (Success bytes) = false
+has_metadata (Failure f) = not (is_empty f.metadata)
+
+abbrev pub output_step : NonEmptyValue → PayloadOptions → Machine → Outcome Unit
+output_step value options v =
+    if has_metadata value && not (is_from_v6 v.version) then refused fault.UnsupportedFeatureForNegotiatedVersion v
+    else unit_of (issued (request.Output (value_message value) options) v)
+
+-- an await of a future
+abbrev pub future_step : UnresolvedFuture → Machine → Outcome (Result AwaitResponse Error)
+future_step (Single handle) v = await_step handle.0 v

@@ -1,0 +1,5 @@
+pub mod Calls
+pub mod Frames
+pub mod Making
+pub mod Seen
+pub mod Views

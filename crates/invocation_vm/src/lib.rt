@@ -1,0 +1,20 @@
+//! The invocation VM: a handler's calls and the bytes of one attempt in, answers and the bytes of commands out.
+#![tactic(auto)]
+
+mod core_vm;
+mod feed;
+mod output;
+mod versions;
+mod vm;
+
+pub use core_vm::CoreVM;
+pub use feed::any_cut;
+pub use journal_protocol::{Error, HeaderMap, Version};
+pub use vm::VM;
+pub use vm_parts::{
+    AwaitResponse, AwaitingOnPolicy, CANCEL_NOTIFICATION_HANDLE, CommandType,
+    EphemeralCompletionId, ImplicitCancellationOption, Input, JournalMismatchRetryBehavior,
+    JournalReplay, NonDeterministicChecksOption, NonEmptyValue, NotificationHandle, PayloadOptions,
+    ResponseHead, SignalDelivery, State, TerminalFailure, UnresolvedFuture, VMOptions, VMResult,
+    Value,
+};

@@ -1,0 +1,54 @@
+//! The version that a request asks for by its content type, and the head of the response.
+ghost use Rattle.std.specs.Prelude.{◌≡◌, codes, IfOk};
+ghost use Rattle.invocation_vm.specs.Making.{supported, version_in, response_head};
+
+use journal_protocol::{Error, Header, HeaderMap, NamedFault, Version};
+use std::alloc::{AllocError, Global};
+use vm_parts::ResponseHead;
+use wire::{Items, Text};
+
+/// Refuses a version that is not supported.
+fn supported(version: Version) -> Result<Version, Error>
+    ensures { result ≡ supported version }
+{
+    match version {
+        Version::V1 | Version::V2 | Version::V3 | Version::V4 => Err(Error::named(
+            NamedFault::UnsupportedMediaType,
+            None,
+        )),
+        _ => Ok(version),
+    }
+}
+
+/// The version that a request asks for.
+pub fn version_in<H: HeaderMap>(headers: &H) -> Result<Version, Error>
+    ensures { result ≡ version_in (H.found headers.now (codes "content-type")) }
+{
+    let found = match headers.extract("content-type") {
+        Ok(found) => found,
+        Err(_) => return Err(Error::named(NamedFault::BadRequest, None)),
+    };
+    let Some(text) = found else {
+        return Err(Error::named(NamedFault::MissingContentType, None));
+    };
+    let Some(version) = Version::of_content_type(text) else {
+        return Err(Error::named(NamedFault::BadContentType, None));
+    };
+    supported(version)
+}
+
+/// The head of the response in this version.
+pub fn response_head(alloc: Global, version: Version) -> Result<ResponseHead, AllocError>
+    ensures { IfOk result (λ head. head ≡ response_head version) }
+{
+    let mut headers = Items::new(alloc);
+    headers.push(Header {
+        key: Text::from_str(alloc, "content-type")?,
+        value: Text::from_str(alloc, version.content_type())?,
+    })?;
+    Ok(ResponseHead {
+        status_code: 200,
+        headers,
+        version,
+    })
+}

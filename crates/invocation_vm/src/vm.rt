@@ -1,0 +1,93 @@
+//! The calls of a VM, each with what it does to the view of it.
+ghost use Rattle.std.specs.Prelude.{◌≡◌, ◌/◌, IfOk, string_bytes, codes};
+ghost use Rattle.std.specs.Duration.{as_nanos};
+ghost use Rattle.vm_machine.specs.Awaits.{IsReadyAt, is_completed, last_index, state_of, take_step};
+ghost use Rattle.vm_machine.specs.Inputs.{end_step, input_step};
+ghost use Rattle.invocation_vm.specs.Calls.{future_step, output_step, sleep_step};
+ghost use Rattle.invocation_vm.specs.Making.{Makes, response_head, version_in};
+ghost use Rattle.invocation_vm.specs.Views.{View, Calls, CallsFlat, Leaves, TakesOutput, after_closing, after_input};
+
+use bytes::Bytes;
+use journal_protocol::HeaderMap;
+use std::alloc::{AllocError, Global};
+use std::time::Duration;
+use vm_parts::{
+    AwaitResponse, Input, NonEmptyValue, NotificationHandle, PayloadOptions, ResponseHead, State,
+    UnresolvedFuture, VMOptions, VMResult, Value,
+};
+
+/// One attempt of an invocation: the bytes of its journal come in, the handler's calls are answered, and the bytes
+/// of its commands go out.
+///
+/// A call that is refused fails the VM, which then answers that first error to each later call; want of memory is
+/// answered only where a growth was refused.
+pub trait VM: Sized {
+    ghost view: { Self → View };
+
+    /// A VM for the version that the header `content-type` names.
+    fn new<H: HeaderMap>(alloc: Global, headers: H, options: VMOptions) -> VMResult<Self>
+        ensures { Makes alloc options (version_in (H.found headers (codes "content-type"))) view result };
+
+    /// The head of the response: status 200, and the content type of the version.
+    fn get_response_head(&self) -> Result<ResponseHead, AllocError>
+        ensures { IfOk result (λ head. head ≡ response_head (view self.now).machine.version) };
+
+    /// The next bytes of the attempt, cut anywhere. What they spell may fail the VM; the answer is Ok then too.
+    fn notify_input(&mut self, bytes: Bytes) -> Result<(), AllocError>
+        ensures { Leaves (after_input (view self.old) bytes) result (view self.old) (view self.new) };
+
+    /// No more bytes are to be waited for.
+    fn notify_input_closed(&mut self) -> Result<(), AllocError>
+        ensures { Leaves (after_closing (view self.old)) result (view self.old) (view self.new) };
+
+    /// Takes all bytes that wait to be sent, whole frames in order.
+    fn take_output(&mut self) -> Result<Bytes, AllocError>
+        ensures { TakesOutput result (view self.old) (view self.new) };
+
+    /// Whether the handler may be run: not before the known entries are there. A closed VM answers an error by which
+    /// it doesn't fail.
+    fn is_ready_to_execute(&self) -> VMResult<bool>
+        ensures { IsReadyAt (view self.now).machine.failure (view self.now).machine.phase result };
+
+    /// Whether a take of the handle would answer a value.
+    fn is_completed(&self, handle: NotificationHandle) -> bool
+        ensures { result ≡ is_completed handle.0 (view self.now).machine };
+
+    /// Uses notifications in order of arrival until the future is done. Where it stays pending: in replay the VM
+    /// fails; with open input the caller is to wait; with closed input the invocation is suspended, the VM is closed
+    /// and answers the error 599.
+    fn do_await(&mut self, future: UnresolvedFuture) -> VMResult<AwaitResponse>
+        ensures { CallsFlat (future_step future) result (view self.old) (view self.new) };
+
+    /// Takes the result that a handle has; the handle then stands for nothing more, but for the cancel handle.
+    fn take_notification(&mut self, handle: NotificationHandle) -> VMResult<Option<Value>>
+        ensures { Calls (take_step handle.0) result (view self.old) (view self.new) };
+
+    /// What the handler was called with; its first call.
+    fn sys_input(&mut self) -> VMResult<Input>
+        ensures { Calls input_step result (view self.old) (view self.new) };
+
+    /// A sleep to a time since the Unix epoch, in whole ms, rounded down. The present time has no effect.
+    fn sys_sleep(
+        &mut self,
+        name: String,
+        wake_up_time_since_unix_epoch: Duration,
+        now_since_unix_epoch: Option<Duration>,
+    ) -> VMResult<NotificationHandle>
+        ensures { Calls (sleep_step (as_nanos wake_up_time_since_unix_epoch / 1_000_000) (string_bytes name)) result (view self.old) (view self.new) };
+
+    /// The handler's result. A failure with metadata needs V6.
+    fn sys_write_output(&mut self, value: NonEmptyValue, options: PayloadOptions) -> VMResult<()>
+        ensures { Calls (output_step value options) result (view self.old) (view self.new) };
+
+    /// The handler ends; its last call.
+    fn sys_end(&mut self) -> VMResult<()>
+        ensures { Calls end_step result (view self.old) (view self.new) };
+
+    fn state(&self) -> State
+        ensures { result ≡ state_of (view self.now).machine };
+
+    /// The index of the last command; -1 before any.
+    fn last_command_index(&self) -> i64
+        ensures { result ≡ last_index (view self.now).machine.counters.command };
+}

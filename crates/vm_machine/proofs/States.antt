@@ -1,0 +1,31 @@
+-- The handed-out state as it is read, pair by pair.
+use Rattle.std.proofs.Common.{◌≡◌, ℕ, ◌+◌, ◌<◌, Bool, true, false, List, [], ◌∷◌, ◌++◌, length, take, drop, get_or, map, refl, sym, ap, ◌∙◌, Option, Some}
+use Rattle.std.specs.List.{list_all}
+use Rattle.std.specs.Str.{IsUtf8, is_utf8}
+use Rattle.std.proofs.lemmas.Str.{is_utf8-from_IsUtf8}
+use Rattle.vm_parts.proofs.Places.{from_place}
+use Rattle.vm_parts.proofs.Texts.{not_text, take_next}
+
+abbrev pub Pair : Type 0
+Pair = List ℕ × List ℕ
+
+abbrev pub key_is_text : Pair → Bool
+key_is_text p = is_utf8 p.0
+
+pub some_key_no_text : (pairs : List Pair) (i : ℕ) (p : Pair) → i < length pairs → p ≡ get_or pairs i p → (IsUtf8 p.0 → ⊥)
+    → list_all key_is_text pairs ≡ list_all key_is_text (drop i pairs) → list_all key_is_text pairs ≡ false
+some_key_no_text pairs i p l e fails rest =
+    rest ∙ ap (list_all key_is_text) (from_place pairs i p l e) ∙ rw (not_text p.0 fails) refl
+
+pub key_text_more : (pairs : List Pair) (i : ℕ) (p : Pair) → i < length pairs → p ≡ get_or pairs i p → IsUtf8 p.0
+    → list_all key_is_text pairs ≡ list_all key_is_text (drop i pairs) → list_all key_is_text pairs ≡ list_all key_is_text (drop (i + 1) pairs)
+key_text_more pairs i p l e holds rest =
+    rest ∙ ap (list_all key_is_text) (from_place pairs i p l e) ∙ rw (is_utf8-from_IsUtf8 p.0 holds) refl
+
+map_push : {X Y : Type 0} (f : X → Y) (xs : List X) (x : X) → map f (xs ++ x ∷ []) ≡ map f xs ++ f x ∷ []
+map_push f [] x = refl
+map_push f (y ∷ ys) x = ap (λ t. f y ∷ t) (map_push f ys x)
+
+pub entry_more : {Y : Type 0} (f : Pair → Y) (pairs : List Pair) (i : ℕ) (p : Pair) → i < length pairs → p ≡ get_or pairs i p
+    → map f (take (i + 1) pairs) ≡ map f (take i pairs) ++ f p ∷ []
+entry_more f pairs i p l e = ap (map f) (take_next pairs i p l e) ∙ map_push f (take i pairs) p

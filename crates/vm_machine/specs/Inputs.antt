@@ -1,0 +1,186 @@
+-- What comes to a machine: messages, the closing of the input, and a handler that reads its input.
+use Rattle.std.specs.Prelude.{◌≡◌, ◌⊎◌, ℕ, ◌-◌, Bool, true, false, ◌&&◌, ◌==◌, if◌then◌else◌, nat_lt, nat_le, List, [], ◌∷◌, ◌++◌, map, Option, Some, None, Result, Ok, Err, IsErr}
+use Rattle.std.specs.List.{list_all}
+use Rattle.std.specs.Str.{is_utf8}
+use Rattle.std.specs.declared.alloc.AllocError.{AllocError}
+use Rattle.journal_protocol.specs.declared.commands.InputCommand.{InputCommand}
+use Rattle.journal_protocol.specs.declared.faults.NamedFault.{NamedFault}
+use Rattle.journal_protocol.specs.declared.faults.NamedFault.TheVariants as fault
+use Rattle.journal_protocol.specs.declared.message.Message.TheVariants as message
+use Rattle.journal_protocol.specs.declared.message.RawMessage.{RawMessage}
+use Rattle.journal_protocol.specs.declared.notification.Notification.{Notification}
+use Rattle.journal_protocol.specs.declared.start.Start.{Start}
+use Rattle.journal_protocol.specs.declared.types.MessageType.TheVariants as type
+use Rattle.journal_protocol.specs.declared.version.Version.{Version}
+use Rattle.journal_protocol.specs.Message.{encoding}
+use Rattle.journal_protocol.specs.Reading.{start_in, input_in, notification_in}
+use Rattle.journal_protocol.specs.Types.{type_number}
+use Rattle.vm_parts.specs.declared.context.StartInfo.{StartInfo}
+use Rattle.vm_parts.specs.declared.context.StateCoverage.{StateCoverage}
+use Rattle.vm_parts.specs.declared.context.StateCoverage.TheVariants.{Partial, Complete}
+use Rattle.vm_parts.specs.declared.values.Input.{Input}
+use Rattle.vm_parts.specs.Counting.{missing}
+use Rattle.vm_machine.specs.declared.fault.Fault.{Fault}
+use Rattle.vm_machine.specs.declared.fault.Fault.TheVariants as stopped
+use Rattle.vm_machine.specs.declared.machine.Machine.{Machine}
+use Rattle.vm_machine.specs.declared.phase.Phase.{Phase}
+use Rattle.vm_machine.specs.declared.phase.Phase.TheVariants.{WaitingStart, WaitingReplayEntries, Replaying, Processing, Closed}
+use Rattle.vm_machine.specs.Outcomes.{Outcome, Done, Failed, ◌>>=◌, refused, about_last, ruled, failed, starved}
+use Rattle.vm_machine.specs.Commands.{entered, about_next, popped}
+use Rattle.vm_machine.specs.Phases.{is_from_v6, is_from_v7, state_fault}
+
+-- ---- Start
+
+-- from this version on
+abbrev pub from_version : {A : Type 0} → Bool → Option A → Option A
+from_version true x = x
+from_version false x = None
+
+-- What is kept of Start: before V6 the options' seed takes the place of the one handed out, and before V7 there is no
+-- scope, limit key or idempotency key.
+abbrev pub info_of : Version → ℕ → Start → StartInfo
+info_of version seed s = record {
+  id = s.id;
+  debug_id = s.debug_id;
+  key = s.key;
+  known_entries = s.known_entries;
+  retry_count = s.retry_count;
+  duration = s.duration;
+  random_seed = if is_from_v6 version then s.random_seed else seed;
+  scope = from_version (is_from_v7 version) s.scope;
+  limit_key = from_version (is_from_v7 version) s.limit_key;
+  idempotency_key = from_version (is_from_v7 version) s.idempotency_key;
+}
+
+abbrev pub coverage_of : Bool → StateCoverage
+coverage_of true = Partial
+coverage_of false = Complete
+
+-- the handed-out state; its keys have to be texts
+abbrev pub entries_in : List (List ℕ × List ℕ) → Option (List (List ℕ × Option (List ℕ)))
+entries_in pairs = if list_all (λ p. is_utf8 p.0) pairs then Some (map (λ p. (p.0, Some p.1)) pairs) else None
+
+abbrev pub started_with : Start → Option (List (List ℕ × Option (List ℕ))) → Machine → Outcome Unit
+started_with s None v = refused fault.BadEagerStateKey v
+started_with s (Some entries) v =
+    if s.known_entries == 0 then refused fault.KnownEntriesIsZero v
+    else Done tt (record v {
+      start = info_of v.version v.options.fallback_random_seed s;
+      state = record { entries = entries; coverage = coverage_of s.partial };
+      entries_missing = s.known_entries;
+      phase = WaitingReplayEntries;
+    })
+
+abbrev pub started : Option Start → Machine → Outcome Unit
+started None v = refused fault.BadMessage v
+started (Some s) v = started_with s (entries_in s.state) v
+
+abbrev pub start_step : RawMessage → Phase → Machine → Outcome Unit
+start_step raw WaitingStart v = started (start_in raw.body) v
+start_step raw _ v = refused fault.UnexpectedInputMessage v
+
+-- ---- the known entries
+
+-- a known entry has come; after the last of them the machine replays
+abbrev pub counted_entry : Machine → Machine
+counted_entry v =
+    record v {
+      entries_missing = v.entries_missing - 1;
+      phase = if nat_le v.entries_missing 1 then Replaying else WaitingReplayEntries;
+    }
+
+abbrev pub entry_step : RawMessage → Phase → Machine → Outcome Unit
+entry_step raw WaitingReplayEntries v = Done tt (counted_entry (record v { commands = v.commands ++ raw ∷ [] }))
+entry_step raw _ v = refused fault.UnexpectedEntryMessage v
+
+-- ---- notifications
+
+abbrev pub enqueued : Notification → Machine → Machine
+enqueued n v = record v { results = record v.results { queued = v.results.queued ++ n ∷ [] } }
+
+abbrev pub queued : Option Notification → (Machine → Machine) → Machine → Outcome Unit
+queued None after v = refused fault.BadMessage v
+queued (Some n) after v = Done tt (after (enqueued n v))
+
+abbrev pub notification_step : RawMessage → Phase → Machine → Outcome Unit
+notification_step raw WaitingStart v = refused fault.UnexpectedState v
+notification_step raw WaitingReplayEntries v = queued (notification_in raw.body) counted_entry v
+notification_step raw Replaying v = queued (notification_in raw.body) (λ w. w) v
+notification_step raw Processing v = queued (notification_in raw.body) (λ w. w) v
+notification_step raw Closed v = Done tt v
+
+-- ---- any message
+
+-- What is refused for its type in the machine's phase, or ignored, isn't decoded.
+unfoldable pub message_step : RawMessage → Machine → Outcome Unit
+message_step raw v =
+    if type_number raw.ty == 1 then start_step raw v.phase v
+    else if nat_le 10 (type_number raw.ty) && nat_lt (type_number raw.ty) 30 then entry_step raw v.phase v
+    else if type_number raw.ty == 30 then notification_step raw v.phase v
+    else refused fault.UnexpectedInputMessage v
+
+-- bytes that are no frame
+abbrev pub malformed_step : Machine → Outcome Unit
+malformed_step v = refused fault.BadMessage v
+
+-- ---- the end of the input
+
+abbrev pub closed_at : Phase → Machine → Outcome Unit
+closed_at WaitingStart v = refused fault.InputClosedWhileWaitingEntries v
+closed_at WaitingReplayEntries v = refused fault.InputClosedWhileWaitingEntries v
+closed_at _ v = Done tt v
+
+abbrev pub close_step : Machine → Outcome Unit
+close_step v = let w = record v { input_closed = true } in closed_at v.phase w
+
+-- ---- the handler reads its input
+
+abbrev pub input_of : StartInfo → InputCommand → Input
+input_of s c = record {
+  invocation_id = s.debug_id;
+  random_seed = s.random_seed;
+  key = s.key;
+  headers = c.headers;
+  input = c.value;
+  scope = s.scope;
+  limit_key = s.limit_key;
+  idempotency_key = s.idempotency_key;
+}
+
+abbrev pub input_read : Option InputCommand → Machine → Outcome Input
+input_read None v = Failed (about_last fault.BadMessage v) v
+input_read (Some c) v = Done (input_of v.start c) v
+
+abbrev pub input_counted : Option NamedFault → Machine → Outcome Input
+input_counted (Some name) v = Failed (about_next name type.InputCommand [] v) v
+input_counted None v =
+    popped type.InputCommand (entered type.InputCommand [] v) >>= λ raw w. input_read (input_in raw.body) w
+
+abbrev pub input_at : Phase → Machine → Outcome Input
+input_at Replaying v = input_counted (missing 0 0 0 v.counters) v
+input_at phase v = let w = entered type.InputCommand [] v in Failed (about_last (state_fault phase) w) w
+
+unfoldable pub input_step : Machine → Outcome Input
+input_step v = input_at v.phase v
+
+-- ---- the handler ends
+
+abbrev pub ended : Machine → Machine
+ended v = record v { output = v.output ++ encoding message.End ∷ []; output_ended = true; phase = Closed }
+
+abbrev pub end_at : Phase → Machine → Outcome Unit
+end_at Processing v = Done tt (ended v)
+end_at Closed v = Done tt v
+end_at phase v = refused (state_fault phase) v
+
+abbrev pub end_step : Machine → Outcome Unit
+end_step v = end_at v.phase v
+
+-- ---- calls that answer nothing but want of memory
+
+-- what the error rule leaves of an inner function's answer
+abbrev pub Quiets : Result Unit Fault → Result Unit AllocError → Machine → Machine → Type 0
+Quiets (Ok a) r old new = (r ≡ Ok tt) × (new ≡ old)
+Quiets (Err stopped.Memory) r old new = IsErr r × (new ≡ starved old)
+Quiets (Err (stopped.Refused e)) r old new =
+    ((r ≡ Ok tt) × (new ≡ failed (ruled old e) old)) ⊎ (IsErr r × (new ≡ starved old))

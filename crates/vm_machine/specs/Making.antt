@@ -1,0 +1,51 @@
+-- A machine before any input.
+use Rattle.std.specs.Prelude.{ℕ, true, false, [], None}
+use Rattle.std.proofs.Common.{Global}
+use Rattle.journal_protocol.specs.declared.types.MessageType.TheVariants.{Start}
+use Rattle.journal_protocol.specs.declared.version.Version.{Version}
+use Rattle.vm_parts.specs.declared.context.StartInfo.{StartInfo}
+use Rattle.vm_parts.specs.declared.context.StateCoverage.TheVariants.{Partial}
+use Rattle.vm_parts.specs.declared.options.VMOptions.{VMOptions}
+use Rattle.vm_parts.specs.Counting.{fresh_counters}
+use Rattle.vm_parts.specs.Deliveries.{no_results}
+use Rattle.vm_machine.specs.declared.machine.Machine.{Machine}
+use Rattle.vm_machine.specs.declared.phase.Phase.TheVariants.{WaitingStart}
+
+-- before Start nothing is known of the invocation
+abbrev pub nothing_started : StartInfo
+nothing_started = record {
+  id = [];
+  debug_id = [];
+  key = [];
+  known_entries = 0;
+  retry_count = 0;
+  duration = 0;
+  random_seed = 0;
+  scope = None;
+  limit_key = None;
+  idempotency_key = None;
+}
+
+abbrev pub fresh : Global → Version → VMOptions → Machine
+fresh alloc version options = record {
+  alloc = alloc;
+  version = version;
+  options = options;
+  phase = WaitingStart;
+  failure = None;
+  input_closed = false;
+  start = nothing_started;
+  entries_missing = 0;
+  commands = [];
+  counters = fresh_counters;
+  last_command = record { ty = Start; name = [] };
+  wrote_command = false;
+  results = no_results;
+  state = record { entries = []; coverage = Partial };
+  runs = [];
+  proposals = [];
+  tracked = [];
+  ephemeral = [];
+  output = [];
+  output_ended = false;
+}

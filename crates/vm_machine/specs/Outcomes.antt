@@ -1,0 +1,112 @@
+-- What an event does to a machine, and what the error rule makes of it. These words are said once, for all events.
+use Rattle.std.specs.Prelude.{◌≡◌, ◌⊎◌, ℕ, Bool, true, false, ◌&&◌, ◌==◌, if◌then◌else◌, [], ◌∷◌, ◌++◌, Option, Some, None, unwrap_or, Result, Ok, Err, IsSome}
+use Rattle.journal_protocol.specs.declared.error.Error.{Error}
+use Rattle.journal_protocol.specs.declared.error.ErrorBehavior.{ErrorBehavior}
+use Rattle.journal_protocol.specs.declared.error.ErrorBehavior.TheVariants.{Retry, Pause, Fail}
+use Rattle.journal_protocol.specs.declared.faults.NamedFault.{NamedFault}
+use Rattle.journal_protocol.specs.declared.message.Message.TheVariants as message
+use Rattle.journal_protocol.specs.Errors.{named_error, no_memory, error_message}
+use Rattle.journal_protocol.specs.Message.{encoding}
+use Rattle.vm_parts.specs.declared.options.JournalMismatchRetryBehavior.{JournalMismatchRetryBehavior}
+use Rattle.vm_parts.specs.declared.options.JournalMismatchRetryBehavior.TheVariants as mismatch
+use Rattle.vm_machine.specs.declared.fault.Fault.{Fault}
+use Rattle.vm_machine.specs.declared.fault.Fault.TheVariants as fault
+use Rattle.vm_machine.specs.declared.machine.Machine.{Machine}
+use Rattle.vm_machine.specs.Phases.{is_closed, is_from_v7}
+
+-- An event is done with an answer, or fails with an error; either leaves a machine.
+pub data Outcome (A : Type 0) : Type 0 where
+  Done : A → Machine → Outcome A
+  Failed : Error → Machine → Outcome A
+
+-- one event after another
+infixl 10 ◌>>=◌
+abbrev pub ◌>>=◌ : {A B : Type 0} → Outcome A → (A → Machine → Outcome B) → Outcome B
+(Done a v) >>= f = f a v
+(Failed e v) >>= f = Failed e v
+
+-- What an inner function answers and leaves: the event's outcome with the output as it was where it failed, or want
+-- of memory with the output as it was.
+abbrev pub Gives : {A : Type 0} → Outcome A → Result A Fault → Machine → Machine → Type 0
+Gives o (Ok a) old new = o ≡ Done a new
+Gives o (Err (fault.Refused e)) old new = (o ≡ Failed e new) × (new.output ≡ old.output)
+Gives o (Err fault.Memory) old new = new.output ≡ old.output
+
+-- a refusal that relates to no command
+abbrev pub refused : {A : Type 0} → NamedFault → Machine → Outcome A
+refused name v = Failed (named_error name None) v
+
+-- a refusal that relates to the last command
+abbrev pub about_last : NamedFault → Machine → Error
+about_last name v =
+    named_error name (Some (record { index = unwrap_or v.counters.command 0; ty = v.last_command.ty; name = v.last_command.name }))
+
+abbrev pub mismatch_behavior : JournalMismatchRetryBehavior → ErrorBehavior
+mismatch_behavior mismatch.Pause = Pause
+mismatch_behavior mismatch.FailTerminally = Fail
+mismatch_behavior mismatch.FollowRetryPolicy = Retry
+
+-- From V7 on, the options say what becomes of an invocation whose journal doesn't fit.
+abbrev pub ruled : Machine → Error → Error
+ruled v e =
+    if (e.code == 570) && is_from_v7 v.version then record e { behavior = mismatch_behavior v.options.journal_mismatch_retry_behavior }
+    else e
+
+-- A machine that failed keeps its first error, and has written it unless it was closed.
+abbrev pub failed : Error → Machine → Machine
+failed e v =
+    record v {
+      failure = Some e;
+      output = if is_closed v.phase then v.output else v.output ++ encoding (message.Error (error_message e)) ∷ [];
+      output_ended = true;
+    }
+
+-- a machine that found no memory
+abbrev pub starved : Machine → Machine
+starved v = record v { failure = Some no_memory; output_ended = true }
+
+-- an outcome after the error rule
+abbrev pub settled : {A : Type 0} → Outcome A → Outcome A
+settled (Done a v) = Done a v
+settled (Failed e v) = Failed (ruled v e) (failed (ruled v e) v)
+
+abbrev pub called_at : {A : Type 0} → Option Error → Outcome A → Machine → Outcome A
+called_at None o v = settled o
+called_at (Some e) o v = Failed e v
+
+-- A call: a failed machine answers its first error and stays as it is; else comes the event, and the error rule.
+unfoldable pub called : {A : Type 0} → Outcome A → Machine → Outcome A
+called o v = called_at v.failure o v
+
+-- Want of memory was answered: the machine has failed, and there is no frame more.
+pub record IsStarved (e : Error) (old new : Machine) : Type 0 where
+  pub error : e ≡ no_memory
+  pub failed : IsSome new.failure
+  pub output : new.output ≡ old.output
+
+-- A call does what the outcome says, or finds no memory.
+abbrev pub Does : {A : Type 0} → Outcome A → Result A Error → Machine → Machine → Type 0
+Does o (Ok a) old new = o ≡ Done a new
+Does o (Err e) old new = (o ≡ Failed e new) ⊎ IsStarved e old new
+
+-- whether a machine may act: a failed one answers its first error
+abbrev pub Lives : Option Error → Result Unit Error → Type 0
+Lives None r = r ≡ Ok tt
+Lives (Some e) r = (r ≡ Err e) ⊎ (r ≡ Err no_memory)
+
+-- what the error rule leaves of an inner function's answer
+abbrev pub Settles : {A : Type 0} → Result A Fault → Result A Error → Machine → Machine → Type 0
+Settles (Ok a) r old new = (r ≡ Ok a) × (new ≡ old)
+Settles (Err fault.Memory) r old new = (r ≡ Err no_memory) × (new ≡ starved old)
+Settles (Err (fault.Refused e)) r old new =
+    ((r ≡ Err (ruled old e)) × (new ≡ failed (ruled old e) old)) ⊎ ((r ≡ Err no_memory) × (new ≡ starved old))
+
+-- an answer that is an error, though the machine didn't fail
+abbrev pub flat : {A : Type 0} → Outcome (Result A Error) → Outcome A
+flat (Done (Ok a) v) = Done a v
+flat (Done (Err e) v) = Failed e v
+flat (Failed e v) = Failed e v
+
+abbrev pub flattened : {A : Type 0} → Result (Result A Error) Error → Result A Error
+flattened (Ok r) = r
+flattened (Err e) = Err e

@@ -1,0 +1,75 @@
+-- What the phases of a machine and the versions of the protocol allow.
+use Rattle.std.specs.Prelude.{Bool, true, false}
+use Rattle.journal_protocol.specs.declared.faults.NamedFault.{NamedFault}
+use Rattle.journal_protocol.specs.declared.faults.NamedFault.TheVariants as fault
+use Rattle.journal_protocol.specs.declared.version.Version.{Version}
+use Rattle.journal_protocol.specs.declared.version.Version.TheVariants.{V1, V2, V3, V4, V5, V6, V7, V8}
+use Rattle.vm_parts.specs.declared.types.State.{State}
+use Rattle.vm_parts.specs.declared.types.State.TheVariants as state
+use Rattle.vm_machine.specs.declared.phase.Phase.{Phase}
+use Rattle.vm_machine.specs.declared.phase.Phase.TheVariants.{WaitingStart, WaitingReplayEntries, Replaying, Processing, Closed}
+
+-- the handler runs
+abbrev pub is_running : Phase → Bool
+is_running WaitingStart = false
+is_running WaitingReplayEntries = false
+is_running Replaying = true
+is_running Processing = true
+is_running Closed = false
+
+abbrev pub is_processing : Phase → Bool
+is_processing WaitingStart = false
+is_processing WaitingReplayEntries = false
+is_processing Replaying = false
+is_processing Processing = true
+is_processing Closed = false
+
+abbrev pub is_replaying : Phase → Bool
+is_replaying WaitingStart = false
+is_replaying WaitingReplayEntries = false
+is_replaying Replaying = true
+is_replaying Processing = false
+is_replaying Closed = false
+
+abbrev pub is_closed : Phase → Bool
+is_closed WaitingStart = false
+is_closed WaitingReplayEntries = false
+is_closed Replaying = false
+is_closed Processing = false
+is_closed Closed = true
+
+-- why a call is refused that may not be made in this phase
+abbrev pub state_fault : Phase → NamedFault
+state_fault WaitingStart = fault.UnexpectedState
+state_fault WaitingReplayEntries = fault.UnexpectedState
+state_fault Replaying = fault.UnexpectedState
+state_fault Processing = fault.UnexpectedState
+state_fault Closed = fault.Closed
+
+-- the phase as a handler's runner sees it
+abbrev pub shown : Phase → State
+shown WaitingStart = state.WaitingPreFlight
+shown WaitingReplayEntries = state.WaitingPreFlight
+shown Replaying = state.Replaying
+shown Processing = state.Processing
+shown Closed = state.Closed
+
+abbrev pub is_from_v6 : Version → Bool
+is_from_v6 V1 = false
+is_from_v6 V2 = false
+is_from_v6 V3 = false
+is_from_v6 V4 = false
+is_from_v6 V5 = false
+is_from_v6 V6 = true
+is_from_v6 V7 = true
+is_from_v6 V8 = true
+
+abbrev pub is_from_v7 : Version → Bool
+is_from_v7 V1 = false
+is_from_v7 V2 = false
+is_from_v7 V3 = false
+is_from_v7 V4 = false
+is_from_v7 V5 = false
+is_from_v7 V6 = false
+is_from_v7 V7 = true
+is_from_v7 V8 = true

@@ -1,0 +1,170 @@
+//! The event of all calls that have a command: the command is written, or in replay the recorded one is popped.
+ghost use Rattle.std.specs.Prelude.{◌≡◌, ◌<◌, ◌+◌, ◌^◌, Some, IfOk, OnOk, OnErr};
+ghost use Rattle.journal_protocol.specs.Errors.{named_error};
+ghost use Rattle.vm_machine.specs.Outcomes.{Gives, about_last};
+ghost use Rattle.vm_machine.specs.Commands.{entered, written, popped, replayed, carried_out, handed_out, ignores_payloads, prepared, issued, checks_are_off};
+ghost use Rattle.vm_machine.specs.Requests.{ids_of};
+
+use crate::fault::Fault;
+use crate::machine::Machine;
+use crate::phase::Phase;
+use crate::request::Request;
+use journal_protocol::{
+    Encoder, Error, Message, MessageType, NamedFault, NotificationId, RawMessage, RelatedCommand,
+    header_eq,
+};
+use std::alloc::AllocError;
+use vm_parts::{LastCommand, NonDeterministicChecksOption, NotificationHandle};
+use wire::{Text, copy_of};
+
+/// An error that relates to the command that would come next.
+fn about_next(fault: NamedFault, index: u32, ty: MessageType, name: Text) -> Error
+    ensures { result ≡ named_error fault (Some (record { index = index; ty = ty; name = name })) }
+{
+    Error::named(fault, Some(RelatedCommand { index, ty, name }))
+}
+
+fn checks_are_off(option: NonDeterministicChecksOption) -> bool
+    ensures { result ≡ checks_are_off option }
+{
+    matches!(option, NonDeterministicChecksOption::PayloadChecksDisabled)
+}
+
+impl Machine {
+    /// Counts a command, and keeps its type and name.
+    pub fn enter(&mut self, ty: MessageType, name: Text)
+        ensures { self.new ≡ entered ty name self.old }
+    {
+        self.counters.command = Some(self.counters.next_index());
+        self.last_command = LastCommand { ty, name };
+    }
+
+    /// An error that relates to the last command.
+    pub fn about_last(&self, fault: NamedFault) -> Result<Error, AllocError>
+        ensures { IfOk result (λ e. e ≡ about_last fault self.now) }
+    {
+        let related = RelatedCommand {
+            index: self.counters.command.unwrap_or(0),
+            ty: self.last_command.ty,
+            name: copy_of(&self.last_command.name)?,
+        };
+        Ok(Error::named(fault, Some(related)))
+    }
+
+    /// Pops the next recorded command, which has to be of this type.
+    #[tactic(auto, unfolding(crate::specs::Commands::popped))]
+    pub fn pop(&mut self, ty: MessageType) -> Result<RawMessage, Fault>
+        ensures step { Gives (popped ty self.old) result self.old self.new }
+        ensures quiet { self.new.output ≡ self.old.output }
+    {
+        let Some(raw) = self.commands.pop() else {
+            return Err(Fault::Refused(self.about_last(NamedFault::UnavailableEntry)?));
+        };
+        self.phase = if self.commands.is_empty() {
+            Phase::Processing
+        } else {
+            Phase::Replaying
+        };
+        if raw.ty.number() != ty.number() {
+            return Err(Fault::Refused(self.about_last(NamedFault::CommandTypeMismatch)?));
+        }
+        Ok(raw)
+    }
+
+    #[tactic(auto, unfolding(crate::specs::Commands::replayed))]
+    fn replay(&mut self, message: &Message, ignore_payloads: bool) -> Result<(), Fault>
+        ensures { Gives (replayed message.now ignore_payloads self.old) result self.old self.new }
+    {
+        let raw = self.pop(message.ty())?;
+        let recorded = match raw.read(self.alloc) {
+            Ok(recorded) => recorded,
+            Err(wire::Fault::Memory) => return Err(Fault::Memory),
+            Err(wire::Fault::Malformed) => {
+                return Err(Fault::Refused(self.about_last(NamedFault::BadMessage)?));
+            }
+        };
+        if !header_eq(&recorded, message, ignore_payloads) {
+            return Err(Fault::Refused(self.about_last(NamedFault::CommandMismatch)?));
+        }
+        Ok(())
+    }
+
+    fn write(&mut self, message: &Message) -> Result<(), AllocError>
+        ensures ok { OnOk result (self.new ≡ written message.now self.old) }
+        ensures err { OnErr result (self.new.output ≡ self.old.output) }
+    {
+        let frame = Encoder::new(self.alloc).encode(message)?;
+        self.output.push(frame)?;
+        self.wrote_command = true;
+        Ok(())
+    }
+
+    #[tactic(auto, unfolding(crate::specs::Commands::carried_out))]
+    fn carry_out(&mut self, message: &Message, ignore_payloads: bool) -> Result<(), Fault>
+        ensures { Gives (carried_out message.now ignore_payloads self.old) result self.old self.new }
+    {
+        if self.phase.is_processing() {
+            self.write(message)?;
+            return Ok(());
+        }
+        self.replay(message, ignore_payloads)
+    }
+
+    /// Whether replay doesn't compare the call's payload.
+    fn ignores_payloads(&self, request: &Request) -> bool
+        ensures { result ≡ ignores_payloads self.now request.now }
+    {
+        checks_are_off(self.options.non_determinism_checks) || request.is_unstable()
+    }
+
+    /// Gives the next handle the next completion id.
+    fn hand_out(&mut self) -> Result<(), AllocError>
+        requires ids { self.old.counters.completion + 1 < 2 ^ 32 }
+        requires handles { self.old.counters.handle + 1 < 2 ^ 32 }
+        ensures ok { OnOk result (self.new ≡ handed_out self.old) }
+        ensures err { OnErr result (self.new.output ≡ self.old.output) }
+    {
+        let id = NotificationId::CompletionId(self.counters.completion);
+        self.results.map_handle(self.counters.handle, id)?;
+        self.counters.completion += 1;
+        self.counters.handle += 1;
+        Ok(())
+    }
+
+    fn prepare(&mut self, request: &Request) -> Result<(), AllocError>
+        requires ids { self.old.counters.completion + ids_of request.now < 2 ^ 32 }
+        requires handles { self.old.counters.handle + ids_of request.now < 2 ^ 32 }
+        ensures ok { OnOk result (self.new ≡ prepared request.now self.old) }
+        ensures err { OnErr result (self.new.output ≡ self.old.output) }
+    {
+        match request {
+            Request::Sleep { .. } => self.hand_out(),
+            Request::Output { .. } => Ok(()),
+        }
+    }
+
+    /// A call that has a command.
+    #[tactic(auto, using(crate::proofs::Preparing::prepared_quiet), unfolding(crate::specs::Commands::issued))]
+    pub fn issue(&mut self, request: &Request) -> Result<NotificationHandle, Fault>
+        ensures { Gives (issued request.now self.old) result self.old self.new }
+    {
+        let ty = request.ty().message_type();
+        let name = request.name(self.alloc)?;
+        if !self.phase.is_running() {
+            self.enter(ty, name);
+            return Err(Fault::Refused(self.about_last(self.phase.fault())?));
+        }
+        let ids = request.ids();
+        if let Some(fault) = self.counters.missing(ids, 0, ids) {
+            let index = self.counters.next_index();
+            return Err(Fault::Refused(about_next(fault, index, ty, name)));
+        }
+        let handle = NotificationHandle(self.counters.handle);
+        let ignore_payloads = self.ignores_payloads(request);
+        let message = request.message(self.counters.completion)?;
+        self.enter(ty, name);
+        self.prepare(request)?;
+        self.carry_out(&message, ignore_payloads)?;
+        Ok(handle)
+    }
+}

@@ -1,0 +1,18 @@
+//! The machine of the VM: one function for each event, each with the outcome that its contract names.
+#![tactic(auto)]
+
+pub mod awaits;
+pub mod commands;
+pub mod fault;
+pub mod input;
+pub mod machine;
+pub mod phase;
+pub mod queries;
+pub mod receive;
+pub mod request;
+pub mod settle;
+
+pub use fault::Fault;
+pub use machine::Machine;
+pub use phase::Phase;
+pub use request::Request;

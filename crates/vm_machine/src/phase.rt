@@ -1,0 +1,85 @@
+//! How far a machine is: before Start, waiting for the known entries, replaying them, writing new commands, closed.
+ghost use Rattle.std.specs.Prelude.{◌≡◌};
+ghost use Rattle.vm_machine.specs.Phases.{is_running, is_processing, is_replaying, is_closed, state_fault, shown, is_from_v6, is_from_v7};
+
+use journal_protocol::{NamedFault, Version};
+use vm_parts::State;
+
+/// The state of a machine that hasn't failed.
+#[derive(Clone, Copy, Debug, PartialEq, Eq)]
+pub enum Phase {
+    WaitingStart,
+    WaitingReplayEntries,
+    Replaying,
+    Processing,
+    Closed,
+}
+
+impl Phase {
+    /// Whether the handler runs.
+    pub fn is_running(self) -> bool
+        ensures { result ≡ is_running self }
+    {
+        matches!(self, Phase::Replaying | Phase::Processing)
+    }
+
+    pub fn is_processing(self) -> bool
+        ensures { result ≡ is_processing self }
+    {
+        matches!(self, Phase::Processing)
+    }
+
+    pub fn is_replaying(self) -> bool
+        ensures { result ≡ is_replaying self }
+    {
+        matches!(self, Phase::Replaying)
+    }
+
+    pub fn is_closed(self) -> bool
+        ensures { result ≡ is_closed self }
+    {
+        matches!(self, Phase::Closed)
+    }
+
+    /// Why a call is refused that may not be made in this phase.
+    pub fn fault(self) -> NamedFault
+        ensures { result ≡ state_fault self }
+    {
+        match self {
+            Phase::Closed => NamedFault::Closed,
+            _ => NamedFault::UnexpectedState,
+        }
+    }
+
+    /// The phase as a handler's runner sees it.
+    pub fn shown(self) -> State
+        ensures { result ≡ shown self }
+    {
+        match self {
+            Phase::WaitingStart | Phase::WaitingReplayEntries => State::WaitingPreFlight,
+            Phase::Replaying => State::Replaying,
+            Phase::Processing => State::Processing,
+            Phase::Closed => State::Closed,
+        }
+    }
+}
+
+/// Whether a version is V6 or later.
+pub fn is_from_v6(version: Version) -> bool
+    ensures { result ≡ is_from_v6 version }
+{
+    match version {
+        Version::V1 | Version::V2 | Version::V3 | Version::V4 | Version::V5 => false,
+        Version::V6 | Version::V7 | Version::V8 => true,
+    }
+}
+
+/// Whether a version is V7 or later.
+pub fn is_from_v7(version: Version) -> bool
+    ensures { result ≡ is_from_v7 version }
+{
+    match version {
+        Version::V1 | Version::V2 | Version::V3 | Version::V4 | Version::V5 | Version::V6 => false,
+        Version::V7 | Version::V8 => true,
+    }
+}

@@ -1,0 +1,138 @@
+//! The error rule: what becomes of a machine whose event was refused or found no memory.
+ghost use Rattle.std.specs.Prelude.{◌≡◌, ◌∷◌, ◌++◌, [], OnOk, OnErr, IsErr, Ok, is_some};
+ghost use Rattle.journal_protocol.specs.Errors.{no_memory, error_message};
+ghost use Rattle.journal_protocol.specs.Message.{encoding};
+ghost use Rattle.journal_protocol.specs.declared.message.Message.TheVariants as message;
+ghost use Rattle.vm_machine.specs.Outcomes.{ruled, failed, starved, Settles, Lives, mismatch_behavior, flattened};
+ghost use Rattle.vm_machine.specs.Inputs.{Quiets};
+
+use crate::fault::Fault;
+use crate::machine::Machine;
+use crate::phase::is_from_v7;
+use journal_protocol::{Encoder, Error, ErrorBehavior, Message, NamedFault};
+use std::alloc::AllocError;
+use vm_parts::JournalMismatchRetryBehavior;
+
+fn mismatch_behavior(option: JournalMismatchRetryBehavior) -> ErrorBehavior
+    ensures { result ≡ mismatch_behavior option }
+{
+    match option {
+        JournalMismatchRetryBehavior::Pause => ErrorBehavior::Pause,
+        JournalMismatchRetryBehavior::FailTerminally => ErrorBehavior::Fail,
+        JournalMismatchRetryBehavior::FollowRetryPolicy => ErrorBehavior::Retry,
+    }
+}
+
+impl Machine {
+    /// Answers the first error of a failed machine.
+    pub fn live(&self) -> Result<(), Error>
+        ensures { Lives self.now.failure result }
+    {
+        match &self.failure {
+            None => Ok(()),
+            Some(error) => match error.clone() {
+                Ok(error) => Err(error),
+                Err(_) => Err(Error::named(NamedFault::Memory, None)),
+            },
+        }
+    }
+
+    pub fn has_failed(&self) -> bool
+        ensures { result ≡ is_some self.now.failure }
+    {
+        self.failure.is_some()
+    }
+
+    fn rule(&self, error: Error) -> Error
+        ensures { result ≡ ruled self.now error }
+    {
+        if error.code == 570 && is_from_v7(self.version) {
+            return error.with_behavior(mismatch_behavior(
+                self.options.journal_mismatch_retry_behavior,
+            ));
+        }
+        error
+    }
+
+    fn write_error(&mut self, error: &Error) -> Result<(), AllocError>
+        ensures ok { OnOk result (self.new ≡ record self.old { output = self.old.output ++ encoding (message.Error (error_message error.now)) ∷ [] }) }
+        ensures err { OnErr result (self.new ≡ self.old) }
+    {
+        let message = Message::Error(error.to_message(self.alloc)?);
+        let frame = Encoder::new(self.alloc).encode(&message)?;
+        self.output.push(frame)
+    }
+
+    fn fail(&mut self, error: &Error) -> Result<(), AllocError>
+        ensures ok { OnOk result (self.new ≡ failed error.now self.old) }
+        ensures err { OnErr result (self.new ≡ self.old) }
+    {
+        let kept = error.clone()?;
+        if !self.phase.is_closed() {
+            self.write_error(error)?;
+        }
+        self.failure = Some(kept);
+        self.output_ended = true;
+        Ok(())
+    }
+
+    /// Fails for want of memory.
+    pub fn starve(&mut self) -> Error
+        ensures state { self.new ≡ starved self.old }
+        ensures error { result ≡ no_memory }
+    {
+        self.failure = Some(Error::named(NamedFault::Memory, None));
+        self.output_ended = true;
+        Error::named(NamedFault::Memory, None)
+    }
+
+    /// Ends an event by the error rule.
+    pub fn settle<T: Drop>(&mut self, given: Result<T, Fault>) -> Result<T, Error>
+        ensures { Settles given result self.old self.new }
+    {
+        match given {
+            Ok(answer) => Ok(answer),
+            Err(Fault::Memory) => Err(self.starve()),
+            Err(Fault::Refused(error)) => {
+                let error = self.rule(error);
+                match self.fail(&error) {
+                    Ok(()) => Err(error),
+                    Err(_) => Err(self.starve()),
+                }
+            }
+        }
+    }
+
+    /// Ends an event of a call that answers nothing but want of memory.
+    pub fn settle_quietly(&mut self, given: Result<(), Fault>) -> Result<(), AllocError>
+        ensures { Quiets given result self.old self.new }
+    {
+        match given {
+            Ok(()) => Ok(()),
+            Err(Fault::Memory) => {
+                let _ = self.starve();
+                Err(AllocError)
+            }
+            Err(Fault::Refused(error)) => {
+                let error = self.rule(error);
+                match self.fail(&error) {
+                    Ok(()) => Ok(()),
+                    Err(_) => {
+                        let _ = self.starve();
+                        Err(AllocError)
+                    }
+                }
+            }
+        }
+    }
+}
+
+/// An answer that is an error, though the machine didn't fail.
+pub fn flatten<T>(given: Result<Result<T, Error>, Error>) -> Result<T, Error>
+    ensures { result ≡ flattened given }
+{
+    match given {
+        Ok(answer) => answer,
+        Err(error) => Err(error),
+    }
+}

@@ -1,0 +1,28 @@
+-- The message types by which errors name commands.
+use Rattle.journal_protocol.specs.declared.types.MessageType.{MessageType}
+use Rattle.journal_protocol.specs.declared.types.MessageType.TheVariants as message
+use Rattle.vm_parts.specs.declared.command_type.CommandType.{CommandType}
+use Rattle.vm_parts.specs.declared.command_type.CommandType.TheVariants as command
+
+-- a state read is named by its lazy form, the cancelling of an invocation by the signal that it sends; each other
+-- command by its own message
+unfoldable pub message_type : CommandType → MessageType
+message_type command.Input = message.InputCommand
+message_type command.Output = message.OutputCommand
+message_type command.GetState = message.GetLazyStateCommand
+message_type command.GetStateKeys = message.GetLazyStateKeysCommand
+message_type command.SetState = message.SetStateCommand
+message_type command.ClearState = message.ClearStateCommand
+message_type command.ClearAllState = message.ClearAllStateCommand
+message_type command.GetPromise = message.GetPromiseCommand
+message_type command.PeekPromise = message.PeekPromiseCommand
+message_type command.CompletePromise = message.CompletePromiseCommand
+message_type command.Sleep = message.SleepCommand
+message_type command.Call = message.CallCommand
+message_type command.OneWayCall = message.OneWayCallCommand
+message_type command.SendSignal = message.SendSignalCommand
+message_type command.Run = message.RunCommand
+message_type command.AttachInvocation = message.AttachInvocationCommand
+message_type command.GetInvocationOutput = message.GetInvocationOutputCommand
+message_type command.CompleteAwakeable = message.CompleteAwakeableCommand
+message_type command.CancelInvocation = message.SendSignalCommand

@@ -1,0 +1,27 @@
+-- The numbers that calls are given.
+use Rattle.std.specs.Prelude.{ℕ, ◌+◌, ◌-◌, ◌==◌, if◌then◌else◌, nat_lt, Option, Some, None, unwrap_or}
+use Rattle.journal_protocol.specs.declared.faults.NamedFault.{NamedFault}
+use Rattle.journal_protocol.specs.declared.faults.NamedFault.TheVariants.{ExhaustedCompletionIds, ExhaustedSignalIds, ExhaustedHandles, ExhaustedCommandIndexes}
+use Rattle.vm_parts.specs.declared.context.Counters.{Counters}
+
+-- Command indexes count from 0, completion and ephemeral ids from 1, signal ids and handles from 17.
+abbrev pub fresh_counters : Counters
+fresh_counters = record { command = None; completion = 1; signal = 17; handle = 17; ephemeral = 1 }
+
+-- the place at which a counter hands nothing more out
+abbrev pub most : ℕ
+most = 4294967295
+
+-- the index after the last command; it stays at the most
+abbrev pub next_index : Option ℕ → ℕ
+next_index None = 0
+next_index (Some index) = if index == most then index else index + 1
+
+-- The first kind of number of which a call with a command would need more than are left.
+abbrev pub missing : ℕ → ℕ → ℕ → Counters → Option NamedFault
+missing ids signals handles c =
+    if nat_lt (most - c.completion) ids then Some ExhaustedCompletionIds
+    else if nat_lt (most - c.signal) signals then Some ExhaustedSignalIds
+    else if nat_lt (most - c.handle) handles then Some ExhaustedHandles
+    else if unwrap_or c.command 0 == most then Some ExhaustedCommandIndexes
+    else None

@@ -1,0 +1,113 @@
+-- Which result a handle has: notifications are used in order of arrival, and each id has a present result among
+-- the used ones that were not taken.
+use Rattle.std.specs.Prelude.{ℕ, ◌≡◌, ◌==◌, Bool, true, false, ◌||◌, cond, nat_eq, List, [], ◌∷◌, ◌++◌, Option, Some, None}
+use Rattle.std.specs.Cmp.Lexicographic.{pointwise}
+use Rattle.journal_protocol.specs.declared.notification.Notification.{Notification}
+use Rattle.journal_protocol.specs.declared.notification.NotificationId.{NotificationId}
+use Rattle.journal_protocol.specs.declared.notification.NotificationId.TheVariants.{CompletionId, SignalId, SignalName}
+use Rattle.journal_protocol.specs.declared.notification.NotificationResult.{NotificationResult}
+use Rattle.vm_parts.specs.declared.async_results.Mapping.{Mapping}
+use Rattle.vm_parts.specs.declared.options.SignalDelivery.{SignalDelivery}
+use Rattle.vm_parts.specs.declared.options.SignalDelivery.TheVariants.{Queued, Overwrite}
+use Rattle.vm_parts.specs.Arrived.{Arrived}
+
+abbrev pub same_id : NotificationId → NotificationId → Bool
+same_id (CompletionId a) (CompletionId b) = a == b
+same_id (SignalId a) (SignalId b) = a == b
+same_id (SignalName a) (SignalName b) = pointwise nat_eq a b
+same_id _ _ = false
+
+-- before any notification: the cancel handle stands for signal 1
+abbrev pub no_results : Arrived
+no_results = record { queued = []; ready = []; handles = record { handle = 1; id = SignalId 1 } ∷ [] }
+
+-- the id that a handle stands for
+abbrev pub id_at : ℕ → List Mapping → Option NotificationId
+id_at handle [] = None
+id_at handle (m ∷ ms) = cond (m.handle == handle) (Some m.id) (id_at handle ms)
+
+-- a handle is forgotten
+abbrev pub unmapped : ℕ → List Mapping → List Mapping
+unmapped handle [] = []
+unmapped handle (m ∷ ms) = cond (m.handle == handle) ms (m ∷ unmapped handle ms)
+
+-- the results of an id, oldest first
+abbrev pub results_of : NotificationId → List Notification → List NotificationResult
+results_of id [] = []
+results_of id (n ∷ ns) = cond (same_id n.id id) (n.result ∷ results_of id ns) (results_of id ns)
+
+abbrev pub has_result : NotificationId → List Notification → Bool
+has_result id [] = false
+has_result id (n ∷ ns) = same_id n.id id || has_result id ns
+
+-- a handle that stands for no id never has a result
+abbrev pub has_result_for : Option NotificationId → List Notification → Bool
+has_result_for None ns = false
+has_result_for (Some id) ns = has_result id ns
+
+abbrev pub first : {X : Type 0} → List X → Option X
+first [] = None
+first (x ∷ xs) = Some x
+
+abbrev pub newest_after : {X : Type 0} → Option X → List X → Option X
+newest_after found [] = found
+newest_after found (x ∷ xs) = newest_after (Some x) xs
+
+abbrev pub newest : {X : Type 0} → List X → Option X
+newest = newest_after None
+
+-- the deliveries of a signal are taken one by one, unless the newest is to replace the others; of a completion the
+-- newest stands
+abbrev pub is_listed : SignalDelivery → NotificationId → Bool
+is_listed Overwrite id = false
+is_listed Queued (CompletionId _) = false
+is_listed Queued (SignalId _) = true
+is_listed Queued (SignalName _) = true
+
+-- the present result of an id
+abbrev pub present : SignalDelivery → NotificationId → List Notification → Option NotificationResult
+present delivery id ns = cond (is_listed delivery id) (first (results_of id ns)) (newest (results_of id ns))
+
+-- without the oldest of an id
+abbrev pub without_first : NotificationId → List Notification → List Notification
+without_first id [] = []
+without_first id (n ∷ ns) = cond (same_id n.id id) ns (n ∷ without_first id ns)
+
+-- without any of an id
+abbrev pub without_all : NotificationId → List Notification → List Notification
+without_all id [] = []
+without_all id (n ∷ ns) = cond (same_id n.id id) (without_all id ns) (n ∷ without_all id ns)
+
+-- what stays ready when the present result of an id is taken
+abbrev pub left_ready : SignalDelivery → NotificationId → List Notification → List Notification
+left_ready delivery id ns = cond (is_listed delivery id) (without_first id ns) (without_all id ns)
+
+-- notifications are used one by one until the id has a result among those that are ready
+abbrev pub used_until : Option NotificationId → List Notification → List Notification → List Notification × List Notification
+used_until id ready [] = (ready, [])
+used_until id ready (n ∷ ns) = cond (has_result_for id ready) (ready, n ∷ ns) (used_until id (ready ++ n ∷ []) ns)
+
+abbrev pub with_used : List Notification × List Notification → Arrived → Arrived
+with_used used v = record v { ready = used.0; queued = used.1 }
+
+abbrev pub used_for : ℕ → Arrived → Arrived
+used_for handle v = with_used (used_until (id_at handle v.handles) v.ready v.queued) v
+
+-- a take: the present result leaves, and the handle with it, but for the cancel handle
+abbrev pub taken_from : SignalDelivery → ℕ → NotificationId → Arrived → Arrived
+taken_from delivery handle id v =
+    record v { ready = left_ready delivery id v.ready; handles = cond (handle == 1) v.handles (unmapped handle v.handles) }
+
+-- the result that a handle has
+abbrev pub present_for : SignalDelivery → Option NotificationId → List Notification → Option NotificationResult
+present_for delivery None ns = None
+present_for delivery (Some id) ns = present delivery id ns
+
+abbrev pub taken_by : SignalDelivery → ℕ → Option NotificationId → Option NotificationResult → Arrived → Arrived
+taken_by delivery handle (Some id) (Some result) v = taken_from delivery handle id v
+taken_by delivery handle _ _ v = v
+
+-- what a take of a handle answers and leaves
+pub record Taken (delivery : SignalDelivery) (handle : ℕ) (old : Arrived) (answer : Option NotificationResult) (new : Arrived) : Type 0 where
+  pub result : answer ≡ present_for delivery (id_at handle old.handles) old.ready
+  pub left : new ≡ taken_by delivery handle (id_at handle old.handles) (present_for delivery (id_at handle old.handles) old.ready) old

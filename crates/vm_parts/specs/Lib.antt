@@ -1,0 +1,5 @@
+pub mod Arrived
+pub mod CommandTypes
+pub mod Counting
+pub mod Deliveries
+pub mod Values

@@ -1,0 +1,102 @@
+//! What an attempt knows of itself: its counters, its last command, what Start told it, and the state.
+ghost use Rattle.std.specs.Prelude.{◌≡◌, ◌<◌, ◌+◌, ◌^◌, IfNone};
+ghost use Rattle.vm_parts.specs.Counting.{fresh_counters, next_index, missing};
+
+use bytes::Bytes;
+use journal_protocol::{MessageType, NamedFault};
+use wire::{Items, Text};
+
+/// The next numbers, each one's place; a counter at `u32::MAX` hands nothing out.
+#[derive(Clone, Copy, Debug)]
+pub struct Counters {
+    /// The index of the last command; none before any.
+    pub command: Option<u32>,
+    pub completion: u32,
+    pub signal: u32,
+    pub handle: u32,
+    pub ephemeral: u32,
+}
+
+/// The type and name of the last command, as an error that relates to it shows them; an empty name is none.
+#[derive(Debug, Drop)]
+pub struct LastCommand {
+    pub ty: MessageType,
+    pub name: Text,
+}
+
+/// What the Start message told of the invocation; the seed and the last three as the version has them.
+#[derive(Debug, Drop)]
+pub struct StartInfo {
+    pub id: Bytes,
+    pub debug_id: Text,
+    pub key: Text,
+    pub known_entries: u32,
+    pub retry_count: u32,
+    /// In ms, since the invocation's first attempt.
+    pub duration: u64,
+    pub random_seed: u64,
+    pub scope: Option<Text>,
+    pub limit_key: Option<Text>,
+    pub idempotency_key: Option<Text>,
+}
+
+/// Whether a key that the state map doesn't list is known to have no value.
+#[derive(Clone, Copy, Debug, PartialEq, Eq)]
+pub enum StateCoverage {
+    /// The runtime handed out some keys only.
+    Partial,
+    /// Each key without an entry is empty.
+    Complete,
+}
+
+/// The state as it was handed out: of several entries of one key the last counts.
+#[derive(Debug, Drop)]
+pub struct StateMap {
+    pub entries: Items<(Text, Option<Bytes>)>,
+    pub coverage: StateCoverage,
+}
+
+impl Counters {
+    /// Command indexes count from 0, completion and ephemeral ids from 1, signal ids and handles from 17.
+    pub fn new() -> Counters
+        ensures { result ≡ fresh_counters }
+    {
+        Counters {
+            command: None,
+            completion: 1,
+            signal: 17,
+            handle: 17,
+            ephemeral: 1,
+        }
+    }
+
+    /// The index after the last command; it stays at `u32::MAX`.
+    pub fn next_index(&self) -> u32
+        ensures { result ≡ next_index self.now.command }
+    {
+        match self.command {
+            None => 0,
+            Some(index) => index.saturating_add(1),
+        }
+    }
+
+    /// The first kind of number of which too few are left for a call with a command.
+    pub fn missing(&self, ids: u32, signals: u32, handles: u32) -> Option<NamedFault>
+        ensures found { result ≡ missing ids signals handles self.now }
+        ensures ids_left { IfNone result (self.now.completion + ids < 2 ^ 32) }
+        ensures signals_left { IfNone result (self.now.signal + signals < 2 ^ 32) }
+        ensures handles_left { IfNone result (self.now.handle + handles < 2 ^ 32) }
+    {
+        if u32::MAX - self.completion < ids {
+            Some(NamedFault::ExhaustedCompletionIds)
+        } else if u32::MAX - self.signal < signals {
+            Some(NamedFault::ExhaustedSignalIds)
+        } else if u32::MAX - self.handle < handles {
+            Some(NamedFault::ExhaustedHandles)
+        } else if self.command.unwrap_or(0) == u32::MAX {
+            Some(NamedFault::ExhaustedCommandIndexes)
+        } else {
+            None
+        }
+    }
+}

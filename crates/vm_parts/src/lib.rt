@@ -1,0 +1,34 @@
+//! The parts of the VM: its public types, and the small states that the machine is made of, each with what
+//! contracts see of it.
+#![tactic(auto)]
+
+pub mod async_results;
+pub mod command_type;
+pub mod context;
+pub mod ephemeral;
+pub mod options;
+pub mod queue;
+pub mod run_state;
+pub mod steps;
+pub mod types;
+pub mod values;
+
+pub use async_results::{AsyncResults, Mapping};
+pub use command_type::CommandType;
+pub use context::{Counters, LastCommand, StartInfo, StateCoverage, StateMap};
+pub use ephemeral::EphemeralCommand;
+pub use options::{
+    AwaitingOnPolicy, ImplicitCancellationOption, JournalMismatchRetryBehavior, JournalReplay,
+    NonDeterministicChecksOption, PayloadOptions, SignalDelivery, VMOptions,
+};
+pub use queue::Queue;
+pub use run_state::{KeptProposal, PendingRun, RunExecution, TrackedCall};
+pub use steps::{Answer, Step};
+pub use types::{
+    AwaitResponse, CANCEL_NOTIFICATION_HANDLE, EphemeralCompletionId, NotificationHandle, State,
+    UnresolvedFuture,
+};
+pub use values::{Input, NonEmptyValue, ResponseHead, TerminalFailure, Value};
+
+/// What a call of the VM answers.
+pub type VMResult<T> = Result<T, journal_protocol::Error>;

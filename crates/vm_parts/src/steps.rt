@@ -1,0 +1,34 @@
+//! What a handler asks for next, and what it was answered.
+
+use crate::options::PayloadOptions;
+use crate::types::{NotificationHandle, UnresolvedFuture};
+use crate::values::{Input, NonEmptyValue, Value};
+use std::time::Duration;
+use wire::Text;
+
+/// The next call of a handler, with its arguments.
+#[derive(Debug, Drop)]
+pub enum Step {
+    Sleep {
+        name: Text,
+        wake_up_time_since_unix_epoch: Duration,
+        now_since_unix_epoch: Option<Duration>,
+    },
+    WriteOutput(NonEmptyValue, PayloadOptions),
+    Await(UnresolvedFuture),
+    Take(NotificationHandle),
+    Completed(NotificationHandle),
+    End,
+}
+
+/// The answer to a call of a handler; the first is its input.
+#[derive(Debug, Drop)]
+pub enum Answer {
+    Input(Input),
+    Handle(NotificationHandle),
+    Unit,
+    Awake,
+    Cancelled,
+    Taken(Option<Value>),
+    Completed(bool),
+}

@@ -1,0 +1,14 @@
+-- What a call does, with its answer as a reply.
+use Rattle.std.proofs.Common.{◌≡◌, ◌⊎◌, inl, inr, Result, Ok, Err, refl}
+use Rattle.journal_protocol.specs.declared.error.Error.{Error}
+use Rattle.vm_machine.specs.declared.machine.Machine.{Machine}
+use Rattle.vm_machine.specs.Outcomes.{Outcome, Done, Failed, Does, IsStarved}
+use Rattle.vm_rounds.specs.Steps.{mapped}
+
+abbrev pub result_mapped : {A B : Type 0} → (A → B) → Result A Error → Result B Error
+result_mapped f (Ok a) = Ok (f a)
+result_mapped f (Err e) = Err e
+
+pub replies : {A B : Type 0} (f : A → B) (o : Outcome A) (r : Result A Error) (old new : Machine) → Does o r old new → Does (mapped f o) (result_mapped f r) old new
+replies f o (Ok a) old new h = rw h refl
+replies {B = B} f o (Err e) old new h = elim h as (λ _. Does {A = B} (mapped f o) (Err e) old new) [ inl x ↦ inl (rw x refl) | inr x ↦ inr x ]

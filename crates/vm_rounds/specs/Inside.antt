@@ -1,0 +1,17 @@
+-- The record that the fields of an attempt are.
+use Rattle.invocation_vm.specs.Seen.{seen}
+use Rattle.vm_rounds.specs.declared.inner.Inner.{Inner}
+use Rattle.vm_rounds.specs.Record.{Record}
+
+abbrev pub the_record : {H : Type 0} → Inner H → Record
+the_record a = record {
+  fed = a.fed.items;
+  closed = a.closed;
+  answers = a.answers.items;
+  taken = a.taken.items;
+  taken_len = a.taken_len;
+  waiting = a.waiting;
+  starved = a.starved;
+  over = a.over;
+  vm = seen a.vm;
+}

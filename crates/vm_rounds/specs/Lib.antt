@@ -1,0 +1,4 @@
+pub mod Inside
+pub mod Record
+pub mod Stepping
+pub mod Steps

@@ -1,0 +1,29 @@
+-- What contracts see of an attempt.
+use Rattle.std.specs.Prelude.{ℕ, Bool, List, Option}
+use Rattle.vm_parts.specs.declared.steps.Answer.{Answer}
+use Rattle.vm_parts.specs.declared.types.UnresolvedFuture.{UnresolvedFuture}
+use Rattle.invocation_vm.specs.Views.{View}
+use Rattle.vm_rounds.specs.declared.progress.Fed.{Fed}
+use Rattle.vm_rounds.specs.declared.progress.Progress.{Progress}
+
+pub record Record : Type 0 where
+  -- the pieces that came until the VM failed or closed
+  pub fed : List Fed
+  -- the input was closed
+  pub closed : Bool
+  pub answers : List Answer
+  -- the output that was taken, piece by piece, and its length as far as a usize goes
+  pub taken : List (List ℕ)
+  pub taken_len : ℕ
+  -- the await that waits
+  pub waiting : Option UnresolvedFuture
+  -- the attempt itself found no memory
+  pub starved : Bool
+  -- the invocation is suspended, or the handler has ended
+  pub over : Option Progress
+  pub vm : View
+
+-- an attempt: its handler, and its record
+pub record AttemptView (H : Type 0) : Type 0 where
+  pub handler : H
+  pub record_of : Record

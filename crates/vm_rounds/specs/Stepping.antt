@@ -1,0 +1,170 @@
+-- What the calls of an attempt do to its record.
+use Rattle.std.specs.Prelude.{◌≡◌, ◌≢◌, ◌⊎◌, ℕ, ◌+◌, ◌-◌, ◌^◌, min, Bool, true, false, List, [], ◌∷◌, ◌++◌, length, Option, Some, None, Result, Ok, Err}
+use Rattle.std.proofs.Common.{Global}
+use Rattle.std.specs.List.{concat}
+use Rattle.std.specs.declared.alloc.AllocError.{AllocError}
+use Rattle.journal_protocol.specs.declared.error.Error.{Error}
+use Rattle.journal_protocol.specs.declared.faults.NamedFault.TheVariants as fault
+use Rattle.journal_protocol.specs.Errors.{named_error, no_memory}
+use Rattle.vm_parts.specs.declared.steps.Answer.{Answer}
+use Rattle.vm_parts.specs.declared.steps.Answer.TheVariants as answer
+use Rattle.vm_parts.specs.declared.steps.Step.{Step}
+use Rattle.vm_parts.specs.declared.steps.Step.TheVariants as step
+use Rattle.vm_parts.specs.declared.types.UnresolvedFuture.{UnresolvedFuture}
+use Rattle.vm_parts.specs.declared.values.Input.{Input}
+use Rattle.vm_machine.specs.declared.machine.Machine.{Machine}
+use Rattle.vm_machine.specs.declared.phase.Phase.{Phase}
+use Rattle.vm_machine.specs.declared.phase.Phase.TheVariants.{WaitingStart, WaitingReplayEntries, Replaying, Processing, Closed}
+use Rattle.vm_machine.specs.Inputs.{input_step}
+use Rattle.vm_machine.specs.Outcomes.{IsStarved}
+use Rattle.invocation_vm.specs.Views.{View, Calls, Leaves, after_input, after_closing}
+use Rattle.vm_rounds.specs.declared.progress.Progress.{Progress}
+use Rattle.vm_rounds.specs.declared.progress.Progress.TheVariants as progress
+use Rattle.vm_rounds.specs.declared.progress.Reply.{Reply}
+use Rattle.vm_rounds.specs.declared.progress.Reply.TheVariants as reply
+use Rattle.journal_protocol.specs.declared.version.Version.{Version}
+use Rattle.vm_parts.specs.declared.options.VMOptions.{VMOptions}
+use Rattle.invocation_vm.specs.Making.{made}
+use Rattle.vm_rounds.specs.Record.{AttemptView, Record}
+use Rattle.vm_rounds.specs.Steps.{performed, Asked}
+
+-- a handler's step after these answers
+abbrev pub Meaning : Type 0
+Meaning = List Answer → Step
+
+-- an attempt that was fed nothing
+abbrev pub fresh_record : View → Record
+fresh_record vm = record { fed = []; closed = false; answers = []; taken = []; taken_len = 0; waiting = None; starved = false; over = None; vm = vm }
+
+-- an attempt is made for the version that is asked for; else the error says why, or no memory was found
+abbrev pub MakesAttempt : {H : Type 0} → Global → VMOptions → H → Result Version Error → Result (AttemptView H) Error → Type 0
+MakesAttempt alloc options handler (Ok version) (Ok a) = (a.handler ≡ handler) × (a.record_of ≡ fresh_record (made alloc options version))
+MakesAttempt alloc options handler (Ok version) (Err e) = e ≡ no_memory
+MakesAttempt alloc options handler (Err refusal) (Ok a) = ⊥
+MakesAttempt alloc options handler (Err refusal) (Err e) = e ≡ refusal
+
+-- ---- steps
+
+-- the future of an await
+abbrev pub future_in : Step → Option UnresolvedFuture
+future_in (step.Await future) = Some future
+future_in (step.Sleep name wake_up_time now) = None
+future_in (step.WriteOutput value options) = None
+future_in (step.Take handle) = None
+future_in (step.Completed handle) = None
+future_in step.End = None
+
+-- a waiting await is asked again with the same future; else the handler's next step is made
+abbrev pub asked_from : Option UnresolvedFuture → Step → Step
+asked_from (Some future) s = step.Await future
+asked_from None s = s
+
+abbrev pub asked : Meaning → Record → Step
+asked meaning r = asked_from r.waiting (meaning r.answers)
+
+abbrev pub progress_of : Result Reply Error → Result Progress Error
+progress_of (Ok (reply.Answer a)) = Ok progress.Stepped
+progress_of (Ok (reply.Waiting input run)) = Ok (progress.Waiting input run)
+progress_of (Ok reply.Suspended) = Ok progress.Suspended
+progress_of (Ok reply.Ended) = Ok progress.Ended
+progress_of (Err e) = Err e
+
+-- the record once the VM has replied
+abbrev pub settled : Record → Option UnresolvedFuture → Result Reply Error → View → Record
+settled r future (Ok (reply.Answer a)) w = record r { answers = r.answers ++ a ∷ []; waiting = None; vm = w }
+settled r future (Ok (reply.Waiting input run)) w = record r { waiting = future; vm = w }
+settled r future (Ok reply.Suspended) w = record r { over = Some progress.Suspended; vm = w }
+settled r future (Ok reply.Ended) w = record r { over = Some progress.Ended; vm = w }
+settled r future (Err e) w = record r { vm = w }
+
+-- want of memory of the handler, of room for the answer or of a copy of the future: nothing was asked
+abbrev pub LacksMemory : Record → Result Progress Error → Record → Type 0
+LacksMemory old result new = (result ≡ Err no_memory) × (new ≡ record old { starved = true })
+
+-- the input is read; it is the first answer
+abbrev pub Reads : Record → Result Progress Error → Record → Type 0
+Reads old (Ok made) new =
+    (made ≡ progress.Stepped) × ((input : Input) × (w : View) × Calls input_step (Ok input) old.vm w × (new ≡ record old { answers = answer.Input input ∷ []; vm = w }))
+Reads old (Err e) new = (w : View) × Calls input_step (Err e) old.vm w × (new ≡ record old { vm = w })
+
+-- the step is made
+abbrev pub Asks : Meaning → Record → Result Progress Error → Record → Type 0
+Asks meaning old result new =
+    (r : Result Reply Error) × (w : View) × Asked (performed (asked meaning old)) r old.vm w
+    × (new ≡ settled old (future_in (asked meaning old)) r w) × (result ≡ progress_of r)
+
+abbrev pub Advances : Meaning → Record → Result Progress Error → Record → Type 0
+Advances meaning old result new =
+    LacksMemory old result new ⊎ (((old.answers ≡ []) × Reads old result new) ⊎ ((old.answers ≢ []) × Asks meaning old result new))
+
+abbrev pub StepAt : Phase → Meaning → Record → Result Progress Error → Record → Type 0
+StepAt WaitingStart meaning old result new = (result ≡ Ok progress.NotReady) × (new ≡ old)
+StepAt WaitingReplayEntries meaning old result new = (result ≡ Ok progress.NotReady) × (new ≡ old)
+StepAt Closed meaning old result new = (result ≡ Err (named_error fault.Closed None)) × (new ≡ old)
+StepAt Replaying meaning old result new = Advances meaning old result new
+StepAt Processing meaning old result new = Advances meaning old result new
+
+abbrev pub StepUnless : Option Error → Option Progress → Meaning → Record → Result Progress Error → Record → Type 0
+StepUnless (Some e) over meaning old result new = ((result ≡ Err e) ⊎ (result ≡ Err no_memory)) × (new ≡ old)
+StepUnless None (Some made) meaning old result new = (result ≡ Ok made) × (new ≡ old)
+StepUnless None None meaning old result new = StepAt old.vm.machine.phase meaning old result new
+
+-- What a step does, the first of these that holds: after the attempt's own want of memory that; after an error of the
+-- VM that; after Suspended or Ended that; not ready while the VM waits; the input is read; the step is made.
+abbrev pub StepFrom : Bool → Meaning → Record → Result Progress Error → Record → Type 0
+StepFrom true meaning old result new = (result ≡ Err no_memory) × (new ≡ old)
+StepFrom false meaning old result new = StepUnless old.vm.machine.failure old.over meaning old result new
+
+abbrev pub StepDoes : Meaning → Record → Result Progress Error → Record → Type 0
+StepDoes meaning old result new = StepFrom old.starved meaning old result new
+
+-- ---- input
+
+-- how many bytes stood in the output, as far as a usize goes
+abbrev pub output_len : Record → ℕ
+output_len r = min (r.taken_len + min (length (concat r.vm.machine.output)) (2 ^ 64 - 1)) (2 ^ 64 - 1)
+
+-- a piece is kept until the VM has failed or closed
+abbrev pub kept_at : Option Error → Phase → List ℕ → Record → Record
+kept_at (Some e) phase piece r = r
+kept_at None Closed piece r = r
+kept_at None _ piece r = record r { fed = r.fed ++ record { piece = piece; answers = length r.answers; output = output_len r } ∷ [] }
+
+abbrev pub kept : List ℕ → Record → Record
+kept piece r = kept_at r.vm.machine.failure r.vm.machine.phase piece r
+
+abbrev pub with_vm : View → Record → Record
+with_vm w r = record r { vm = w }
+
+-- The piece is kept and handed to the VM; or there is no memory for keeping it; or the VM finds none.
+abbrev pub Feeds : List ℕ → Record → Result Unit AllocError → Record → Type 0
+Feeds piece old (Ok t) new = new ≡ with_vm (after_input old.vm piece) (kept piece old)
+Feeds piece old (Err e) new =
+    (new ≡ record old { starved = true }) ⊎ ((w : View) × IsStarved no_memory old.vm.machine w.machine × (new ≡ with_vm w (kept piece old)))
+
+-- what a piece does: nothing after the attempt's own want of memory
+abbrev pub FeedDoes : Bool → List ℕ → Record → Result Unit AllocError → Record → Type 0
+FeedDoes true piece old result new = (result ≡ Ok tt) × (new ≡ old)
+FeedDoes false piece old result new = Feeds piece old result new
+
+abbrev pub Closes : Record → Result Unit AllocError → Record → Type 0
+Closes old (Ok t) new = new ≡ record old { closed = true; vm = after_closing old.vm }
+Closes old (Err e) new = (w : View) × IsStarved no_memory old.vm.machine w.machine × (new ≡ record old { closed = true; vm = w })
+
+-- what closing the input does
+abbrev pub CloseDoes : Bool → Record → Result Unit AllocError → Record → Type 0
+CloseDoes true old result new = (result ≡ Ok tt) × (new ≡ old)
+CloseDoes false old result new = Closes old result new
+
+-- ---- output
+
+abbrev pub emptied : View → View
+emptied v = record v { machine = record v.machine { output = [] } }
+
+-- all bytes that wait are taken
+abbrev pub taken_from : Record → Record
+taken_from r = record r { taken = r.taken ++ concat r.vm.machine.output ∷ []; taken_len = output_len r; vm = emptied r.vm }
+
+abbrev pub Takes : Record → Result (List ℕ) AllocError → Record → Type 0
+Takes old (Ok bytes) new = (bytes ≡ concat old.vm.machine.output) × (new ≡ taken_from old)
+Takes old (Err e) new = new ≡ old

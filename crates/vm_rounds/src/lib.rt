@@ -1,0 +1,13 @@
+//! The driver of a handler: one attempt of it over the VM, from the bytes of a journal to the bytes of its commands.
+#![tactic(auto)]
+
+mod attempt;
+mod handler;
+mod inner;
+mod perform;
+mod progress;
+
+pub use attempt::Attempt;
+pub use handler::Handler;
+pub use progress::{Fed, Progress};
+pub use vm_parts::{Answer, Step};

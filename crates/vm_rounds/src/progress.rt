@@ -1,0 +1,37 @@
+//! What a step of an attempt did, and what an attempt keeps of its input.
+
+use bytes::Bytes;
+use vm_parts::Answer;
+
+/// What a step of an attempt did.
+#[derive(Clone, Copy, Debug, PartialEq, Eq)]
+pub enum Progress {
+    /// The VM waits for the known entries.
+    NotReady,
+    /// The handler was given one answer.
+    Stepped,
+    /// The handler's await waits: for input, for a run's result, or for both.
+    Waiting { input: bool, run: bool },
+    /// The invocation is suspended; the attempt is over.
+    Suspended,
+    /// The handler has ended; the attempt is over.
+    Ended,
+}
+
+/// A piece of input, with the numbers of answers and of output bytes that stood when it came.
+#[derive(Debug, Drop)]
+pub struct Fed {
+    pub piece: Bytes,
+    pub answers: usize,
+    /// As far as a `usize` goes.
+    pub output: usize,
+}
+
+/// What the VM replied to a step.
+#[derive(Debug, Drop)]
+pub enum Reply {
+    Answer(Answer),
+    Waiting { input: bool, run: bool },
+    Suspended,
+    Ended,
+}

@@ -1,0 +1,3 @@
+pub mod ContentTypes
+pub mod Sleeper
+pub mod Statuses

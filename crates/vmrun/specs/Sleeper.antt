@@ -1,0 +1,46 @@
+-- The handler `sleeper`: sleep, await it, take it, write an empty output, end. When it is cancelled it writes a failure
+-- and ends.
+use Rattle.std.specs.Prelude.{ℕ, Bool, true, false, ◌==◌, if◌then◌else◌, List, [], length, slice_get, codes, Option, Some, None}
+use Rattle.vm_parts.specs.declared.steps.Answer.{Answer}
+use Rattle.vm_parts.specs.declared.steps.Answer.TheVariants as answer
+use Rattle.vm_parts.specs.declared.steps.Step.{Step}
+use Rattle.vm_parts.specs.declared.steps.Step.TheVariants as step
+use Rattle.vm_parts.specs.declared.types.NotificationHandle.{NotificationHandle}
+use Rattle.vm_parts.specs.declared.types.UnresolvedFuture.TheVariants.{Single}
+use Rattle.vm_parts.specs.declared.values.NonEmptyValue.TheVariants.{Success, Failure}
+
+-- the handle of an answer; none is 0
+abbrev pub handle_of : Option Answer → NotificationHandle
+handle_of (Some (answer.Handle handle)) = handle
+handle_of (Some (answer.Input input)) = record { 0 = 0 }
+handle_of (Some answer.Unit) = record { 0 = 0 }
+handle_of (Some answer.Awake) = record { 0 = 0 }
+handle_of (Some answer.Cancelled) = record { 0 = 0 }
+handle_of (Some (answer.Taken value)) = record { 0 = 0 }
+handle_of (Some (answer.Completed is)) = record { 0 = 0 }
+handle_of None = record { 0 = 0 }
+
+abbrev pub is_cancelled : Option Answer → Bool
+is_cancelled (Some answer.Cancelled) = true
+is_cancelled (Some (answer.Handle handle)) = false
+is_cancelled (Some (answer.Input input)) = false
+is_cancelled (Some answer.Unit) = false
+is_cancelled (Some answer.Awake) = false
+is_cancelled (Some (answer.Taken value)) = false
+is_cancelled (Some (answer.Completed is)) = false
+is_cancelled None = false
+
+-- the output of a handler that was cancelled
+abbrev pub cancelled_output : Step
+cancelled_output = step.WriteOutput (Failure (record { code = 409; message = codes "cancelled"; metadata = [] })) (record { unstable_serialization = false })
+
+-- the step after so many answers
+abbrev pub sleeper_step : List Answer → Step
+sleeper_step answers =
+    if length answers == 1 then step.Sleep [] (record { secs = 1; nanos = 0 }) None
+    else if length answers == 2 then step.Await (Single (handle_of (slice_get answers 1)))
+    else if length answers == 3 then
+    (if is_cancelled (slice_get answers 2) then cancelled_output else step.Take (handle_of (slice_get answers 1)))
+    else if length answers == 4 then
+    (if is_cancelled (slice_get answers 2) then step.End else step.WriteOutput (Success []) (record { unstable_serialization = false }))
+    else step.End

@@ -1,0 +1,10 @@
+-- The exit statuses of the program.
+use Rattle.std.specs.Prelude.{ℕ}
+use Rattle.vmrun.specs.declared.exit_status.ExitStatus.{ExitStatus}
+use Rattle.vmrun.specs.declared.exit_status.ExitStatus.TheVariants.{Ended, Failed, Usage, Suspended}
+
+abbrev pub code_of : ExitStatus → ℕ
+code_of Ended = 0
+code_of Failed = 1
+code_of Usage = 2
+code_of Suspended = 3

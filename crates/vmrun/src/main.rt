@@ -1,0 +1,52 @@
+//! `vmrun`: runs one attempt of a handler over the journal on standard input, and writes what the attempt sends.
+#![tactic(auto)]
+
+pub mod content_type;
+pub mod exit_status;
+pub mod run;
+pub mod sleeper;
+
+use exit_status::ExitStatus;
+use run::run;
+use std::env::{self, Env};
+use std::io;
+use std::process::ExitCode;
+
+const USAGE: &str = "usage: vmrun <content-type> <sleeper|race|parent|counter>";
+
+/// The two arguments, where there are just two.
+fn arguments(rt: &(impl Env + AllocGlobal)) -> io::Result<Option<(String, String)>> {
+    let mut arguments = env::args(rt)?;
+    let _program = arguments.next();
+    let Some(content_type) = arguments.next() else {
+        return Ok(None);
+    };
+    let Some(handler) = arguments.next() else {
+        return Ok(None);
+    };
+    if arguments.next().is_some() {
+        return Ok(None);
+    }
+    Ok(Some((content_type, handler)))
+}
+
+fn main(rt: HostRuntime) -> ExitCode {
+    let status = match arguments(&rt) {
+        Ok(Some((content_type, handler))) => {
+            let mut writer = io::writer(&rt);
+            run(
+                rt.alloc(),
+                content_type.as_str(),
+                handler.as_str(),
+                &mut rt.reader(),
+                &mut writer,
+            )
+        }
+        Ok(None) => ExitStatus::Usage,
+        Err(_) => ExitStatus::Failed,
+    };
+    if status == ExitStatus::Usage {
+        let _ = rt.eprintln(USAGE);
+    }
+    ExitCode::from(status.code())
+}
