@@ -4,7 +4,8 @@ use crate::frames::{COMPLETION_1, END, INPUT_TILL, OUTPUT_EMPTY, SLEEP_TO_2024, 
 use crate::headers::Headers;
 use bytes::Bytes;
 use invocation_vm::{
-    AwaitResponse, CoreVM, Input, NonEmptyValue, PayloadOptions, State, VM, VMOptions, any_cut,
+    AwaitResponse, CANCEL_NOTIFICATION_HANDLE, CoreVM, Input, NonEmptyValue, PayloadOptions, State,
+    VM, VMOptions, any_cut,
 };
 use std::alloc::Global;
 use std::process::Abort;
@@ -98,7 +99,7 @@ fn input_tells_of_the_invocation(rt: HostRuntime) -> Result<(), Fail> {
 
 fn write(vm: &mut CoreVM) -> Result<(), Fail> {
     feed(vm, &[START_1, INPUT_TILL])?;
-    let _input = vm.sys_input()?;
+    drop(vm.sys_input()?);
     vm.sys_write_output(
         NonEmptyValue::Success(Bytes::new()),
         PayloadOptions::default(),
@@ -130,16 +131,21 @@ fn output_stays_until_it_is_cleared(rt: HostRuntime) -> Result<(), Fail> {
     Ok(())
 }
 
-#[test]
-fn suspension_is_an_answer(rt: HostRuntime) -> Result<(), Fail> {
-    let mut vm = made(rt.alloc())?;
-    write(&mut vm)?;
+fn assert_cancel_awaited(rt: &impl Abort, vm: &mut CoreVM) -> Result<(), Fail> {
     let waiting = AwaitResponse::WaitingExternalProgress {
         waiting_input: true,
         waiting_run_proposal: false,
     };
-    let handle = invocation_vm::CANCEL_NOTIFICATION_HANDLE;
-    assert_eq!(rt; vm.try_await(handle.into())??, waiting);
+    let answer = vm.try_await(CANCEL_NOTIFICATION_HANDLE.into())??;
+    assert_eq!(rt; answer, waiting);
+    Ok(())
+}
+
+#[test]
+fn cancel_handle_is_awaited(rt: HostRuntime) -> Result<(), Fail> {
+    let mut vm = made(rt.alloc())?;
+    write(&mut vm)?;
+    assert_cancel_awaited(&rt, &mut vm)?;
     any_cut();
     Ok(())
 }
