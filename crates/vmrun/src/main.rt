@@ -5,6 +5,8 @@ pub mod content_type;
 pub mod exit_status;
 pub mod run;
 pub mod sleeper;
+#[cfg(test)]
+mod tests;
 
 use exit_status::ExitStatus;
 use run::run;

@@ -1,0 +1,10 @@
+-- The headers of a request, as the rows need them.
+use Rattle.std.specs.Prelude.{ℕ, List, codes, nat_eq, if◌then◌else◌, Option, Some, None}
+use Rattle.std.specs.Cmp.Lexicographic.{pointwise}
+use Rattle.vectors.specs.declared.headers.Headers.{Headers}
+use Rattle.vectors.specs.declared.headers.Headers.TheVariants.{ContentType, Empty, Unreadable}
+
+abbrev pub found : Headers → List ℕ → Option (Option (List ℕ))
+found (ContentType text) name = if pointwise nat_eq name (codes "content-type") then Some (Some text.now) else Some None
+found Empty name = Some None
+found Unreadable name = None

@@ -1,0 +1,265 @@
+// One attempt of a handler, from the bytes of its journal to the bytes of its commands.
+use crate::bench::{V7, assert_is};
+use crate::frames::{
+    COMPLETION_1, END, ERROR_INPUT_CLOSED, ERROR_KNOWN_ENTRIES, INPUT_TILL, OUTPUT_EMPTY,
+    SLEEP_TO_1000, SLEEP_TO_2024, START_0, START_1, START_2, START_3, SUSPENSION_ON_1,
+    TYPE_MISMATCH, UNCOMPLETED,
+};
+use crate::headers::Headers;
+use crate::napper::Napper;
+use bytes::Bytes;
+use invocation_vm::{NotificationHandle, VMOptions, Value};
+use std::alloc::Global;
+use std::process::Abort;
+use std::test::Fail;
+use vm_rounds::{Answer, Attempt, Handler, Progress};
+
+/// One thing that happens to an attempt, and its answer.
+#[derive(Clone, Copy, Debug)]
+enum Act {
+    /// Bytes come at once.
+    Feed(&'static [u8]),
+    /// Bytes come one at a time, and the attempt isn't ready before any of them.
+    Trickle(&'static [u8]),
+    /// No more bytes come.
+    Close,
+    /// So many steps are made, each with this answer.
+    Step(usize, Progress),
+    /// A step is answered with an error of this code and text.
+    Fails(u16, &'static str),
+    /// The handler's answers are those of a sleep that is over.
+    Slept,
+    /// These frames are sent, and nothing more.
+    Sends(&'static [&'static [u8]]),
+}
+
+const WAITING: Progress = Progress::Waiting {
+    input: true,
+    run: false,
+};
+
+fn trickle<H: Handler>(
+    rt: &impl Abort,
+    alloc: Global,
+    attempt: &mut Attempt<H>,
+    bytes: &[u8],
+) -> Result<(), Fail> {
+    for byte in bytes {
+        assert_eq!(rt; attempt.step()?, Progress::NotReady);
+        attempt.feed(Bytes::copy_from_slice(alloc, &[*byte])?)?;
+    }
+    Ok(())
+}
+
+fn assert_sends<H: Handler>(
+    rt: &impl Abort,
+    alloc: Global,
+    attempt: &mut Attempt<H>,
+    frames: &[&[u8]],
+) -> Result<(), Fail> {
+    let output = attempt.take_output()?;
+    let wanted = frames.concat(alloc)?;
+    assert_eq!(rt; output.as_slice(), wanted.as_slice());
+    assert!(rt; attempt.take_output()?.is_empty());
+    Ok(())
+}
+
+fn assert_slept(rt: &impl Abort, answers: &[Answer]) {
+    assert_eq!(rt; answers.len(), 6);
+    assert!(rt; matches!(answers.get(0), Some(Answer::Input(_))));
+    assert!(rt; matches!(answers.get(1), Some(Answer::Handle(NotificationHandle(17)))));
+    assert!(rt; matches!(answers.get(2), Some(Answer::Awake)));
+    assert!(rt; matches!(answers.get(3), Some(Answer::Completed(true))));
+    assert!(rt; matches!(answers.get(4), Some(Answer::Taken(Some(Value::Void)))));
+    assert!(rt; matches!(answers.get(5), Some(Answer::Unit)));
+}
+
+fn assert_steps<H: Handler>(
+    rt: &impl Abort,
+    attempt: &mut Attempt<H>,
+    count: usize,
+    progress: Progress,
+) -> Result<(), Fail> {
+    for _ in 0..count {
+        assert_eq!(rt; attempt.step()?, progress);
+    }
+    Ok(())
+}
+
+fn play<H: Handler>(
+    rt: &impl Abort,
+    alloc: Global,
+    attempt: &mut Attempt<H>,
+    act: Act,
+) -> Result<(), Fail> {
+    match act {
+        Act::Feed(bytes) => attempt.feed(Bytes::from_static(bytes))?,
+        Act::Trickle(bytes) => trickle(rt, alloc, attempt, bytes)?,
+        Act::Close => attempt.close()?,
+        Act::Step(count, progress) => assert_steps(rt, attempt, count, progress)?,
+        Act::Fails(code, text) => assert_is(rt, attempt.step().err(), code, text)?,
+        Act::Slept => assert_slept(rt, attempt.answers()),
+        Act::Sends(frames) => assert_sends(rt, alloc, attempt, frames)?,
+    }
+    Ok(())
+}
+
+/// Plays a row on an attempt of this handler.
+fn assert_row<H: Handler + Drop>(
+    rt: &impl Abort,
+    alloc: Global,
+    handler: H,
+    acts: &[Act],
+) -> Result<(), Fail> {
+    let mut attempt = Attempt::new(
+        alloc,
+        Headers::ContentType(V7),
+        VMOptions::default(),
+        handler,
+    )?;
+    for act in acts {
+        play(rt, alloc, &mut attempt, *act)?;
+    }
+    Ok(())
+}
+
+const FIRST: &[Act] = &[
+    Act::Step(1, Progress::NotReady),
+    Act::Feed(START_1),
+    Act::Step(1, Progress::NotReady),
+    Act::Feed(INPUT_TILL),
+    Act::Close,
+    Act::Step(2, Progress::Stepped),
+    Act::Step(2, Progress::Suspended),
+    Act::Sends(&[SLEEP_TO_1000, SUSPENSION_ON_1]),
+];
+
+const CLOSED_LATE: &[Act] = &[
+    Act::Feed(START_1),
+    Act::Feed(INPUT_TILL),
+    Act::Step(2, Progress::Stepped),
+    Act::Step(2, WAITING),
+    Act::Close,
+    Act::Step(2, Progress::Suspended),
+    Act::Sends(&[SLEEP_TO_1000, SUSPENSION_ON_1]),
+];
+
+const COMPLETED_LATE: &[Act] = &[
+    Act::Feed(START_1),
+    Act::Feed(INPUT_TILL),
+    Act::Step(2, Progress::Stepped),
+    Act::Step(1, WAITING),
+    Act::Sends(&[SLEEP_TO_1000]),
+    Act::Feed(COMPLETION_1),
+    Act::Step(4, Progress::Stepped),
+    Act::Slept,
+    Act::Step(2, Progress::Ended),
+    Act::Sends(&[OUTPUT_EMPTY, END]),
+];
+
+const REPLAYED: &[Act] = &[
+    Act::Feed(START_3),
+    Act::Feed(INPUT_TILL),
+    Act::Feed(SLEEP_TO_2024),
+    Act::Feed(COMPLETION_1),
+    Act::Close,
+    Act::Step(6, Progress::Stepped),
+    Act::Slept,
+    Act::Step(2, Progress::Ended),
+    Act::Sends(&[OUTPUT_EMPTY, END]),
+];
+
+/// The journal of `REPLAYED`, one byte at a time.
+const TRICKLED: &[Act] = &[
+    Act::Trickle(START_3),
+    Act::Trickle(INPUT_TILL),
+    Act::Trickle(SLEEP_TO_2024),
+    Act::Trickle(COMPLETION_1),
+    Act::Close,
+    Act::Step(6, Progress::Stepped),
+    Act::Slept,
+    Act::Step(1, Progress::Ended),
+    Act::Sends(&[OUTPUT_EMPTY, END]),
+];
+
+/// The same journal, cut inside its last frame.
+const CUT: &[Act] = &[
+    Act::Trickle(START_3),
+    Act::Trickle(INPUT_TILL),
+    Act::Trickle(SLEEP_TO_2024),
+    Act::Trickle(b"\0\x1e\0\0\0\0\0\0\0\x06\0\0\0\0\x01"),
+    Act::Step(1, Progress::NotReady),
+    Act::Close,
+    Act::Fails(571, "INPUT_CLOSED_WHILE_WAITING_ENTRIES"),
+    Act::Fails(571, "INPUT_CLOSED_WHILE_WAITING_ENTRIES"),
+    Act::Sends(&[ERROR_INPUT_CLOSED]),
+];
+
+const REFUSED: &[Act] = &[
+    Act::Feed(START_0),
+    Act::Fails(571, "KNOWN_ENTRIES_IS_ZERO"),
+    Act::Feed(START_1),
+    Act::Fails(571, "KNOWN_ENTRIES_IS_ZERO"),
+    Act::Sends(&[ERROR_KNOWN_ENTRIES]),
+];
+
+const NOT_COMPLETED: &[Act] = &[
+    Act::Feed(START_3),
+    Act::Feed(INPUT_TILL),
+    Act::Feed(SLEEP_TO_1000),
+    Act::Feed(OUTPUT_EMPTY),
+    Act::Step(2, Progress::Stepped),
+    Act::Fails(570, "UncompletedDoProgressDuringReplay"),
+    Act::Fails(570, "UncompletedDoProgressDuringReplay"),
+    Act::Sends(&[UNCOMPLETED]),
+];
+
+const MISMATCHED: &[Act] = &[
+    Act::Feed(START_2),
+    Act::Feed(INPUT_TILL),
+    Act::Feed(OUTPUT_EMPTY),
+    Act::Step(1, Progress::Stepped),
+    Act::Fails(570, "CommandTypeMismatchError"),
+    Act::Fails(570, "CommandTypeMismatchError"),
+    Act::Sends(&[TYPE_MISMATCH]),
+];
+
+#[test]
+fn sleep_that_is_not_over_suspends(rt: HostRuntime) -> Result<(), Fail> {
+    let alloc = rt.alloc();
+    assert_row(&rt, alloc, Napper { alloc }, FIRST)?;
+    assert_row(&rt, alloc, Napper { alloc }, CLOSED_LATE)
+}
+
+#[test]
+fn sleep_that_is_over_ends(rt: HostRuntime) -> Result<(), Fail> {
+    let alloc = rt.alloc();
+    assert_row(&rt, alloc, Napper { alloc }, COMPLETED_LATE)?;
+    assert_row(&rt, alloc, Napper { alloc }, REPLAYED)
+}
+
+#[test]
+fn bytes_come_one_at_a_time(rt: HostRuntime) -> Result<(), Fail> {
+    let alloc = rt.alloc();
+    assert_row(&rt, alloc, Napper { alloc }, TRICKLED)
+}
+
+#[test]
+fn cut_journal_is_refused_at_its_close(rt: HostRuntime) -> Result<(), Fail> {
+    let alloc = rt.alloc();
+    assert_row(&rt, alloc, Napper { alloc }, CUT)
+}
+
+#[test]
+fn failed_vm_fails_each_step(rt: HostRuntime) -> Result<(), Fail> {
+    let alloc = rt.alloc();
+    assert_row(&rt, alloc, Napper { alloc }, REFUSED)?;
+    assert_row(&rt, alloc, Napper { alloc }, NOT_COMPLETED)?;
+    assert_row(&rt, alloc, Napper { alloc }, MISMATCHED)
+}
+
+#[test]
+fn handler_is_lent(rt: HostRuntime) -> Result<(), Fail> {
+    let napper = Napper { alloc: rt.alloc() };
+    assert_row(&rt, rt.alloc(), &napper, REPLAYED)
+}

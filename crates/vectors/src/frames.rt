@@ -1,0 +1,274 @@
+//! Frames written out byte by byte from the layout: the type's number in two bytes, the body's length in eight, and
+//! the body's fields, one a line.
+
+/// No entry is known, which no runtime sends.
+pub const START_0: &[u8] = b"\0\x01\0\0\0\0\0\0\0\x42\
+    \0\0\0\0\0\0\0\x03abc\
+    \0\0\0\0\0\0\0\x03abc\
+    \0\0\0\0\0\0\0\0\
+    \0\0\0\0\
+    \0\0\0\0\0\0\0\0\
+    \x01\
+    \0\0\0\0\
+    \0\0\0\0\0\0\0\0\
+    \0\0\0\0\0\0\0\0\
+    \0\
+    \0\
+    \0";
+
+/// The invocation "abc", with 1 known entry and a part of the state, which is empty.
+pub const START_1: &[u8] = b"\0\x01\0\0\0\0\0\0\0\x42\
+    \0\0\0\0\0\0\0\x03abc\
+    \0\0\0\0\0\0\0\x03abc\
+    \0\0\0\0\0\0\0\0\
+    \0\0\0\x01\
+    \0\0\0\0\0\0\0\0\
+    \x01\
+    \0\0\0\0\
+    \0\0\0\0\0\0\0\0\
+    \0\0\0\0\0\0\0\0\
+    \0\
+    \0\
+    \0";
+
+/// The invocation "abc", with 2 known entries and a part of the state, which is empty.
+pub const START_2: &[u8] = b"\0\x01\0\0\0\0\0\0\0\x42\
+    \0\0\0\0\0\0\0\x03abc\
+    \0\0\0\0\0\0\0\x03abc\
+    \0\0\0\0\0\0\0\0\
+    \0\0\0\x02\
+    \0\0\0\0\0\0\0\0\
+    \x01\
+    \0\0\0\0\
+    \0\0\0\0\0\0\0\0\
+    \0\0\0\0\0\0\0\0\
+    \0\
+    \0\
+    \0";
+
+/// The invocation "abc", with 3 known entries and a part of the state, which is empty.
+pub const START_3: &[u8] = b"\0\x01\0\0\0\0\0\0\0\x42\
+    \0\0\0\0\0\0\0\x03abc\
+    \0\0\0\0\0\0\0\x03abc\
+    \0\0\0\0\0\0\0\0\
+    \0\0\0\x03\
+    \0\0\0\0\0\0\0\0\
+    \x01\
+    \0\0\0\0\
+    \0\0\0\0\0\0\0\0\
+    \0\0\0\0\0\0\0\0\
+    \0\
+    \0\
+    \0";
+
+/// As `START_1`, with a state key that is no text.
+pub const START_WITH_A_BAD_KEY: &[u8] = b"\0\x01\0\0\0\0\0\0\0\x54\
+    \0\0\0\0\0\0\0\x03abc\
+    \0\0\0\0\0\0\0\x03abc\
+    \0\0\0\0\0\0\0\0\
+    \0\0\0\x01\
+    \0\0\0\0\0\0\0\x01\0\0\0\0\0\0\0\x01\xff\0\0\0\0\0\0\0\x01v\
+    \x01\
+    \0\0\0\0\
+    \0\0\0\0\0\0\0\0\
+    \0\0\0\0\0\0\0\0\
+    \0\
+    \0\
+    \0";
+
+/// The input "Till".
+pub const INPUT_TILL: &[u8] = b"\0\x0a\0\0\0\0\0\0\0\x14\
+    \0\0\0\0\0\0\0\0\
+    \0\0\0\0\0\0\0\x04Till";
+
+/// A sleep to 1721123699086 ms, completed under id 1.
+pub const SLEEP_TO_2024: &[u8] = b"\0\x12\0\0\0\0\0\0\0\x14\
+    \0\0\x01\x90\xba\xf7\x79\x8e\
+    \0\0\0\x01\
+    \0\0\0\0\0\0\0\0";
+
+/// A sleep to 1000 ms, completed under id 1.
+pub const SLEEP_TO_1000: &[u8] = b"\0\x12\0\0\0\0\0\0\0\x14\
+    \0\0\0\0\0\0\x03\xe8\
+    \0\0\0\x01\
+    \0\0\0\0\0\0\0\0";
+
+/// A sleep to 18446744073709551615 ms, completed under id 1.
+pub const SLEEP_TO_THE_END: &[u8] = b"\0\x12\0\0\0\0\0\0\0\x14\
+    \xff\xff\xff\xff\xff\xff\xff\xff\
+    \0\0\0\x01\
+    \0\0\0\0\0\0\0\0";
+
+/// The empty output.
+pub const OUTPUT_EMPTY: &[u8] = b"\0\x1d\0\0\0\0\0\0\0\x09\
+    \0\
+    \0\0\0\0\0\0\0\0";
+
+/// The end of the handler.
+pub const END: &[u8] = b"\0\x04\0\0\0\0\0\0\0\0";
+
+/// Id 1 is completed, with nothing.
+pub const COMPLETION_1: &[u8] = b"\0\x1e\0\0\0\0\0\0\0\x06\
+    \0\0\0\0\x01\
+    \0";
+
+/// Id 9 is completed, with nothing.
+pub const COMPLETION_9: &[u8] = b"\0\x1e\0\0\0\0\0\0\0\x06\
+    \0\0\0\0\x09\
+    \0";
+
+/// Id 1 failed, with the code 65537 and the text "no".
+pub const FAILURE_1: &[u8] = b"\0\x1e\0\0\0\0\0\0\0\x1c\
+    \0\0\0\0\x01\
+    \x02\0\x01\0\x01\
+    \0\0\0\0\0\0\0\x02no\
+    \0\0\0\0\0\0\0\0";
+
+/// The keys under id 1: one, which is no text.
+pub const KEYS_1: &[u8] = b"\0\x1e\0\0\0\0\0\0\0\x17\
+    \0\0\0\0\x01\
+    \x03\0\0\0\0\0\0\0\x01\0\0\0\0\0\0\0\x01\xff";
+
+/// A notification whose body is the byte 7.
+pub const NO_NOTIFICATION: &[u8] = b"\0\x1e\0\0\0\0\0\0\0\x01\
+    \x07";
+
+/// The invocation waits for id 1.
+pub const SUSPENSION_ON_1: &[u8] = b"\0\x02\0\0\0\0\0\0\0\x25\
+    \0\
+    \0\0\0\0\0\0\0\x01\0\0\0\x01\
+    \0\0\0\0\0\0\0\0\
+    \0\0\0\0\0\0\0\0\
+    \0\0\0\0\0\0\0\0";
+
+/// The refusal of an await in replay.
+pub const UNCOMPLETED: &[u8] = b"\0\x03\0\0\0\0\0\0\0\x3a\
+    \0\0\x02\x3a\
+    \0\0\0\0\0\0\0\x21UncompletedDoProgressDuringReplay\
+    \0\0\0\0\0\0\0\0\
+    \0\
+    \0\
+    \0\
+    \0\
+    \0";
+
+/// The refusal of a sleep where the first command after the input is another.
+pub const TYPE_MISMATCH: &[u8] = b"\0\x03\0\0\0\0\0\0\0\x39\
+    \0\0\x02\x3a\
+    \0\0\0\0\0\0\0\x18CommandTypeMismatchError\
+    \0\0\0\0\0\0\0\0\
+    \0\
+    \x01\0\0\0\x01\
+    \x01\0\0\0\x12\
+    \0\
+    \0";
+
+/// The error `INPUT_CLOSED_WHILE_WAITING_ENTRIES`, of no command.
+pub const ERROR_INPUT_CLOSED: &[u8] = b"\0\x03\0\0\0\0\0\0\0\x3b\
+    \0\0\x02\x3b\
+    \0\0\0\0\0\0\0\x22INPUT_CLOSED_WHILE_WAITING_ENTRIES\
+    \0\0\0\0\0\0\0\0\
+    \0\
+    \0\
+    \0\
+    \0\
+    \0";
+
+/// The error `KNOWN_ENTRIES_IS_ZERO`, of no command.
+pub const ERROR_KNOWN_ENTRIES: &[u8] = b"\0\x03\0\0\0\0\0\0\0\x2e\
+    \0\0\x02\x3b\
+    \0\0\0\0\0\0\0\x15KNOWN_ENTRIES_IS_ZERO\
+    \0\0\0\0\0\0\0\0\
+    \0\
+    \0\
+    \0\
+    \0\
+    \0";
+
+/// The error `UNEXPECTED_INPUT_MESSAGE`, of no command.
+pub const ERROR_INPUT_MESSAGE: &[u8] = b"\0\x03\0\0\0\0\0\0\0\x31\
+    \0\0\x02\x3b\
+    \0\0\0\0\0\0\0\x18UNEXPECTED_INPUT_MESSAGE\
+    \0\0\0\0\0\0\0\0\
+    \0\
+    \0\
+    \0\
+    \0\
+    \0";
+
+/// The error `UNEXPECTED_ENTRY_MESSAGE`, of no command.
+pub const ERROR_ENTRY_MESSAGE: &[u8] = b"\0\x03\0\0\0\0\0\0\0\x31\
+    \0\0\x02\x3b\
+    \0\0\0\0\0\0\0\x18UNEXPECTED_ENTRY_MESSAGE\
+    \0\0\0\0\0\0\0\0\
+    \0\
+    \0\
+    \0\
+    \0\
+    \0";
+
+/// The error `UnexpectedStateError`, of no command.
+pub const ERROR_STATE: &[u8] = b"\0\x03\0\0\0\0\0\0\0\x2d\
+    \0\0\x02\x3b\
+    \0\0\0\0\0\0\0\x14UnexpectedStateError\
+    \0\0\0\0\0\0\0\0\
+    \0\
+    \0\
+    \0\
+    \0\
+    \0";
+
+/// The error `BadEagerStateKeyError`, of no command.
+pub const ERROR_EAGER_STATE_KEY: &[u8] = b"\0\x03\0\0\0\0\0\0\0\x2e\
+    \0\0\x02\x3b\
+    \0\0\0\0\0\0\0\x15BadEagerStateKeyError\
+    \0\0\0\0\0\0\0\0\
+    \0\
+    \0\
+    \0\
+    \0\
+    \0";
+
+/// The error `state key is not UTF-8`, of no command.
+pub const ERROR_NOT_UTF_8: &[u8] = b"\0\x03\0\0\0\0\0\0\0\x2f\
+    \0\0\x02\x3b\
+    \0\0\0\0\0\0\0\x16state key is not UTF-8\
+    \0\0\0\0\0\0\0\0\
+    \0\
+    \0\
+    \0\
+    \0\
+    \0";
+
+/// The error `BadMessage`, of no command.
+pub const ERROR_BAD_MESSAGE: &[u8] = b"\0\x03\0\0\0\0\0\0\0\x23\
+    \0\0\x02\x3b\
+    \0\0\0\0\0\0\0\x0aBadMessage\
+    \0\0\0\0\0\0\0\0\
+    \0\
+    \0\
+    \0\
+    \0\
+    \0";
+
+/// The error `OutOfBoundsDuration`, of no command.
+pub const ERROR_OUT_OF_BOUNDS: &[u8] = b"\0\x03\0\0\0\0\0\0\0\x2c\
+    \0\0\x01\xf4\
+    \0\0\0\0\0\0\0\x13OutOfBoundsDuration\
+    \0\0\0\0\0\0\0\0\
+    \0\
+    \0\
+    \0\
+    \0\
+    \0";
+
+/// The error `UnsupportedFeatureForNegotiatedVersion`, of no command.
+pub const ERROR_UNSUPPORTED: &[u8] = b"\0\x03\0\0\0\0\0\0\0\x3f\
+    \0\0\x02\x3d\
+    \0\0\0\0\0\0\0\x26UnsupportedFeatureForNegotiatedVersion\
+    \0\0\0\0\0\0\0\0\
+    \0\
+    \0\
+    \0\
+    \0\
+    \0";

@@ -1,0 +1,20 @@
+//! The test bench: rows of bytes, written out by hand, that the crates below are held against.
+#![tactic(auto)]
+
+#[cfg(test)]
+mod attempts;
+#[cfg(test)]
+mod bench;
+#[cfg(test)]
+mod calls;
+pub mod frames;
+pub mod headers;
+#[cfg(test)]
+mod making;
+pub mod napper;
+#[cfg(test)]
+mod parts;
+#[cfg(test)]
+mod refusals;
+#[cfg(test)]
+mod sleeps;
