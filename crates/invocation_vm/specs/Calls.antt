@@ -1,5 +1,7 @@
 -- The calls of a VM, as events of its machine.
-use Rattle.std.specs.Prelude.{ℕ, Bool, true, false, ◌&&◌, not, if◌then◌else◌, nat_lt, List, [], ◌∷◌, Result}
+use Rattle.std.specs.Prelude.{ℕ, Bool, true, false, ◌&&◌, not, if◌then◌else◌, nat_lt, List, [], ◌∷◌, Option, Some, None, Result, string_bytes}
+use Rattle.std.proofs.Common.{Global}
+use Rattle.std.specs.declared.string.String.{String}
 use Rattle.journal_protocol.specs.declared.error.Error.{Error}
 use Rattle.journal_protocol.specs.declared.faults.NamedFault.TheVariants as fault
 use Rattle.vm_parts.specs.declared.options.PayloadOptions.{PayloadOptions}
@@ -32,10 +34,38 @@ abbrev pub has_metadata : NonEmptyValue → Bool
 has_metadata (Success bytes) = false
 has_metadata (Failure f) = not (is_empty f.metadata)
 
+abbrev pub needs_v6 : Machine → NonEmptyValue → Bool
+needs_v6 v value = has_metadata value && not (is_from_v6 v.version)
+
+-- a call that hands a value on, where the version has a form for it
+abbrev pub handing : NonEmptyValue → Outcome Unit → Machine → Outcome Unit
+handing value done v = if needs_v6 v value then refused fault.UnsupportedFeatureForNegotiatedVersion v else done
+
 abbrev pub output_step : NonEmptyValue → PayloadOptions → Machine → Outcome Unit
-output_step value options v =
-    if has_metadata value && not (is_from_v6 v.version) then refused fault.UnsupportedFeatureForNegotiatedVersion v
-    else unit_of (issued (request.Output (value_message value) options) v)
+output_step value options v = handing value (unit_of (issued (request.Output (value_message value) options) v)) v
+
+abbrev pub state_set_step : List ℕ → List ℕ → List ℕ → PayloadOptions → Machine → Outcome Unit
+state_set_step key value name options v = unit_of (issued (request.SetState key value name options) v)
+
+abbrev pub state_clear_step : List ℕ → List ℕ → Machine → Outcome Unit
+state_clear_step key name v = unit_of (issued (request.ClearState key name) v)
+
+abbrev pub state_clear_all_step : List ℕ → Machine → Outcome Unit
+state_clear_all_step name v = unit_of (issued (request.ClearAllState name) v)
+
+abbrev pub complete_awakeable_step : List ℕ → NonEmptyValue → PayloadOptions → Machine → Outcome Unit
+complete_awakeable_step id value options v = handing value (unit_of (issued (request.CompleteAwakeable id (value_message value) options) v)) v
+
+abbrev pub complete_signal_step : List ℕ → List ℕ → NonEmptyValue → Machine → Outcome Unit
+complete_signal_step target signal value v = handing value (unit_of (issued (request.CompleteSignal target signal (value_message value)) v)) v
+
+abbrev pub cancel_invocation_step : List ℕ → Machine → Outcome Unit
+cancel_invocation_step target v = unit_of (issued (request.CancelInvocation target) v)
+
+-- an absent name is empty
+abbrev pub name_or_empty : Option (String Global) → List ℕ
+name_or_empty None = []
+name_or_empty (Some name) = string_bytes name
 
 -- an await of a future
 abbrev pub future_step : UnresolvedFuture → Machine → Outcome (Result AwaitResponse Error)

@@ -1,14 +1,15 @@
 //! `CoreVM`: the VM over a decoder and a machine.
-ghost use Rattle.std.specs.Prelude.{◌≡◌, ◌/◌, [], length, min, None, IfOk, string_bytes};
+ghost use Rattle.std.specs.Prelude.{◌≡◌, [], length, min, IfOk};
 ghost use Rattle.std.specs.List.{concat};
-ghost use Rattle.std.specs.Duration.{as_nanos};
-ghost use Rattle.journal_protocol.specs.Errors.{named_error};
-ghost use Rattle.vm_machine.specs.declared.fault.Fault.TheVariants.{Refused};
-ghost use Rattle.vm_machine.specs.Outcomes.{Gives, Lives};
-ghost use Rattle.invocation_vm.specs.Calls.{future_step, has_metadata, output_step, sleep_step};
+ghost use Rattle.vm_machine.specs.Outcomes.{Lives};
+ghost use Rattle.invocation_vm.specs.Calls.{future_step};
 ghost use Rattle.invocation_vm.specs.Seen.{seen};
 ghost use Rattle.invocation_vm.specs.Views.{Calls};
 
+use crate::commands::{
+    cancel_invocation, clear_all_state, clear_state, complete_awakeable, complete_signal,
+    set_state, sleep, write_output,
+};
 use crate::output::{joined, len_of};
 use crate::versions::{response_head, version_in};
 use crate::vm::VM;
@@ -17,15 +18,12 @@ use journal_protocol::{Decoder, Error, HeaderMap, NamedFault};
 use std::alloc::{AllocError, Global};
 use std::fmt;
 use std::time::Duration;
-use vm_machine::phase::is_from_v6;
+use vm_machine::Machine;
 use vm_machine::settle::flatten;
-use vm_machine::{Fault, Machine, Request};
-use vm_parts::values::write_value;
 use vm_parts::{
     AwaitResponse, Input, NonEmptyValue, NotificationHandle, PayloadOptions, ResponseHead, State,
     UnresolvedFuture, VMOptions, VMResult, Value,
 };
-use wire::Text;
 
 /// The invocation VM.
 #[derive(Drop)]
@@ -43,55 +41,6 @@ impl fmt::Debug for CoreVM {
             "CoreVM {{ state: {state:?}, last_command_index: {index} }}"
         )
     }
-}
-
-fn refuse(fault: NamedFault) -> Fault
-    ensures { result ≡ Refused (named_error fault None) }
-{
-    Fault::Refused(Error::named(fault, None))
-}
-
-fn has_metadata(value: &NonEmptyValue) -> bool
-    ensures { result ≡ has_metadata value.now }
-{
-    match value {
-        NonEmptyValue::Success(_) => false,
-        NonEmptyValue::Failure(failure) => !failure.metadata.as_slice().is_empty(),
-    }
-}
-
-fn sleep(
-    machine: &mut Machine,
-    name: String,
-    wake_up_time: Duration,
-) -> Result<NotificationHandle, Fault>
-    ensures { Gives (sleep_step (as_nanos wake_up_time / 1_000_000) (string_bytes name) machine.old) result machine.old machine.new }
-{
-    let millis = wake_up_time.as_millis();
-    if millis > u64::MAX as u128 {
-        return Err(refuse(NamedFault::OutOfBoundsDuration));
-    }
-    machine.issue(&Request::Sleep {
-        wake_up_time: millis as u64,
-        name: Text::from_string(name),
-    })
-}
-
-fn write_output(
-    machine: &mut Machine,
-    value: NonEmptyValue,
-    options: PayloadOptions,
-) -> Result<(), Fault>
-    ensures { Gives (output_step value options machine.old) result machine.old machine.new }
-{
-    if has_metadata(&value) && !is_from_v6(machine.version) {
-        return Err(refuse(NamedFault::UnsupportedFeatureForNegotiatedVersion));
-    }
-    machine.issue(&Request::Output {
-        result: write_value(value),
-        options,
-    })?;
-    Ok(())
 }
 
 #[tactic(auto, using(crate::proofs::Calls::does_called, crate::proofs::Calls::does_failed))]
@@ -228,6 +177,70 @@ impl VM for CoreVM {
             return Err(error);
         }
         let given = sleep(&mut self.machine, name, wake_up_time_since_unix_epoch);
+        self.machine.settle(given)
+    }
+
+    fn sys_state_set(
+        &mut self,
+        key: String,
+        value: Bytes,
+        name: Option<String>,
+        options: PayloadOptions,
+    ) -> VMResult<()> {
+        if let Err(error) = self.machine.live() {
+            return Err(error);
+        }
+        let given = set_state(&mut self.machine, key, value, name, options);
+        self.machine.settle(given)
+    }
+
+    fn sys_state_clear(&mut self, key: String, name: Option<String>) -> VMResult<()> {
+        if let Err(error) = self.machine.live() {
+            return Err(error);
+        }
+        let given = clear_state(&mut self.machine, key, name);
+        self.machine.settle(given)
+    }
+
+    fn sys_state_clear_all(&mut self, name: Option<String>) -> VMResult<()> {
+        if let Err(error) = self.machine.live() {
+            return Err(error);
+        }
+        let given = clear_all_state(&mut self.machine, name);
+        self.machine.settle(given)
+    }
+
+    fn sys_complete_awakeable(
+        &mut self,
+        id: String,
+        value: NonEmptyValue,
+        options: PayloadOptions,
+    ) -> VMResult<()> {
+        if let Err(error) = self.machine.live() {
+            return Err(error);
+        }
+        let given = complete_awakeable(&mut self.machine, id, value, options);
+        self.machine.settle(given)
+    }
+
+    fn sys_complete_signal(
+        &mut self,
+        target_invocation_id: String,
+        signal_name: String,
+        value: NonEmptyValue,
+    ) -> VMResult<()> {
+        if let Err(error) = self.machine.live() {
+            return Err(error);
+        }
+        let given = complete_signal(&mut self.machine, target_invocation_id, signal_name, value);
+        self.machine.settle(given)
+    }
+
+    fn sys_cancel_invocation(&mut self, target_invocation_id: String) -> VMResult<()> {
+        if let Err(error) = self.machine.live() {
+            return Err(error);
+        }
+        let given = cancel_invocation(&mut self.machine, target_invocation_id);
         self.machine.settle(given)
     }
 

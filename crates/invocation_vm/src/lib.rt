@@ -1,6 +1,7 @@
 //! The invocation VM: a handler's calls and the bytes of one attempt in, answers and the bytes of commands out.
 #![tactic(auto)]
 
+mod commands;
 mod core_vm;
 mod feed;
 mod output;

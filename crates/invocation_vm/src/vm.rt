@@ -3,7 +3,7 @@ ghost use Rattle.std.specs.Prelude.{◌≡◌, ◌/◌, IfOk, string_bytes, code
 ghost use Rattle.std.specs.Duration.{as_nanos};
 ghost use Rattle.vm_machine.specs.Awaits.{IsReadyAt, is_completed, last_index, state_of, take_step};
 ghost use Rattle.vm_machine.specs.Inputs.{end_step, input_step};
-ghost use Rattle.invocation_vm.specs.Calls.{future_step, output_step, sleep_step};
+ghost use Rattle.invocation_vm.specs.Calls.{cancel_invocation_step, complete_awakeable_step, complete_signal_step, future_step, name_or_empty, output_step, sleep_step, state_clear_all_step, state_clear_step, state_set_step};
 ghost use Rattle.invocation_vm.specs.Making.{Makes, response_head, version_in};
 ghost use Rattle.invocation_vm.specs.Views.{View, Calls, CallsFlat, Leaves, TakesOutput, after_closing, after_input};
 
@@ -75,6 +75,46 @@ pub trait VM: Sized {
         now_since_unix_epoch: Option<Duration>,
     ) -> VMResult<NotificationHandle>
         ensures { Calls (sleep_step (as_nanos wake_up_time_since_unix_epoch / 1_000_000) (string_bytes name)) result (view self.old) (view self.new) };
+
+    /// Gives a state key a value.
+    fn sys_state_set(
+        &mut self,
+        key: String,
+        value: Bytes,
+        name: Option<String>,
+        options: PayloadOptions,
+    ) -> VMResult<()>
+        ensures { Calls (state_set_step (string_bytes key) value (name_or_empty name) options) result (view self.old) (view self.new) };
+
+    /// Takes a state key's value away.
+    fn sys_state_clear(&mut self, key: String, name: Option<String>) -> VMResult<()>
+        ensures { Calls (state_clear_step (string_bytes key) (name_or_empty name)) result (view self.old) (view self.new) };
+
+    /// Takes each state key's value away.
+    fn sys_state_clear_all(&mut self, name: Option<String>) -> VMResult<()>
+        ensures { Calls (state_clear_all_step (name_or_empty name)) result (view self.old) (view self.new) };
+
+    /// Gives the awakeable of this id its result. A failure with metadata needs V6.
+    fn sys_complete_awakeable(
+        &mut self,
+        id: String,
+        value: NonEmptyValue,
+        options: PayloadOptions,
+    ) -> VMResult<()>
+        ensures { Calls (complete_awakeable_step (string_bytes id) value options) result (view self.old) (view self.new) };
+
+    /// Sends a named signal to another invocation. A failure with metadata needs V6.
+    fn sys_complete_signal(
+        &mut self,
+        target_invocation_id: String,
+        signal_name: String,
+        value: NonEmptyValue,
+    ) -> VMResult<()>
+        ensures { Calls (complete_signal_step (string_bytes target_invocation_id) (string_bytes signal_name) value) result (view self.old) (view self.new) };
+
+    /// Sends the built-in cancel signal to another invocation.
+    fn sys_cancel_invocation(&mut self, target_invocation_id: String) -> VMResult<()>
+        ensures { Calls (cancel_invocation_step (string_bytes target_invocation_id)) result (view self.old) (view self.new) };
 
     /// The handler's result. A failure with metadata needs V6.
     fn sys_write_output(&mut self, value: NonEmptyValue, options: PayloadOptions) -> VMResult<()>

@@ -25,6 +25,8 @@ mod signals;
 mod start;
 mod state;
 mod stream;
+#[cfg(test)]
+mod tests;
 mod types;
 mod version;
 

@@ -17,6 +17,7 @@ use Rattle.vm_parts.specs.declared.options.NonDeterministicChecksOption.TheVaria
 use Rattle.vm_parts.specs.declared.types.NotificationHandle.{NotificationHandle}
 use Rattle.vm_parts.specs.CommandTypes.{message_type}
 use Rattle.vm_parts.specs.Counting.{next_index, missing}
+use Rattle.vm_parts.specs.States.{state_set, state_cleared, all_cleared}
 use Rattle.vm_machine.specs.declared.machine.Machine.{Machine}
 use Rattle.vm_machine.specs.declared.phase.Phase.{Phase}
 use Rattle.vm_machine.specs.declared.phase.Phase.TheVariants.{Replaying, Processing}
@@ -96,6 +97,12 @@ handed_out v =
 abbrev pub prepared : Request → Machine → Machine
 prepared (request.Sleep wake_up_time name) v = handed_out v
 prepared (request.Output value options) v = v
+prepared (request.SetState key value name options) v = record v { state = state_set key value v.state }
+prepared (request.ClearState key name) v = record v { state = state_cleared key v.state }
+prepared (request.ClearAllState name) v = record v { state = all_cleared v.state }
+prepared (request.CompleteAwakeable id value options) v = v
+prepared (request.CompleteSignal target signal value) v = v
+prepared (request.CancelInvocation target) v = v
 
 -- a call whose state was checked: the counters, and then the command
 abbrev pub counted : Option NamedFault → Request → Machine → Outcome NotificationHandle

@@ -1,5 +1,7 @@
 //! Awaits and takes of one handle.
 ghost use Rattle.std.specs.Prelude.{◌≡◌, IfOk};
+ghost use Rattle.journal_protocol.specs.Message.{encoding};
+ghost use Rattle.journal_protocol.specs.declared.message.Message.TheVariants as message;
 ghost use Rattle.vm_machine.specs.Outcomes.{Gives};
 ghost use Rattle.vm_machine.specs.Awaits.{future_of, pending, await_step, take_step, is_completed, value_taken};
 
@@ -7,6 +9,7 @@ use crate::fault::Fault;
 use crate::machine::Machine;
 use crate::phase::Phase;
 use crate::receive::refuse;
+use bytes::Bytes;
 use journal_protocol::{
     Encoder, Error, Future, FutureKind, Message, NamedFault, NotificationId, Suspension,
 };
@@ -37,6 +40,15 @@ fn future_of(alloc: Global, id: Option<NotificationId>) -> Result<Future, AllocE
     })
 }
 
+/// The frame of a suspension on one handle.
+fn suspension_frame(alloc: Global, id: Option<NotificationId>) -> Result<Bytes, AllocError>
+    ensures { IfOk result (λ frame. frame ≡ encoding (message.Suspension (record { future = future_of id }))) }
+{
+    let future = future_of(alloc, id)?;
+    let message = Message::Suspension(Suspension { future });
+    Encoder::new(alloc).encode(&message)
+}
+
 impl Machine {
     /// An await that stays pending.
     fn pend(&mut self, handle: NotificationHandle) -> Result<Result<AwaitResponse, Error>, Fault>
@@ -51,8 +63,7 @@ impl Machine {
                 waiting_run_proposal: false,
             }));
         }
-        let future = future_of(self.alloc, self.results.id_of(handle.0)?)?;
-        let frame = Encoder::new(self.alloc).encode(&Message::Suspension(Suspension { future }))?;
+        let frame = suspension_frame(self.alloc, self.results.id_of(handle.0)?)?;
         self.output.push(frame)?;
         self.output_ended = true;
         self.phase = Phase::Closed;

@@ -139,7 +139,13 @@ impl Machine {
     {
         match request {
             Request::Sleep { .. } => self.hand_out(),
-            Request::Output { .. } => Ok(()),
+            Request::SetState { key, value, .. } => self.state.set(key, value),
+            Request::ClearState { key, .. } => self.state.clear(key),
+            Request::ClearAllState { .. } => {
+                self.state.clear_all();
+                Ok(())
+            }
+            _ => Ok(()),
         }
     }
 

@@ -1,10 +1,14 @@
 //! The calls that have a command, with what the caller gave: one table for the command's type, name, numbers and
 //! message.
 ghost use Rattle.std.specs.Prelude.{◌≡◌, IfOk};
-ghost use Rattle.vm_machine.specs.Requests.{command_of, name_of, ids_of, is_unstable, message_of};
+ghost use Rattle.vm_machine.specs.Requests.{command_of, name_of, ids_of, is_unstable, message_of, signal_result};
 
 use crate::machine::empty_text;
-use journal_protocol::{Message, OutputCommand, SleepCommand, ValueOrFailure};
+use bytes::Bytes;
+use journal_protocol::{
+    ClearAllStateCommand, ClearStateCommand, CompleteAwakeableCommand, Message, OutputCommand,
+    SendSignalCommand, SetStateCommand, Signal, SignalResult, SleepCommand, ValueOrFailure,
+};
 use std::alloc::{AllocError, Global};
 use vm_parts::{CommandType, PayloadOptions};
 use wire::{Text, copy_of};
@@ -21,6 +25,46 @@ pub enum Request {
         result: ValueOrFailure,
         options: PayloadOptions,
     },
+    SetState {
+        key: Text,
+        value: Bytes,
+        name: Text,
+        options: PayloadOptions,
+    },
+    ClearState {
+        key: Text,
+        name: Text,
+    },
+    ClearAllState {
+        name: Text,
+    },
+    CompleteAwakeable {
+        id: Text,
+        result: ValueOrFailure,
+        options: PayloadOptions,
+    },
+    /// A signal of another invocation, by its name.
+    CompleteSignal {
+        target: Text,
+        signal: Text,
+        result: ValueOrFailure,
+    },
+    CancelInvocation {
+        target: Text,
+    },
+}
+
+/// The built-in signal that cancels an invocation.
+const CANCEL_SIGNAL: u32 = 1;
+
+/// A copy of a result, as a signal's.
+fn signal_result(value: &ValueOrFailure) -> Result<SignalResult, AllocError>
+    ensures { IfOk result (λ copy. copy ≡ signal_result value.now) }
+{
+    match value {
+        ValueOrFailure::Value(bytes) => Ok(SignalResult::Value(bytes.clone()?)),
+        ValueOrFailure::Failure(failure) => Ok(SignalResult::Failure(failure.clone()?)),
+    }
 }
 
 impl Request {
@@ -30,6 +74,12 @@ impl Request {
         match self {
             Request::Sleep { .. } => CommandType::Sleep,
             Request::Output { .. } => CommandType::Output,
+            Request::SetState { .. } => CommandType::SetState,
+            Request::ClearState { .. } => CommandType::ClearState,
+            Request::ClearAllState { .. } => CommandType::ClearAllState,
+            Request::CompleteAwakeable { .. } => CommandType::CompleteAwakeable,
+            Request::CompleteSignal { .. } => CommandType::SendSignal,
+            Request::CancelInvocation { .. } => CommandType::CancelInvocation,
         }
     }
 
@@ -39,7 +89,10 @@ impl Request {
     {
         match self {
             Request::Sleep { name, .. } => copy_of(name),
-            Request::Output { .. } => Ok(empty_text(alloc)),
+            Request::SetState { name, .. } => copy_of(name),
+            Request::ClearState { name, .. } => copy_of(name),
+            Request::ClearAllState { name } => copy_of(name),
+            _ => Ok(empty_text(alloc)),
         }
     }
 
@@ -49,7 +102,7 @@ impl Request {
     {
         match self {
             Request::Sleep { .. } => 1,
-            Request::Output { .. } => 0,
+            _ => 0,
         }
     }
 
@@ -58,8 +111,10 @@ impl Request {
         ensures { result ≡ is_unstable self.now }
     {
         match self {
-            Request::Sleep { .. } => false,
             Request::Output { options, .. } => options.unstable_serialization,
+            Request::SetState { options, .. } => options.unstable_serialization,
+            Request::CompleteAwakeable { options, .. } => options.unstable_serialization,
+            _ => false,
         }
     }
 
@@ -75,6 +130,45 @@ impl Request {
             })),
             Request::Output { result: value, .. } => Ok(Message::Output(OutputCommand {
                 result: copy_of(value)?,
+            })),
+            Request::SetState {
+                key,
+                value,
+                name,
+                ..
+            } => Ok(Message::SetState(SetStateCommand {
+                name: copy_of(name)?,
+                key: copy_of(key)?,
+                value: value.clone()?,
+            })),
+            Request::ClearState { key, name } => Ok(Message::ClearState(ClearStateCommand {
+                name: copy_of(name)?,
+                key: copy_of(key)?,
+            })),
+            Request::ClearAllState { name } => Ok(Message::ClearAllState(ClearAllStateCommand {
+                name: copy_of(name)?,
+            })),
+            Request::CompleteAwakeable {
+                id,
+                result: value,
+                ..
+            } => Ok(Message::CompleteAwakeable(CompleteAwakeableCommand {
+                awakeable_id: copy_of(id)?,
+                result: copy_of(value)?,
+            })),
+            Request::CompleteSignal {
+                target,
+                signal,
+                result: value,
+            } => Ok(Message::SendSignal(SendSignalCommand {
+                target_invocation_id: copy_of(target)?,
+                signal: Signal::Name(copy_of(signal)?),
+                result: signal_result(value)?,
+            })),
+            Request::CancelInvocation { target } => Ok(Message::SendSignal(SendSignalCommand {
+                target_invocation_id: copy_of(target)?,
+                signal: Signal::Index(CANCEL_SIGNAL),
+                result: SignalResult::Void,
             })),
         }
     }

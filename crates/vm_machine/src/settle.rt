@@ -1,5 +1,5 @@
 //! The error rule: what becomes of a machine whose event was refused or found no memory.
-ghost use Rattle.std.specs.Prelude.{◌≡◌, ◌∷◌, ◌++◌, [], OnOk, OnErr, IsErr, Ok, is_some};
+ghost use Rattle.std.specs.Prelude.{◌≡◌, ◌∷◌, ◌++◌, [], IfOk, OnOk, OnErr, IsErr, Ok, is_some};
 ghost use Rattle.journal_protocol.specs.Errors.{no_memory, error_message};
 ghost use Rattle.journal_protocol.specs.Message.{encoding};
 ghost use Rattle.journal_protocol.specs.declared.message.Message.TheVariants as message;
@@ -9,8 +9,9 @@ ghost use Rattle.vm_machine.specs.Inputs.{Quiets};
 use crate::fault::Fault;
 use crate::machine::Machine;
 use crate::phase::is_from_v7;
+use bytes::Bytes;
 use journal_protocol::{Encoder, Error, ErrorBehavior, Message, NamedFault};
-use std::alloc::AllocError;
+use std::alloc::{AllocError, Global};
 use vm_parts::JournalMismatchRetryBehavior;
 
 fn mismatch_behavior(option: JournalMismatchRetryBehavior) -> ErrorBehavior
@@ -21,6 +22,14 @@ fn mismatch_behavior(option: JournalMismatchRetryBehavior) -> ErrorBehavior
         JournalMismatchRetryBehavior::FailTerminally => ErrorBehavior::Fail,
         JournalMismatchRetryBehavior::FollowRetryPolicy => ErrorBehavior::Retry,
     }
+}
+
+/// The frame of an error.
+fn error_frame(alloc: Global, error: &Error) -> Result<Bytes, AllocError>
+    ensures { IfOk result (λ frame. frame ≡ encoding (message.Error (error_message error.now))) }
+{
+    let message = Message::Error(error.to_message(alloc)?);
+    Encoder::new(alloc).encode(&message)
 }
 
 impl Machine {
@@ -58,8 +67,7 @@ impl Machine {
         ensures ok { OnOk result (self.new ≡ record self.old { output = self.old.output ++ encoding (message.Error (error_message error.now)) ∷ [] }) }
         ensures err { OnErr result (self.new ≡ self.old) }
     {
-        let message = Message::Error(error.to_message(self.alloc)?);
-        let frame = Encoder::new(self.alloc).encode(&message)?;
+        let frame = error_frame(self.alloc, error)?;
         self.output.push(frame)
     }
 

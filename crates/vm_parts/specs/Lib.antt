@@ -3,3 +3,4 @@ pub mod CommandTypes
 pub mod Counting
 pub mod Deliveries
 pub mod Values
+pub mod States

@@ -1,10 +1,12 @@
 //! What an attempt knows of itself: its counters, its last command, what Start told it, and the state.
-ghost use Rattle.std.specs.Prelude.{◌≡◌, ◌<◌, ◌+◌, ◌^◌, IfNone};
+ghost use Rattle.std.specs.Prelude.{◌≡◌, ◌<◌, ◌+◌, ◌^◌, IfNone, OnOk, OnErr};
+ghost use Rattle.vm_parts.specs.States.{state_set, state_cleared, all_cleared};
 ghost use Rattle.vm_parts.specs.Counting.{fresh_counters, next_index, missing};
 
 use bytes::Bytes;
 use journal_protocol::{MessageType, NamedFault};
-use wire::{Items, Text};
+use std::alloc::AllocError;
+use wire::{Items, Text, copy_of};
 
 /// The next numbers, each one's place; a counter at `u32::MAX` hands nothing out.
 #[derive(Clone, Copy, Debug)]
@@ -98,5 +100,33 @@ impl Counters {
         } else {
             None
         }
+    }
+}
+
+impl StateMap {
+    /// A key gets a value.
+    pub fn set(&mut self, key: &Text, value: &Bytes) -> Result<(), AllocError>
+        ensures ok { OnOk result (self.new ≡ state_set key.now value.now self.old) }
+        ensures err { OnErr result (self.new ≡ self.old) }
+    {
+        let entry = (copy_of(key)?, Some(value.clone()?));
+        self.entries.push(entry)
+    }
+
+    /// A key loses its value.
+    pub fn clear(&mut self, key: &Text) -> Result<(), AllocError>
+        ensures ok { OnOk result (self.new ≡ state_cleared key.now self.old) }
+        ensures err { OnErr result (self.new ≡ self.old) }
+    {
+        let entry = (copy_of(key)?, None);
+        self.entries.push(entry)
+    }
+
+    /// Each key loses its value.
+    pub fn clear_all(&mut self)
+        ensures { self.new ≡ all_cleared self.old }
+    {
+        self.entries.clear();
+        self.coverage = StateCoverage::Complete;
     }
 }

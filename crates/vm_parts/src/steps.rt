@@ -3,6 +3,7 @@
 use crate::options::PayloadOptions;
 use crate::types::{NotificationHandle, UnresolvedFuture};
 use crate::values::{Input, NonEmptyValue, Value};
+use bytes::Bytes;
 use std::time::Duration;
 use wire::Text;
 
@@ -13,6 +14,32 @@ pub enum Step {
         name: Text,
         wake_up_time_since_unix_epoch: Duration,
         now_since_unix_epoch: Option<Duration>,
+    },
+    StateSet {
+        key: Text,
+        value: Bytes,
+        name: Option<Text>,
+        options: PayloadOptions,
+    },
+    StateClear {
+        key: Text,
+        name: Option<Text>,
+    },
+    StateClearAll {
+        name: Option<Text>,
+    },
+    CompleteAwakeable {
+        id: Text,
+        value: NonEmptyValue,
+        options: PayloadOptions,
+    },
+    CompleteSignal {
+        target_invocation_id: Text,
+        signal_name: Text,
+        value: NonEmptyValue,
+    },
+    CancelInvocation {
+        target_invocation_id: Text,
     },
     WriteOutput(NonEmptyValue, PayloadOptions),
     Await(UnresolvedFuture),

@@ -3,11 +3,7 @@ use Rattle.std.proofs.Common.{◌≡◌, ◌⊎◌, inl, inr, Result, Ok, Err, r
 use Rattle.journal_protocol.specs.declared.error.Error.{Error}
 use Rattle.vm_machine.specs.declared.machine.Machine.{Machine}
 use Rattle.vm_machine.specs.Outcomes.{Outcome, Done, Failed, Does, IsStarved}
-use Rattle.vm_rounds.specs.Steps.{mapped}
-
-abbrev pub result_mapped : {A B : Type 0} → (A → B) → Result A Error → Result B Error
-result_mapped f (Ok a) = Ok (f a)
-result_mapped f (Err e) = Err e
+use Rattle.vm_rounds.specs.Steps.{mapped, result_mapped}
 
 pub replies : {A B : Type 0} (f : A → B) (o : Outcome A) (r : Result A Error) (old new : Machine) → Does o r old new → Does (mapped f o) (result_mapped f r) old new
 replies f o (Ok a) old new h = rw h refl

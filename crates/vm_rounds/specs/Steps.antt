@@ -1,9 +1,8 @@
 -- The call that a step of a handler is, and what its answer is to the handler: one row a kind of step.
-use Rattle.std.specs.Prelude.{◌≡◌, ◌/◌, ◌⊎◌, ℕ, List, Option, Some, None, Result, Ok, Err}
+use Rattle.std.specs.Prelude.{◌≡◌, ◌/◌, ◌⊎◌, ℕ, List, [], Option, Some, None, Result, Ok, Err}
 use Rattle.std.specs.Duration.{as_nanos}
 use Rattle.std.specs.declared.time.Duration.{Duration}
 use Rattle.journal_protocol.specs.declared.error.Error.{Error}
-use Rattle.vm_parts.specs.declared.options.PayloadOptions.{PayloadOptions}
 use Rattle.vm_parts.specs.declared.steps.Answer.{Answer}
 use Rattle.vm_parts.specs.declared.steps.Answer.TheVariants as answer
 use Rattle.vm_parts.specs.declared.steps.Step.{Step}
@@ -12,12 +11,11 @@ use Rattle.vm_parts.specs.declared.types.AwaitResponse.{AwaitResponse}
 use Rattle.vm_parts.specs.declared.types.AwaitResponse.TheVariants.{AnyCompleted, WaitingExternalProgress}
 use Rattle.vm_parts.specs.declared.types.NotificationHandle.{NotificationHandle}
 use Rattle.vm_parts.specs.declared.types.UnresolvedFuture.{UnresolvedFuture}
-use Rattle.vm_parts.specs.declared.values.NonEmptyValue.{NonEmptyValue}
 use Rattle.vm_machine.specs.declared.machine.Machine.{Machine}
 use Rattle.vm_machine.specs.Awaits.{is_completed, take_step}
 use Rattle.vm_machine.specs.Inputs.{end_step}
 use Rattle.vm_machine.specs.Outcomes.{Outcome, Done, Failed, called, Does}
-use Rattle.invocation_vm.specs.Calls.{future_step, output_step, sleep_step}
+use Rattle.invocation_vm.specs.Calls.{cancel_invocation_step, complete_awakeable_step, complete_signal_step, future_step, output_step, sleep_step, state_clear_all_step, state_clear_step, state_set_step}
 use Rattle.invocation_vm.specs.Views.{View}
 use Rattle.vm_rounds.specs.declared.progress.Reply.{Reply}
 use Rattle.vm_rounds.specs.declared.progress.Reply.TheVariants as reply
@@ -27,11 +25,22 @@ abbrev pub mapped : {A B : Type 0} → (A → B) → Outcome A → Outcome B
 mapped f (Done a v) = Done (f a) v
 mapped f (Failed e v) = Failed e v
 
+-- a result with another answer
+abbrev pub result_mapped : {A B : Type 0} → (A → B) → Result A Error → Result B Error
+result_mapped f (Ok a) = Ok (f a)
+result_mapped f (Err e) = Err e
+
 abbrev pub slept : List ℕ → Duration → Machine → Outcome Reply
 slept name wake_up_time v = mapped (λ handle. reply.Answer (answer.Handle handle)) (called (sleep_step (as_nanos wake_up_time / 1000000) name v) v)
 
-abbrev pub wrote : NonEmptyValue → PayloadOptions → Machine → Outcome Reply
-wrote value options v = mapped (λ _. reply.Answer answer.Unit) (called (output_step value options v) v)
+-- a call that answers nothing
+abbrev pub done : (Machine → Outcome Unit) → Machine → Outcome Reply
+done event v = mapped (λ _. reply.Answer answer.Unit) (called (event v) v)
+
+-- an absent name is empty
+abbrev pub name_of : Option (List ℕ) → List ℕ
+name_of None = []
+name_of (Some name) = name
 
 -- an await that is answered, that waits, or by which the invocation is suspended
 abbrev pub await_reply : Result AwaitResponse Error → Reply
@@ -51,7 +60,13 @@ ended v = mapped (λ _. reply.Ended) (called (end_step v) v)
 -- what the call of a step does
 abbrev pub performed : Step → Machine → Outcome Reply
 performed (step.Sleep name wake_up_time now) v = slept name wake_up_time v
-performed (step.WriteOutput value options) v = wrote value options v
+performed (step.StateSet key value name options) v = done (state_set_step key value (name_of name) options) v
+performed (step.StateClear key name) v = done (state_clear_step key (name_of name)) v
+performed (step.StateClearAll name) v = done (state_clear_all_step (name_of name)) v
+performed (step.CompleteAwakeable id value options) v = done (complete_awakeable_step id value options) v
+performed (step.CompleteSignal target signal value) v = done (complete_signal_step target signal value) v
+performed (step.CancelInvocation target) v = done (cancel_invocation_step target) v
+performed (step.WriteOutput value options) v = done (output_step value options) v
 performed (step.Await future) v = awaited future v
 performed (step.Take handle) v = taken handle v
 performed (step.Completed handle) v = Done (reply.Answer (answer.Completed (is_completed handle.0 v))) v

@@ -1,13 +1,13 @@
 //! The calls of the VM that the steps of a handler are: one function a kind of step.
 ghost use Rattle.std.specs.Prelude.{◌≡◌};
+ghost use Rattle.invocation_vm.specs.Calls.{name_or_empty};
 ghost use Rattle.invocation_vm.specs.Seen.{seen};
-ghost use Rattle.vm_rounds.specs.Steps.{performed, ended, awaited, await_reply, taken, slept, wrote, Asked};
+ghost use Rattle.vm_parts.specs.declared.steps.Answer.TheVariants as answer;
+ghost use Rattle.vm_rounds.specs.declared.progress.Reply.TheVariants as reply;
+ghost use Rattle.vm_rounds.specs.Steps.{performed, ended, awaited, await_reply, name_of, result_mapped, taken, slept, Asked};
 
 use crate::progress::Reply;
-use invocation_vm::{
-    AwaitResponse, CoreVM, NonEmptyValue, NotificationHandle, PayloadOptions, UnresolvedFuture, VM,
-    VMResult,
-};
+use invocation_vm::{AwaitResponse, CoreVM, NotificationHandle, UnresolvedFuture, VM, VMResult};
 use std::time::Duration;
 use vm_parts::{Answer, Step};
 use wire::Text;
@@ -27,14 +27,20 @@ fn sleep(
     }
 }
 
-#[tactic(auto, using(crate::proofs::Replies::replies))]
-fn write_output(vm: &mut CoreVM, value: NonEmptyValue, options: PayloadOptions) -> VMResult<Reply>
-    ensures { Asked (wrote value options) result (seen vm.old) (seen vm.new) }
+/// The reply to a call that answers nothing.
+fn unit(given: VMResult<()>) -> VMResult<Reply>
+    ensures { result ≡ result_mapped (λ _. reply.Answer answer.Unit) given }
 {
-    match vm.sys_write_output(value, options) {
+    match given {
         Ok(()) => Ok(Reply::Answer(Answer::Unit)),
         Err(error) => Err(error),
     }
+}
+
+fn string_of(name: Option<Text>) -> Option<String>
+    ensures { name_or_empty result ≡ name_of name }
+{
+    name.map(|text| text.into_string())
 }
 
 #[tactic(auto, using(crate::proofs::Replies::replies))]
@@ -86,6 +92,7 @@ fn wait(vm: &mut CoreVM, future: UnresolvedFuture) -> VMResult<Reply>
 }
 
 /// Makes the call that a step is.
+#[tactic(auto, using(crate::proofs::Replies::replies))]
 pub fn perform(vm: &mut CoreVM, step: Step) -> VMResult<Reply>
     ensures { Asked (performed step) result (seen vm.old) (seen vm.new) }
 {
@@ -100,7 +107,35 @@ pub fn perform(vm: &mut CoreVM, step: Step) -> VMResult<Reply>
             wake_up_time_since_unix_epoch,
             now_since_unix_epoch,
         ),
-        Step::WriteOutput(value, options) => write_output(vm, value, options),
+        Step::StateSet {
+            key,
+            value,
+            name,
+            options,
+        } => unit(vm.sys_state_set(key.into_string(), value, string_of(name), options)),
+        Step::StateClear { key, name } => unit(vm.sys_state_clear(
+            key.into_string(),
+            string_of(name),
+        )),
+        Step::StateClearAll { name } => unit(vm.sys_state_clear_all(string_of(name))),
+        Step::CompleteAwakeable { id, value, options } => unit(vm.sys_complete_awakeable(
+            id.into_string(),
+            value,
+            options,
+        )),
+        Step::CompleteSignal {
+            target_invocation_id,
+            signal_name,
+            value,
+        } => unit(vm.sys_complete_signal(
+            target_invocation_id.into_string(),
+            signal_name.into_string(),
+            value,
+        )),
+        Step::CancelInvocation {
+            target_invocation_id,
+        } => unit(vm.sys_cancel_invocation(target_invocation_id.into_string())),
+        Step::WriteOutput(value, options) => unit(vm.sys_write_output(value, options)),
         Step::Await(future) => wait(vm, future),
         Step::Take(handle) => take(vm, handle),
         Step::Completed(handle) => Ok(Reply::Answer(Answer::Completed(vm.is_completed(handle)))),

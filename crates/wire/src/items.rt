@@ -89,6 +89,13 @@ impl<T: Drop> Items<T> {
         self.items.push(item)?;
         Ok(())
     }
+
+    /// Drops all items; it takes no memory.
+    pub fn clear(&mut self)
+        ensures { self.new ≡ [] }
+    {
+        self.items.clear();
+    }
 }
 
 impl<T: Plain> Clone for Items<T> {
