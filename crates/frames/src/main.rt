@@ -12,6 +12,8 @@ pub mod line;
 pub mod message;
 pub mod pieces;
 pub mod run;
+#[cfg(test)]
+mod tests;
 pub mod type_names;
 pub mod value;
 
