@@ -83,6 +83,13 @@ impl Decoder {
         }
     }
 
+    /// The bytes that wait.
+    pub fn waiting(&self) -> &[u8]
+        ensures { result.now ≡ self.now }
+    {
+        &self.waiting[self.at..]
+    }
+
     /// Drops the bytes that wait. It takes no memory.
     pub fn clear(&mut self)
         ensures { self.new ≡ [] }

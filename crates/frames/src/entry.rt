@@ -1,0 +1,86 @@
+//! A frame as a line, and a line as a frame.
+ghost use Rattle.std.specs.Prelude.{◌≡◌, ◌++◌, IfOk};
+ghost use Rattle.wire.specs.Format.{u16s, bytes};
+
+use crate::atoms::{bytes_of, number_of};
+use crate::fields::Fields;
+use crate::line::Line;
+use crate::message::{parse_message, print_message};
+use crate::pieces::words;
+use crate::type_names::type_named;
+use bytes::Bytes;
+use journal_protocol::{Encoder, MessageType, RawMessage};
+use std::alloc::{AllocError, Global};
+use wire::{Fault, Wire};
+
+/// Writes the type's number and the body of a frame.
+fn print_raw(raw: &RawMessage, line: &mut Line) -> Result<(), AllocError> {
+    line.word("raw ")?;
+    line.number(u64::from(raw.ty.number()))?;
+    line.word(" ")?;
+    line.hex(raw.body.as_slice())
+}
+
+/// Writes the message of a frame, or the frame as it is where its body doesn't decode.
+pub fn print_frame(alloc: Global, raw: &RawMessage, line: &mut Line) -> Result<(), AllocError> {
+    match raw.read(alloc) {
+        Ok(message) => print_message(&message, line),
+        Err(Fault::Malformed) => print_raw(raw, line),
+        Err(Fault::Memory) => Err(AllocError),
+    }
+}
+
+/// Writes bytes that are no whole frame.
+pub fn print_rest(rest: &[u8], line: &mut Line) -> Result<(), AllocError> {
+    line.word("rest ")?;
+    line.hex(rest)
+}
+
+fn frame_of_message(alloc: Global, ty: MessageType, fields: Fields<'_>) -> Result<Bytes, Fault> {
+    let message = parse_message(ty, fields)?;
+    Encoder::new(alloc).encode(&message).map_err(Fault::from)
+}
+
+/// A frame of any type and any body.
+fn raw_frame(alloc: Global, number: u16, body: &Bytes) -> Result<Bytes, AllocError>
+    ensures { IfOk result (λ frame. frame ≡ u16s number ++ bytes body.now) }
+{
+    let mut frame = Vec::new(alloc);
+    number.put(&mut frame)?;
+    body.put(&mut frame)?;
+    Ok(Bytes::from_vec(frame)?)
+}
+
+/// The bytes of an atom, shared.
+fn shared(alloc: Global, text: &[u8]) -> Result<Bytes, Fault> {
+    Ok(Bytes::from_vec(bytes_of(alloc, text)?)?)
+}
+
+fn frame_of_raw(alloc: Global, number: &[u8], body: &[u8]) -> Result<Bytes, Fault> {
+    let Some(number) = number_of(number) else {
+        return Err(Fault::Malformed);
+    };
+    let Ok(number) = u16::try_from(number) else {
+        return Err(Fault::Malformed);
+    };
+    let body = shared(alloc, body)?;
+    Ok(raw_frame(alloc, number, &body)?)
+}
+
+fn frame_of_words(alloc: Global, words: &[&[u8]]) -> Result<Bytes, Fault> {
+    match words {
+        [b"raw", number, body] => frame_of_raw(alloc, *number, *body),
+        [b"rest", rest] => shared(alloc, *rest),
+        [name, fields @ ..] => match type_named(*name) {
+            Some(ty) => frame_of_message(alloc, ty, Fields::of_pieces(alloc, fields)?),
+            None => Err(Fault::Malformed),
+        },
+        [] => Err(Fault::Malformed),
+    }
+}
+
+/// The bytes that a line shows.
+pub fn frame_of(alloc: Global, line: &[u8]) -> Result<Bytes, Fault> {
+    let words = words(alloc, line)?;
+    frame_of_words(alloc, words.as_slice())
+}

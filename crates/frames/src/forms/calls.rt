@@ -1,0 +1,206 @@
+//! The commands on other invocations, signals, promises, runs and time.
+use crate::fields::Fields;
+use crate::forms::Form;
+use crate::line::Line;
+use journal_protocol::{
+    CallCommand, CallRequest, CompleteAwakeableCommand, CompletePromiseCommand, InvocationCommand,
+    OneWayCallCommand, PromiseCommand, RunCommand, SendSignalCommand, SleepCommand,
+};
+use std::alloc::AllocError;
+use wire::Fault;
+
+impl Form for SleepCommand {
+    fn print(&self, line: &mut Line) -> Result<(), AllocError> {
+        line.field("wake_up_time", &self.wake_up_time)?;
+        line.field("result_completion_id", &self.result_completion_id)?;
+        line.field("name", &self.name)
+    }
+
+    fn parse(fields: &mut Fields<'_>) -> Result<SleepCommand, Fault> {
+        let wake_up_time = fields.take("wake_up_time")?;
+        let result_completion_id = fields.take("result_completion_id")?;
+        let name = fields.take("name")?;
+        Ok(SleepCommand {
+            wake_up_time,
+            result_completion_id,
+            name,
+        })
+    }
+}
+
+impl Form for CallRequest {
+    fn print(&self, line: &mut Line) -> Result<(), AllocError> {
+        line.field("service_name", &self.service_name)?;
+        line.field("handler_name", &self.handler_name)?;
+        line.field("key", &self.key)?;
+        line.field("idempotency_key", &self.idempotency_key)?;
+        line.field("scope", &self.scope)?;
+        line.field("limit_key", &self.limit_key)?;
+        line.field("headers", &self.headers)?;
+        line.field("parameter", &self.parameter)?;
+        line.field(
+            "invocation_id_notification_idx",
+            &self.invocation_id_notification_idx,
+        )?;
+        line.field("name", &self.name)
+    }
+
+    fn parse(fields: &mut Fields<'_>) -> Result<CallRequest, Fault> {
+        let service_name = fields.take("service_name")?;
+        let handler_name = fields.take("handler_name")?;
+        let key = fields.take("key")?;
+        let idempotency_key = fields.take("idempotency_key")?;
+        let scope = fields.take("scope")?;
+        let limit_key = fields.take("limit_key")?;
+        let headers = fields.take("headers")?;
+        let parameter = fields.take("parameter")?;
+        let invocation_id_notification_idx = fields.take("invocation_id_notification_idx")?;
+        let name = fields.take("name")?;
+        Ok(CallRequest {
+            service_name,
+            handler_name,
+            key,
+            idempotency_key,
+            scope,
+            limit_key,
+            headers,
+            parameter,
+            invocation_id_notification_idx,
+            name,
+        })
+    }
+}
+
+impl Form for CompleteAwakeableCommand {
+    fn print(&self, line: &mut Line) -> Result<(), AllocError> {
+        line.field("awakeable_id", &self.awakeable_id)?;
+        line.field("result", &self.result)
+    }
+
+    fn parse(fields: &mut Fields<'_>) -> Result<CompleteAwakeableCommand, Fault> {
+        let awakeable_id = fields.take("awakeable_id")?;
+        let result = fields.take("result")?;
+        Ok(CompleteAwakeableCommand {
+            awakeable_id,
+            result,
+        })
+    }
+}
+
+impl Form for SendSignalCommand {
+    fn print(&self, line: &mut Line) -> Result<(), AllocError> {
+        line.field("target_invocation_id", &self.target_invocation_id)?;
+        line.field("signal", &self.signal)?;
+        line.field("result", &self.result)
+    }
+
+    fn parse(fields: &mut Fields<'_>) -> Result<SendSignalCommand, Fault> {
+        let target_invocation_id = fields.take("target_invocation_id")?;
+        let signal = fields.take("signal")?;
+        let result = fields.take("result")?;
+        Ok(SendSignalCommand {
+            target_invocation_id,
+            signal,
+            result,
+        })
+    }
+}
+
+impl Form for PromiseCommand {
+    fn print(&self, line: &mut Line) -> Result<(), AllocError> {
+        line.field("key", &self.key)?;
+        line.field("result_completion_id", &self.result_completion_id)
+    }
+
+    fn parse(fields: &mut Fields<'_>) -> Result<PromiseCommand, Fault> {
+        let key = fields.take("key")?;
+        let result_completion_id = fields.take("result_completion_id")?;
+        Ok(PromiseCommand {
+            key,
+            result_completion_id,
+        })
+    }
+}
+
+impl Form for CompletePromiseCommand {
+    fn print(&self, line: &mut Line) -> Result<(), AllocError> {
+        line.field("key", &self.key)?;
+        line.field("completion", &self.completion)?;
+        line.field("result_completion_id", &self.result_completion_id)
+    }
+
+    fn parse(fields: &mut Fields<'_>) -> Result<CompletePromiseCommand, Fault> {
+        let key = fields.take("key")?;
+        let completion = fields.take("completion")?;
+        let result_completion_id = fields.take("result_completion_id")?;
+        Ok(CompletePromiseCommand {
+            key,
+            completion,
+            result_completion_id,
+        })
+    }
+}
+
+impl Form for RunCommand {
+    fn print(&self, line: &mut Line) -> Result<(), AllocError> {
+        line.field("name", &self.name)?;
+        line.field("result_completion_id", &self.result_completion_id)
+    }
+
+    fn parse(fields: &mut Fields<'_>) -> Result<RunCommand, Fault> {
+        let name = fields.take("name")?;
+        let result_completion_id = fields.take("result_completion_id")?;
+        Ok(RunCommand {
+            name,
+            result_completion_id,
+        })
+    }
+}
+
+impl Form for InvocationCommand {
+    fn print(&self, line: &mut Line) -> Result<(), AllocError> {
+        line.field("target", &self.target)?;
+        line.field("result_completion_id", &self.result_completion_id)
+    }
+
+    fn parse(fields: &mut Fields<'_>) -> Result<InvocationCommand, Fault> {
+        let target = fields.take("target")?;
+        let result_completion_id = fields.take("result_completion_id")?;
+        Ok(InvocationCommand {
+            target,
+            result_completion_id,
+        })
+    }
+}
+
+impl Form for CallCommand {
+    fn print(&self, line: &mut Line) -> Result<(), AllocError> {
+        self.request.print(line)?;
+        line.field("result_completion_id", &self.result_completion_id)
+    }
+
+    fn parse(fields: &mut Fields<'_>) -> Result<CallCommand, Fault> {
+        let request = CallRequest::parse(fields)?;
+        let result_completion_id = fields.take("result_completion_id")?;
+        Ok(CallCommand {
+            request,
+            result_completion_id,
+        })
+    }
+}
+
+impl Form for OneWayCallCommand {
+    fn print(&self, line: &mut Line) -> Result<(), AllocError> {
+        self.request.print(line)?;
+        line.field("invoke_time", &self.invoke_time)
+    }
+
+    fn parse(fields: &mut Fields<'_>) -> Result<OneWayCallCommand, Fault> {
+        let request = CallRequest::parse(fields)?;
+        let invoke_time = fields.take("invoke_time")?;
+        Ok(OneWayCallCommand {
+            request,
+            invoke_time,
+        })
+    }
+}

@@ -1,0 +1,140 @@
+//! The messages that begin and end an attempt, and what it tells of itself.
+use crate::fields::Fields;
+use crate::forms::Form;
+use crate::line::Line;
+use journal_protocol::{
+    AwaitingOn, ErrorMessage, ProposeRunCompletion, ProposeRunCompletionAck, Start, Suspension,
+};
+use std::alloc::AllocError;
+use wire::Fault;
+
+impl Form for Start {
+    fn print(&self, line: &mut Line) -> Result<(), AllocError> {
+        line.field("id", &self.id)?;
+        line.field("debug_id", &self.debug_id)?;
+        line.field("key", &self.key)?;
+        line.field("known_entries", &self.known_entries)?;
+        line.field("state", &self.state)?;
+        line.field("partial", &self.partial)?;
+        line.field("retry_count", &self.retry_count)?;
+        line.field("duration", &self.duration)?;
+        line.field("random_seed", &self.random_seed)?;
+        line.field("scope", &self.scope)?;
+        line.field("limit_key", &self.limit_key)?;
+        line.field("idempotency_key", &self.idempotency_key)
+    }
+
+    fn parse(fields: &mut Fields<'_>) -> Result<Start, Fault> {
+        let id = fields.take("id")?;
+        let debug_id = fields.take("debug_id")?;
+        let key = fields.take("key")?;
+        let known_entries = fields.take("known_entries")?;
+        let state = fields.take("state")?;
+        let partial = fields.take("partial")?;
+        let retry_count = fields.take("retry_count")?;
+        let duration = fields.take("duration")?;
+        let random_seed = fields.take("random_seed")?;
+        let scope = fields.take("scope")?;
+        let limit_key = fields.take("limit_key")?;
+        let idempotency_key = fields.take("idempotency_key")?;
+        Ok(Start {
+            id,
+            debug_id,
+            key,
+            known_entries,
+            state,
+            partial,
+            retry_count,
+            duration,
+            random_seed,
+            scope,
+            limit_key,
+            idempotency_key,
+        })
+    }
+}
+
+impl Form for Suspension {
+    fn print(&self, line: &mut Line) -> Result<(), AllocError> {
+        line.field("future", &self.future)
+    }
+
+    fn parse(fields: &mut Fields<'_>) -> Result<Suspension, Fault> {
+        let future = fields.take("future")?;
+        Ok(Suspension { future })
+    }
+}
+
+impl Form for AwaitingOn {
+    fn print(&self, line: &mut Line) -> Result<(), AllocError> {
+        line.field("future", &self.future)?;
+        line.field("executing_side_effects", &self.executing_side_effects)
+    }
+
+    fn parse(fields: &mut Fields<'_>) -> Result<AwaitingOn, Fault> {
+        let future = fields.take("future")?;
+        let executing_side_effects = fields.take("executing_side_effects")?;
+        Ok(AwaitingOn {
+            future,
+            executing_side_effects,
+        })
+    }
+}
+
+impl Form for ErrorMessage {
+    fn print(&self, line: &mut Line) -> Result<(), AllocError> {
+        line.field("code", &self.code)?;
+        line.field("message", &self.message)?;
+        line.field("stacktrace", &self.stacktrace)?;
+        line.field("behaviour", &self.behavior)?;
+        line.field("index", &self.index)?;
+        line.field("type", &self.ty)?;
+        line.field("name", &self.name)?;
+        line.field("delay", &self.delay)
+    }
+
+    fn parse(fields: &mut Fields<'_>) -> Result<ErrorMessage, Fault> {
+        let code = fields.take("code")?;
+        let message = fields.take("message")?;
+        let stacktrace = fields.take("stacktrace")?;
+        let behavior = fields.take("behaviour")?;
+        let index = fields.take("index")?;
+        let ty = fields.take("type")?;
+        let name = fields.take("name")?;
+        let delay = fields.take("delay")?;
+        Ok(ErrorMessage {
+            code,
+            message,
+            stacktrace,
+            behavior,
+            index,
+            ty,
+            name,
+            delay,
+        })
+    }
+}
+
+impl Form for ProposeRunCompletion {
+    fn print(&self, line: &mut Line) -> Result<(), AllocError> {
+        line.field("id", &self.id)?;
+        line.field("result", &self.result)
+    }
+
+    fn parse(fields: &mut Fields<'_>) -> Result<ProposeRunCompletion, Fault> {
+        let id = fields.take("id")?;
+        let result = fields.take("result")?;
+        Ok(ProposeRunCompletion { id, result })
+    }
+}
+
+impl Form for ProposeRunCompletionAck {
+    fn print(&self, line: &mut Line) -> Result<(), AllocError> {
+        line.field("id", &self.id)
+    }
+
+    fn parse(fields: &mut Fields<'_>) -> Result<ProposeRunCompletionAck, Fault> {
+        let id = fields.take("id")?;
+        Ok(ProposeRunCompletionAck { id })
+    }
+}

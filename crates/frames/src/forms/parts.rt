@@ -1,0 +1,66 @@
+//! What stands in a choice's brackets.
+use crate::fields::Fields;
+use crate::forms::Form;
+use crate::line::Line;
+use journal_protocol::{Failure, IdempotencyId, WorkflowId};
+use std::alloc::AllocError;
+use wire::Fault;
+
+impl Form for Failure {
+    fn print(&self, line: &mut Line) -> Result<(), AllocError> {
+        line.field("code", &self.code)?;
+        line.field("message", &self.message)?;
+        line.field("metadata", &self.metadata)
+    }
+
+    fn parse(fields: &mut Fields<'_>) -> Result<Failure, Fault> {
+        let code = fields.take("code")?;
+        let message = fields.take("message")?;
+        let metadata = fields.take("metadata")?;
+        Ok(Failure {
+            code,
+            message,
+            metadata,
+        })
+    }
+}
+
+impl Form for WorkflowId {
+    fn print(&self, line: &mut Line) -> Result<(), AllocError> {
+        line.field("name", &self.name)?;
+        line.field("key", &self.key)?;
+        line.field("scope", &self.scope)
+    }
+
+    fn parse(fields: &mut Fields<'_>) -> Result<WorkflowId, Fault> {
+        let name = fields.take("name")?;
+        let key = fields.take("key")?;
+        let scope = fields.take("scope")?;
+        Ok(WorkflowId { name, key, scope })
+    }
+}
+
+impl Form for IdempotencyId {
+    fn print(&self, line: &mut Line) -> Result<(), AllocError> {
+        line.field("service_name", &self.service_name)?;
+        line.field("service_key", &self.service_key)?;
+        line.field("handler_name", &self.handler_name)?;
+        line.field("idempotency_key", &self.idempotency_key)?;
+        line.field("scope", &self.scope)
+    }
+
+    fn parse(fields: &mut Fields<'_>) -> Result<IdempotencyId, Fault> {
+        let service_name = fields.take("service_name")?;
+        let service_key = fields.take("service_key")?;
+        let handler_name = fields.take("handler_name")?;
+        let idempotency_key = fields.take("idempotency_key")?;
+        let scope = fields.take("scope")?;
+        Ok(IdempotencyId {
+            service_name,
+            service_key,
+            handler_name,
+            idempotency_key,
+            scope,
+        })
+    }
+}

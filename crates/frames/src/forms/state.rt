@@ -1,0 +1,136 @@
+//! The commands on a handler's input, state and output.
+use crate::fields::Fields;
+use crate::forms::Form;
+use crate::line::Line;
+use journal_protocol::{
+    ClearAllStateCommand, ClearStateCommand, GetEagerStateCommand, GetEagerStateKeysCommand,
+    GetLazyStateCommand, GetLazyStateKeysCommand, InputCommand, OutputCommand, SetStateCommand,
+};
+use std::alloc::AllocError;
+use wire::Fault;
+
+impl Form for InputCommand {
+    fn print(&self, line: &mut Line) -> Result<(), AllocError> {
+        line.field("headers", &self.headers)?;
+        line.field("value", &self.value)
+    }
+
+    fn parse(fields: &mut Fields<'_>) -> Result<InputCommand, Fault> {
+        let headers = fields.take("headers")?;
+        let value = fields.take("value")?;
+        Ok(InputCommand { headers, value })
+    }
+}
+
+impl Form for GetEagerStateCommand {
+    fn print(&self, line: &mut Line) -> Result<(), AllocError> {
+        line.field("name", &self.name)?;
+        line.field("key", &self.key)?;
+        line.field("result", &self.result)
+    }
+
+    fn parse(fields: &mut Fields<'_>) -> Result<GetEagerStateCommand, Fault> {
+        let name = fields.take("name")?;
+        let key = fields.take("key")?;
+        let result = fields.take("result")?;
+        Ok(GetEagerStateCommand { name, key, result })
+    }
+}
+
+impl Form for GetLazyStateCommand {
+    fn print(&self, line: &mut Line) -> Result<(), AllocError> {
+        line.field("name", &self.name)?;
+        line.field("key", &self.key)?;
+        line.field("result_completion_id", &self.result_completion_id)
+    }
+
+    fn parse(fields: &mut Fields<'_>) -> Result<GetLazyStateCommand, Fault> {
+        let name = fields.take("name")?;
+        let key = fields.take("key")?;
+        let result_completion_id = fields.take("result_completion_id")?;
+        Ok(GetLazyStateCommand {
+            name,
+            key,
+            result_completion_id,
+        })
+    }
+}
+
+impl Form for GetEagerStateKeysCommand {
+    fn print(&self, line: &mut Line) -> Result<(), AllocError> {
+        line.field("value", &self.value)?;
+        line.field("name", &self.name)
+    }
+
+    fn parse(fields: &mut Fields<'_>) -> Result<GetEagerStateKeysCommand, Fault> {
+        let value = fields.take("value")?;
+        let name = fields.take("name")?;
+        Ok(GetEagerStateKeysCommand { value, name })
+    }
+}
+
+impl Form for GetLazyStateKeysCommand {
+    fn print(&self, line: &mut Line) -> Result<(), AllocError> {
+        line.field("result_completion_id", &self.result_completion_id)?;
+        line.field("name", &self.name)
+    }
+
+    fn parse(fields: &mut Fields<'_>) -> Result<GetLazyStateKeysCommand, Fault> {
+        let result_completion_id = fields.take("result_completion_id")?;
+        let name = fields.take("name")?;
+        Ok(GetLazyStateKeysCommand {
+            result_completion_id,
+            name,
+        })
+    }
+}
+
+impl Form for SetStateCommand {
+    fn print(&self, line: &mut Line) -> Result<(), AllocError> {
+        line.field("name", &self.name)?;
+        line.field("key", &self.key)?;
+        line.field("value", &self.value)
+    }
+
+    fn parse(fields: &mut Fields<'_>) -> Result<SetStateCommand, Fault> {
+        let name = fields.take("name")?;
+        let key = fields.take("key")?;
+        let value = fields.take("value")?;
+        Ok(SetStateCommand { name, key, value })
+    }
+}
+
+impl Form for ClearStateCommand {
+    fn print(&self, line: &mut Line) -> Result<(), AllocError> {
+        line.field("name", &self.name)?;
+        line.field("key", &self.key)
+    }
+
+    fn parse(fields: &mut Fields<'_>) -> Result<ClearStateCommand, Fault> {
+        let name = fields.take("name")?;
+        let key = fields.take("key")?;
+        Ok(ClearStateCommand { name, key })
+    }
+}
+
+impl Form for ClearAllStateCommand {
+    fn print(&self, line: &mut Line) -> Result<(), AllocError> {
+        line.field("name", &self.name)
+    }
+
+    fn parse(fields: &mut Fields<'_>) -> Result<ClearAllStateCommand, Fault> {
+        let name = fields.take("name")?;
+        Ok(ClearAllStateCommand { name })
+    }
+}
+
+impl Form for OutputCommand {
+    fn print(&self, line: &mut Line) -> Result<(), AllocError> {
+        line.field("result", &self.result)
+    }
+
+    fn parse(fields: &mut Fields<'_>) -> Result<OutputCommand, Fault> {
+        let result = fields.take("result")?;
+        Ok(OutputCommand { result })
+    }
+}
