@@ -1,4 +1,5 @@
 // Rows over a VM: what happens to it in turn, and what it answers.
+use crate::changes::{Change, make};
 use crate::headers::Headers;
 use bytes::Bytes;
 use invocation_vm::{
@@ -30,6 +31,7 @@ pub enum Call {
     Write,
     /// A failure with metadata.
     WriteMetadata,
+    Change(Change),
     End,
 }
 
@@ -59,6 +61,8 @@ pub enum Act {
     /// The handler's await of a handle waits for input.
     Waits(u32),
     Completed(u32, bool),
+    /// The handler changes something.
+    Changes(Change),
     Take(u32, Taken),
     /// The handler writes an empty output.
     Write,
@@ -121,6 +125,7 @@ fn error_of(alloc: Global, vm: &mut CoreVM, call: Call) -> Option<Error> {
         Call::Take(handle) => vm.take_notification(NotificationHandle(handle)).err(),
         Call::Write => write(vm).err(),
         Call::WriteMetadata => write_metadata(alloc, vm).err(),
+        Call::Change(change) => make(alloc, vm, change).err(),
         Call::End => vm.sys_end().err(),
     }
 }
@@ -211,6 +216,7 @@ fn play(rt: &impl Abort, alloc: Global, vm: &mut CoreVM, act: Act) -> Result<(),
         }
         Act::Take(handle, taken) => assert_takes(rt, vm, handle, taken)?,
         Act::Write => write(vm)?,
+        Act::Changes(change) => make(alloc, vm, change)?,
         Act::End => vm.sys_end()?,
         Act::Refuses(call, code, text) => assert_is(rt, error_of(alloc, vm, call), code, text)?,
         Act::Failed(code, text) => assert_failed(rt, alloc, vm, code, text)?,

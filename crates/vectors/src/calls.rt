@@ -1,6 +1,10 @@
 // Each call of a VM once where it succeeds.
 use crate::bench::{Act, Call, Taken, V7, assert_row};
-use crate::frames::{COMPLETION_1, END, INPUT_TILL, OUTPUT_EMPTY, SLEEP_TO_2024, START_1, START_3};
+use crate::changes::Change;
+use crate::frames::{
+    AWAKEABLE_X, CANCEL_INV1, CLEAR_ALL, CLEAR_K, CLEAR_MISMATCH, COMPLETION_1, END, INPUT_TILL,
+    OUTPUT_EMPTY, SET_K, SIGNAL_V, SLEEP_TO_2024, START_1, START_3,
+};
 use crate::headers::Headers;
 use bytes::Bytes;
 use invocation_vm::{
@@ -51,6 +55,50 @@ const TAKEN_ONCE: &[Act] = &[
     Act::Completed(17, false),
     Act::Take(17, Taken::Nothing),
 ];
+
+const CHANGES: &[Act] = &[
+    Act::Feed(START_1),
+    Act::Feed(INPUT_TILL),
+    Act::Input,
+    Act::Changes(Change::Set),
+    Act::Sends(&[SET_K]),
+    Act::Changes(Change::Clear),
+    Act::Changes(Change::ClearAll),
+    Act::Sends(&[CLEAR_K, CLEAR_ALL]),
+    Act::At(State::Processing, 3),
+    Act::Changes(Change::Awakeable),
+    Act::Sends(&[AWAKEABLE_X]),
+    Act::Changes(Change::Signal),
+    Act::Changes(Change::Cancel),
+    Act::Sends(&[SIGNAL_V, CANCEL_INV1]),
+    Act::At(State::Processing, 6),
+];
+
+/// The recorded command is a sleep.
+const NO_CHANGE: &[Act] = &[
+    Act::Feed(START_3),
+    Act::Feed(INPUT_TILL),
+    Act::Feed(SLEEP_TO_2024),
+    Act::Feed(COMPLETION_1),
+    Act::Input,
+    Act::Refuses(
+        Call::Change(Change::ClearAll),
+        570,
+        "CommandTypeMismatchError",
+    ),
+    Act::Sends(&[CLEAR_MISMATCH]),
+    Act::Failed(570, "CommandTypeMismatchError"),
+];
+
+#[test]
+fn changes_are_sent(rt: HostRuntime) -> Result<(), Fail> {
+    assert_row(&rt, rt.alloc(), V7, CHANGES)
+}
+
+#[test]
+fn change_is_no_sleep(rt: HostRuntime) -> Result<(), Fail> {
+    assert_row(&rt, rt.alloc(), V7, NO_CHANGE)
+}
 
 #[test]
 fn is_ready_once_the_entries_are_there(rt: HostRuntime) -> Result<(), Fail> {

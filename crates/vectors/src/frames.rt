@@ -272,3 +272,46 @@ pub const ERROR_UNSUPPORTED: &[u8] = b"\0\x03\0\0\0\0\0\0\0\x3f\
     \0\
     \0\
     \0";
+
+/// Sets the key "k" to "1".
+pub const SET_K: &[u8] = b"\0\x0f\0\0\0\0\0\0\0\x1a\
+    \0\0\0\0\0\0\0\0\
+    \0\0\0\0\0\0\0\x01k\
+    \0\0\0\0\0\0\0\x011";
+
+/// Clears the key "k", under the name "n".
+pub const CLEAR_K: &[u8] = b"\0\x10\0\0\0\0\0\0\0\x12\
+    \0\0\0\0\0\0\0\x01n\
+    \0\0\0\0\0\0\0\x01k";
+
+/// Clears all keys.
+pub const CLEAR_ALL: &[u8] = b"\0\x11\0\0\0\0\0\0\0\x08\
+    \0\0\0\0\0\0\0\0";
+
+/// Completes the awakeable "sign_1" with "x".
+pub const AWAKEABLE_X: &[u8] = b"\0\x15\0\0\0\0\0\0\0\x18\
+    \0\0\0\0\0\0\0\x06sign_1\
+    \0\0\0\0\0\0\0\0\x01x";
+
+/// Sends the signal "s" with "v" to "inv1".
+pub const SIGNAL_V: &[u8] = b"\0\x16\0\0\0\0\0\0\0\x20\
+    \0\0\0\0\0\0\0\x04inv1\
+    \x01\0\0\0\0\0\0\0\x01s\
+    \x01\0\0\0\0\0\0\0\x01v";
+
+/// Cancels "inv1".
+pub const CANCEL_INV1: &[u8] = b"\0\x16\0\0\0\0\0\0\0\x12\
+    \0\0\0\0\0\0\0\x04inv1\
+    \0\0\0\0\x01\
+    \0";
+
+/// The refusal of a clearing of all keys where the first command after the input is another.
+pub const CLEAR_MISMATCH: &[u8] = b"\0\x03\0\0\0\0\0\0\0\x39\
+    \0\0\x02\x3a\
+    \0\0\0\0\0\0\0\x18CommandTypeMismatchError\
+    \0\0\0\0\0\0\0\0\
+    \0\
+    \x01\0\0\0\x01\
+    \x01\0\0\0\x11\
+    \0\
+    \0";

@@ -7,6 +7,8 @@ mod attempts;
 mod bench;
 #[cfg(test)]
 mod calls;
+#[cfg(test)]
+mod changes;
 pub mod frames;
 pub mod headers;
 #[cfg(test)]
