@@ -34,6 +34,7 @@ abbrev pub has_metadata : NonEmptyValue → Bool
 has_metadata (Success bytes) = false
 has_metadata (Failure f) = not (is_empty f.metadata)
 
+-- a value that the version of the attempt cannot send
 abbrev pub needs_v6 : Machine → NonEmptyValue → Bool
 needs_v6 v value = has_metadata value && not (is_from_v6 v.version)
 
@@ -41,24 +42,31 @@ needs_v6 v value = has_metadata value && not (is_from_v6 v.version)
 abbrev pub handing : NonEmptyValue → Outcome Unit → Machine → Outcome Unit
 handing value done v = if needs_v6 v value then refused fault.UnsupportedFeatureForNegotiatedVersion v else done
 
+-- the handler writes its output
 abbrev pub output_step : NonEmptyValue → PayloadOptions → Machine → Outcome Unit
 output_step value options v = handing value (unit_of (issued (request.Output (value_message value) options) v)) v
 
+-- a state key is set
 abbrev pub state_set_step : List ℕ → List ℕ → List ℕ → PayloadOptions → Machine → Outcome Unit
 state_set_step key value name options v = unit_of (issued (request.SetState key value name options) v)
 
+-- a state key is cleared
 abbrev pub state_clear_step : List ℕ → List ℕ → Machine → Outcome Unit
 state_clear_step key name v = unit_of (issued (request.ClearState key name) v)
 
+-- all state keys are cleared
 abbrev pub state_clear_all_step : List ℕ → Machine → Outcome Unit
 state_clear_all_step name v = unit_of (issued (request.ClearAllState name) v)
 
+-- an awakeable is completed
 abbrev pub complete_awakeable_step : List ℕ → NonEmptyValue → PayloadOptions → Machine → Outcome Unit
 complete_awakeable_step id value options v = handing value (unit_of (issued (request.CompleteAwakeable id (value_message value) options) v)) v
 
+-- a named signal is sent
 abbrev pub complete_signal_step : List ℕ → List ℕ → NonEmptyValue → Machine → Outcome Unit
 complete_signal_step target signal value v = handing value (unit_of (issued (request.CompleteSignal target signal (value_message value)) v)) v
 
+-- the cancel signal is sent
 abbrev pub cancel_invocation_step : List ℕ → Machine → Outcome Unit
 cancel_invocation_step target v = unit_of (issued (request.CancelInvocation target) v)
 

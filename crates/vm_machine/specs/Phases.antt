@@ -17,6 +17,7 @@ is_running Replaying = true
 is_running Processing = true
 is_running Closed = false
 
+-- the handler runs past the recorded commands
 abbrev pub is_processing : Phase → Bool
 is_processing WaitingStart = false
 is_processing WaitingReplayEntries = false
@@ -24,6 +25,7 @@ is_processing Replaying = false
 is_processing Processing = true
 is_processing Closed = false
 
+-- the handler runs over recorded commands
 abbrev pub is_replaying : Phase → Bool
 is_replaying WaitingStart = false
 is_replaying WaitingReplayEntries = false
@@ -31,6 +33,7 @@ is_replaying Replaying = true
 is_replaying Processing = false
 is_replaying Closed = false
 
+-- ended, suspended or failed
 abbrev pub is_closed : Phase → Bool
 is_closed WaitingStart = false
 is_closed WaitingReplayEntries = false
@@ -54,6 +57,7 @@ shown Replaying = state.Replaying
 shown Processing = state.Processing
 shown Closed = state.Closed
 
+-- the version is V6 or later
 abbrev pub is_from_v6 : Version → Bool
 is_from_v6 V1 = false
 is_from_v6 V2 = false
@@ -64,6 +68,7 @@ is_from_v6 V6 = true
 is_from_v6 V7 = true
 is_from_v6 V8 = true
 
+-- the version is V7 or later
 abbrev pub is_from_v7 : Version → Bool
 is_from_v7 V1 = false
 is_from_v7 V2 = false

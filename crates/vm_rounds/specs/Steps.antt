@@ -30,6 +30,7 @@ abbrev pub result_mapped : {A B : Type 0} → (A → B) → Result A Error → R
 result_mapped f (Ok a) = Ok (f a)
 result_mapped f (Err e) = Err e
 
+-- a sleep: the answer is its handle
 abbrev pub slept : List ℕ → Duration → Machine → Outcome Reply
 slept name wake_up_time v = mapped (λ handle. reply.Answer (answer.Handle handle)) (called (sleep_step (as_nanos wake_up_time / 1000000) name v) v)
 
@@ -48,12 +49,15 @@ await_reply (Ok AnyCompleted) = reply.Answer answer.Awake
 await_reply (Ok (WaitingExternalProgress input run)) = reply.Waiting input run
 await_reply (Err e) = reply.Suspended
 
+-- an await of a future
 abbrev pub awaited : UnresolvedFuture → Machine → Outcome Reply
 awaited future v = mapped await_reply (called (future_step future v) v)
 
+-- a take: the answer is the result, if there is one
 abbrev pub taken : NotificationHandle → Machine → Outcome Reply
 taken handle v = mapped (λ value. reply.Answer (answer.Taken value)) (called (take_step handle.0 v) v)
 
+-- the handler ends
 abbrev pub ended : Machine → Outcome Reply
 ended v = mapped (λ _. reply.Ended) (called (end_step v) v)
 
