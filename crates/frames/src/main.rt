@@ -14,6 +14,8 @@ pub mod pieces;
 pub mod run;
 #[cfg(test)]
 mod tests;
+#[cfg(test)]
+mod tests_changes;
 pub mod type_names;
 pub mod value;
 

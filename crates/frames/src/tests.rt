@@ -12,7 +12,7 @@ use std::test::Fail;
 use wire::Fault;
 
 /// Lines as they are printed, and the bytes of their frames.
-const FRAMES: [(&str, &str); 47] = [
+pub const FRAMES: [(&str, &str); 47] = [
     (
         "Start id=\"abc\" known_entries=3 partial=true",
         "0x0001000000000000003f000000000000000361626300000000000000000000000000000000000000030000000000000000010000000000000000000000000000000000000000000000",

@@ -27,6 +27,8 @@ mod state;
 mod stream;
 #[cfg(test)]
 mod tests;
+#[cfg(test)]
+mod tests_short;
 mod types;
 mod version;
 

@@ -2,5 +2,6 @@ pub mod Arrived
 pub mod CommandTypes
 pub mod Counting
 pub mod Deliveries
+pub mod Options
 pub mod Values
 pub mod States

@@ -1,7 +1,7 @@
 //! What a VM and a single call may be asked to do in another way.
 ghost use Rattle.std.specs.Prelude.{◌≡◌, true, false};
+ghost use Rattle.vm_parts.specs.Options.{default_options};
 ghost use Rattle.vm_parts.specs.declared.options.AwaitingOnPolicy.TheVariants as awaiting;
-ghost use Rattle.vm_parts.specs.declared.options.ImplicitCancellationOption.TheVariants as cancellation;
 ghost use Rattle.vm_parts.specs.declared.options.JournalMismatchRetryBehavior.TheVariants as mismatch;
 ghost use Rattle.vm_parts.specs.declared.options.JournalReplay.TheVariants as replay;
 ghost use Rattle.vm_parts.specs.declared.options.NonDeterministicChecksOption.TheVariants as checks;
@@ -140,15 +140,7 @@ impl Default for SignalDelivery {
 }
 
 impl Default for VMOptions {
-    ghost is_default = { λ options. options ≡ record {
-      implicit_cancellation = cancellation.Enabled true false;
-      non_determinism_checks = checks.Enabled;
-      awaiting_on_policy = awaiting.DontSendWhenExecutingRun;
-      journal_mismatch_retry_behavior = mismatch.FollowRetryPolicy;
-      journal_replay = replay.Enabled;
-      signal_delivery = delivery.Queued;
-      fallback_random_seed = 0;
-    } };
+    ghost is_default = { λ options. options ≡ default_options };
 
     fn default() -> VMOptions {
         VMOptions {

@@ -1,3 +1,4 @@
 pub mod ContentTypes
+pub mod Runs
 pub mod Sleeper
 pub mod Statuses

@@ -1,0 +1,21 @@
+-- What a VM does where nothing else is asked for.
+use Rattle.std.specs.Prelude.{true, false}
+use Rattle.vm_parts.specs.declared.options.VMOptions.{VMOptions}
+use Rattle.vm_parts.specs.declared.options.AwaitingOnPolicy.TheVariants as awaiting
+use Rattle.vm_parts.specs.declared.options.ImplicitCancellationOption.TheVariants as cancellation
+use Rattle.vm_parts.specs.declared.options.JournalMismatchRetryBehavior.TheVariants as mismatch
+use Rattle.vm_parts.specs.declared.options.JournalReplay.TheVariants as replay
+use Rattle.vm_parts.specs.declared.options.NonDeterministicChecksOption.TheVariants as checks
+use Rattle.vm_parts.specs.declared.options.SignalDelivery.TheVariants as delivery
+
+-- the options of a VM by default
+abbrev pub default_options : VMOptions
+default_options = record {
+  implicit_cancellation = cancellation.Enabled true false;
+  non_determinism_checks = checks.Enabled;
+  awaiting_on_policy = awaiting.DontSendWhenExecutingRun;
+  journal_mismatch_retry_behavior = mismatch.FollowRetryPolicy;
+  journal_replay = replay.Enabled;
+  signal_delivery = delivery.Queued;
+  fallback_random_seed = 0;
+}
