@@ -1,7 +1,7 @@
 //! What an attempt knows of itself: its counters, its last command, what Start told it, and the state.
 ghost use Rattle.std.specs.Prelude.{◌≡◌, ◌<◌, ◌+◌, ◌^◌, IfNone, OnOk, OnErr};
 ghost use Rattle.vm_parts.specs.States.{state_set, state_cleared, all_cleared};
-ghost use Rattle.vm_parts.specs.Counting.{fresh_counters, next_index, missing};
+ghost use Rattle.vm_parts.specs.Counting.{fresh_counters, next_index, missing, missing_signals};
 
 use bytes::Bytes;
 use journal_protocol::{MessageType, NamedFault};
@@ -90,13 +90,27 @@ impl Counters {
         ensures handles_left { IfNone result (self.now.handle + handles < 2 ^ 32) }
     {
         if u32::MAX - self.completion < ids {
-            Some(NamedFault::ExhaustedCompletionIds)
-        } else if u32::MAX - self.signal < signals {
+            return Some(NamedFault::ExhaustedCompletionIds);
+        }
+        if let Some(fault) = self.missing_signals(signals, handles) {
+            return Some(fault);
+        }
+        if self.command.unwrap_or(0) == u32::MAX {
+            return Some(NamedFault::ExhaustedCommandIndexes);
+        }
+        None
+    }
+
+    /// The first kind of number of which too few are left for a call that has no command.
+    pub fn missing_signals(&self, signals: u32, handles: u32) -> Option<NamedFault>
+        ensures found { result ≡ missing_signals signals handles self.now }
+        ensures signals_left { IfNone result (self.now.signal + signals < 2 ^ 32) }
+        ensures handles_left { IfNone result (self.now.handle + handles < 2 ^ 32) }
+    {
+        if u32::MAX - self.signal < signals {
             Some(NamedFault::ExhaustedSignalIds)
         } else if u32::MAX - self.handle < handles {
             Some(NamedFault::ExhaustedHandles)
-        } else if self.command.unwrap_or(0) == u32::MAX {
-            Some(NamedFault::ExhaustedCommandIndexes)
         } else {
             None
         }
