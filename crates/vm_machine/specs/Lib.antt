@@ -4,4 +4,6 @@ pub mod Inputs
 pub mod Making
 pub mod Outcomes
 pub mod Phases
+pub mod Reports
 pub mod Requests
+pub mod Signals

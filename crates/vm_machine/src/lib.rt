@@ -9,8 +9,10 @@ pub mod machine;
 pub mod phase;
 pub mod queries;
 pub mod receive;
+pub mod report;
 pub mod request;
 pub mod settle;
+pub mod signals;
 
 pub use fault::Fault;
 pub use machine::Machine;
