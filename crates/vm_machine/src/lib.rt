@@ -5,6 +5,7 @@ pub mod awaits;
 pub mod commands;
 pub mod fault;
 pub mod input;
+pub mod laws;
 pub mod machine;
 pub mod phase;
 pub mod queries;
