@@ -1,7 +1,8 @@
 -- What an attempt waits for, in preorder, and its format.
-use Rattle.std.specs.Prelude.{◌≡◌, ℕ, zero, suc, ◌+◌, ◌<◌, ◌≤◌, ◌^◌, Bool, true, false, List, [], ◌∷◌, ◌++◌, length, Some, None, IsTrue, refl}
+use Rattle.std.specs.Prelude.{◌≡◌, ℕ, zero, suc, ◌+◌, ◌<◌, ◌≤◌, ◌^◌, Bool, true, false, List, [], ◌∷◌, ◌++◌, length, Some, None, IsTrue, ◌↔◌, refl}
 use Rattle.std.specs.List.{flat_map, AllByRecursion}
 use Rattle.std.proofs.Common.{ap, sym, ◌∙◌, subst, append_assoc, arith}
+use Rattle.std.proofs.lemmas.Bool.{false≢true}
 use Rattle.std.proofs.lemmas.List.{length-append}
 use Rattle.std.proofs.lemmas.Grind.{flat_map-append}
 use Rattle.std.proofs.lemmas.List.Concat.{flat_map-cons}
@@ -92,12 +93,15 @@ IsFuture nodes = IsTrue (are_whole 1 nodes)
 unfoldable pub future : List FutureNode → List ℕ
 future nodes = flat_map node nodes
 
--- The nodes of a future are a head with the nodes of each child behind it, and its bytes are what the head waits for
--- and the list of the children's bytes.
-abbrev pub IsLaidOut : List FutureNode → Type 0
-IsLaidOut nodes =
-    (top : FutureNode) × (children : List (List FutureNode)) × (nodes ≡ top ∷ flat_map (λ c. c) children) × AllByRecursion IsFuture children
-    × (future nodes ≡ head top ++ list future children)
+-- These nodes are a future of its parts: a head, and behind it the nodes of each of its children; and the bytes are
+-- what the head waits for, and the list of the children's bytes.
+pub record Layout (nodes : List FutureNode) : Type 0 where
+  pub top : FutureNode
+  pub children : List (List FutureNode)
+  pub counted : top.nested ≡ length children
+  pub each : AllByRecursion IsFuture children
+  pub placed : nodes ≡ top ∷ flat_map (λ child. child) children
+  pub spelled_so : future nodes ≡ head top ++ list future children
 
 unfoldable pub future_valid : List FutureNode → Type 0
 future_valid nodes = AllByRecursion node_format.valid nodes × IsFuture nodes
@@ -171,12 +175,12 @@ future_reads nodes rest v = nodes_read (length (flat_map node nodes ++ rest)) 1 
 abbrev pub future_format : Format (List FutureNode)
 future_format = record { spelling = future; valid = future_valid; read = read_future; reads = future_reads; read_is = future_is }
 
--- ---- the layout of a future with children
+-- ---- a future of its parts
 
 -- the first of several whole futures, and the others
 first_of_whole : (a b : ℕ) (xs : List FutureNode) → IsTrue (are_whole (a + b) xs) → (p : List FutureNode) × (q : List FutureNode) × (xs ≡ p ++ q) × IsTrue (are_whole a p) × IsTrue (are_whole b q)
 first_of_whole zero b xs w = let e : 0 + b ≡ b = omega arith in ([], xs, refl, refl, rw e at w)
-first_of_whole (suc a) b [] w = let e : suc a + b ≡ suc (a + b) = omega arith in let h = rw e at w in absurd cc
+first_of_whole (suc a) b [] w = let e : suc a + b ≡ suc (a + b) = omega arith in let h = rw e at w in absurd (false≢true h)
 first_of_whole (suc a) b (x ∷ xs) w =
     let e : suc a + b ≡ suc (a + b) = omega arith in
     let d : (a + b) + x.nested ≡ (a + x.nested) + b = omega arith in
@@ -184,23 +188,55 @@ first_of_whole (suc a) b (x ∷ xs) w =
     (x ∷ h.0, h.1, ap (λ t. x ∷ t) h.2, h.3, h.4)
 
 -- so many whole futures, one by one
-pub each_whole : (n : ℕ) (xs : List FutureNode) → IsTrue (are_whole n xs) → (children : List (List FutureNode)) × (length children ≡ n) × (xs ≡ flat_map (λ c. c) children) × AllByRecursion IsFuture children
+each_whole : (n : ℕ) (xs : List FutureNode) → IsTrue (are_whole n xs) → (children : List (List FutureNode)) × (n ≡ length children) × (xs ≡ flat_map (λ c. c) children) × AllByRecursion IsFuture children
 each_whole zero [] w = ([], refl, refl, tt)
-each_whole zero (x ∷ xs) w = absurd cc
+each_whole zero (x ∷ xs) w = absurd (false≢true w)
 each_whole (suc n) xs w =
-    let k = first_of_whole 1 n xs (let e : suc n ≡ 1 + n = omega arith in rw (← e) w) in
+    let e : suc n ≡ 1 + n = omega arith in
+    let k = first_of_whole 1 n xs (rw (← e) w) in
     let h = each_whole n k.1 k.4 in
-    (k.0 ∷ h.0, ap suc h.1, k.2 ∙ ap (λ t. k.0 ++ t) h.2, (k.3, h.3))
+    (k.0 ∷ h.0, ap suc h.1, k.2 ∙ ap (λ t. k.0 ++ t) h.2 ∙ sym (flat_map-cons (λ c. c) k.0 h.0), (k.3, h.3))
 
-joined : (cs : List (List FutureNode)) → flat_map node (flat_map (λ c. c) cs) ≡ flat_map future cs
+bytes_joined : (cs : List (List FutureNode)) → flat_map node (flat_map (λ c. c) cs) ≡ flat_map future cs
 unfolding future
-joined [] = refl
-joined (c ∷ cs) = ap (flat_map node) (flat_map-cons (λ c. c) c cs) ∙ flat_map-append node c (flat_map (λ c. c) cs) ∙ ap (λ t. flat_map node c ++ t) (joined cs) ∙ sym (flat_map-cons future c cs)
+bytes_joined [] = refl
+bytes_joined (c ∷ cs) = ap (flat_map node) (flat_map-cons (λ c. c) c cs) ∙ flat_map-append node c (flat_map (λ c. c) cs) ∙ ap (λ t. flat_map node c ++ t) (bytes_joined cs) ∙ sym (flat_map-cons future c cs)
 
-pub laid_out : (nodes : List FutureNode) → IsFuture nodes → IsLaidOut nodes
+laid_out : (nodes : List FutureNode) → IsFuture nodes → Layout nodes
 unfolding future list
-laid_out [] w = absurd cc
+laid_out [] w = absurd (false≢true w)
 laid_out (x ∷ xs) w =
     let e : 0 + x.nested ≡ x.nested = omega arith in
     let h = each_whole x.nested xs (subst (λ n. IsTrue (are_whole n xs)) e w) in
-    (x, h.0, ap (λ t. x ∷ t) h.2, h.3, flat_map-cons node x xs ∙ append_assoc (head x) (u64s x.nested) (flat_map node xs) ∙ (λ i. head x ++ (u64s (sym h.1 i) ++ flat_map node (h.2 i))) ∙ ap (λ t. head x ++ (u64s (length h.0) ++ t)) (joined h.0))
+    record {
+      top = x;
+      children = h.0;
+      counted = h.1;
+      each = h.3;
+      placed = ap (λ t. x ∷ t) h.2;
+      spelled_so = flat_map-cons node x xs ∙ append_assoc (head x) (u64s x.nested) (flat_map node xs) ∙ (λ i. head x ++ (u64s (h.1 i) ++ flat_map node (h.2 i))) ∙ ap (λ t. head x ++ (u64s (length h.0) ++ t)) (bytes_joined h.0);
+    }
+
+whole_joined : (a b : ℕ) (p q : List FutureNode) → IsTrue (are_whole a p) → IsTrue (are_whole b q) → IsTrue (are_whole (a + b) (p ++ q))
+whole_joined zero b [] q v w = let e : 0 + b ≡ b = omega arith in rw e w
+whole_joined zero b (x ∷ p) q v w = absurd (false≢true v)
+whole_joined (suc a) b [] q v w = absurd (false≢true v)
+whole_joined (suc a) b (x ∷ p) q v w =
+    let e : suc a + b ≡ suc (a + b) = omega arith in
+    let d : (a + b) + x.nested ≡ (a + x.nested) + b = omega arith in
+    subst (λ n. IsTrue (are_whole n (x ∷ (p ++ q)))) (sym e) (subst (λ n. IsTrue (are_whole n (p ++ q))) (sym d) (whole_joined (a + x.nested) b p q v w))
+
+children_whole : (children : List (List FutureNode)) → AllByRecursion IsFuture children → IsTrue (are_whole (length children) (flat_map (λ c. c) children))
+children_whole [] h = refl
+children_whole (c ∷ cs) h =
+    let e : 1 + length cs ≡ suc (length cs) = omega arith in
+    rw (flat_map-cons (λ (d : List FutureNode). d) c cs) (subst (λ n. IsTrue (are_whole n (c ++ flat_map (λ d. d) cs))) e (whole_joined 1 (length cs) c (flat_map (λ d. d) cs) h.0 (children_whole cs h.1)))
+
+of_parts_whole : (nodes : List FutureNode) → Layout nodes → IsFuture nodes
+of_parts_whole nodes l =
+    let e : length l.children ≡ 0 + l.top.nested = omega (arith, l.counted) in
+    rw l.placed (subst (λ n. IsTrue (are_whole n (flat_map (λ c. c) l.children))) e (children_whole l.children l.each))
+
+-- The layout is recursive: nodes are a future exactly where they are a future of its parts.
+pub layout : (nodes : List FutureNode) → IsFuture nodes ↔ Layout nodes
+layout nodes = (laid_out nodes, of_parts_whole nodes)

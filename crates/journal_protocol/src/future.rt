@@ -1,6 +1,6 @@
 //! What a suspended attempt waits for, in preorder, and its bytes.
-ghost use Rattle.std.specs.Prelude.{◌≡◌, ◌+◌, ◌≤◌, ◌<◌, ◌⊎◌, if◌then◌else◌, Some, None, IfOk, MatchOption, [], ◌∷◌};
-ghost use Rattle.journal_protocol.specs.Futures.{are_whole, IsFuture, IsLaidOut};
+ghost use Rattle.std.specs.Prelude.{◌≡◌, ◌+◌, ◌≤◌, ◌<◌, ◌⊎◌, if◌then◌else◌, Some, None, IfOk, MatchOption, IsSome, ◌↔◌, [], ◌∷◌};
+ghost use Rattle.journal_protocol.specs.Futures.{are_whole, IsFuture, Layout};
 
 use bytes::Bytes;
 use std::alloc::{AllocError, Global};
@@ -195,7 +195,9 @@ impl Future {
 
     /// The future of its nodes in preorder, if they are one whole future.
     pub fn from_nodes(nodes: Items<FutureNode>) -> Option<Future>
-        ensures { result ≡ (if are_whole 1 nodes then Some nodes else None) }
+        ensures value { result ≡ (if are_whole 1 nodes then Some nodes else None) }
+        // Exactly where they are a future of its parts.
+        ensures layout { IsSome result ↔ Layout nodes }
     {
         if !is_whole(nodes.as_slice()) {
             return None;
@@ -209,11 +211,9 @@ impl Future {
     }
 
     /// The nodes in preorder.
-    #[tactic(auto, using(crate::specs::Futures::laid_out))]
     pub fn nodes(&self) -> &[FutureNode]
         ensures nodes { result.now ≡ self.now }
         ensures whole { IsFuture self.now }
-        ensures layout { IsLaidOut self.now }
     {
         self.nodes.as_slice()
     }
