@@ -22,9 +22,9 @@ pub fn pieces<'a>(alloc: Global, text: &'a [u8], separator: u8) -> Result<Vec<&'
             }
         } else if byte == b'"' {
             quoted = true;
-        } else if byte == b'(' || byte == b'[' {
+        } else if byte == b'(' || byte == b'[' || byte == b'{' {
             depth += 1;
-        } else if byte == b')' || byte == b']' {
+        } else if byte == b')' || byte == b']' || byte == b'}' {
             if depth == 0 {
                 return Err(Fault::Malformed);
             }

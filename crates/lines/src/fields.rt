@@ -1,6 +1,5 @@
 //! The fields of a line or of a bracket, each with its name.
 use crate::pieces::{between, words};
-use crate::value::Value;
 use std::alloc::Global;
 use wire::Fault;
 
@@ -55,15 +54,6 @@ impl<'a> Fields<'a> {
             .iter()
             .position(|field| field.name == name.as_bytes())?;
         Some(self.fields.remove(at).text)
-    }
-
-    /// Takes a field out. One that isn't there is at its default, if it has one.
-    pub fn take<T: Value>(&mut self, name: &str) -> Result<T, Fault> {
-        let alloc = self.alloc;
-        match self.take_text(name) {
-            Some(text) => T::parse(alloc, text),
-            None => T::left_out(alloc).ok_or(Fault::Malformed),
-        }
     }
 
     /// No field is left that nobody asked for.
