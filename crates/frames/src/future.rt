@@ -1,9 +1,9 @@
 //! What an attempt waits for, as it is written on a line.
-use crate::fields::Fields;
-use crate::line::Line;
-use crate::pieces::items;
-use crate::value::Value;
+use crate::value::{PrintsValues, TakesValues, Value};
 use journal_protocol::{Future, FutureKind, FutureNode};
+use lines::fields::Fields;
+use lines::line::Line;
+use lines::pieces::items;
 use std::alloc::{AllocError, Global};
 use wire::{Fault, Items};
 

@@ -1,12 +1,12 @@
 // Frames of each type, whose bytes were written out from the layout by another program, as lines and back; lines that
 // aren't as they are printed; and lines that have no meaning.
-use crate::atoms::bytes_of;
 use crate::entry::{frame_of, print_frame};
 use crate::exit_status::ExitStatus;
-use crate::line::Line;
 use crate::run::{Unread, decode, encode, frames_of};
 use bytes::Bytes;
 use journal_protocol::Decoder;
+use lines::atoms::bytes_of;
+use lines::line::Line;
 use std::alloc::Global;
 use std::io::{self, Read, Write};
 use std::test::Fail;
