@@ -1,13 +1,13 @@
 //! Choices as they are written on a line: the case, and in round brackets what it holds.
-use crate::fields::Fields;
 use crate::forms::Form;
-use crate::line::Line;
-use crate::pieces::{between, words};
 use crate::value::Value;
 use journal_protocol::{
     ErrorBehavior, InvocationTarget, NotificationId, NotificationResult, Signal, SignalResult,
     ValueOrFailure, VoidOrValue,
 };
+use lines::fields::Fields;
+use lines::line::Line;
+use lines::pieces::{between, words};
 use std::alloc::{AllocError, Global};
 use wire::Fault;
 

@@ -2,14 +2,14 @@
 ghost use Rattle.std.specs.Prelude.{◌≡◌, ◌++◌, IfOk};
 ghost use Rattle.wire.specs.Format.{u16s, bytes};
 
-use crate::atoms::{bytes_of, number_of};
-use crate::fields::Fields;
-use crate::line::Line;
 use crate::message::{parse_message, print_message};
-use crate::pieces::words;
 use crate::type_names::type_named;
 use bytes::Bytes;
 use journal_protocol::{Encoder, MessageType, RawMessage};
+use lines::atoms::{bytes_of, number_of};
+use lines::fields::Fields;
+use lines::line::Line;
+use lines::pieces::words;
 use std::alloc::{AllocError, Global};
 use wire::{Fault, Wire};
 

@@ -5,8 +5,8 @@ pub mod notifications;
 pub mod parts;
 pub mod state;
 
-use crate::fields::Fields;
-use crate::line::Line;
+use lines::fields::Fields;
+use lines::line::Line;
 use std::alloc::AllocError;
 use wire::Fault;
 

@@ -1,14 +1,11 @@
 //! What an attempt waits for, as it is written on a line.
-use crate::fields::Fields;
-use crate::line::Line;
-use crate::pieces::items;
-use crate::value::Value;
-use journal_protocol::{Future, FutureKind};
+use crate::value::{PrintsValues, TakesValues, Value};
+use journal_protocol::{Future, FutureKind, FutureNode};
+use lines::fields::Fields;
+use lines::line::Line;
+use lines::pieces::items;
 use std::alloc::{AllocError, Global};
 use wire::{Fault, Items};
-
-/// A future that nests deeper isn't read from a line.
-const LEVELS: u32 = 1000;
 
 impl Value for FutureKind {
     fn is_left_out(&self) -> bool {
@@ -46,49 +43,73 @@ impl Value for FutureKind {
     }
 }
 
-fn print_future(future: &Future, line: &mut Line) -> Result<(), AllocError> {
+/// Writes what a future waits for itself, as far as those that nest in it.
+fn print_head(node: &FutureNode, line: &mut Line) -> Result<(), AllocError> {
     line.open("(")?;
-    line.field("kind", &future.kind)?;
-    line.field("completions", &future.waiting_completions)?;
-    line.field("signals", &future.waiting_signals)?;
-    line.field("named", &future.waiting_named_signals)?;
-    if !future.nested.is_empty() {
-        line.name("nested")?;
-        line.open("[")?;
-        for (i, nested) in future.nested.as_slice().iter().enumerate() {
-            if i > 0 {
-                line.word(", ")?;
-            }
-            print_future(nested, line)?;
-        }
-        line.word("]")?;
+    line.field("kind", &node.kind)?;
+    line.field("completions", &node.waiting_completions)?;
+    line.field("signals", &node.waiting_signals)?;
+    line.field("named", &node.waiting_named_signals)?;
+    if node.nested == 0 {
+        return line.word(")");
     }
-    line.word(")")
+    line.name("nested")?;
+    line.open("[")
 }
 
-fn parse_future(alloc: Global, levels: u32, text: &[u8]) -> Result<Future, Fault> {
-    if levels == 0 {
-        return Err(Fault::Malformed);
+/// Ends the futures whose nested ones are all written, where so many are left at each level, the innermost last.
+fn print_ends(left: &mut Vec<u64>, line: &mut Line) -> Result<(), AllocError> {
+    while let Some(count) = left.pop() {
+        if count > 1 {
+            left.push(count - 1)?;
+            return line.word(", ");
+        }
+        line.word("])")?;
     }
+    Ok(())
+}
+
+/// One future of a line. The texts of those that nest in it go behind the others, the first one last.
+fn parse_node<'a>(
+    alloc: Global,
+    text: &'a [u8],
+    texts: &mut Vec<&'a [u8]>,
+) -> Result<FutureNode, Fault> {
     let mut fields = Fields::in_brackets(alloc, text)?;
     let kind = fields.take("kind")?;
     let waiting_completions = fields.take("completions")?;
     let waiting_signals = fields.take("signals")?;
     let waiting_named_signals = fields.take("named")?;
-    let mut nested = Items::new(alloc);
+    let mut nested = 0;
     if let Some(list) = fields.take_text("nested") {
-        for item in items(alloc, list)? {
-            nested.push(parse_future(alloc, levels - 1, item)?)?;
-        }
+        let mut inner = items(alloc, list)?;
+        nested = inner.len() as u64;
+        inner.reverse();
+        texts.extend_from_slice(inner.as_slice())?;
     }
     fields.end()?;
-    Ok(Future {
+    Ok(FutureNode {
         kind,
         waiting_completions,
         waiting_signals,
         waiting_named_signals,
         nested,
     })
+}
+
+/// The futures of a text in preorder.
+fn parse_nodes(alloc: Global, text: &[u8]) -> Result<Items<FutureNode>, Fault> {
+    let mut nodes = Items::new(alloc);
+    let mut texts = Vec::new(alloc);
+    texts.push(text)?;
+    // Each future takes a byte at least.
+    for _ in 0..text.len() {
+        let Some(next) = texts.pop() else {
+            break;
+        };
+        nodes.push(parse_node(alloc, next, &mut texts)?)?;
+    }
+    Ok(nodes)
 }
 
 impl Value for Future {
@@ -101,10 +122,20 @@ impl Value for Future {
     }
 
     fn print(&self, line: &mut Line) -> Result<(), AllocError> {
-        print_future(self, line)
+        // How many futures are still to be written at each level, the innermost last.
+        let mut left = Vec::new(self.alloc());
+        for node in self.nodes() {
+            print_head(node, line)?;
+            if node.nested == 0 {
+                print_ends(&mut left, line)?;
+            } else {
+                left.push(node.nested)?;
+            }
+        }
+        Ok(())
     }
 
     fn parse(alloc: Global, text: &[u8]) -> Result<Future, Fault> {
-        parse_future(alloc, LEVELS, text)
+        Future::from_nodes(parse_nodes(alloc, text)?).ok_or(Fault::Malformed)
     }
 }

@@ -1,16 +1,12 @@
 //! `frames`: a stream of frames as lines that people read, and such lines as a stream of frames.
 #![tactic(auto)]
 
-pub mod atoms;
 pub mod choices;
 pub mod entry;
 pub mod exit_status;
-pub mod fields;
 pub mod forms;
 pub mod future;
-pub mod line;
 pub mod message;
-pub mod pieces;
 pub mod run;
 #[cfg(test)]
 mod tests;

@@ -1,9 +1,9 @@
 //! A message as a line.
-use crate::fields::Fields;
 use crate::forms::Form;
-use crate::line::Line;
 use crate::type_names::name_of;
 use journal_protocol::{Message, MessageType};
+use lines::fields::Fields;
+use lines::line::Line;
 use std::alloc::AllocError;
 use wire::Fault;
 

@@ -4,9 +4,9 @@ ghost use Rattle.journal_protocol.specs.Message.{frame};
 
 use crate::entry::{frame_of, print_frame, print_rest};
 use crate::exit_status::ExitStatus;
-use crate::line::Line;
 use bytes::Bytes;
 use journal_protocol::{Decoder, RawMessage};
+use lines::line::Line;
 use std::alloc::{AllocError, Global};
 use std::io::{self, Read, Write};
 use wire::Fault;

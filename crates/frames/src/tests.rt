@@ -1,18 +1,19 @@
 // Frames of each type, whose bytes were written out from the layout by another program, as lines and back; lines that
 // aren't as they are printed; and lines that have no meaning.
-use crate::atoms::bytes_of;
 use crate::entry::{frame_of, print_frame};
 use crate::exit_status::ExitStatus;
-use crate::line::Line;
 use crate::run::{Unread, decode, encode, frames_of};
 use bytes::Bytes;
 use journal_protocol::Decoder;
+use lines::atoms::bytes_of;
+use lines::line::Line;
+use std::alloc::Global;
 use std::io::{self, Read, Write};
 use std::test::Fail;
 use wire::Fault;
 
 /// Lines as they are printed, and the bytes of their frames.
-pub const FRAMES: [(&str, &str); 47] = [
+pub const FRAMES: [(&str, &str); 48] = [
     (
         "Start id=\"abc\" known_entries=3 partial=true",
         "0x0001000000000000003f000000000000000361626300000000000000000000000000000000000000030000000000000000010000000000000000000000000000000000000000000000",
@@ -53,6 +54,10 @@ pub const FRAMES: [(&str, &str); 47] = [
     (
         "AwaitingOn future=(kind=FirstSucceededOrAllFailed nested=[(kind=AllSucceededOrFirstFailed), (kind=Unknown)]) executing_side_effects=true",
         "0x0007000000000000006402000000000000000000000000000000000000000000000000000000000000000203000000000000000000000000000000000000000000000000000000000000000004000000000000000000000000000000000000000000000000000000000000000001",
+    ),
+    (
+        "AwaitingOn future=(kind=Unknown nested=[(kind=AllCompleted nested=[(kind=Unknown signals=[3]), (kind=FirstSucceededOrAllFailed)]), (kind=FirstCompleted named=[\"a\"])])",
+        "0x000700000000000000b30400000000000000000000000000000000000000000000000000000000000000020100000000000000000000000000000000000000000000000000000000000000020400000000000000000000000000000001000000030000000000000000000000000000000002000000000000000000000000000000000000000000000000000000000000000000000000000000000000000000000000000000000000000001000000000000000161000000000000000000",
     ),
     (
         "GetStateEphemeralCommand id=2 key=\"u\"",
@@ -315,6 +320,37 @@ fn lines_without_a_meaning(rt: HostRuntime) -> Result<(), Fail> {
     assert_eq!(rt;
         frames_of(alloc, b"End\n\n# no\nend\nEnd\n"),
         Err(Unread::Line(4))
+    );
+    Ok(())
+}
+
+/// The frame of a suspension on a future that nests so deep.
+fn deep_frame(alloc: Global, depth: u64) -> Result<Bytes, Fail> {
+    let mut body = Vec::new(alloc);
+    for i in 0..depth {
+        body.extend_from_slice(&[4])?;
+        body.extend_from_slice(&[0; 24])?;
+        body.extend_from_slice(&u64::from(i + 1 < depth).to_be_bytes())?;
+    }
+    let mut frame = Vec::new(alloc);
+    frame.extend_from_slice(&[0, 2])?;
+    frame.extend_from_slice(&(body.len() as u64).to_be_bytes())?;
+    frame.extend_from_slice(body.as_slice())?;
+    Ok(Bytes::from_vec(frame)?)
+}
+
+#[test]
+fn deep_futures_as_lines(rt: HostRuntime) -> Result<(), Fail> {
+    let alloc = rt.alloc();
+    let mut decoder = Decoder::new(alloc);
+    decoder.push(deep_frame(alloc, 100_000)?)?;
+    let raw = decoder.next_frame()?.ok_or("no whole frame")?;
+    let mut line = Line::new(alloc);
+    print_frame(alloc, &raw, &mut line)?;
+    let levels = "(kind=Unknown nested=[])".len() * 99_999;
+    assert_eq!(rt;
+        line.as_str().len(),
+        "Suspension future=(kind=Unknown)".len() + levels
     );
     Ok(())
 }

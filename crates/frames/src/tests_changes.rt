@@ -2,10 +2,10 @@
 // what is read is written as the same bytes again.
 ghost use Rattle.std.specs.Prelude.{◌<◌, length};
 
-use crate::atoms::bytes_of;
 use crate::tests::FRAMES;
 use bytes::Bytes;
 use journal_protocol::{Decoder, Encoder, RawMessage};
+use lines::atoms::bytes_of;
 use std::alloc::Global;
 use std::test::Fail;
 use wire::Fault;

@@ -1,9 +1,10 @@
 //! The values of fields as they are written on a line.
-use crate::atoms::{bytes_of, number_of};
-use crate::line::Line;
-use crate::pieces::{between, items, words};
 use bytes::Bytes;
 use journal_protocol::Header;
+use lines::atoms::{bytes_of, number_of};
+use lines::fields::Fields;
+use lines::line::Line;
+use lines::pieces::{between, items, words};
 use std::alloc::{AllocError, Global};
 use wire::{Fault, Items, Text};
 
@@ -18,6 +19,38 @@ pub trait Value: Drop {
     fn print(&self, line: &mut Line) -> Result<(), AllocError>;
 
     fn parse(alloc: Global, text: &[u8]) -> Result<Self, Fault>;
+}
+
+/// Fields whose values are taken out.
+pub trait TakesValues {
+    /// Takes a field out. One that isn't there is at its default, if it has one.
+    fn take<T: Value>(&mut self, name: &str) -> Result<T, Fault>;
+}
+
+impl TakesValues for Fields<'_> {
+    fn take<T: Value>(&mut self, name: &str) -> Result<T, Fault> {
+        let alloc = self.alloc();
+        match self.take_text(name) {
+            Some(text) => T::parse(alloc, text),
+            None => T::left_out(alloc).ok_or(Fault::Malformed),
+        }
+    }
+}
+
+/// A line on which values are printed.
+pub trait PrintsValues {
+    /// Writes a field, if it isn't left out.
+    fn field<T: Value>(&mut self, name: &str, value: &T) -> Result<(), AllocError>;
+}
+
+impl PrintsValues for Line {
+    fn field<T: Value>(&mut self, name: &str, value: &T) -> Result<(), AllocError> {
+        if value.is_left_out() {
+            return Ok(());
+        }
+        self.name(name)?;
+        value.print(self)
+    }
 }
 
 impl Value for u32 {

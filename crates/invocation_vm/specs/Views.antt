@@ -5,9 +5,11 @@ use Rattle.std.specs.declared.alloc.AllocError.{AllocError}
 use Rattle.journal_protocol.specs.declared.error.Error.{Error}
 use Rattle.journal_protocol.specs.declared.message.RawMessage.{RawMessage}
 use Rattle.journal_protocol.specs.Errors.{no_memory}
+use Rattle.vm_parts.specs.declared.command_type.CommandRelationship.{CommandRelationship}
 use Rattle.vm_machine.specs.declared.machine.Machine.{Machine}
 use Rattle.vm_machine.specs.Inputs.{message_step, malformed_step, close_step}
 use Rattle.vm_machine.specs.Outcomes.{Outcome, Done, Failed, called, flat, Does, IsStarved}
+use Rattle.vm_machine.specs.Reports.{report_step}
 use Rattle.invocation_vm.specs.Frames.{Tail, Rest, Garbage, frames_of}
 
 -- the machine, and the bytes that came and are no whole frame yet
@@ -53,6 +55,10 @@ after_input v bytes =
 -- the input is closed
 abbrev pub after_closing : View → View
 after_closing v = record v { machine = left_by (called (close_step v.machine) v.machine) }
+
+-- an error is reported
+abbrev pub after_error : View → Error → Option CommandRelationship → View
+after_error v e relationship = record v { machine = left_by (called (report_step e relationship v.machine) v.machine) }
 
 -- a call that answers nothing but want of memory
 pub record Leaves (after : View) (r : Result Unit AllocError) (old new : View) : Type 0 where

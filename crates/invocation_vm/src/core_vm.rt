@@ -21,8 +21,8 @@ use std::time::Duration;
 use vm_machine::Machine;
 use vm_machine::settle::flatten;
 use vm_parts::{
-    AwaitResponse, Input, NonEmptyValue, NotificationHandle, PayloadOptions, ResponseHead, State,
-    UnresolvedFuture, VMOptions, VMResult, Value,
+    AwaitResponse, AwakeableHandle, CommandRelationship, Input, NonEmptyValue, NotificationHandle,
+    PayloadOptions, ResponseHead, State, UnresolvedFuture, VMOptions, VMResult, Value,
 };
 
 /// The invocation VM.
@@ -130,6 +130,18 @@ impl VM for CoreVM {
         self.machine.settle_quietly(given)
     }
 
+    fn notify_error(
+        &mut self,
+        error: Error,
+        command_relationship: Option<CommandRelationship>,
+    ) -> Result<(), AllocError> {
+        if self.machine.has_failed() {
+            return Ok(());
+        }
+        let given = self.machine.report(error, command_relationship);
+        self.machine.settle_quietly(given)
+    }
+
     fn take_output(&mut self) -> Result<Bytes, AllocError> {
         let bytes = match self.waiting_output() {
             Ok(bytes) => bytes,
@@ -207,6 +219,14 @@ impl VM for CoreVM {
             return Err(error);
         }
         let given = clear_all_state(&mut self.machine, name);
+        self.machine.settle(given)
+    }
+
+    fn sys_awakeable(&mut self) -> VMResult<AwakeableHandle> {
+        if let Err(error) = self.machine.live() {
+            return Err(error);
+        }
+        let given = self.machine.awakeable();
         self.machine.settle(given)
     }
 

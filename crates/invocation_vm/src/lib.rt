@@ -10,12 +10,12 @@ mod vm;
 
 pub use core_vm::CoreVM;
 pub use feed::any_cut;
-pub use journal_protocol::{Error, HeaderMap, Version};
+pub use journal_protocol::{Error, ErrorBehavior, HeaderMap, Version};
 pub use vm::VM;
 pub use vm_parts::{
-    AwaitResponse, AwaitingOnPolicy, CANCEL_NOTIFICATION_HANDLE, CommandType,
-    EphemeralCompletionId, ImplicitCancellationOption, Input, JournalMismatchRetryBehavior,
-    JournalReplay, NonDeterministicChecksOption, NonEmptyValue, NotificationHandle, PayloadOptions,
-    ResponseHead, SignalDelivery, State, TerminalFailure, UnresolvedFuture, VMOptions, VMResult,
-    Value,
+    AwaitResponse, AwaitingOnPolicy, AwakeableHandle, CANCEL_NOTIFICATION_HANDLE,
+    CommandRelationship, CommandType, EphemeralCompletionId, ImplicitCancellationOption, Input,
+    JournalMismatchRetryBehavior, JournalReplay, NonDeterministicChecksOption, NonEmptyValue,
+    NotificationHandle, PayloadOptions, ResponseHead, SignalDelivery, State, TerminalFailure,
+    UnresolvedFuture, VMOptions, VMResult, Value,
 };

@@ -3,17 +3,18 @@ ghost use Rattle.std.specs.Prelude.{◌≡◌, ◌/◌, IfOk, string_bytes, code
 ghost use Rattle.std.specs.Duration.{as_nanos};
 ghost use Rattle.vm_machine.specs.Awaits.{IsReadyAt, is_completed, last_index, state_of, take_step};
 ghost use Rattle.vm_machine.specs.Inputs.{end_step, input_step};
+ghost use Rattle.vm_machine.specs.Signals.{awakeable_step};
 ghost use Rattle.invocation_vm.specs.Calls.{cancel_invocation_step, complete_awakeable_step, complete_signal_step, future_step, name_or_empty, output_step, sleep_step, state_clear_all_step, state_clear_step, state_set_step};
 ghost use Rattle.invocation_vm.specs.Making.{Makes, response_head, version_in};
-ghost use Rattle.invocation_vm.specs.Views.{View, Calls, CallsFlat, Leaves, TakesOutput, after_closing, after_input};
+ghost use Rattle.invocation_vm.specs.Views.{View, Calls, CallsFlat, Leaves, TakesOutput, after_closing, after_error, after_input};
 
 use bytes::Bytes;
-use journal_protocol::HeaderMap;
+use journal_protocol::{Error, HeaderMap};
 use std::alloc::{AllocError, Global};
 use std::time::Duration;
 use vm_parts::{
-    AwaitResponse, Input, NonEmptyValue, NotificationHandle, PayloadOptions, ResponseHead, State,
-    UnresolvedFuture, VMOptions, VMResult, Value,
+    AwaitResponse, AwakeableHandle, CommandRelationship, Input, NonEmptyValue, NotificationHandle,
+    PayloadOptions, ResponseHead, State, UnresolvedFuture, VMOptions, VMResult, Value,
 };
 
 /// One attempt of an invocation: the bytes of its journal come in, the handler's calls are answered, and the bytes
@@ -39,6 +40,15 @@ pub trait VM: Sized {
     /// No more bytes are to be waited for.
     fn notify_input_closed(&mut self) -> Result<(), AllocError>
         ensures { Leaves (after_closing (view self.old)) result (view self.old) (view self.new) };
+
+    /// The handler's runner reports an error, which fails the VM; a VM that has failed keeps its first error. Before V7
+    /// an error that isn't to be retried becomes UnsupportedFeatureForNegotiatedVersion.
+    fn notify_error(
+        &mut self,
+        error: Error,
+        command_relationship: Option<CommandRelationship>,
+    ) -> Result<(), AllocError>
+        ensures { Leaves (after_error (view self.old) error command_relationship) result (view self.old) (view self.new) };
 
     /// Takes all bytes that wait to be sent, whole frames in order.
     fn take_output(&mut self) -> Result<Bytes, AllocError>
@@ -93,6 +103,10 @@ pub trait VM: Sized {
     /// Takes each state key's value away.
     fn sys_state_clear_all(&mut self, name: Option<String>) -> VMResult<()>
         ensures { Calls (state_clear_all_step (name_or_empty name)) result (view self.old) (view self.new) };
+
+    /// Makes an awakeable: an id for others to complete it by, and a handle to await it by. It has no command.
+    fn sys_awakeable(&mut self) -> VMResult<AwakeableHandle>
+        ensures { Calls awakeable_step result (view self.old) (view self.new) };
 
     /// Gives the awakeable of this id its result. A failure with metadata needs V6.
     fn sys_complete_awakeable(

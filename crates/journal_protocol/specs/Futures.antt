@@ -1,16 +1,16 @@
--- The format of a future.
-use Rattle.std.specs.Prelude.{◌≡◌, ℕ, zero, suc, ◌<◌, ◌≤◌, ◌^◌, List, [], ◌∷◌, ◌++◌, length, map, Some, None, refl}
+-- What an attempt waits for, in preorder, and its format.
+use Rattle.std.specs.Prelude.{◌≡◌, ℕ, zero, suc, ◌+◌, ◌<◌, ◌≤◌, ◌^◌, Bool, true, false, List, [], ◌∷◌, ◌++◌, length, Some, None, IsTrue, ◌↔◌, refl}
 use Rattle.std.specs.List.{flat_map, AllByRecursion}
 use Rattle.std.proofs.Common.{ap, sym, ◌∙◌, subst, append_assoc, arith}
+use Rattle.std.proofs.lemmas.Bool.{false≢true}
 use Rattle.std.proofs.lemmas.List.{length-append}
-use Rattle.wire.specs.Format.{Format, Reading, IsReadBack, IsSpelled, read_as, read_nothing, read_byte, choose, no_case, read_case, read_pair, read_list, u32s, u64s, bytes, list, fields}
-use Rattle.wire.specs.Forms.{then_some, same_some, case_is, cases_are, no_case_is, pair_is, items_read, counted_read, counted_are, nothing_format, u32_format, text_format, pair_format, list_format}
+use Rattle.std.proofs.lemmas.Grind.{flat_map-append}
+use Rattle.std.proofs.lemmas.List.Concat.{flat_map-cons}
+use Rattle.wire.specs.Format.{Format, Reading, IsReadBack, IsSpelled, read_as, read_then, read_nothing, read_byte, choose, no_case, read_case, u32s, u64s, bytes, list, fields}
+use Rattle.wire.specs.Forms.{then_some, same_some, case_is, cases_are, no_case_is, nothing_format, u32_format, u64_format, text_format, pair_format, list_format, via, spelled}
 use Rattle.journal_protocol.specs.declared.future.FutureKind.{FutureKind}
 use Rattle.journal_protocol.specs.declared.future.FutureKind.TheVariants.{FirstCompleted, AllCompleted, FirstSucceededOrAllFailed, AllSucceededOrFirstFailed, Unknown}
-use Rattle.journal_protocol.specs.declared.future.Future.{Future}
-use Rattle.journal_protocol.specs.declared.future.Future.TheOpen.{Future-F}
-use Rattle.journal_protocol.specs.declared.future.Future.TheViews.{out-Future, roll-Future, out-roll-Future}
-use Rattle.journal_protocol.specs.declared.future.Future.TheFolds.{fold-Future, fold-roll-Future, fold_out-Future, ind-Future, every-Future, every_here-Future, every_held-Future, every_made-Future}
+use Rattle.journal_protocol.specs.declared.future.FutureNode.{FutureNode}
 
 abbrev pub kind : FutureKind → List ℕ
 kind FirstCompleted = 0 ∷ []
@@ -49,118 +49,74 @@ kind_is = cases_are kind (λ _. Unit {0}) _ (
 abbrev pub kind_format : Format FutureKind
 kind_format = record { spelling = kind; valid = (λ _. Unit {0}); read = read_kind; reads = kind_reads; read_is = kind_is }
 
--- what stands before the nested futures
-abbrev pub Head : Type 0
-Head = FutureKind × (List ℕ × (List ℕ × List (List ℕ)))
+-- ---- a node: one future without those that nest in it
 
-abbrev pub head_of : {X : Type 0} → Future-F X → Head
-head_of f = (f.kind, (f.waiting_completions, (f.waiting_signals, f.waiting_named_signals)))
+-- what a future waits for itself
+abbrev pub head : FutureNode → List ℕ
+head n = fields (kind n.kind ∷ list u32s n.waiting_completions ∷ list u32s n.waiting_signals ∷ list bytes n.waiting_named_signals ∷ [])
 
-abbrev pub head : Head → List ℕ
-head h = fields (kind h.0 ∷ list u32s h.1.0 ∷ list u32s h.1.1.0 ∷ list bytes h.1.1.1 ∷ [])
+-- a node's bytes: what it waits for itself, and how many futures nest directly in it
+abbrev pub node : FutureNode → List ℕ
+node n = head n ++ u64s n.nested
 
-abbrev pub head_format : Format Head
-head_format = pair_format kind_format (pair_format (list_format u32_format) (pair_format (list_format u32_format) (list_format text_format)))
+-- how many nest in it, and the lists, and the kind: a node's parts, the last one first
+abbrev pub NodeParts : Type 0
+NodeParts = (FutureKind × (List ℕ × (List ℕ × List (List ℕ)))) × ℕ
 
--- one future, with the bytes of each nested one in its place
-abbrev pub future_step : Future-F (List ℕ) → List ℕ
-future_step f = head (head_of f) ++ list (λ text. text) f.nested
+abbrev pub parts_of : FutureNode → NodeParts
+parts_of n = ((n.kind, (n.waiting_completions, (n.waiting_signals, n.waiting_named_signals))), n.nested)
 
-unfoldable pub future : Future → List ℕ
-future = fold-Future (List ℕ) future_step
+abbrev pub of_parts : NodeParts → FutureNode
+of_parts p = record { kind = p.0.0; waiting_completions = p.0.1.0; waiting_signals = p.0.1.1.0; waiting_named_signals = p.0.1.1.1; nested = p.1 }
 
-made_flat : {A : Type 0} (g : A → List ℕ) (xs : List A) → flat_map (λ t. t) (map g xs) ≡ flat_map g xs
-made_flat g [] = refl
-made_flat g (x ∷ xs) = ap (λ t. g x ++ t) (made_flat g xs)
+abbrev pub parts_format : Format NodeParts
+parts_format = pair_format (pair_format kind_format (pair_format (list_format u32_format) (pair_format (list_format u32_format) (list_format text_format)))) u64_format
 
-made_length : {A : Type 0} (g : A → List ℕ) (xs : List A) → length (map g xs) ≡ length xs
-made_length g [] = refl
-made_length g (x ∷ xs) = omega (arith, made_length g xs)
+abbrev pub node_format : Format FutureNode
+node_format = spelled node (via parts_of of_parts (λ _. refl) (λ _. refl) parts_format) (λ _. refl)
 
-list_of_made : {A : Type 0} (g : A → List ℕ) (xs : List A) → list (λ t. t) (map g xs) ≡ list g xs
-unfolding list
-list_of_made g xs = rw (made_length g xs, made_flat g xs) refl
+-- ---- a future: its nodes in preorder
 
--- the bytes of a future, by its layer
-abbrev pub layer : Future-F Future → List ℕ
-layer f = head (head_of f) ++ list future f.nested
+-- Whether these nodes are so many whole futures: before each node at least one future is still awaited, and behind
+-- the last node none is. A node is one of those awaited, and the futures that nest directly in it are awaited next.
+abbrev pub are_whole : ℕ → List FutureNode → Bool
+are_whole zero [] = true
+are_whole zero (n ∷ nodes) = false
+are_whole (suc awaited) [] = false
+are_whole (suc awaited) (n ∷ nodes) = are_whole (awaited + n.nested) nodes
 
-pub future_roll : (f : Future-F Future) → future (roll-Future f) ≡ layer f
-unfolding future
-future_roll f = fold-roll-Future (List ℕ) future_step f ∙ ap (λ t. head (head_of f) ++ t) (list_of_made future f.nested)
+-- one whole future
+abbrev pub IsFuture : List FutureNode → Type 0
+IsFuture nodes = IsTrue (are_whole 1 nodes)
 
-pub future_out : (f : Future) → future f ≡ layer (out-Future f)
-unfolding future
-future_out f = fold_out-Future (List ℕ) future_step f ∙ ap (λ t. head (head_of (out-Future f)) ++ t) (list_of_made future (out-Future f).nested)
+-- the bytes of a future: those of its nodes
+unfoldable pub future : List FutureNode → List ℕ
+future nodes = flat_map node nodes
 
--- a layer whose numbers and lengths fit
-abbrev pub LayerFits : Future-F Future → Type 0
-LayerFits f = head_format.valid (head_of f) × (length f.nested < 2 ^ 64)
+-- These nodes are a future of its parts: a head, and behind it the nodes of each of its children; and the bytes are
+-- what the head waits for, and the list of the children's bytes.
+pub record Layout (nodes : List FutureNode) : Type 0 where
+  pub top : FutureNode
+  pub children : List (List FutureNode)
+  pub counted : top.nested ≡ length children
+  pub each : AllByRecursion IsFuture children
+  pub placed : nodes ≡ top ∷ flat_map (λ child. child) children
+  pub spelled_so : future nodes ≡ head top ++ list future children
 
-unfoldable pub future_valid : Future → Type 0
-future_valid = every-Future LayerFits
-
-each_held : {P : Future → Type 0} (ps : List ((f : Future) × P f)) → AllByRecursion P (map (λ e. e.0) ps)
-each_held [] = tt
-each_held (p ∷ ps) = (p.1, each_held ps)
-
-held : (P : Future → Type 0) (fs : List Future) → AllByRecursion P fs → List ((f : Future) × P f)
-held P [] h = []
-held P (f ∷ fs) h = (f, h.0) ∷ held P fs h.1
-
-held_are : (P : Future → Type 0) (fs : List Future) (h : AllByRecursion P fs) → map (λ (e : (f : Future) × P f). e.0) (held P fs h) ≡ fs
-unfolding held
-held_are P [] h = refl
-held_are P (f ∷ fs) h = ap (λ t. f ∷ t) (held_are P fs h.1)
-
-pub valid_here : (f : Future) → future_valid f → LayerFits (out-Future f)
-unfolding future_valid
-valid_here f v = every_here-Future LayerFits f v
-
-pub valid_nested : (f : Future) → future_valid f → AllByRecursion future_valid (out-Future f).nested
-unfolding future_valid
-valid_nested f v = let h = every_held-Future LayerFits f v in subst (λ (l : Future-F Future). AllByRecursion (every-Future LayerFits) l.nested) h.1 (each_held h.0.nested)
-
-pub valid_made : (l : Future-F Future) → LayerFits l → AllByRecursion future_valid l.nested → future_valid (roll-Future l)
-unfolding future_valid held
-valid_made l v h = every_made-Future LayerFits l (record { kind = l.kind; waiting_completions = l.waiting_completions; waiting_signals = l.waiting_signals; waiting_named_signals = l.waiting_named_signals; nested = held (every-Future LayerFits) l.nested h })
-    (λ i. record { kind = l.kind; waiting_completions = l.waiting_completions; waiting_signals = l.waiting_signals; waiting_named_signals = l.waiting_named_signals; nested = held_are (every-Future LayerFits) l.nested h i }) v
+unfoldable pub future_valid : List FutureNode → Type 0
+future_valid nodes = AllByRecursion node_format.valid nodes × IsFuture nodes
 
 -- ---- reading a future
 
--- the future of a head and its nested futures
-abbrev pub layer_of : Head × List Future → Future
-layer_of p = roll-Future (record { kind = p.0.0; waiting_completions = p.0.1.0; waiting_signals = p.0.1.1.0; waiting_named_signals = p.0.1.1.1; nested = p.1 })
+-- so many futures, of no more nodes than n
+unfoldable pub read_nodes : ℕ → ℕ → Reading (List FutureNode)
+read_nodes n zero bs = Some ([], bs)
+read_nodes zero (suc awaited) bs = None
+read_nodes (suc n) (suc awaited) bs = read_then (node_format.read bs) (λ x mid. read_then (read_nodes n (awaited + x.nested) mid) (λ xs rest. Some (x ∷ xs, rest)))
 
--- a future whose nested ones are read so
-abbrev pub read_layer : Reading Future → Reading Future
-read_layer r = read_as layer_of (read_pair head_format.read (read_list r))
-
--- a future of no more than so many layers
-unfoldable pub read_layers : ℕ → Reading Future
-read_layers zero bs = None
-read_layers (suc n) bs = read_layer (read_layers n) bs
-
--- Each layer takes a byte at least.
-unfoldable pub read_future : Reading Future
-read_future bs = read_layers (length bs) bs
-
-pub layer_is : (r : Reading Future) → IsSpelled future future_valid r → IsSpelled future future_valid (read_layer r)
-layer_is r h bs f rest e =
-    let k = then_some (read_pair head_format.read (read_list r) bs) (λ p rest. Some (layer_of p, rest)) f rest e in
-    let s = same_some (layer_of k.0) f k.1 rest k.3 in
-    let q = pair_is head head_format.valid head_format.read (list future) (λ fs. (length fs < 2 ^ 64) × AllByRecursion future_valid fs) (read_list r) head_format.read_is (counted_are future future_valid r h) bs k.0 k.1 k.2 in
-    let l : Future-F Future = record { kind = k.0.0.0; waiting_completions = k.0.0.1.0; waiting_signals = k.0.0.1.1.0; waiting_named_signals = k.0.0.1.1.1; nested = k.0.1 } in
-    (subst future_valid s.0 (valid_made l (q.0.0, q.0.1.0) q.0.1.1), q.1 ∙ ap (λ t. t ++ k.1) (sym (future_roll l)) ∙ (λ i. future (s.0 i) ++ s.1 i))
-
-layers_are : (n : ℕ) → IsSpelled future future_valid (read_layers n)
-unfolding read_layers
-layers_are zero bs f rest e = absurd cc
-layers_are (suc n) bs f rest e = layer_is (read_layers n) (layers_are n) bs f rest e
-
-pub future_is : IsSpelled future future_valid read_future
-unfolding read_future
-future_is bs f rest e = layers_are (length bs) bs f rest e
+-- Each node takes a byte at least.
+unfoldable pub read_future : Reading (List FutureNode)
+read_future bs = read_nodes (length bs) 1 bs
 
 kind_long : (k : FutureKind) → 0 < length (kind k)
 kind_long FirstCompleted = omega arith
@@ -169,44 +125,118 @@ kind_long FirstSucceededOrAllFailed = omega arith
 kind_long AllSucceededOrFirstFailed = omega arith
 kind_long Unknown = omega arith
 
-pub head_long : (h : Head) → 0 < length (head h)
-head_long h = omega (arith, kind_long h.0, length-append (kind h.0) (fields (list u32s h.1.0 ∷ list u32s h.1.1.0 ∷ list bytes h.1.1.1 ∷ [])))
+pub node_long : (n : FutureNode) → 0 < length (node n)
+node_long n =
+    let others = list u32s n.waiting_completions ++ (list u32s n.waiting_signals ++ list bytes n.waiting_named_signals) in
+    omega (arith, kind_long n.kind, length-append (kind n.kind) others, length-append (head n) (u64s n.nested))
 
--- A layer is read where its nested futures are.
-pub layer_read : (r : Reading Future) (l : Future-F Future) (rest : List ℕ) → head_format.valid (head_of l) → read_list r (list future l.nested ++ rest) ≡ Some (l.nested, rest) → read_layer r (layer l ++ rest) ≡ Some (roll-Future l, rest)
-unfolding read_pair
-layer_read r l rest v e = rw (append_assoc (head (head_of l)) (list future l.nested) rest, head_format.reads (head_of l) (list future l.nested ++ rest) v, e) refl
+pub nodes_are : (n awaited : ℕ) (bs : List ℕ) (xs : List FutureNode) (rest : List ℕ) → read_nodes n awaited bs ≡ Some (xs, rest) → IsTrue (are_whole awaited xs) × AllByRecursion node_format.valid xs × (bs ≡ flat_map node xs ++ rest)
+unfolding read_nodes
+nodes_are zero zero bs xs rest e =
+    let s = same_some [] xs bs rest e in
+    (rw (← s.0) refl, rw (← s.0) tt, (λ i. flat_map node (s.0 i) ++ s.1 i))
+nodes_are (suc n) zero bs xs rest e =
+    let s = same_some [] xs bs rest e in
+    (rw (← s.0) refl, rw (← s.0) tt, (λ i. flat_map node (s.0 i) ++ s.1 i))
+nodes_are zero (suc awaited) bs xs rest e = absurd cc
+nodes_are (suc n) (suc awaited) bs xs rest e =
+    let more = λ (x : FutureNode) (mid : List ℕ). read_then (read_nodes n (awaited + x.nested) mid) (λ xs rest. Some (x ∷ xs, rest)) in
+    let k = then_some (node_format.read bs) more xs rest e in
+    let q = then_some (read_nodes n (awaited + k.0.nested) k.1) (λ xs rest. Some (k.0 ∷ xs, rest)) xs rest k.3 in
+    let s = same_some (k.0 ∷ q.0) xs q.1 rest q.3 in
+    let a = node_format.read_is bs k.0 k.1 k.2 in
+    let b = nodes_are n (awaited + k.0.nested) k.1 q.0 q.1 q.2 in (
+      rw (← s.0) b.0,
+      rw (← s.0) (a.0, b.1),
+      a.1 ∙ ap (λ t. node k.0 ++ t) b.2 ∙ sym (append_assoc (node k.0) (flat_map node q.0) q.1) ∙ ap (λ t. t ++ q.1) (sym (flat_map-cons node k.0 q.0)) ∙ (λ i. flat_map node (s.0 i) ++ s.1 i),
+    )
 
--- a future that is read in as many layers as it has bytes, with what follows
-abbrev Again : Future → Type 0
-Again f = (n : ℕ) (rest : List ℕ) → future_valid f → length (future f ++ rest) ≤ n → read_layers n (future f ++ rest) ≡ Some (f, rest)
+pub future_is : IsSpelled future future_valid read_future
+unfolding read_future future future_valid
+future_is bs nodes rest e = let h = nodes_are (length bs) 1 bs nodes rest e in ((h.1, h.0), h.2)
 
-both : (P Q : Future → Type 0) (fs : List Future) → AllByRecursion P fs → AllByRecursion Q fs → AllByRecursion (λ f. P f × Q f) fs
-both P Q [] p q = tt
-both P Q (f ∷ fs) p q = ((p.0, q.0), both P Q fs p.1 q.1)
-
-list_long : (fs : List Future) → length (flat_map future fs) ≤ length (list future fs)
-unfolding list
-list_long fs = omega (arith, length-append (u64s (length fs)) (flat_map future fs))
-
-layers_read : (n : ℕ) (l : Future-F Future) (rest : List ℕ) → LayerFits l → AllByRecursion future_valid l.nested → AllByRecursion Again l.nested → length (layer l ++ rest) ≤ n → read_layers n (layer l ++ rest) ≡ Some (roll-Future l, rest)
-unfolding read_layers
-layers_read zero l rest v w h s = absurd (omega (arith, s, head_long (head_of l), length-append (layer l) rest, length-append (head (head_of l)) (list future l.nested)))
-layers_read (suc n) l rest v w h s =
-    let m : length (flat_map future l.nested ++ rest) ≤ n = omega (arith, s, head_long (head_of l), length-append (layer l) rest, length-append (head (head_of l)) (list future l.nested), list_long l.nested, length-append (flat_map future l.nested) rest) in
-    layer_read (read_layers n) l rest v.0 (counted_read future (read_layers n) l.nested rest v.1
-    (items_read future (λ f. future_valid f × Again f) (read_layers n) n (λ f rest p k. p.1 n rest p.0 k) l.nested rest (both future_valid Again l.nested w h) m))
-
-again : (f : Future) → Again f
-again = ind-Future Again (λ l y is n rest v s.
-    let lv = subst LayerFits (out-roll-Future l) (valid_here (roll-Future l) v) in
-    let lw = subst (λ (t : Future-F Future). AllByRecursion future_valid t.nested) (out-roll-Future l) (valid_nested (roll-Future l) v) in
-    let h = subst (λ (t : Future-F Future). AllByRecursion Again t.nested) is (each_held y.nested) in
-    ap (λ t. read_layers n (t ++ rest)) (future_roll l) ∙ layers_read n l rest lv lw h (subst (λ t. length (t ++ rest) ≤ n) (future_roll l) s))
+nodes_read : (n awaited : ℕ) (xs : List FutureNode) (rest : List ℕ) → IsTrue (are_whole awaited xs) → AllByRecursion node_format.valid xs → length (flat_map node xs ++ rest) ≤ n → read_nodes n awaited (flat_map node xs ++ rest) ≡ Some (xs, rest)
+unfolding read_nodes
+nodes_read zero zero [] rest w v l = refl
+nodes_read (suc n) zero [] rest w v l = refl
+nodes_read n zero (x ∷ xs) rest w v l = absurd cc
+nodes_read n (suc awaited) [] rest w v l = absurd cc
+nodes_read zero (suc awaited) (x ∷ xs) rest w v l =
+    absurd (omega (arith, node_long x, ap length (flat_map-cons node x xs), length-append (node x) (flat_map node xs), length-append (flat_map node (x ∷ xs)) rest))
+nodes_read (suc n) (suc awaited) (x ∷ xs) rest w v l =
+    let split = ap (λ t. t ++ rest) (flat_map-cons node x xs) ∙ append_assoc (node x) (flat_map node xs) rest in
+    let m : length (node x ++ (flat_map node xs ++ rest)) ≤ suc n = rw (← split) l in
+    rw (split, node_format.reads x (flat_map node xs ++ rest) v.0, nodes_read n (awaited + x.nested) xs rest w v.1 (omega (arith, m, node_long x, length-append (node x) (flat_map node xs ++ rest)))) refl
 
 pub future_reads : IsReadBack future future_valid read_future
-unfolding read_future
-future_reads f rest v = again f (length (future f ++ rest)) rest v (omega arith)
+unfolding read_future future future_valid
+future_reads nodes rest v = nodes_read (length (flat_map node nodes ++ rest)) 1 nodes rest v.1 v.0 (omega arith)
 
-abbrev pub future_format : Format Future
+abbrev pub future_format : Format (List FutureNode)
 future_format = record { spelling = future; valid = future_valid; read = read_future; reads = future_reads; read_is = future_is }
+
+-- ---- a future of its parts
+
+-- the first of several whole futures, and the others
+first_of_whole : (a b : ℕ) (xs : List FutureNode) → IsTrue (are_whole (a + b) xs) → (p : List FutureNode) × (q : List FutureNode) × (xs ≡ p ++ q) × IsTrue (are_whole a p) × IsTrue (are_whole b q)
+first_of_whole zero b xs w = let e : 0 + b ≡ b = omega arith in ([], xs, refl, refl, rw e at w)
+first_of_whole (suc a) b [] w = let e : suc a + b ≡ suc (a + b) = omega arith in let h = rw e at w in absurd (false≢true h)
+first_of_whole (suc a) b (x ∷ xs) w =
+    let e : suc a + b ≡ suc (a + b) = omega arith in
+    let d : (a + b) + x.nested ≡ (a + x.nested) + b = omega arith in
+    let h = first_of_whole (a + x.nested) b xs (rw (← d) (rw e at w)) in
+    (x ∷ h.0, h.1, ap (λ t. x ∷ t) h.2, h.3, h.4)
+
+-- so many whole futures, one by one
+each_whole : (n : ℕ) (xs : List FutureNode) → IsTrue (are_whole n xs) → (children : List (List FutureNode)) × (n ≡ length children) × (xs ≡ flat_map (λ c. c) children) × AllByRecursion IsFuture children
+each_whole zero [] w = ([], refl, refl, tt)
+each_whole zero (x ∷ xs) w = absurd (false≢true w)
+each_whole (suc n) xs w =
+    let e : suc n ≡ 1 + n = omega arith in
+    let k = first_of_whole 1 n xs (rw (← e) w) in
+    let h = each_whole n k.1 k.4 in
+    (k.0 ∷ h.0, ap suc h.1, k.2 ∙ ap (λ t. k.0 ++ t) h.2 ∙ sym (flat_map-cons (λ c. c) k.0 h.0), (k.3, h.3))
+
+bytes_joined : (cs : List (List FutureNode)) → flat_map node (flat_map (λ c. c) cs) ≡ flat_map future cs
+unfolding future
+bytes_joined [] = refl
+bytes_joined (c ∷ cs) = ap (flat_map node) (flat_map-cons (λ c. c) c cs) ∙ flat_map-append node c (flat_map (λ c. c) cs) ∙ ap (λ t. flat_map node c ++ t) (bytes_joined cs) ∙ sym (flat_map-cons future c cs)
+
+laid_out : (nodes : List FutureNode) → IsFuture nodes → Layout nodes
+unfolding future list
+laid_out [] w = absurd (false≢true w)
+laid_out (x ∷ xs) w =
+    let e : 0 + x.nested ≡ x.nested = omega arith in
+    let h = each_whole x.nested xs (subst (λ n. IsTrue (are_whole n xs)) e w) in
+    record {
+      top = x;
+      children = h.0;
+      counted = h.1;
+      each = h.3;
+      placed = ap (λ t. x ∷ t) h.2;
+      spelled_so = flat_map-cons node x xs ∙ append_assoc (head x) (u64s x.nested) (flat_map node xs) ∙ (λ i. head x ++ (u64s (h.1 i) ++ flat_map node (h.2 i))) ∙ ap (λ t. head x ++ (u64s (length h.0) ++ t)) (bytes_joined h.0);
+    }
+
+whole_joined : (a b : ℕ) (p q : List FutureNode) → IsTrue (are_whole a p) → IsTrue (are_whole b q) → IsTrue (are_whole (a + b) (p ++ q))
+whole_joined zero b [] q v w = let e : 0 + b ≡ b = omega arith in rw e w
+whole_joined zero b (x ∷ p) q v w = absurd (false≢true v)
+whole_joined (suc a) b [] q v w = absurd (false≢true v)
+whole_joined (suc a) b (x ∷ p) q v w =
+    let e : suc a + b ≡ suc (a + b) = omega arith in
+    let d : (a + b) + x.nested ≡ (a + x.nested) + b = omega arith in
+    subst (λ n. IsTrue (are_whole n (x ∷ (p ++ q)))) (sym e) (subst (λ n. IsTrue (are_whole n (p ++ q))) (sym d) (whole_joined (a + x.nested) b p q v w))
+
+children_whole : (children : List (List FutureNode)) → AllByRecursion IsFuture children → IsTrue (are_whole (length children) (flat_map (λ c. c) children))
+children_whole [] h = refl
+children_whole (c ∷ cs) h =
+    let e : 1 + length cs ≡ suc (length cs) = omega arith in
+    rw (flat_map-cons (λ (d : List FutureNode). d) c cs) (subst (λ n. IsTrue (are_whole n (c ++ flat_map (λ d. d) cs))) e (whole_joined 1 (length cs) c (flat_map (λ d. d) cs) h.0 (children_whole cs h.1)))
+
+of_parts_whole : (nodes : List FutureNode) → Layout nodes → IsFuture nodes
+of_parts_whole nodes l =
+    let e : length l.children ≡ 0 + l.top.nested = omega (arith, l.counted) in
+    rw l.placed (subst (λ n. IsTrue (are_whole n (flat_map (λ c. c) l.children))) e (children_whole l.children l.each))
+
+-- The layout is recursive: nodes are a future exactly where they are a future of its parts.
+pub layout : (nodes : List FutureNode) → IsFuture nodes ↔ Layout nodes
+layout nodes = (laid_out nodes, of_parts_whole nodes)

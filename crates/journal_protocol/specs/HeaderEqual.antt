@@ -3,7 +3,7 @@ use Rattle.std.specs.Prelude.{nat_eq, ◌==◌, ◌&&◌, ◌||◌, Bool, true, 
 use Rattle.std.specs.Bool.{beq}
 use Rattle.std.specs.Cmp.Lexicographic.{pointwise}
 use Rattle.std.specs.Option.{option_eq}
-use Rattle.journal_protocol.specs.FutureEqual.{future_equal}
+use Rattle.journal_protocol.specs.contracts.future.FuturePartialEq.TheImpl as futures_of
 use Rattle.journal_protocol.specs.contracts.parts.HeaderPartialEq.TheImpl as headers_of
 use Rattle.journal_protocol.specs.contracts.parts.ValueOrFailurePartialEq.TheImpl as values_of
 use Rattle.journal_protocol.specs.contracts.state.VoidOrValuePartialEq.TheImpl as state_of
@@ -64,7 +64,7 @@ start_equal a (Start b) = (starts_of.ghosts).eq a b
 start_equal a _ = false
 
 abbrev pub suspension_equal : suspensions.Suspension → Message → Bool
-suspension_equal a (Suspension b) = future_equal a.future b.future
+suspension_equal a (Suspension b) = (futures_of.ghosts).eq a.future b.future
 suspension_equal a _ = false
 
 abbrev pub error_equal : ErrorMessage → Message → Bool
@@ -84,7 +84,7 @@ propose_run_completion_ack_equal a (ProposeRunCompletionAck b) = a.id == b.id
 propose_run_completion_ack_equal a _ = false
 
 abbrev pub awaiting_on_equal : awaiting.AwaitingOn → Message → Bool
-awaiting_on_equal a (AwaitingOn b) = future_equal a.future b.future && beq a.executing_side_effects b.executing_side_effects
+awaiting_on_equal a (AwaitingOn b) = (futures_of.ghosts).eq a.future b.future && beq a.executing_side_effects b.executing_side_effects
 awaiting_on_equal a _ = false
 
 abbrev pub get_state_ephemeral_command_equal : ephemeral_commands.GetStateEphemeralCommand → Message → Bool

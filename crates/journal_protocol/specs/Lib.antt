@@ -15,5 +15,4 @@ pub mod Frames
 pub mod Stream
 pub mod Runs
 pub mod Headers
-pub mod FutureEqual
 pub mod HeaderEqual

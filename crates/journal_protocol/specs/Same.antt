@@ -26,7 +26,11 @@ use Rattle.journal_protocol.specs.contracts.notification.NotificationPartialEq.T
 use Rattle.journal_protocol.specs.contracts.start.StartPartialEq.TheImpl as starts
 use Rattle.journal_protocol.specs.contracts.error.ErrorBehaviorPartialEq.TheImpl as behaviors
 use Rattle.journal_protocol.specs.contracts.control.ErrorMessagePartialEq.TheImpl as error_messages
+use Rattle.journal_protocol.specs.contracts.future.FutureKindPartialEq.TheImpl as kinds
+use Rattle.journal_protocol.specs.contracts.future.FutureNodePartialEq.TheImpl as nodes
+use Rattle.journal_protocol.specs.contracts.future.FuturePartialEq.TheImpl as futures
 use Rattle.journal_protocol.specs.declared.error.ErrorBehavior.TheVariants.{Retry, Pause, Fail}
+use Rattle.journal_protocol.specs.declared.future.FutureKind.TheVariants.{FirstCompleted, AllCompleted, FirstSucceededOrAllFailed, AllSucceededOrFirstFailed, Unknown}
 
 pub failure_exact : Exact (failures.ghosts).eq
 failure_exact = exact_on failure_parts (λ p. record { code = p.0; message = p.1.0; metadata = p.1.1 }) (λ _. refl) (exact_pair Decides-eqb (exact_pair bytes_decides (pointwise_decides (exact_pair bytes_decides bytes_decides))))
@@ -108,3 +112,22 @@ target_exact (of.InvocationId x) (of.InvocationId y) = (λ e. ap of.InvocationId
 target_exact (of.WorkflowId x) (of.WorkflowId y) = (λ e. ap of.WorkflowId ((workflow_exact x y).0 e), λ e. (workflow_exact x y).1 cc)
 target_exact (of.IdempotencyId x) (of.IdempotencyId y) = (λ e. ap of.IdempotencyId ((idempotency_exact x y).0 e), λ e. (idempotency_exact x y).1 cc)
 target_exact _ _ = (λ e. absurd cc, λ e. absurd cc)
+
+pub kind_exact : Exact (kinds.ghosts).eq
+kind_exact FirstCompleted FirstCompleted = (λ _. refl, λ _. refl)
+kind_exact AllCompleted AllCompleted = (λ _. refl, λ _. refl)
+kind_exact FirstSucceededOrAllFailed FirstSucceededOrAllFailed = (λ _. refl, λ _. refl)
+kind_exact AllSucceededOrFirstFailed AllSucceededOrFirstFailed = (λ _. refl, λ _. refl)
+kind_exact Unknown Unknown = (λ _. refl, λ _. refl)
+kind_exact _ _ = (λ e. absurd cc, λ e. absurd cc)
+
+pub node_exact : Exact (nodes.ghosts).eq
+node_exact = exact_on
+    (λ n. (n.kind, (n.waiting_completions, (n.waiting_signals, (n.waiting_named_signals, n.nested)))))
+    (λ (kind, (waiting_completions, (waiting_signals, (waiting_named_signals, nested)))).
+    record { kind = kind; waiting_completions = waiting_completions; waiting_signals = waiting_signals; waiting_named_signals = waiting_named_signals; nested = nested })
+    (λ _. refl)
+    (exact_pair kind_exact (exact_pair bytes_decides (exact_pair bytes_decides (exact_pair (pointwise_decides bytes_decides) Decides-eqb))))
+
+pub future_exact : Exact (futures.ghosts).eq
+future_exact = pointwise_decides node_exact

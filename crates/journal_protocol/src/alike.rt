@@ -16,7 +16,6 @@ use crate::alike_state::{
     is_clear_all_state, is_clear_state, is_get_eager_state, is_get_eager_state_keys,
     is_get_lazy_state, is_get_lazy_state_keys, is_set_state,
 };
-use crate::future::same_future;
 use crate::{ErrorMessage, Message, OutputCommand, SleepCommand, Start, Suspension};
 use wire::is_same;
 
@@ -78,7 +77,7 @@ fn is_suspension(a: &Suspension, message: &Message) -> bool
     ensures test { result ≡ suspension_equal a.now message.now }
 {
     match message {
-        Message::Suspension(b) => same_future(&a.future, &b.future),
+        Message::Suspension(b) => is_same(&a.future, &b.future),
         _ => false,
     }
 }

@@ -3,7 +3,6 @@ ghost use Rattle.std.specs.Prelude.{◌≡◌, ◌↔◌, IsTrue};
 ghost use Rattle.journal_protocol.specs.Headers.{IsProposeRunCompletion, IsProposeRunCompletionAck, IsAwaitingOn, IsGetStateEphemeralCommand, IsGetStateEphemeralNotification, IsNotification};
 ghost use Rattle.journal_protocol.specs.HeaderEqual.{propose_run_completion_equal, propose_run_completion_ack_equal, awaiting_on_equal, get_state_ephemeral_command_equal, get_state_ephemeral_notification_equal, notification_equal};
 
-use crate::future::same_future;
 use crate::{
     AwaitingOn, GetStateEphemeralCommand, GetStateEphemeralNotification, Message, Notification,
     ProposeRunCompletion, ProposeRunCompletionAck,
@@ -40,7 +39,7 @@ pub fn is_awaiting_on(a: &AwaitingOn, message: &Message) -> bool
     ensures test { result ≡ awaiting_on_equal a.now message.now }
 {
     match message {
-        Message::AwaitingOn(b) => same_future(&a.future, &b.future)
+        Message::AwaitingOn(b) => is_same(&a.future, &b.future)
             && a.executing_side_effects == b.executing_side_effects,
         _ => false,
     }

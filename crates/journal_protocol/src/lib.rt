@@ -39,7 +39,7 @@ pub use control::{AwaitingOn, ErrorMessage, Suspension};
 pub use decoder::Decoder;
 pub use error::{Error, ErrorBehavior, RelatedCommand};
 pub use faults::NamedFault;
-pub use future::{Future, FutureKind};
+pub use future::{Future, FutureKind, FutureNode};
 pub use headers::HeaderMap;
 pub use invocations::{IdempotencyId, InvocationCommand, InvocationTarget, WorkflowId};
 pub use message::{Encoder, Message, RawMessage};

@@ -1,10 +1,10 @@
 //! Whose `==` says whether two values are the same.
 ghost use Rattle.std.proofs.Common.{rules};
-ghost use Rattle.journal_protocol.specs.Same.{failure_exact, value_exact, id_exact, result_exact, notification_exact, start_exact, error_exact, void_or_value_exact, signal_exact, signal_result_exact, target_exact};
+ghost use Rattle.journal_protocol.specs.Same.{failure_exact, value_exact, id_exact, result_exact, notification_exact, start_exact, error_exact, void_or_value_exact, signal_exact, signal_result_exact, target_exact, node_exact, future_exact};
 
 use crate::{
-    ErrorMessage, Failure, InvocationTarget, Notification, NotificationId, NotificationResult,
-    Signal, SignalResult, Start, ValueOrFailure, VoidOrValue,
+    ErrorMessage, Failure, Future, FutureNode, InvocationTarget, Notification, NotificationId,
+    NotificationResult, Signal, SignalResult, Start, ValueOrFailure, VoidOrValue,
 };
 use wire::Plain;
 
@@ -72,4 +72,16 @@ impl Plain for InvocationTarget {
     ghost copies = { λ a b. Prim.search rules };
 
     ghost compares = { target_exact };
+}
+
+impl Plain for FutureNode {
+    ghost copies = { λ a b. Prim.search rules };
+
+    ghost compares = { node_exact };
+}
+
+impl Plain for Future {
+    ghost copies = { λ a b. Prim.search rules };
+
+    ghost compares = { future_exact };
 }

@@ -1,8 +1,8 @@
 // The bytes of each message, written out by hand from the layout; the names that others read; and that each
 // call succeeds where there is memory.
 use crate::{
-    Decoder, Encoder, Error, ErrorBehavior, Future, FutureKind, Message, MessageType, NamedFault,
-    RawMessage, RelatedCommand, Said, Suspension, Version, header_eq, messages_of,
+    Decoder, Encoder, Error, ErrorBehavior, Future, FutureKind, FutureNode, Message, MessageType,
+    NamedFault, RawMessage, RelatedCommand, Said, Version, header_eq, messages_of,
 };
 use bytes::Bytes;
 use std::alloc::{AllocError, Global};
@@ -48,16 +48,6 @@ fn error_of(alloc: Global, frame: &'static [u8]) -> Result<Option<Error>, Fail> 
     })
 }
 
-fn waits(alloc: Global, kind: FutureKind) -> Future {
-    Future {
-        kind,
-        waiting_completions: Items::new(alloc),
-        waiting_signals: Items::new(alloc),
-        waiting_named_signals: Items::new(alloc),
-        nested: Items::new(alloc),
-    }
-}
-
 /// A frame, and its message as `Debug` shows it.
 static SPELLED: [(&[u8], &str); 15] = [
     (
@@ -89,26 +79,28 @@ static SPELLED: [(&[u8], &str); 15] = [
             \0\0\0\0\0\0\0\x02\
             \x01\0\0\0\0\0\0\0\x02\0\0\0\x02\0\0\0\x03\0\0\0\0\0\0\0\0\0\0\0\0\0\0\0\0\0\0\0\0\0\0\0\0\
             \x04\0\0\0\0\0\0\0\0\0\0\0\0\0\0\0\0\0\0\0\0\0\0\0\0\0\0\0\0\0\0\0\0",
-        "Suspension(Suspension { future: Future { kind: FirstCompleted, \
-        waiting_completions: Items { items: [1] }, waiting_signals: Items { items: [17] }, \
-        waiting_named_signals: Items { items: [Text { inner: \"foo\" }] }, \
-        nested: Items { items: [Future { kind: AllCompleted, \
-        waiting_completions: Items { items: [2, 3] }, waiting_signals: Items { items: [] }, \
-        waiting_named_signals: Items { items: [] }, nested: Items { items: [] } }, \
-        Future { kind: Unknown, waiting_completions: Items { items: [] }, \
+        "Suspension(Suspension { future: Future { nodes: Items { items: [\
+        FutureNode { kind: FirstCompleted, waiting_completions: Items { items: [1] }, \
+        waiting_signals: Items { items: [17] }, \
+        waiting_named_signals: Items { items: [Text { inner: \"foo\" }] }, nested: 2 }, \
+        FutureNode { kind: AllCompleted, waiting_completions: Items { items: [2, 3] }, \
         waiting_signals: Items { items: [] }, waiting_named_signals: Items { items: [] }, \
-        nested: Items { items: [] } }] } } })",
+        nested: 0 }, \
+        FutureNode { kind: Unknown, waiting_completions: Items { items: [] }, \
+        waiting_signals: Items { items: [] }, waiting_named_signals: Items { items: [] }, \
+        nested: 0 }] } } })",
     ),
     (
         b"\0\x02\0\0\0\0\0\0\0\x42\
             \x02\0\0\0\0\0\0\0\0\0\0\0\0\0\0\0\0\0\0\0\0\0\0\0\0\0\0\0\0\0\0\0\x01\
             \x03\0\0\0\0\0\0\0\0\0\0\0\0\0\0\0\0\0\0\0\0\0\0\0\0\0\0\0\0\0\0\0\0",
-        "Suspension(Suspension { future: Future { kind: FirstSucceededOrAllFailed, \
-        waiting_completions: Items { items: [] }, waiting_signals: Items { items: [] }, \
-        waiting_named_signals: Items { items: [] }, \
-        nested: Items { items: [Future { kind: AllSucceededOrFirstFailed, \
-        waiting_completions: Items { items: [] }, waiting_signals: Items { items: [] }, \
-        waiting_named_signals: Items { items: [] }, nested: Items { items: [] } }] } } })",
+        "Suspension(Suspension { future: Future { nodes: Items { items: [\
+        FutureNode { kind: FirstSucceededOrAllFailed, waiting_completions: Items { items: [] }, \
+        waiting_signals: Items { items: [] }, waiting_named_signals: Items { items: [] }, \
+        nested: 1 }, \
+        FutureNode { kind: AllSucceededOrFirstFailed, waiting_completions: Items { items: [] }, \
+        waiting_signals: Items { items: [] }, waiting_named_signals: Items { items: [] }, \
+        nested: 0 }] } } })",
     ),
     (
         b"\0\x03\0\0\0\0\0\0\0\x36\
@@ -233,7 +225,7 @@ fn reads_a_stream_byte_by_byte(rt: HostRuntime) -> Result<(), Fail> {
 }
 
 /// What is no frame or no body, and why.
-static REFUSED: [(&[u8], &str); 14] = [
+static REFUSED: [(&[u8], &str); 17] = [
     (b"\0\0", "type 0"),
     (b"\0\x1f", "type 31"),
     (b"\x01\x04\0\0\0\0\0\0\0\0", "type 260"),
@@ -275,6 +267,23 @@ static REFUSED: [(&[u8], &str); 14] = [
         b"\0\x1d\0\0\0\0\0\0\0\x09\0\xff\xff\xff\xff\xff\xff\xff\xff",
         "a value that is not there",
     ),
+    (
+        b"\0\x02\0\0\0\0\0\0\0\x21\
+            \x04\0\0\0\0\0\0\0\0\0\0\0\0\0\0\0\0\0\0\0\0\0\0\0\0\xff\xff\xff\xff\xff\xff\xff\xff",
+        "more nested futures than bytes",
+    ),
+    (
+        b"\0\x02\0\0\0\0\0\0\0\x42\
+            \x04\0\0\0\0\0\0\0\0\0\0\0\0\0\0\0\0\0\0\0\0\0\0\0\0\xff\xff\xff\xff\xff\xff\xff\xff\
+            \x04\0\0\0\0\0\0\0\0\0\0\0\0\0\0\0\0\0\0\0\0\0\0\0\0\xff\xff\xff\xff\xff\xff\xff\xff",
+        "more nested futures than a number counts",
+    ),
+    (
+        b"\0\x02\0\0\0\0\0\0\0\x42\
+            \x04\0\0\0\0\0\0\0\0\0\0\0\0\0\0\0\0\0\0\0\0\0\0\0\0\0\0\0\0\0\0\0\0\
+            \x04\0\0\0\0\0\0\0\0\0\0\0\0\0\0\0\0\0\0\0\0\0\0\0\0\0\0\0\0\0\0\0\0",
+        "a future left over",
+    ),
 ];
 
 #[test]
@@ -295,42 +304,113 @@ fn waits_for_the_longest_body(rt: HostRuntime) -> Result<(), Fail> {
     Ok(())
 }
 
-/// A message that nests a thousand futures.
-fn deep(alloc: Global) -> Result<Message, Fail> {
-    let mut future = waits(alloc, FutureKind::Unknown);
-    for _ in 1..1000 {
-        let mut outer = waits(alloc, FutureKind::Unknown);
-        outer.nested.push(future)?;
-        future = outer;
+/// How deep the futures of the tests nest.
+const DEPTH: usize = 100000;
+
+/// The bytes of a suspension on a future that nests as deep, where the deepest is of a kind: a kind and four counts
+/// each.
+fn deep_body(alloc: Global, kind: u8) -> Result<Bytes, AllocError> {
+    let mut body = Vec::new(alloc);
+    for _ in 1..DEPTH {
+        body.push(4)?;
+        body.extend_from_slice(&[0; 24])?;
+        body.extend_from_slice(&1u64.to_be_bytes())?;
     }
-    Ok(Message::Suspension(Suspension { future }))
+    body.push(kind)?;
+    body.extend_from_slice(&[0; 32])?;
+    Bytes::copy_from_slice(alloc, body.as_slice())
 }
 
-fn is_deep(alloc: Global, message: &Message) -> Result<bool, Fail> {
-    let other = deep(alloc)?;
+fn deep_frame(alloc: Global, kind: u8) -> Result<Bytes, AllocError> {
+    let body = deep_body(alloc, kind)?;
+    let mut frame = Vec::new(alloc);
+    frame.extend_from_slice(&[0, 2])?;
+    frame.extend_from_slice(&(body.len() as u64).to_be_bytes())?;
+    frame.extend_from_slice(body.as_slice())?;
+    Bytes::copy_from_slice(alloc, frame.as_slice())
+}
+
+fn is_alike(alloc: Global, message: &Message, raw: &RawMessage) -> Result<bool, Fail> {
+    let other = raw.decode(alloc)?;
     Ok(header_eq(&other, message, false))
 }
 
-fn deep_frame(alloc: Global) -> Result<Bytes, Fail> {
-    let message = deep(alloc)?;
-    Encoder::new(alloc).encode(&message).map_err(Fail::from)
+/// Whether two frames have one message for replay.
+fn are_alike(alloc: Global, a: &RawMessage, b: &RawMessage) -> Result<bool, Fail> {
+    let message = a.decode(alloc)?;
+    is_alike(alloc, &message, b)
 }
 
-fn decodes_to_deep(alloc: Global, raw: &RawMessage) -> Result<bool, Fail> {
+fn encoded_again(alloc: Global, raw: &RawMessage) -> Result<Bytes, Fail> {
     let message = raw.decode(alloc)?;
-    is_deep(alloc, &message)
+    Encoder::new(alloc).encode(&message).map_err(Fail::from)
 }
 
 #[test]
 fn nests_deeply(rt: HostRuntime) -> Result<(), Fail> {
     let alloc = rt.alloc();
-    let frame = deep_frame(alloc)?;
-    // A kind and four counts a future.
-    assert_eq!(rt; frame.len(), 10 + 33 * 1000);
+    let frame = deep_frame(alloc, 4)?;
     let raw = frame_of(alloc, frame.clone()?)?;
-    assert!(rt; decodes_to_deep(alloc, &raw)?);
-    let (_text, again) = decoded(alloc, &raw)?;
-    assert_eq!(rt; again.as_slice(), frame.as_slice());
+    assert!(rt; encoded_again(alloc, &raw)?.as_slice() == frame.as_slice());
+    assert!(rt; are_alike(alloc, &raw, &raw)?);
+    let other = frame_of(alloc, deep_frame(alloc, 3)?)?;
+    assert!(rt; !are_alike(alloc, &raw, &other)?);
+    Ok(())
+}
+
+#[test]
+fn refuses_a_deep_future_that_is_cut_off(rt: HostRuntime) -> Result<(), Fail> {
+    let alloc = rt.alloc();
+    let mut body = deep_body(alloc, 4)?;
+    let future = whole::<Future>(alloc, &body)?;
+    assert!(rt; is_same(&future, &future.clone()?));
+    assert_eq!(rt; future.nodes().len(), DEPTH);
+    let least = body.len().min(33);
+    body.truncate(body.len() - least);
+    assert!(rt; matches!(whole::<Future>(alloc, &body), Err(Fault::Malformed)));
+    Ok(())
+}
+
+/// A node in which so many futures nest.
+fn node(alloc: Global, nested: u64) -> FutureNode {
+    FutureNode {
+        kind: FutureKind::Unknown,
+        waiting_completions: Items::new(alloc),
+        waiting_signals: Items::new(alloc),
+        waiting_named_signals: Items::new(alloc),
+        nested,
+    }
+}
+
+/// Whether nodes in which so many futures nest are a future.
+fn is_future(alloc: Global, nested: &[u64]) -> Result<bool, AllocError> {
+    let mut nodes = Items::new(alloc);
+    for n in nested {
+        nodes.push(node(alloc, *n))?;
+    }
+    Ok(Future::from_nodes(nodes).is_some())
+}
+
+#[test]
+fn takes_whole_futures(rt: HostRuntime) -> Result<(), Fail> {
+    let alloc = rt.alloc();
+    assert!(rt; is_future(alloc, &[0])?);
+    assert!(rt; is_future(alloc, &[2, 1, 0, 0])?);
+    assert!(rt; !is_future(alloc, &[])?, "no node");
+    assert!(rt; !is_future(alloc, &[1])?, "a nested one is missing");
+    assert!(rt; !is_future(alloc, &[0, 0])?, "one is left over");
+    assert!(rt;
+        !is_future(alloc, &[u64::MAX, u64::MAX])?,
+        "more than there can be"
+    );
+    let one = Future::waiting(
+        alloc,
+        FutureKind::Unknown,
+        Items::new(alloc),
+        Items::new(alloc),
+        Items::new(alloc),
+    )?;
+    assert_eq!(rt; one.nodes().len(), 1);
     Ok(())
 }
 

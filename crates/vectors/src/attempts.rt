@@ -1,8 +1,9 @@
 // One attempt of a handler, from the bytes of its journal to the bytes of its commands.
+use crate::asker::Asker;
 use crate::bench::{V7, assert_is};
 use crate::frames::{
     COMPLETION_1, END, ERROR_INPUT_CLOSED, ERROR_KNOWN_ENTRIES, INPUT_TILL, OUTPUT_EMPTY,
-    SLEEP_TO_1000, SLEEP_TO_2024, START_0, START_1, START_2, START_3, SUSPENSION_ON_1,
+    SIGNAL_17, SLEEP_TO_1000, SLEEP_TO_2024, START_0, START_1, START_2, START_3, SUSPENSION_ON_1,
     TYPE_MISMATCH, UNCOMPLETED,
 };
 use crate::headers::Headers;
@@ -29,6 +30,8 @@ enum Act {
     Fails(u16, &'static str),
     /// The handler's answers are those of a sleep that is over.
     Slept,
+    /// The handler's answers are those of an awakeable that was completed.
+    Asked,
     /// These frames are sent, and nothing more.
     Sends(&'static [&'static [u8]]),
 }
@@ -74,6 +77,18 @@ fn assert_slept(rt: &impl Abort, answers: &[Answer]) {
     assert!(rt; matches!(answers.get(5), Some(Answer::Unit)));
 }
 
+fn assert_asked(rt: &impl Abort, answers: &[Answer]) -> Result<(), Fail> {
+    assert_eq!(rt; answers.len(), 4);
+    let Some(Answer::Awakeable(made)) = answers.get(1) else {
+        return Err("no awakeable".into());
+    };
+    assert_eq!(rt; made.id.as_str(), "sign_1YWJjAAAAEQ");
+    assert_eq!(rt; made.handle.0, 17);
+    assert!(rt; matches!(answers.get(2), Some(Answer::Awake)));
+    assert!(rt; matches!(answers.get(3), Some(Answer::Taken(Some(Value::Void)))));
+    Ok(())
+}
+
 fn assert_steps<H: Handler>(
     rt: &impl Abort,
     attempt: &mut Attempt<H>,
@@ -99,6 +114,7 @@ fn play<H: Handler>(
         Act::Step(count, progress) => assert_steps(rt, attempt, count, progress)?,
         Act::Fails(code, text) => assert_is(rt, attempt.step().err(), code, text)?,
         Act::Slept => assert_slept(rt, attempt.answers()),
+        Act::Asked => assert_asked(rt, attempt.answers())?,
         Act::Sends(frames) => assert_sends(rt, alloc, attempt, frames)?,
     }
     Ok(())
@@ -223,6 +239,23 @@ const MISMATCHED: &[Act] = &[
     Act::Fails(570, "CommandTypeMismatchError"),
     Act::Sends(&[TYPE_MISMATCH]),
 ];
+
+const ASKED: &[Act] = &[
+    Act::Feed(START_1),
+    Act::Feed(INPUT_TILL),
+    Act::Step(2, Progress::Stepped),
+    Act::Step(1, WAITING),
+    Act::Feed(SIGNAL_17),
+    Act::Step(2, Progress::Stepped),
+    Act::Asked,
+    Act::Step(1, Progress::Ended),
+    Act::Sends(&[END]),
+];
+
+#[test]
+fn awakeable_is_awaited(rt: HostRuntime) -> Result<(), Fail> {
+    assert_row(&rt, rt.alloc(), Asker, ASKED)
+}
 
 #[test]
 fn sleep_that_is_not_over_suspends(rt: HostRuntime) -> Result<(), Fail> {

@@ -1,6 +1,7 @@
 // Rows over a VM: what happens to it in turn, and what it answers.
 use crate::changes::{Change, make};
 use crate::headers::Headers;
+use crate::reports::{Report, tell};
 use bytes::Bytes;
 use invocation_vm::{
     AwaitResponse, CoreVM, Error, NonEmptyValue, NotificationHandle, PayloadOptions, State,
@@ -13,6 +14,8 @@ use std::time::Duration;
 use wire::{Items, Text};
 
 pub const V5: &str = "application/vnd.restate.invocation.v5";
+
+pub const V6: &str = "application/vnd.restate.invocation.v6";
 
 pub const V7: &str = "application/vnd.restate.invocation.v7";
 
@@ -32,6 +35,7 @@ pub enum Call {
     /// A failure with metadata.
     WriteMetadata,
     Change(Change),
+    Awakeable,
     End,
 }
 
@@ -40,6 +44,7 @@ pub enum Call {
 pub enum Taken {
     Nothing,
     Void,
+    Success(&'static [u8]),
     Failure(u16, &'static str),
 }
 
@@ -63,6 +68,10 @@ pub enum Act {
     Completed(u32, bool),
     /// The handler changes something.
     Changes(Change),
+    /// The handler makes an awakeable, and gets this id and this handle.
+    Awakeable(&'static str, u32),
+    /// The handler's runner reports an error.
+    Reports(Report),
     Take(u32, Taken),
     /// The handler writes an empty output.
     Write,
@@ -97,7 +106,7 @@ fn write(vm: &mut CoreVM) -> VMResult<()> {
     )
 }
 
-fn failure_with_metadata(alloc: Global) -> Result<TerminalFailure, AllocError> {
+pub fn failure_with_metadata(alloc: Global) -> Result<TerminalFailure, AllocError> {
     let mut metadata = Items::new(alloc);
     metadata.push((Text::from_str(alloc, "a")?, Text::from_str(alloc, "b")?))?;
     Ok(TerminalFailure {
@@ -126,6 +135,7 @@ fn error_of(alloc: Global, vm: &mut CoreVM, call: Call) -> Option<Error> {
         Call::Write => write(vm).err(),
         Call::WriteMetadata => write_metadata(alloc, vm).err(),
         Call::Change(change) => make(alloc, vm, change).err(),
+        Call::Awakeable => vm.sys_awakeable().err(),
         Call::End => vm.sys_end().err(),
     }
 }
@@ -184,6 +194,7 @@ fn is_taken(value: &Option<Value>, taken: Taken) -> bool {
     match (value, taken) {
         (None, Taken::Nothing) => true,
         (Some(Value::Void), Taken::Void) => true,
+        (Some(Value::Success(bytes)), Taken::Success(wanted)) => bytes.as_slice() == wanted,
         (Some(Value::Failure(failure)), Taken::Failure(code, text)) => {
             failure.code == code && failure.message.as_str() == text && failure.metadata.is_empty()
         }
@@ -194,6 +205,13 @@ fn is_taken(value: &Option<Value>, taken: Taken) -> bool {
 fn assert_takes(rt: &impl Abort, vm: &mut CoreVM, handle: u32, taken: Taken) -> Result<(), Fail> {
     let value = vm.take_notification(NotificationHandle(handle))?;
     assert!(rt; is_taken(&value, taken));
+    Ok(())
+}
+
+fn assert_makes(rt: &impl Abort, vm: &mut CoreVM, id: &str, handle: u32) -> Result<(), Fail> {
+    let made = vm.sys_awakeable()?;
+    assert_eq!(rt; made.id.as_str(), id);
+    assert_eq!(rt; made.handle.0, handle);
     Ok(())
 }
 
@@ -217,6 +235,8 @@ fn play(rt: &impl Abort, alloc: Global, vm: &mut CoreVM, act: Act) -> Result<(),
         Act::Take(handle, taken) => assert_takes(rt, vm, handle, taken)?,
         Act::Write => write(vm)?,
         Act::Changes(change) => make(alloc, vm, change)?,
+        Act::Awakeable(id, handle) => assert_makes(rt, vm, id, handle)?,
+        Act::Reports(report) => tell(alloc, vm, report)?,
         Act::End => vm.sys_end()?,
         Act::Refuses(call, code, text) => assert_is(rt, error_of(alloc, vm, call), code, text)?,
         Act::Failed(code, text) => assert_failed(rt, alloc, vm, code, text)?,
@@ -236,11 +256,18 @@ pub fn assert_row(
     content_type: &'static str,
     acts: &[Act],
 ) -> Result<(), Fail> {
-    let mut vm = CoreVM::new(
-        alloc,
-        Headers::ContentType(content_type),
-        VMOptions::default(),
-    )?;
+    assert_row_under(rt, alloc, content_type, VMOptions::default(), acts)
+}
+
+/// Plays a row on a VM of this content type, under these options.
+pub fn assert_row_under(
+    rt: &impl Abort,
+    alloc: Global,
+    content_type: &'static str,
+    options: VMOptions,
+    acts: &[Act],
+) -> Result<(), Fail> {
+    let mut vm = CoreVM::new(alloc, Headers::ContentType(content_type), options)?;
     for act in acts {
         play(rt, alloc, &mut vm, *act)?;
     }

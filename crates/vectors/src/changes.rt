@@ -1,4 +1,5 @@
 // The calls that change something and answer nothing.
+use crate::bench::failure_with_metadata;
 use bytes::Bytes;
 use invocation_vm::{CoreVM, NonEmptyValue, PayloadOptions, VM, VMResult};
 use std::alloc::{AllocError, Global};
@@ -13,6 +14,8 @@ pub enum Change {
     ClearAll,
     /// Completes the awakeable "sign_1" with "x".
     Awakeable,
+    /// Completes it with a failure that has metadata.
+    AwakeableMetadata,
     /// Sends the signal "s" with "v" to "inv1".
     Signal,
     /// Cancels "inv1".
@@ -48,6 +51,16 @@ fn awakeable(alloc: Global, vm: &mut CoreVM) -> VMResult<()> {
     vm.sys_complete_awakeable(id, value(b"x"), PayloadOptions::default())
 }
 
+fn awakeable_metadata(alloc: Global, vm: &mut CoreVM) -> VMResult<()> {
+    let id = text(alloc, "sign_1")?;
+    let failure = failure_with_metadata(alloc)?;
+    vm.sys_complete_awakeable(
+        id,
+        NonEmptyValue::Failure(failure),
+        PayloadOptions::default(),
+    )
+}
+
 fn signal(alloc: Global, vm: &mut CoreVM) -> VMResult<()> {
     let target = text(alloc, "inv1")?;
     let name = text(alloc, "s")?;
@@ -66,6 +79,7 @@ pub fn make(alloc: Global, vm: &mut CoreVM, change: Change) -> VMResult<()> {
         Change::Clear => clear(alloc, vm),
         Change::ClearAll => vm.sys_state_clear_all(None),
         Change::Awakeable => awakeable(alloc, vm),
+        Change::AwakeableMetadata => awakeable_metadata(alloc, vm),
         Change::Signal => signal(alloc, vm),
         Change::Cancel => cancel(alloc, vm),
     }

@@ -61,6 +61,40 @@ pub const START_3: &[u8] = b"\0\x01\0\0\0\0\0\0\0\x42\
     \0\
     \0";
 
+/// As `START_1`, of an invocation whose id has the bytes of "ab".
+pub const START_AB: &[u8] = b"\0\x01\0\0\0\0\0\0\0\x41\
+    \0\0\0\0\0\0\0\x02ab\
+    \0\0\0\0\0\0\0\x03abc\
+    \0\0\0\0\0\0\0\0\
+    \0\0\0\x01\
+    \0\0\0\0\0\0\0\0\
+    \x01\
+    \0\0\0\0\
+    \0\0\0\0\0\0\0\0\
+    \0\0\0\0\0\0\0\0\
+    \0\
+    \0\
+    \0";
+
+/// As `START_1`, of an invocation whose id has the bytes FB and FF.
+pub const START_FB_FF: &[u8] = b"\0\x01\0\0\0\0\0\0\0\x41\
+    \0\0\0\0\0\0\0\x02\xfb\xff\
+    \0\0\0\0\0\0\0\x03abc\
+    \0\0\0\0\0\0\0\0\
+    \0\0\0\x01\
+    \0\0\0\0\0\0\0\0\
+    \x01\
+    \0\0\0\0\
+    \0\0\0\0\0\0\0\0\
+    \0\0\0\0\0\0\0\0\
+    \0\
+    \0\
+    \0";
+
+/// A Start whose body is the byte 7.
+pub const NO_START: &[u8] = b"\0\x01\0\0\0\0\0\0\0\x01\
+    \x07";
+
 /// As `START_1`, with a state key that is no text.
 pub const START_WITH_A_BAD_KEY: &[u8] = b"\0\x01\0\0\0\0\0\0\0\x54\
     \0\0\0\0\0\0\0\x03abc\
@@ -128,6 +162,16 @@ pub const FAILURE_1: &[u8] = b"\0\x1e\0\0\0\0\0\0\0\x1c\
 pub const KEYS_1: &[u8] = b"\0\x1e\0\0\0\0\0\0\0\x17\
     \0\0\0\0\x01\
     \x03\0\0\0\0\0\0\0\x01\0\0\0\0\0\0\0\x01\xff";
+
+/// The signal 17 comes, with nothing.
+pub const SIGNAL_17: &[u8] = b"\0\x1e\0\0\0\0\0\0\0\x06\
+    \x01\0\0\0\x11\
+    \0";
+
+/// The signal 18 comes, with "x".
+pub const SIGNAL_18: &[u8] = b"\0\x1e\0\0\0\0\0\0\0\x0f\
+    \x01\0\0\0\x12\
+    \x01\0\0\0\0\0\0\0\x01x";
 
 /// A notification whose body is the byte 7.
 pub const NO_NOTIFICATION: &[u8] = b"\0\x1e\0\0\0\0\0\0\0\x01\
@@ -216,6 +260,17 @@ pub const ERROR_STATE: &[u8] = b"\0\x03\0\0\0\0\0\0\0\x2d\
     \0\
     \0\
     \0\
+    \0";
+
+/// The error `UnexpectedStateError`, of a first command that clears a state key under the name "n".
+pub const ERROR_STATE_CLEAR: &[u8] = b"\0\x03\0\0\0\0\0\0\0\x3e\
+    \0\0\x02\x3b\
+    \0\0\0\0\0\0\0\x14UnexpectedStateError\
+    \0\0\0\0\0\0\0\0\
+    \0\
+    \x01\0\0\0\0\
+    \x01\0\0\0\x10\
+    \x01\0\0\0\0\0\0\0\x01n\
     \0";
 
 /// The error `BadEagerStateKeyError`, of no command.

@@ -1,8 +1,11 @@
 //! The test bench: rows of bytes, written out by hand, that the crates below are held against.
 #![tactic(auto)]
 
+pub mod asker;
 #[cfg(test)]
 mod attempts;
+#[cfg(test)]
+mod awakeables;
 #[cfg(test)]
 mod bench;
 #[cfg(test)]
@@ -18,5 +21,7 @@ pub mod napper;
 mod parts;
 #[cfg(test)]
 mod refusals;
+#[cfg(test)]
+mod reports;
 #[cfg(test)]
 mod sleeps;

@@ -1,7 +1,7 @@
 // The small public types: conversions, defaults and texts.
 use bytes::Bytes;
 use invocation_vm::{
-    AwaitingOnPolicy, CANCEL_NOTIFICATION_HANDLE, EphemeralCompletionId,
+    AwaitingOnPolicy, CANCEL_NOTIFICATION_HANDLE, CommandType, EphemeralCompletionId,
     ImplicitCancellationOption, JournalMismatchRetryBehavior, JournalReplay,
     NonDeterministicChecksOption, NonEmptyValue, NotificationHandle, PayloadOptions,
     SignalDelivery, State, TerminalFailure, UnresolvedFuture, VMOptions, Value,
@@ -152,4 +152,42 @@ fn future_is_shown_by_its_number(rt: HostRuntime) -> Result<(), Fail> {
     let shown = format!(in rt.alloc(); "{copy:?}")?;
     assert_eq!(rt; shown.as_str(), "17");
     Ok(())
+}
+
+const COMMANDS: [(CommandType, &str); 19] = [
+    (CommandType::Input, "handler input"),
+    (CommandType::Output, "handler return"),
+    (CommandType::GetState, "get state"),
+    (CommandType::GetStateKeys, "get state keys"),
+    (CommandType::SetState, "set state"),
+    (CommandType::ClearState, "clear state"),
+    (CommandType::ClearAllState, "clear all state"),
+    (CommandType::GetPromise, "get promise"),
+    (CommandType::PeekPromise, "peek promise"),
+    (CommandType::CompletePromise, "complete promise"),
+    (CommandType::Sleep, "sleep"),
+    (CommandType::Call, "call"),
+    (CommandType::OneWayCall, "one way call/send"),
+    (CommandType::SendSignal, "send signal"),
+    (CommandType::Run, "run"),
+    (CommandType::AttachInvocation, "attach invocation"),
+    (CommandType::GetInvocationOutput, "get invocation output"),
+    (CommandType::CompleteAwakeable, "complete awakeable"),
+    (CommandType::CancelInvocation, "cancel invocation"),
+];
+
+#[test]
+fn commands_have_texts(rt: HostRuntime) -> Result<(), Fail> {
+    for (command, text) in COMMANDS {
+        let shown = command.to_string(rt.alloc())?;
+        assert_eq!(rt; shown.as_str(), text);
+    }
+    Ok(())
+}
+
+#[test]
+fn laws_are_called() {
+    vm_parts::context::state_changes();
+    vm_machine::laws::state_is_changed();
+    vm_machine::laws::numbers_are_in_order();
 }

@@ -1,10 +1,12 @@
 // Input that is refused or ignored, state by state; and calls that are refused.
 use crate::bench::{Act, Call, Taken, V5, V7, assert_row};
+use crate::changes::Change;
 use crate::frames::{
     COMPLETION_1, COMPLETION_9, END, ERROR_BAD_MESSAGE, ERROR_EAGER_STATE_KEY, ERROR_ENTRY_MESSAGE,
     ERROR_INPUT_CLOSED, ERROR_INPUT_MESSAGE, ERROR_KNOWN_ENTRIES, ERROR_NOT_UTF_8, ERROR_STATE,
-    ERROR_UNSUPPORTED, FAILURE_1, INPUT_TILL, KEYS_1, NO_NOTIFICATION, OUTPUT_EMPTY, SLEEP_TO_1000,
-    SLEEP_TO_2024, START_0, START_1, START_2, START_3, START_WITH_A_BAD_KEY, SUSPENSION_ON_1,
+    ERROR_STATE_CLEAR, ERROR_UNSUPPORTED, FAILURE_1, INPUT_TILL, KEYS_1, NO_NOTIFICATION, NO_START,
+    OUTPUT_EMPTY, SLEEP_TO_1000, SLEEP_TO_2024, START_0, START_1, START_2, START_3,
+    START_WITH_A_BAD_KEY, SUSPENSION_ON_1,
 };
 use invocation_vm::State;
 use std::test::Fail;
@@ -58,13 +60,21 @@ const EARLY: [&[Act]; 7] = [
 ];
 
 /// Input that is refused beside a handler that runs.
-const LATE: [&[Act]; 4] = [
+const LATE: [&[Act]; 5] = [
     &[
         Act::Feed(START_1),
         Act::Feed(INPUT_TILL),
         Act::Input,
         Act::At(State::Processing, 0),
         Act::Feed(START_1),
+        Act::Sends(&[ERROR_INPUT_MESSAGE]),
+        Act::Failed(571, "UNEXPECTED_INPUT_MESSAGE"),
+    ],
+    &[
+        Act::Feed(START_1),
+        Act::Feed(INPUT_TILL),
+        Act::Input,
+        Act::Feed(NO_START),
         Act::Sends(&[ERROR_INPUT_MESSAGE]),
         Act::Failed(571, "UNEXPECTED_INPUT_MESSAGE"),
     ],
@@ -157,6 +167,14 @@ const CALL_BEFORE_THE_ENTRIES: &[Act] = &[
     Act::Failed(571, "UnexpectedStateError"),
 ];
 
+/// A call with a command counts it before Start too.
+const CLEAR_BEFORE_START: &[Act] = &[
+    Act::Refuses(Call::Change(Change::Clear), 571, "UnexpectedStateError"),
+    Act::At(State::Closed, 0),
+    Act::Sends(&[ERROR_STATE_CLEAR]),
+    Act::Failed(571, "UnexpectedStateError"),
+];
+
 /// A completion that no command asked for counts as an entry, and waits.
 const COMPLETION_OF_NOTHING: &[Act] = &[
     Act::Feed(START_2),
@@ -216,6 +234,21 @@ const METADATA_BEFORE_V6: &[Act] = &[
     Act::Failed(573, "UnsupportedFeatureForNegotiatedVersion"),
 ];
 
+/// The completion of an awakeable is refused before it counts as a command.
+const AWAKEABLE_METADATA_BEFORE_V6: &[Act] = &[
+    Act::Feed(START_1),
+    Act::Feed(INPUT_TILL),
+    Act::Input,
+    Act::Refuses(
+        Call::Change(Change::AwakeableMetadata),
+        573,
+        "UnsupportedFeatureForNegotiatedVersion",
+    ),
+    Act::At(State::Closed, 0),
+    Act::Sends(&[ERROR_UNSUPPORTED]),
+    Act::Failed(573, "UnsupportedFeatureForNegotiatedVersion"),
+];
+
 #[test]
 fn input_before_the_handler_is_refused(rt: HostRuntime) -> Result<(), Fail> {
     for acts in EARLY {
@@ -258,6 +291,11 @@ fn call_before_the_entries_is_refused(rt: HostRuntime) -> Result<(), Fail> {
 }
 
 #[test]
+fn command_before_start_is_refused(rt: HostRuntime) -> Result<(), Fail> {
+    assert_row(&rt, rt.alloc(), V7, CLEAR_BEFORE_START)
+}
+
+#[test]
 fn completion_of_nothing_is_kept(rt: HostRuntime) -> Result<(), Fail> {
     assert_row(&rt, rt.alloc(), V7, COMPLETION_OF_NOTHING)
 }
@@ -279,5 +317,6 @@ fn failed_vm_drops_its_input(rt: HostRuntime) -> Result<(), Fail> {
 
 #[test]
 fn metadata_is_refused_before_v6(rt: HostRuntime) -> Result<(), Fail> {
-    assert_row(&rt, rt.alloc(), V5, METADATA_BEFORE_V6)
+    assert_row(&rt, rt.alloc(), V5, METADATA_BEFORE_V6)?;
+    assert_row(&rt, rt.alloc(), V5, AWAKEABLE_METADATA_BEFORE_V6)
 }

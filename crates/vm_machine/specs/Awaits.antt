@@ -4,8 +4,6 @@ use Rattle.journal_protocol.specs.declared.control.Suspension.{Suspension}
 use Rattle.journal_protocol.specs.declared.error.Error.{Error}
 use Rattle.journal_protocol.specs.declared.faults.NamedFault.TheVariants as fault
 use Rattle.journal_protocol.specs.declared.future.Future.{Future}
-use Rattle.journal_protocol.specs.declared.future.Future.TheOpen.{Future-F}
-use Rattle.journal_protocol.specs.declared.future.Future.TheViews.{roll-Future}
 use Rattle.journal_protocol.specs.declared.future.FutureKind.TheVariants.{FirstCompleted}
 use Rattle.journal_protocol.specs.declared.message.Message.TheVariants as message
 use Rattle.journal_protocol.specs.declared.notification.NotificationId.{NotificationId}
@@ -32,7 +30,7 @@ use Rattle.vm_machine.specs.Phases.{is_running, is_replaying, state_fault, shown
 -- what a suspension on one handle waits for: the first of nothing where the handle stands for no id
 abbrev pub awaited : List ℕ → List ℕ → List (List ℕ) → Future
 awaited completions signals names =
-    roll-Future (record { kind = FirstCompleted; waiting_completions = completions; waiting_signals = signals; waiting_named_signals = names; nested = [] })
+    record { kind = FirstCompleted; waiting_completions = completions; waiting_signals = signals; waiting_named_signals = names; nested = 0 } ∷ []
 
 abbrev pub future_of : Option NotificationId → Future
 future_of None = awaited [] [] []

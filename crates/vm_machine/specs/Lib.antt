@@ -2,6 +2,9 @@ pub mod Awaits
 pub mod Commands
 pub mod Inputs
 pub mod Making
+pub mod Numbers
 pub mod Outcomes
 pub mod Phases
+pub mod Reports
 pub mod Requests
+pub mod Signals

@@ -3,6 +3,7 @@ use Rattle.std.specs.Prelude.{◌≡◌, ◌⊎◌, ℕ, Bool, true, false, ◌&
 use Rattle.journal_protocol.specs.declared.error.Error.{Error}
 use Rattle.journal_protocol.specs.declared.error.ErrorBehavior.{ErrorBehavior}
 use Rattle.journal_protocol.specs.declared.error.ErrorBehavior.TheVariants.{Retry, Pause, Fail}
+use Rattle.journal_protocol.specs.declared.error.RelatedCommand.{RelatedCommand}
 use Rattle.journal_protocol.specs.declared.faults.NamedFault.{NamedFault}
 use Rattle.journal_protocol.specs.declared.message.Message.TheVariants as message
 use Rattle.journal_protocol.specs.Errors.{named_error, no_memory, error_message}
@@ -36,10 +37,13 @@ Gives o (Err fault.Memory) old new = new.output ≡ old.output
 abbrev pub refused : {A : Type 0} → NamedFault → Machine → Outcome A
 refused name v = Failed (named_error name None) v
 
+-- the last command, as an error that relates to it shows it: index 0 and Start before any
+abbrev pub last_related : Machine → RelatedCommand
+last_related v = record { index = unwrap_or v.counters.command 0; ty = v.last_command.ty; name = v.last_command.name }
+
 -- a refusal that relates to the last command
 abbrev pub about_last : NamedFault → Machine → Error
-about_last name v =
-    named_error name (Some (record { index = unwrap_or v.counters.command 0; ty = v.last_command.ty; name = v.last_command.name }))
+about_last name v = named_error name (Some (last_related v))
 
 abbrev pub mismatch_behavior : JournalMismatchRetryBehavior → ErrorBehavior
 mismatch_behavior mismatch.Pause = Pause

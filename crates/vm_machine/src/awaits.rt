@@ -31,13 +31,13 @@ fn future_of(alloc: Global, id: Option<NotificationId>) -> Result<Future, AllocE
         Some(NotificationId::SignalId(id)) => waiting_signals.push(id)?,
         Some(NotificationId::SignalName(name)) => waiting_named_signals.push(name)?,
     }
-    Ok(Future {
-        kind: FutureKind::FirstCompleted,
+    Future::waiting(
+        alloc,
+        FutureKind::FirstCompleted,
         waiting_completions,
         waiting_signals,
         waiting_named_signals,
-        nested: Items::new(alloc),
-    })
+    )
 }
 
 /// The frame of a suspension on one handle.

@@ -1,7 +1,7 @@
 //! The event of all calls that have a command: the command is written, or in replay the recorded one is popped.
 ghost use Rattle.std.specs.Prelude.{◌≡◌, ◌<◌, ◌+◌, ◌^◌, Some, IfOk, OnOk, OnErr};
 ghost use Rattle.journal_protocol.specs.Errors.{named_error};
-ghost use Rattle.vm_machine.specs.Outcomes.{Gives, about_last};
+ghost use Rattle.vm_machine.specs.Outcomes.{Gives, about_last, last_related};
 ghost use Rattle.vm_machine.specs.Commands.{entered, written, popped, replayed, carried_out, handed_out, ignores_payloads, prepared, issued, checks_are_off};
 ghost use Rattle.vm_machine.specs.Requests.{ids_of};
 
@@ -39,16 +39,22 @@ impl Machine {
         self.last_command = LastCommand { ty, name };
     }
 
+    /// The last command, as an error that relates to it shows it.
+    pub fn last_related(&self) -> Result<RelatedCommand, AllocError>
+        ensures { IfOk result (λ related. related ≡ last_related self.now) }
+    {
+        Ok(RelatedCommand {
+            index: self.counters.command.unwrap_or(0),
+            ty: self.last_command.ty,
+            name: copy_of(&self.last_command.name)?,
+        })
+    }
+
     /// An error that relates to the last command.
     pub fn about_last(&self, fault: NamedFault) -> Result<Error, AllocError>
         ensures { IfOk result (λ e. e ≡ about_last fault self.now) }
     {
-        let related = RelatedCommand {
-            index: self.counters.command.unwrap_or(0),
-            ty: self.last_command.ty,
-            name: copy_of(&self.last_command.name)?,
-        };
-        Ok(Error::named(fault, Some(related)))
+        Ok(Error::named(fault, Some(self.last_related()?)))
     }
 
     /// Pops the next recorded command, which has to be of this type.

@@ -5,12 +5,15 @@ pub mod awaits;
 pub mod commands;
 pub mod fault;
 pub mod input;
+pub mod laws;
 pub mod machine;
 pub mod phase;
 pub mod queries;
 pub mod receive;
+pub mod report;
 pub mod request;
 pub mod settle;
+pub mod signals;
 
 pub use fault::Fault;
 pub use machine::Machine;

@@ -1,4 +1,5 @@
--- The message types by which errors name commands.
+-- The message types by which errors name commands, and the texts by which people are told of them.
+use Rattle.std.specs.Prelude.{ℕ, List, codes}
 use Rattle.journal_protocol.specs.declared.types.MessageType.{MessageType}
 use Rattle.journal_protocol.specs.declared.types.MessageType.TheVariants as message
 use Rattle.vm_parts.specs.declared.command_type.CommandType.{CommandType}
@@ -26,3 +27,25 @@ message_type command.AttachInvocation = message.AttachInvocationCommand
 message_type command.GetInvocationOutput = message.GetInvocationOutputCommand
 message_type command.CompleteAwakeable = message.CompleteAwakeableCommand
 message_type command.CancelInvocation = message.SendSignalCommand
+
+-- what people are told of a command
+unfoldable pub command_text : CommandType → List ℕ
+command_text command.Input = codes "handler input"
+command_text command.Output = codes "handler return"
+command_text command.GetState = codes "get state"
+command_text command.GetStateKeys = codes "get state keys"
+command_text command.SetState = codes "set state"
+command_text command.ClearState = codes "clear state"
+command_text command.ClearAllState = codes "clear all state"
+command_text command.GetPromise = codes "get promise"
+command_text command.PeekPromise = codes "peek promise"
+command_text command.CompletePromise = codes "complete promise"
+command_text command.Sleep = codes "sleep"
+command_text command.Call = codes "call"
+command_text command.OneWayCall = codes "one way call/send"
+command_text command.SendSignal = codes "send signal"
+command_text command.Run = codes "run"
+command_text command.AttachInvocation = codes "attach invocation"
+command_text command.GetInvocationOutput = codes "get invocation output"
+command_text command.CompleteAwakeable = codes "complete awakeable"
+command_text command.CancelInvocation = codes "cancel invocation"

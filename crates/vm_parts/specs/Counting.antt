@@ -25,3 +25,10 @@ missing ids signals handles c =
     else if nat_lt (most - c.handle) handles then Some ExhaustedHandles
     else if unwrap_or c.command 0 == most then Some ExhaustedCommandIndexes
     else None
+
+-- The first kind of number of which a call without a command would need more than are left.
+abbrev pub missing_signals : ℕ → ℕ → Counters → Option NamedFault
+missing_signals signals handles c =
+    if nat_lt (most - c.signal) signals then Some ExhaustedSignalIds
+    else if nat_lt (most - c.handle) handles then Some ExhaustedHandles
+    else None

@@ -1,7 +1,8 @@
 //! What an attempt knows of itself: its counters, its last command, what Start told it, and the state.
-ghost use Rattle.std.specs.Prelude.{◌≡◌, ◌<◌, ◌+◌, ◌^◌, IfNone, OnOk, OnErr};
-ghost use Rattle.vm_parts.specs.States.{state_set, state_cleared, all_cleared};
-ghost use Rattle.vm_parts.specs.Counting.{fresh_counters, next_index, missing};
+ghost use Rattle.std.specs.Prelude.{◌≡◌, ◌≢◌, List, ℕ, ◌<◌, ◌+◌, ◌^◌, IfNone, OnOk, OnErr};
+ghost use Rattle.vm_parts.specs.declared.context.StateMap.{StateMap as State};
+ghost use Rattle.vm_parts.specs.States.{state_set, state_cleared, all_cleared, known, Is, Empty};
+ghost use Rattle.vm_parts.specs.Counting.{fresh_counters, next_index, missing, missing_signals};
 
 use bytes::Bytes;
 use journal_protocol::{MessageType, NamedFault};
@@ -90,13 +91,27 @@ impl Counters {
         ensures handles_left { IfNone result (self.now.handle + handles < 2 ^ 32) }
     {
         if u32::MAX - self.completion < ids {
-            Some(NamedFault::ExhaustedCompletionIds)
-        } else if u32::MAX - self.signal < signals {
+            return Some(NamedFault::ExhaustedCompletionIds);
+        }
+        if let Some(fault) = self.missing_signals(signals, handles) {
+            return Some(fault);
+        }
+        if self.command.unwrap_or(0) == u32::MAX {
+            return Some(NamedFault::ExhaustedCommandIndexes);
+        }
+        None
+    }
+
+    /// The first kind of number of which too few are left for a call that has no command.
+    pub fn missing_signals(&self, signals: u32, handles: u32) -> Option<NamedFault>
+        ensures found { result ≡ missing_signals signals handles self.now }
+        ensures signals_left { IfNone result (self.now.signal + signals < 2 ^ 32) }
+        ensures handles_left { IfNone result (self.now.handle + handles < 2 ^ 32) }
+    {
+        if u32::MAX - self.signal < signals {
             Some(NamedFault::ExhaustedSignalIds)
         } else if u32::MAX - self.handle < handles {
             Some(NamedFault::ExhaustedHandles)
-        } else if self.command.unwrap_or(0) == u32::MAX {
-            Some(NamedFault::ExhaustedCommandIndexes)
         } else {
             None
         }
@@ -130,3 +145,14 @@ impl StateMap {
         self.coverage = StateCoverage::Complete;
     }
 }
+
+/// What the changes of the state leave, key by key: a set gives its key its value, a clear takes it away, each leaves
+/// the other keys as they were, and a clear of all takes each key's value away.
+#[tactic(auto, using(crate::proofs::Changes::known_set, crate::proofs::Changes::known_besides_set, crate::proofs::Changes::known_cleared, crate::proofs::Changes::known_besides_cleared))]
+pub fn state_changes()
+    ensures set { (key value : List ℕ) (s : State) → known key (state_set key value s) ≡ Is value }
+    ensures besides_set { (key other value : List ℕ) (s : State) → other ≢ key → known other (state_set key value s) ≡ known other s }
+    ensures cleared { (key : List ℕ) (s : State) → known key (state_cleared key s) ≡ Empty }
+    ensures besides_cleared { (key other : List ℕ) (s : State) → other ≢ key → known other (state_cleared key s) ≡ known other s }
+    ensures all_cleared { (key : List ℕ) (s : State) → known key (all_cleared s) ≡ Empty }
+{}

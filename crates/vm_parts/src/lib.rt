@@ -14,7 +14,7 @@ pub mod types;
 pub mod values;
 
 pub use async_results::{AsyncResults, Mapping};
-pub use command_type::CommandType;
+pub use command_type::{CommandRelationship, CommandType};
 pub use context::{Counters, LastCommand, StartInfo, StateCoverage, StateMap};
 pub use ephemeral::EphemeralCommand;
 pub use options::{
@@ -25,8 +25,8 @@ pub use queue::Queue;
 pub use run_state::{KeptProposal, PendingRun, RunExecution, TrackedCall};
 pub use steps::{Answer, Step};
 pub use types::{
-    AwaitResponse, CANCEL_NOTIFICATION_HANDLE, EphemeralCompletionId, NotificationHandle, State,
-    UnresolvedFuture,
+    AwaitResponse, AwakeableHandle, CANCEL_NOTIFICATION_HANDLE, EphemeralCompletionId,
+    NotificationHandle, State, UnresolvedFuture,
 };
 pub use values::{Input, NonEmptyValue, ResponseHead, TerminalFailure, Value};
 

@@ -1,7 +1,7 @@
 //! What a handler asks for next, and what it was answered.
 
 use crate::options::PayloadOptions;
-use crate::types::{NotificationHandle, UnresolvedFuture};
+use crate::types::{AwakeableHandle, NotificationHandle, UnresolvedFuture};
 use crate::values::{Input, NonEmptyValue, Value};
 use bytes::Bytes;
 use std::time::Duration;
@@ -28,6 +28,7 @@ pub enum Step {
     StateClearAll {
         name: Option<Text>,
     },
+    Awakeable,
     CompleteAwakeable {
         id: Text,
         value: NonEmptyValue,
@@ -53,6 +54,7 @@ pub enum Step {
 pub enum Answer {
     Input(Input),
     Handle(NotificationHandle),
+    Awakeable(AwakeableHandle),
     Unit,
     Awake,
     Cancelled,

@@ -4,6 +4,7 @@ ghost use Rattle.vm_parts.specs.declared.types.State.TheVariants as state;
 
 use std::alloc::AllocError;
 use std::fmt;
+use wire::Text;
 
 /// What a call that is answered later hands out; counted from 17. Handle 1 is the cancel signal's.
 #[derive(Clone, Copy, Debug, PartialEq, Eq, PartialOrd, Ord, Hash)]
@@ -46,6 +47,13 @@ impl From<EphemeralCompletionId> for u32 {
     fn from(id: EphemeralCompletionId) -> u32 {
         id.0
     }
+}
+
+/// An awakeable: the id by which others complete it, and the handle by which the handler awaits it.
+#[derive(Clone, Debug, Drop, PartialEq, Eq)]
+pub struct AwakeableHandle {
+    pub id: Text,
+    pub handle: NotificationHandle,
 }
 
 /// What an await answers.

@@ -52,6 +52,7 @@ future_in (step.Sleep name wake_up_time now) = None
 future_in (step.StateSet key value name options) = None
 future_in (step.StateClear key name) = None
 future_in (step.StateClearAll name) = None
+future_in step.Awakeable = None
 future_in (step.CompleteAwakeable id value options) = None
 future_in (step.CompleteSignal target signal value) = None
 future_in (step.CancelInvocation target) = None

@@ -15,6 +15,7 @@ use Rattle.vm_machine.specs.declared.machine.Machine.{Machine}
 use Rattle.vm_machine.specs.Awaits.{is_completed, take_step}
 use Rattle.vm_machine.specs.Inputs.{end_step}
 use Rattle.vm_machine.specs.Outcomes.{Outcome, Done, Failed, called, Does}
+use Rattle.vm_machine.specs.Signals.{awakeable_step}
 use Rattle.invocation_vm.specs.Calls.{cancel_invocation_step, complete_awakeable_step, complete_signal_step, future_step, output_step, sleep_step, state_clear_all_step, state_clear_step, state_set_step}
 use Rattle.invocation_vm.specs.Views.{View}
 use Rattle.vm_rounds.specs.declared.progress.Reply.{Reply}
@@ -33,6 +34,10 @@ result_mapped f (Err e) = Err e
 -- a sleep: the answer is its handle
 abbrev pub slept : List ℕ → Duration → Machine → Outcome Reply
 slept name wake_up_time v = mapped (λ handle. reply.Answer (answer.Handle handle)) (called (sleep_step (as_nanos wake_up_time / 1000000) name v) v)
+
+-- an awakeable: the answer is its id and its handle
+abbrev pub awakeable_made : Machine → Outcome Reply
+awakeable_made v = mapped (λ awakeable. reply.Answer (answer.Awakeable awakeable)) (called (awakeable_step v) v)
 
 -- a call that answers nothing
 abbrev pub done : (Machine → Outcome Unit) → Machine → Outcome Reply
@@ -67,6 +72,7 @@ performed (step.Sleep name wake_up_time now) v = slept name wake_up_time v
 performed (step.StateSet key value name options) v = done (state_set_step key value (name_of name) options) v
 performed (step.StateClear key name) v = done (state_clear_step key (name_of name)) v
 performed (step.StateClearAll name) v = done (state_clear_all_step (name_of name)) v
+performed step.Awakeable v = awakeable_made v
 performed (step.CompleteAwakeable id value options) v = done (complete_awakeable_step id value options) v
 performed (step.CompleteSignal target signal value) v = done (complete_signal_step target signal value) v
 performed (step.CancelInvocation target) v = done (cancel_invocation_step target) v

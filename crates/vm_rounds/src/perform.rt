@@ -4,7 +4,7 @@ ghost use Rattle.invocation_vm.specs.Calls.{name_or_empty};
 ghost use Rattle.invocation_vm.specs.Seen.{seen};
 ghost use Rattle.vm_parts.specs.declared.steps.Answer.TheVariants as answer;
 ghost use Rattle.vm_rounds.specs.declared.progress.Reply.TheVariants as reply;
-ghost use Rattle.vm_rounds.specs.Steps.{performed, ended, awaited, await_reply, name_of, result_mapped, taken, slept, Asked};
+ghost use Rattle.vm_rounds.specs.Steps.{performed, ended, awaited, await_reply, awakeable_made, name_of, result_mapped, taken, slept, Asked};
 
 use crate::progress::Reply;
 use invocation_vm::{AwaitResponse, CoreVM, NotificationHandle, UnresolvedFuture, VM, VMResult};
@@ -23,6 +23,16 @@ fn sleep(
 {
     match vm.sys_sleep(name.into_string(), wake_up_time, now) {
         Ok(handle) => Ok(Reply::Answer(Answer::Handle(handle))),
+        Err(error) => Err(error),
+    }
+}
+
+#[tactic(auto, using(crate::proofs::Replies::replies))]
+fn awakeable(vm: &mut CoreVM) -> VMResult<Reply>
+    ensures { Asked awakeable_made result (seen vm.old) (seen vm.new) }
+{
+    match vm.sys_awakeable() {
+        Ok(awakeable) => Ok(Reply::Answer(Answer::Awakeable(awakeable))),
         Err(error) => Err(error),
     }
 }
@@ -118,6 +128,7 @@ pub fn perform(vm: &mut CoreVM, step: Step) -> VMResult<Reply>
             string_of(name),
         )),
         Step::StateClearAll { name } => unit(vm.sys_state_clear_all(string_of(name))),
+        Step::Awakeable => awakeable(vm),
         Step::CompleteAwakeable { id, value, options } => unit(vm.sys_complete_awakeable(
             id.into_string(),
             value,

@@ -13,6 +13,7 @@ use Rattle.vm_parts.specs.declared.values.NonEmptyValue.TheVariants.{Success, Fa
 abbrev pub handle_of : Option Answer → NotificationHandle
 handle_of (Some (answer.Handle handle)) = handle
 handle_of (Some (answer.Input input)) = record { 0 = 0 }
+handle_of (Some (answer.Awakeable awakeable)) = record { 0 = 0 }
 handle_of (Some answer.Unit) = record { 0 = 0 }
 handle_of (Some answer.Awake) = record { 0 = 0 }
 handle_of (Some answer.Cancelled) = record { 0 = 0 }
@@ -24,6 +25,7 @@ abbrev pub is_cancelled : Option Answer → Bool
 is_cancelled (Some answer.Cancelled) = true
 is_cancelled (Some (answer.Handle handle)) = false
 is_cancelled (Some (answer.Input input)) = false
+is_cancelled (Some (answer.Awakeable awakeable)) = false
 is_cancelled (Some answer.Unit) = false
 is_cancelled (Some answer.Awake) = false
 is_cancelled (Some (answer.Taken value)) = false

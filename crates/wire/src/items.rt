@@ -74,6 +74,11 @@ impl<T> Items<T> {
         self.items.get(at)
     }
 
+    /// Where the items lie.
+    pub fn alloc(&self) -> Global {
+        *self.items.allocator()
+    }
+
     pub fn is_empty(&self) -> bool
         ensures { IsTrue result ↔ (self.now ≡ []) }
     {

@@ -1,11 +1,12 @@
 //! The commands on other invocations, signals, promises, runs and time.
-use crate::fields::Fields;
 use crate::forms::Form;
-use crate::line::Line;
+use crate::value::{PrintsValues, TakesValues};
 use journal_protocol::{
     CallCommand, CallRequest, CompleteAwakeableCommand, CompletePromiseCommand, InvocationCommand,
     OneWayCallCommand, PromiseCommand, RunCommand, SendSignalCommand, SleepCommand,
 };
+use lines::fields::Fields;
+use lines::line::Line;
 use std::alloc::AllocError;
 use wire::Fault;
 

@@ -1,10 +1,11 @@
 //! The messages that begin and end an attempt, and what it tells of itself.
-use crate::fields::Fields;
 use crate::forms::Form;
-use crate::line::Line;
+use crate::value::{PrintsValues, TakesValues};
 use journal_protocol::{
     AwaitingOn, ErrorMessage, ProposeRunCompletion, ProposeRunCompletionAck, Start, Suspension,
 };
+use lines::fields::Fields;
+use lines::line::Line;
 use std::alloc::AllocError;
 use wire::Fault;
 

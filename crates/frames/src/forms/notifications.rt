@@ -1,8 +1,9 @@
 //! What comes in for an attempt, and the read whose result the journal doesn't keep.
-use crate::fields::Fields;
 use crate::forms::Form;
-use crate::line::Line;
+use crate::value::{PrintsValues, TakesValues};
 use journal_protocol::{GetStateEphemeralCommand, GetStateEphemeralNotification, Notification};
+use lines::fields::Fields;
+use lines::line::Line;
 use std::alloc::AllocError;
 use wire::Fault;
 

@@ -1,8 +1,9 @@
 //! What stands in a choice's brackets.
-use crate::fields::Fields;
 use crate::forms::Form;
-use crate::line::Line;
+use crate::value::{PrintsValues, TakesValues};
 use journal_protocol::{Failure, IdempotencyId, WorkflowId};
+use lines::fields::Fields;
+use lines::line::Line;
 use std::alloc::AllocError;
 use wire::Fault;
 

@@ -1,11 +1,12 @@
 //! The commands on a handler's input, state and output.
-use crate::fields::Fields;
 use crate::forms::Form;
-use crate::line::Line;
+use crate::value::{PrintsValues, TakesValues};
 use journal_protocol::{
     ClearAllStateCommand, ClearStateCommand, GetEagerStateCommand, GetEagerStateKeysCommand,
     GetLazyStateCommand, GetLazyStateKeysCommand, InputCommand, OutputCommand, SetStateCommand,
 };
+use lines::fields::Fields;
+use lines::line::Line;
 use std::alloc::AllocError;
 use wire::Fault;
 

@@ -1,0 +1,110 @@
+//! Numbers and bytes as they are written on a line.
+ghost use Rattle.std.specs.Prelude.{◌≡◌, ◌<◌, length, Some, None, IfSome, IfOk, MatchOption};
+ghost use Rattle.std.specs.Str.Parse.{digits_value};
+ghost use Rattle.lines.specs.Atoms.{IsNumber, IsAtom, Spells, escaped, first_char, first_hex, hex_byte};
+
+use std::alloc::Global;
+use wire::Fault;
+
+/// The number of decimal digits.
+pub fn number_of(text: &[u8]) -> Option<u64>
+    ensures digits { IfSome result (λ _. IsNumber text.now) }
+    ensures value { IfSome result (λ number. number ≡ digits_value 10 text.now) }
+{
+    match text {
+        [b'0'..=b'9', ..] => std::str::from_utf8(text).ok()?.parse().ok(),
+        _ => None,
+    }
+}
+
+/// The byte of two hex digits.
+#[tactic(auto, unfolding(crate::specs::Atoms::hex_byte))]
+fn hex_byte(high: u8, low: u8) -> Option<u8>
+    ensures { result ≡ hex_byte high low }
+{
+    let high = char::from(high).to_digit(16)?;
+    let low = char::from(low).to_digit(16)?;
+    Some((high * 16 + low) as u8)
+}
+
+/// The byte of the first two hex digits, and what follows.
+fn first_hex(text: &[u8]) -> Option<(u8, &[u8])>
+    ensures value { MatchOption result (first_hex text.now ≡ None) (λ found. first_hex text.now ≡ Some (found.0, found.1.now)) }
+    ensures shorter { IfSome result (λ found. length found.1.now < length text.now) }
+{
+    match text {
+        [high, low, rest @ ..] => Some((hex_byte(*high, *low)?, rest)),
+        _ => None,
+    }
+}
+
+/// The byte of an escape behind its backslash, and what follows.
+#[tactic(auto, unfolding(crate::specs::Atoms::escaped))]
+fn escape_of(text: &[u8]) -> Option<(u8, &[u8])>
+    ensures value { MatchOption result (escaped text.now ≡ None) (λ found. escaped text.now ≡ Some (found.0, found.1.now)) }
+    ensures shorter { IfSome result (λ found. length found.1.now < length text.now) }
+{
+    match text {
+        [b'"', rest @ ..] => Some((b'"', rest)),
+        [b'\\', rest @ ..] => Some((b'\\', rest)),
+        [b'x', digits @ ..] => first_hex(digits),
+        _ => None,
+    }
+}
+
+/// The byte of the first character between quotes, or of the first escape, and what follows.
+#[tactic(auto, unfolding(crate::specs::Atoms::first_char))]
+fn first_byte(text: &[u8]) -> Option<(u8, &[u8])>
+    ensures value { MatchOption result (first_char text.now ≡ None) (λ found. first_char text.now ≡ Some (found.0, found.1.now)) }
+    ensures shorter { IfSome result (λ found. length found.1.now < length text.now) }
+{
+    match text {
+        [] => None,
+        [b'"', ..] => None,
+        [b'\\', rest @ ..] => escape_of(rest),
+        [byte, rest @ ..] => Some((*byte, rest)),
+    }
+}
+
+/// The bytes of hex digits, two a byte.
+fn bytes_of_hex(alloc: Global, digits: &[u8]) -> Result<Vec<u8>, Fault>
+    ensures { IfOk result (λ bytes. Spells first_hex digits.now bytes.items) }
+{
+    let mut bytes = Vec::new(alloc);
+    let mut rest = digits;
+    while !rest.is_empty() {
+        let Some((byte, behind)) = first_hex(rest) else {
+            return Err(Fault::Malformed);
+        };
+        bytes.push(byte)?;
+        rest = behind;
+    }
+    Ok(bytes)
+}
+
+/// The bytes that stand between quotes.
+fn bytes_of_quoted(alloc: Global, text: &[u8]) -> Result<Vec<u8>, Fault>
+    ensures { IfOk result (λ bytes. Spells first_char text.now bytes.items) }
+{
+    let mut bytes = Vec::new(alloc);
+    let mut rest = text;
+    while !rest.is_empty() {
+        let Some((byte, behind)) = first_byte(rest) else {
+            return Err(Fault::Malformed);
+        };
+        bytes.push(byte)?;
+        rest = behind;
+    }
+    Ok(bytes)
+}
+
+/// The bytes of an atom: in quotes, or as hex digits.
+pub fn bytes_of(alloc: Global, text: &[u8]) -> Result<Vec<u8>, Fault>
+    ensures { IfOk result (λ bytes. IsAtom text.now bytes.items) }
+{
+    match text {
+        [b'0', b'x', digits @ ..] => bytes_of_hex(alloc, digits),
+        [b'"', inside @ .., b'"'] => bytes_of_quoted(alloc, inside),
+        _ => Err(Fault::Malformed),
+    }
+}

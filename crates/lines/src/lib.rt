@@ -1,0 +1,8 @@
+//! Lines that people read and write: words, numbers and byte strings on them, and fields with their names.
+#![tactic(auto)]
+
+pub mod atoms;
+pub mod fields;
+pub mod law;
+pub mod line;
+pub mod pieces;

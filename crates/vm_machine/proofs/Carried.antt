@@ -1,0 +1,164 @@
+-- What calls that are carried out leave of the state and of the counters, in replay as in Processing.
+use Rattle.std.proofs.Common.{◌≡◌, ℕ, ◌+◌, Bool, true, false, List, [], ◌∷◌, Option, Some, None, refl, sym, ap, subst, ◌∙◌, arith}
+use Rattle.std.specs.Prelude.{if◌then◌else◌, ◌==◌}
+use Rattle.journal_protocol.specs.declared.error.Error.{Error}
+use Rattle.journal_protocol.specs.declared.faults.NamedFault.{NamedFault}
+use Rattle.journal_protocol.specs.declared.faults.NamedFault.TheVariants as fault
+use Rattle.journal_protocol.specs.declared.message.Message.{Message}
+use Rattle.journal_protocol.specs.declared.message.RawMessage.{RawMessage}
+use Rattle.journal_protocol.specs.declared.types.MessageType.{MessageType}
+use Rattle.journal_protocol.specs.HeaderEqual.{header_equal}
+use Rattle.journal_protocol.specs.Message.{type_of}
+use Rattle.journal_protocol.specs.Reading.{message_in}
+use Rattle.journal_protocol.specs.Types.{type_number}
+use Rattle.vm_parts.specs.declared.options.PayloadOptions.{PayloadOptions}
+use Rattle.vm_parts.specs.declared.types.AwakeableHandle.{AwakeableHandle}
+use Rattle.vm_parts.specs.declared.types.NotificationHandle.{NotificationHandle}
+use Rattle.vm_parts.specs.CommandTypes.{message_type}
+use Rattle.vm_parts.specs.Counting.{missing, missing_signals}
+use Rattle.vm_parts.specs.States.{state_set, state_cleared, all_cleared}
+use Rattle.vm_machine.specs.declared.machine.Machine.{Machine}
+use Rattle.vm_machine.specs.declared.request.Request.{Request}
+use Rattle.vm_machine.specs.declared.request.Request.TheVariants.{Sleep, Output, SetState, ClearState, ClearAllState, CompleteAwakeable, CompleteSignal, CancelInvocation}
+use Rattle.vm_machine.specs.Commands.{entered, written, ignores_payloads, phase_after, popped, popped_from, compared, replayed, carried_out, prepared, counted, issued}
+use Rattle.vm_machine.specs.Outcomes.{Outcome, Done, Failed, ◌>>=◌, about_last}
+use Rattle.vm_machine.specs.Phases.{is_running, is_processing}
+use Rattle.vm_machine.specs.Requests.{command_of, name_of, ids_of, message_of}
+use Rattle.vm_machine.specs.Signals.{awakeable_step, awakeable_counted}
+use Rattle.vm_machine.specs.Numbers.{Counted}
+
+-- the same state and the same counters
+abbrev Keeps : Machine → Machine → Type 0
+Keeps v w = (w.state ≡ v.state) × (w.counters ≡ v.counters)
+
+-- an event that answers nothing is done
+abbrev IsDone : Outcome Unit → Machine → Type 0
+IsDone o w = o ≡ Done tt w
+
+same_machine : {A : Type 0} (a b : A) (v w : Machine) → Done a v ≡ Done b w → v ≡ w
+same_machine a b v w h = cc
+
+same_answer : {A : Type 0} (a b : A) (v w : Machine) → Done a v ≡ Done b w → b ≡ a
+same_answer a b v w h = cc
+
+no_answer : {A : Type 0} (e : Error) (a : A) (v w : Machine) → Failed e v ≡ Done a w → ⊥
+no_answer e a v w h = cc
+
+keeps_same : (v u w : Machine) → u ≡ w → Keeps v u → Keeps v w
+keeps_same v u w h k = subst (Keeps v) h k
+
+compared_at : (m : Message) (ignore b : Bool) (v w : Machine)
+    → IsDone (if b then Done tt v else Failed (about_last fault.CommandMismatch v) v) w → Keeps v w
+compared_at m ignore true v w h = keeps_same v v w (same_machine (tt {0}) tt v w h) (refl, refl)
+compared_at m ignore false v w h = absurd (no_answer _ (tt {0}) v w h)
+
+compared_keeps : (m : Message) (ignore : Bool) (recorded : Option Message) (v w : Machine) → IsDone (compared m ignore recorded v) w → Keeps v w
+compared_keeps m ignore None v w h = absurd (no_answer _ (tt {0}) v w h)
+compared_keeps m ignore (Some recorded) v w h = compared_at m ignore (header_equal recorded m ignore) v w h
+
+typed_at : (m : Message) (ignore b : Bool) (raw : RawMessage) (v w : Machine)
+    → IsDone ((if b then Done raw v else Failed (about_last fault.CommandTypeMismatch v) v) >>= λ r u. compared m ignore (message_in r.ty r.body) u) w → Keeps v w
+typed_at m ignore true raw v w h = compared_keeps m ignore (message_in raw.ty raw.body) v w h
+typed_at m ignore false raw v w h = absurd (no_answer _ (tt {0}) v w h)
+
+popped_keeps : (m : Message) (ignore : Bool) (raws : List RawMessage) (v w : Machine)
+    → IsDone (popped_from raws (type_of m) v >>= λ raw u. compared m ignore (message_in raw.ty raw.body) u) w → Keeps v w
+popped_keeps m ignore [] v w h = absurd (no_answer _ (tt {0}) v w h)
+popped_keeps m ignore (raw ∷ rest) v w h =
+    typed_at m ignore (type_number raw.ty == type_number (type_of m)) raw (record v { commands = rest; phase = phase_after rest }) w h
+
+carried_at : (m : Message) (ignore b : Bool) (v w : Machine) → IsDone (if b then Done tt (written m v) else replayed m ignore v) w → Keeps v w
+unfolding replayed popped
+carried_at m ignore true v w h = keeps_same v (written m v) w (same_machine (tt {0}) tt _ w h) (refl, refl)
+carried_at m ignore false v w h = popped_keeps m ignore v.commands v w h
+
+carried_keeps : (m : Message) (ignore : Bool) (v w : Machine) → IsDone (carried_out m ignore v) w → Keeps v w
+unfolding carried_out
+carried_keeps m ignore v w h = carried_at m ignore (is_processing v.phase) v w h
+
+-- a call's answer is the handle that comes next
+answered : (o : Outcome Unit) (given handle : NotificationHandle) (w : Machine) → (o >>= λ _ u. Done given u) ≡ Done handle w → IsDone o w × (handle ≡ given)
+answered (Done t u) given handle w h = (ap (λ x. Done tt x) (same_machine given handle u w h), same_answer given handle u w h)
+answered (Failed e u) given handle w h = absurd (no_answer e handle u w h)
+
+-- what a call changes of the state and the counters, besides its command's index
+prepared_state : (r : Request) (ty : MessageType) (name : List ℕ) (v : Machine) → (prepared r (entered ty name v)).state ≡ (prepared r v).state
+prepared_state (Sleep wake_up_time x) ty name v = refl
+prepared_state (Output value options) ty name v = refl
+prepared_state (SetState key value x options) ty name v = refl
+prepared_state (ClearState key x) ty name v = refl
+prepared_state (ClearAllState x) ty name v = refl
+prepared_state (CompleteAwakeable id value options) ty name v = refl
+prepared_state (CompleteSignal target signal value) ty name v = refl
+prepared_state (CancelInvocation target) ty name v = refl
+
+prepared_counts : (r : Request) (ty : MessageType) (name : List ℕ) (v : Machine) → Counted (ids_of r) 0 (ids_of r) v.counters (prepared r (entered ty name v)).counters
+prepared_counts (Sleep wake_up_time x) ty name v = record { completions = refl; signals = omega arith; handles = refl }
+prepared_counts (Output value options) ty name v = record { completions = omega arith; signals = omega arith; handles = omega arith }
+prepared_counts (SetState key value x options) ty name v = record { completions = omega arith; signals = omega arith; handles = omega arith }
+prepared_counts (ClearState key x) ty name v = record { completions = omega arith; signals = omega arith; handles = omega arith }
+prepared_counts (ClearAllState x) ty name v = record { completions = omega arith; signals = omega arith; handles = omega arith }
+prepared_counts (CompleteAwakeable id value options) ty name v = record { completions = omega arith; signals = omega arith; handles = omega arith }
+prepared_counts (CompleteSignal target signal value) ty name v = record { completions = omega arith; signals = omega arith; handles = omega arith }
+prepared_counts (CancelInvocation target) ty name v = record { completions = omega arith; signals = omega arith; handles = omega arith }
+
+-- what a call leaves
+abbrev Leaves : Request → NotificationHandle → Machine → Machine → Type 0
+Leaves r handle v w = (w.state ≡ (prepared r v).state) × Counted (ids_of r) 0 (ids_of r) v.counters w.counters × (handle.0 ≡ v.counters.handle)
+
+counted_leaves : (o : Option NamedFault) (r : Request) (handle : NotificationHandle) (v w : Machine) → counted o r v ≡ Done handle w → Leaves r handle v w
+counted_leaves (Some name) r handle v w h = absurd (no_answer _ handle v w h)
+counted_leaves None r handle v w h =
+    let ty = message_type (command_of r) in
+    let a = answered (carried_out (message_of r v.counters.completion) (ignores_payloads v r) (prepared r (entered ty (name_of r) v))) (record { 0 = v.counters.handle }) handle w h in
+    let k = carried_keeps (message_of r v.counters.completion) (ignores_payloads v r) (prepared r (entered ty (name_of r) v)) w a.0 in (
+      k.0 ∙ prepared_state r ty (name_of r) v,
+      subst (λ c. Counted (ids_of r) 0 (ids_of r) v.counters c) (sym k.1) (prepared_counts r ty (name_of r) v),
+      ap (λ x. x.0) a.1,
+    )
+
+issued_at : (b : Bool) (r : Request) (handle : NotificationHandle) (v w u : Machine) (e : Error)
+    → (if b then counted (missing (ids_of r) 0 (ids_of r) v.counters) r v else Failed e u) ≡ Done handle w → Leaves r handle v w
+issued_at true r handle v w u e h = counted_leaves (missing (ids_of r) 0 (ids_of r) v.counters) r handle v w h
+issued_at false r handle v w u e h = absurd (no_answer e handle u w h)
+
+issued_leaves : (r : Request) (handle : NotificationHandle) (v w : Machine) → issued r v ≡ Done handle w → Leaves r handle v w
+unfolding issued
+issued_leaves r handle v w h = issued_at (is_running v.phase) r handle v w _ _ h
+
+pub set_leaves : (key value name : List ℕ) (options : PayloadOptions) (handle : NotificationHandle) (v w : Machine)
+    → issued (SetState key value name options) v ≡ Done handle w → w.state ≡ state_set key value v.state
+set_leaves key value name options handle v w h = (issued_leaves (SetState key value name options) handle v w h).0
+
+pub cleared_leaves : (key name : List ℕ) (handle : NotificationHandle) (v w : Machine) → issued (ClearState key name) v ≡ Done handle w → w.state ≡ state_cleared key v.state
+cleared_leaves key name handle v w h = (issued_leaves (ClearState key name) handle v w h).0
+
+pub all_cleared_leaves : (name : List ℕ) (handle : NotificationHandle) (v w : Machine) → issued (ClearAllState name) v ≡ Done handle w → w.state ≡ all_cleared v.state
+all_cleared_leaves name handle v w h = (issued_leaves (ClearAllState name) handle v w h).0
+
+pub issued_counts : (r : Request) (handle : NotificationHandle) (v w : Machine) → issued r v ≡ Done handle w → Counted (ids_of r) 0 (ids_of r) v.counters w.counters
+issued_counts r handle v w h = (issued_leaves r handle v w h).1
+
+pub issued_handle : (r : Request) (handle : NotificationHandle) (v w : Machine) → issued r v ≡ Done handle w → handle.0 ≡ v.counters.handle
+issued_handle r handle v w h = (issued_leaves r handle v w h).2
+
+-- ---- awakeables
+
+abbrev pub Makes : AwakeableHandle → Machine → Machine → Type 0
+Makes a v w = Counted 0 1 1 v.counters w.counters × (a.handle.0 ≡ v.counters.handle)
+
+awakeable_counts : (o : Option NamedFault) (a : AwakeableHandle) (v w : Machine) → awakeable_counted o v ≡ Done a w → Makes a v w
+awakeable_counts (Some name) a v w h = absurd (no_answer _ a v w h)
+awakeable_counts None a v w h = (
+  subst (λ u. Counted 0 1 1 v.counters u.counters) (same_machine _ a _ w h) (record { completions = omega arith; signals = refl; handles = refl }),
+  ap (λ x. x.handle.0) (same_answer _ a _ w h),
+)
+
+awakeable_at : (b : Bool) (a : AwakeableHandle) (v w u : Machine) (e : Error)
+    → (if b then awakeable_counted (missing_signals 1 1 v.counters) v else Failed e u) ≡ Done a w → Makes a v w
+awakeable_at true a v w u e h = awakeable_counts (missing_signals 1 1 v.counters) a v w h
+awakeable_at false a v w u e h = absurd (no_answer e a u w h)
+
+pub awakeable_makes : (a : AwakeableHandle) (v w : Machine) → awakeable_step v ≡ Done a w → Makes a v w
+unfolding awakeable_step
+awakeable_makes a v w h = awakeable_at (is_running v.phase) a v w _ _ h

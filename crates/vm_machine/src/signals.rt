@@ -1,0 +1,53 @@
+//! Awakeables: signals of the invocation's own, which others complete by an id.
+ghost use Rattle.std.specs.Prelude.{◌≡◌, IfOk};
+ghost use Rattle.vm_machine.specs.Outcomes.{Gives};
+ghost use Rattle.vm_machine.specs.Signals.{awakeable_id, awakeable_step};
+
+use crate::fault::Fault;
+use crate::machine::Machine;
+use crate::receive::refuse;
+use base64::engine::general_purpose::URL_SAFE_NO_PAD;
+use bytes::Bytes;
+use journal_protocol::NotificationId;
+use std::alloc::{AllocError, Global};
+use vm_parts::{AwakeableHandle, NotificationHandle};
+use wire::Text;
+
+/// The id by which others complete the awakeable of a signal.
+#[tactic(auto, unfolding(crate::specs::Signals::awakeable_id))]
+fn awakeable_id(alloc: Global, invocation: &Bytes, signal: u32) -> Result<Text, AllocError>
+    ensures { IfOk result (λ id. id ≡ awakeable_id invocation.now signal) }
+{
+    let mut named = Vec::new(alloc);
+    named.extend_from_slice(invocation.as_slice())?;
+    named.extend_from_slice(&signal.to_be_bytes())?;
+    let mut id = String::from_str(alloc, "sign_1")?;
+    URL_SAFE_NO_PAD.encode_string(named.as_slice(), &mut id)?;
+    Ok(Text::from_string(id))
+}
+
+impl Machine {
+    /// Makes an awakeable: the next handle is given the next signal id.
+    #[tactic(auto, unfolding(crate::specs::Signals::awakeable_step))]
+    pub fn awakeable(&mut self) -> Result<AwakeableHandle, Fault>
+        ensures { Gives (awakeable_step self.old) result self.old self.new }
+    {
+        if !self.phase.is_running() {
+            return Err(refuse(self.phase.fault()));
+        }
+        if let Some(fault) = self.counters.missing_signals(1, 1) {
+            return Err(refuse(fault));
+        }
+        let signal = self.counters.signal;
+        let handle = self.counters.handle;
+        let id = awakeable_id(self.alloc, &self.start.id, signal)?;
+        self.results
+            .map_handle(handle, NotificationId::SignalId(signal))?;
+        self.counters.signal += 1;
+        self.counters.handle += 1;
+        Ok(AwakeableHandle {
+            id,
+            handle: NotificationHandle(handle),
+        })
+    }
+}

@@ -1,0 +1,67 @@
+//! The atoms of a script: texts, byte strings, numbers and durations.
+use bytes::Bytes;
+use invocation_vm::NotificationHandle;
+use lines::atoms::{bytes_of, number_of};
+use std::alloc::Global;
+use std::time::Duration;
+use wire::{Fault, Text};
+
+/// The bytes of an atom, shared.
+pub fn shared_of(alloc: Global, text: &[u8]) -> Result<Bytes, Fault> {
+    Ok(Bytes::from_vec(bytes_of(alloc, text)?)?)
+}
+
+/// The text of an atom.
+pub fn string_of(alloc: Global, text: &[u8]) -> Result<String, Fault> {
+    match String::from_utf8(bytes_of(alloc, text)?) {
+        Ok(text) => Ok(text),
+        Err(_) => Err(Fault::Malformed),
+    }
+}
+
+/// The text of an atom, as a value.
+pub fn text_of(alloc: Global, text: &[u8]) -> Result<Text, Fault> {
+    Ok(Text::from_string(string_of(alloc, text)?))
+}
+
+/// The number of decimal digits, where it fits sixteen bits.
+pub fn u16_of(text: &[u8]) -> Result<u16, Fault> {
+    let number = number_of(text).ok_or(Fault::Malformed)?;
+    u16::try_from(number).map_err(|_| Fault::Malformed)
+}
+
+/// The handle of this number.
+pub fn handle_of(text: &[u8]) -> Result<NotificationHandle, Fault> {
+    let number = number_of(text).ok_or(Fault::Malformed)?;
+    let number = u32::try_from(number).map_err(|_| Fault::Malformed)?;
+    Ok(NotificationHandle(number))
+}
+
+/// The number of decimal digits, which may be longer than a `u64`.
+fn long_number_of(digits: &[u8]) -> Option<u128> {
+    match digits {
+        [b'0'..=b'9', ..] => std::str::from_utf8(digits).ok()?.parse().ok(),
+        _ => None,
+    }
+}
+
+/// A duration of whole nanoseconds.
+fn nanoseconds(number: u128) -> Option<Duration> {
+    let seconds = u64::try_from(number / 1_000_000_000).ok()?;
+    Some(Duration::new(seconds, (number % 1_000_000_000) as u32))
+}
+
+/// A duration of whole milliseconds.
+fn milliseconds(number: u128) -> Option<Duration> {
+    let seconds = u64::try_from(number / 1000).ok()?;
+    Some(Duration::new(seconds, (number % 1000) as u32 * 1_000_000))
+}
+
+/// A number of milliseconds, or of nanoseconds with `ns` right behind.
+pub fn duration_of(text: &[u8]) -> Result<Duration, Fault> {
+    let duration = match text {
+        [digits @ .., b'n', b's'] => long_number_of(digits).and_then(nanoseconds),
+        digits => long_number_of(digits).and_then(milliseconds),
+    };
+    duration.ok_or(Fault::Malformed)
+}

@@ -1,0 +1,42 @@
+//! `vmscript`: drives one VM from a script on standard input, and prints an answer for each of its lines.
+#![tactic(auto)]
+
+pub mod answer;
+pub mod atoms;
+pub mod content_type;
+pub mod exit_status;
+pub mod options;
+pub mod parse;
+pub mod perform;
+pub mod reply;
+pub mod request;
+pub mod run;
+#[cfg(test)]
+mod tests;
+
+use exit_status::ExitStatus;
+use run::run;
+use std::env::{self, Env};
+use std::io;
+use std::process::ExitCode;
+
+const USAGE: &str = "usage: vmscript < script > transcript";
+
+/// Whether there is an argument.
+fn has_argument(rt: &(impl Env + AllocGlobal)) -> io::Result<bool> {
+    let mut arguments = env::args(rt)?;
+    let _program = arguments.next();
+    Ok(arguments.next().is_some())
+}
+
+fn main(rt: HostRuntime) -> ExitCode {
+    let status = match has_argument(&rt) {
+        Ok(false) => run(rt.alloc(), &mut rt.reader(), &mut io::writer(&rt)),
+        Ok(true) => ExitStatus::Usage,
+        Err(_) => ExitStatus::Failed,
+    };
+    if status == ExitStatus::Usage {
+        let _ = rt.eprintln(USAGE);
+    }
+    ExitCode::from(status.code())
+}
