@@ -1,3 +1,4 @@
+pub mod Alone
 pub mod Numbers
 pub mod Reading
 pub mod Frames
