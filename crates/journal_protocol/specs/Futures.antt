@@ -1,5 +1,5 @@
 -- What an attempt waits for, in preorder, and its format.
-use Rattle.std.specs.Prelude.{◌≡◌, ℕ, zero, suc, ◌+◌, ◌<◌, ◌≤◌, ◌^◌, Bool, true, false, List, [], ◌∷◌, ◌++◌, length, Some, None, IsTrue, ◌↔◌, refl}
+use Rattle.std.specs.Prelude.{◌≡◌, ℕ, zero, suc, ◌+◌, ◌<◌, ◌≤◌, Bool, true, false, List, [], ◌∷◌, ◌++◌, length, Some, None, IsTrue, ◌↔◌, refl}
 use Rattle.std.specs.List.{flat_map, AllByRecursion}
 use Rattle.std.proofs.Common.{ap, sym, ◌∙◌, subst, append_assoc, arith}
 use Rattle.std.proofs.lemmas.Bool.{false≢true}
@@ -59,7 +59,7 @@ head n = fields (kind n.kind ∷ list u32s n.waiting_completions ∷ list u32s n
 abbrev pub node : FutureNode → List ℕ
 node n = head n ++ u64s n.nested
 
--- how many nest in it, and the lists, and the kind: a node's parts, the last one first
+-- a node's parts: what it waits for itself, and how many nest in it
 abbrev pub NodeParts : Type 0
 NodeParts = (FutureKind × (List ℕ × (List ℕ × List (List ℕ)))) × ℕ
 

@@ -305,7 +305,7 @@ fn waits_for_the_longest_body(rt: HostRuntime) -> Result<(), Fail> {
 }
 
 /// How deep the futures of the tests nest.
-const DEPTH: usize = 100000;
+const DEPTH: usize = 100_000;
 
 /// The bytes of a suspension on a future that nests as deep, where the deepest is of a kind: a kind and four counts
 /// each.
