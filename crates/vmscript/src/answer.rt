@@ -1,4 +1,9 @@
 //! The answer to a line, as it is printed.
+ghost use Rattle.std.specs.Prelude.{◌≡◌, ◌++◌, codes, OnOk};
+ghost use Rattle.std.specs.Fmt.{decimal};
+ghost use Rattle.lines.specs.Atoms.{quoted};
+ghost use Rattle.vmscript.specs.Performed.{Printed};
+
 use crate::reply::Reply;
 use invocation_vm::{
     AwaitResponse, Error, Input, ResponseHead, State, TerminalFailure, Value, Version,
@@ -54,7 +59,9 @@ fn state_name(state: State) -> &'static str {
     }
 }
 
-fn error(error: &Error, line: &mut Line) -> Result<(), AllocError> {
+fn error(error: &Error, line: &mut Line) -> Result<(), AllocError>
+    ensures { OnOk result (line.new ≡ line.old ++ codes "err " ++ decimal error.now.code ++ codes " " ++ quoted error.now.message) }
+{
     line.word("err ")?;
     line.number(u64::from(error.code()))?;
     line.word(" ")?;
@@ -190,7 +197,9 @@ fn print_value(reply: &Reply, line: &mut Line) -> Result<(), AllocError> {
 }
 
 /// Prints an answer.
-pub fn print(reply: &Reply, line: &mut Line) -> Result<(), AllocError> {
+pub fn print(reply: &Reply, line: &mut Line) -> Result<(), AllocError>
+    ensures { OnOk result (Printed reply.now line.old line.new) }
+{
     match reply {
         Reply::Nothing => Ok(()),
         Reply::Bad => line.word("bad"),

@@ -1,4 +1,9 @@
 //! The atoms of a script: texts, byte strings, numbers and durations.
+ghost use Rattle.std.specs.Prelude.{◌≡◌, ◌+◌, ◌*◌, IfOk, IfSome, string_bytes};
+ghost use Rattle.std.specs.Duration.{as_nanos};
+ghost use Rattle.std.specs.Str.Parse.{digits_value};
+ghost use Rattle.lines.specs.Atoms.{IsAtom};
+
 use bytes::Bytes;
 use invocation_vm::NotificationHandle;
 use lines::atoms::{bytes_of, number_of};
@@ -7,12 +12,16 @@ use std::time::Duration;
 use wire::{Fault, Text};
 
 /// The bytes of an atom, shared.
-pub fn shared_of(alloc: Global, text: &[u8]) -> Result<Bytes, Fault> {
+pub fn shared_of(alloc: Global, text: &[u8]) -> Result<Bytes, Fault>
+    ensures { IfOk result (λ bytes. IsAtom text.now bytes) }
+{
     Ok(Bytes::from_vec(bytes_of(alloc, text)?)?)
 }
 
 /// The text of an atom.
-pub fn string_of(alloc: Global, text: &[u8]) -> Result<String, Fault> {
+pub fn string_of(alloc: Global, text: &[u8]) -> Result<String, Fault>
+    ensures { IfOk result (λ string. IsAtom text.now (string_bytes string)) }
+{
     match String::from_utf8(bytes_of(alloc, text)?) {
         Ok(text) => Ok(text),
         Err(_) => Err(Fault::Malformed),
@@ -20,18 +29,24 @@ pub fn string_of(alloc: Global, text: &[u8]) -> Result<String, Fault> {
 }
 
 /// The text of an atom, as a value.
-pub fn text_of(alloc: Global, text: &[u8]) -> Result<Text, Fault> {
+pub fn text_of(alloc: Global, text: &[u8]) -> Result<Text, Fault>
+    ensures { IfOk result (λ string. IsAtom text.now string) }
+{
     Ok(Text::from_string(string_of(alloc, text)?))
 }
 
 /// The number of decimal digits, where it fits sixteen bits.
-pub fn u16_of(text: &[u8]) -> Result<u16, Fault> {
+pub fn u16_of(text: &[u8]) -> Result<u16, Fault>
+    ensures { IfOk result (λ number. number ≡ digits_value 10 text.now) }
+{
     let number = number_of(text).ok_or(Fault::Malformed)?;
     u16::try_from(number).map_err(|_| Fault::Malformed)
 }
 
 /// The handle of this number.
-pub fn handle_of(text: &[u8]) -> Result<NotificationHandle, Fault> {
+pub fn handle_of(text: &[u8]) -> Result<NotificationHandle, Fault>
+    ensures { IfOk result (λ handle. handle.0 ≡ digits_value 10 text.now) }
+{
     let number = number_of(text).ok_or(Fault::Malformed)?;
     let number = u32::try_from(number).map_err(|_| Fault::Malformed)?;
     Ok(NotificationHandle(number))

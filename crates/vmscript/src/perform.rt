@@ -1,14 +1,21 @@
 //! What a line asks for, done.
+ghost use Rattle.std.specs.Prelude.{◌≡◌, MatchResult};
+ghost use Rattle.journal_protocol.specs.Errors.{no_memory};
+ghost use Rattle.vmscript.specs.declared.reply.Reply.TheVariants as reply;
+ghost use Rattle.vmscript.specs.Performed.{Made, Performed};
+
 use crate::content_type::ContentType;
 use crate::reply::Reply;
 use crate::request::{Call, Request};
 use invocation_vm::{
     AwaitResponse, CoreVM, Error, Input, NotificationHandle, UnresolvedFuture, VM, VMOptions,
-    VMResult, Value,
+    VMResult, Value, Version,
 };
 use std::alloc::{AllocError, Global};
 
-fn done(given: VMResult<()>) -> Reply {
+fn done(given: VMResult<()>) -> Reply
+    ensures { MatchResult given (λ _. result ≡ reply.Done) (λ e. result ≡ reply.Refused e) }
+{
     match given {
         Ok(()) => Reply::Done,
         Err(error) => Reply::Refused(error),
@@ -16,42 +23,54 @@ fn done(given: VMResult<()>) -> Reply {
 }
 
 /// The answer of a call that answers nothing but want of memory.
-fn fed(given: Result<(), AllocError>) -> Reply {
+fn fed(given: Result<(), AllocError>) -> Reply
+    ensures { MatchResult given (λ _. result ≡ reply.Done) (λ _. result ≡ reply.Refused no_memory) }
+{
     match given {
         Ok(()) => Reply::Done,
         Err(error) => Reply::Refused(Error::from(error)),
     }
 }
 
-fn handle(given: VMResult<NotificationHandle>) -> Reply {
+fn handle(given: VMResult<NotificationHandle>) -> Reply
+    ensures { MatchResult given (λ value. result ≡ reply.Handle value) (λ e. result ≡ reply.Refused e) }
+{
     match given {
         Ok(handle) => Reply::Handle(handle),
         Err(error) => Reply::Refused(error),
     }
 }
 
-fn flag(given: VMResult<bool>) -> Reply {
+fn flag(given: VMResult<bool>) -> Reply
+    ensures { MatchResult given (λ value. result ≡ reply.Flag value) (λ e. result ≡ reply.Refused e) }
+{
     match given {
         Ok(flag) => Reply::Flag(flag),
         Err(error) => Reply::Refused(error),
     }
 }
 
-fn awaited(given: VMResult<AwaitResponse>) -> Reply {
+fn awaited(given: VMResult<AwaitResponse>) -> Reply
+    ensures { MatchResult given (λ value. result ≡ reply.Awaited value) (λ e. result ≡ reply.Refused e) }
+{
     match given {
         Ok(response) => Reply::Awaited(response),
         Err(error) => Reply::Refused(error),
     }
 }
 
-fn taken(given: VMResult<Option<Value>>) -> Reply {
+fn taken(given: VMResult<Option<Value>>) -> Reply
+    ensures { MatchResult given (λ value. result ≡ reply.Taken value) (λ e. result ≡ reply.Refused e) }
+{
     match given {
         Ok(value) => Reply::Taken(value),
         Err(error) => Reply::Refused(error),
     }
 }
 
-fn input(given: VMResult<Input>) -> Reply {
+fn input(given: VMResult<Input>) -> Reply
+    ensures { MatchResult given (λ value. result ≡ reply.Input value) (λ e. result ≡ reply.Refused e) }
+{
     match given {
         Ok(input) => Reply::Input(input),
         Err(error) => Reply::Refused(error),
@@ -109,11 +128,11 @@ fn perform_call(vm: &mut CoreVM, call: Call) -> Reply {
     }
 }
 
-/// The version of a VM that was just made.
-fn made(vm: &CoreVM) -> Reply {
+/// The version of a VM.
+fn version_of(vm: &CoreVM) -> Result<Version, AllocError> {
     match vm.get_response_head() {
-        Ok(head) => Reply::Made(head.version),
-        Err(error) => Reply::Refused(Error::from(error)),
+        Ok(head) => Ok(head.version),
+        Err(error) => Err(error),
     }
 }
 
@@ -123,22 +142,26 @@ fn make(
     vm: &mut Option<CoreVM>,
     content_type: ContentType,
     options: VMOptions,
-) -> Reply {
+) -> Reply
+    ensures { Made result vm.new }
+{
     *vm = None;
     match CoreVM::new(alloc, content_type, options) {
-        Ok(new) => {
-            let reply = made(&new);
-            if matches!(reply, Reply::Made(_)) {
+        Ok(new) => match version_of(&new) {
+            Ok(version) => {
                 *vm = Some(new);
+                Reply::Made(version)
             }
-            reply
-        }
+            Err(error) => Reply::Refused(Error::from(error)),
+        },
         Err(error) => Reply::Refused(error),
     }
 }
 
 /// Does what a line asks for.
-pub fn perform(alloc: Global, vm: &mut Option<CoreVM>, request: Request) -> Reply {
+pub fn perform(alloc: Global, vm: &mut Option<CoreVM>, request: Request) -> Reply
+    ensures { Performed request vm.old result vm.new }
+{
     match request {
         Request::Nothing => Reply::Nothing,
         Request::Bad => Reply::Bad,
