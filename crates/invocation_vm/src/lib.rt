@@ -4,6 +4,7 @@
 mod commands;
 mod core_vm;
 mod feed;
+mod laws;
 mod output;
 mod versions;
 mod vm;
@@ -11,6 +12,7 @@ mod vm;
 pub use core_vm::CoreVM;
 pub use feed::any_cut;
 pub use journal_protocol::{Error, ErrorBehavior, HeaderMap, Version};
+pub use laws::all_output_ends_once;
 pub use vm::VM;
 pub use vm_parts::{
     AwaitResponse, AwaitingOnPolicy, AwakeableHandle, CANCEL_NOTIFICATION_HANDLE,

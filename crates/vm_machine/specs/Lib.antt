@@ -1,5 +1,6 @@
 pub mod Awaits
 pub mod Commands
+pub mod Endings
 pub mod Inputs
 pub mod Making
 pub mod Numbers

@@ -1,0 +1,243 @@
+-- Each call leaves all that was written so that it ends once.
+use Rattle.std.proofs.Common.{◌≡◌, ℕ, Bool, true, false, List, [], ◌∷◌, ◌++◌, Option, Some, None, refl, sym, ap, subst, ◌∙◌, append_assoc, inl, inr, Global}
+use Rattle.std.specs.Prelude.{if◌then◌else◌, nat_lt, map, is_some, Result, Ok, Err}
+use Rattle.std.specs.List.{concat, flat_map}
+use Rattle.std.proofs.lemmas.List.{append-nil}
+use Rattle.std.proofs.lemmas.List.Folds.{concat-append}
+use Rattle.std.proofs.lemmas.Grind.{flat_map-append}
+use Rattle.std.specs.declared.alloc.AllocError.{AllocError}
+use Rattle.journal_protocol.specs.declared.error.Error.{Error}
+use Rattle.journal_protocol.specs.declared.faults.NamedFault.TheVariants as fault
+use Rattle.journal_protocol.specs.declared.message.Message.{Message}
+use Rattle.journal_protocol.specs.declared.message.RawMessage.{RawMessage}
+use Rattle.journal_protocol.specs.declared.version.Version.{Version}
+use Rattle.journal_protocol.specs.Errors.{no_memory}
+use Rattle.journal_protocol.specs.Message.{encoding}
+use Rattle.vm_parts.specs.declared.command_type.CommandRelationship.{CommandRelationship}
+use Rattle.vm_parts.specs.declared.options.PayloadOptions.{PayloadOptions}
+use Rattle.vm_parts.specs.declared.options.VMOptions.{VMOptions}
+use Rattle.vm_parts.specs.declared.types.AwaitResponse.{AwaitResponse}
+use Rattle.vm_parts.specs.declared.types.AwakeableHandle.{AwakeableHandle}
+use Rattle.vm_parts.specs.declared.types.NotificationHandle.{NotificationHandle}
+use Rattle.vm_parts.specs.declared.types.UnresolvedFuture.{UnresolvedFuture}
+use Rattle.vm_parts.specs.declared.types.UnresolvedFuture.TheVariants.{Single}
+use Rattle.vm_parts.specs.declared.values.Input.{Input}
+use Rattle.vm_parts.specs.declared.values.NonEmptyValue.{NonEmptyValue}
+use Rattle.vm_parts.specs.declared.values.Value.{Value}
+use Rattle.vm_parts.specs.Values.{value_message}
+use Rattle.vm_machine.specs.declared.machine.Machine.{Machine}
+use Rattle.vm_machine.specs.declared.request.Request.{Request}
+use Rattle.vm_machine.specs.declared.request.Request.TheVariants as request
+use Rattle.vm_machine.specs.Commands.{issued, unit_of}
+use Rattle.vm_machine.specs.Endings.{EndsIf, EndsOnce, EventWrites, Writes, is_over, is_terminal}
+use Rattle.vm_machine.specs.Awaits.{take_step}
+use Rattle.vm_machine.specs.Inputs.{close_step, end_step, input_step, malformed_step, message_step}
+use Rattle.vm_machine.specs.Signals.{awakeable_step}
+use Rattle.vm_machine.specs.Outcomes.{Does, IsStarved, Outcome, Done, Failed, called, flat, refused}
+use Rattle.vm_machine.specs.Reports.{report_step}
+use Rattle.vm_machine.proofs.Endings.{Event, answered, await_writes, awakeable_writes, called_writes, close_writes, end_writes, input_writes, issued_event, malformed_writes, message_writes, nothing_behind, report_writes, same, take_writes, writes_nothing}
+use Rattle.invocation_vm.specs.Calls.{cancel_invocation_step, complete_awakeable_step, complete_signal_step, future_step, handing, needs_v6, output_step, sleep_step, state_clear_all_step, state_clear_step, state_set_step}
+use Rattle.invocation_vm.specs.Endings.{EndsOnceAfter, StaysSo}
+use Rattle.invocation_vm.specs.Frames.{Tail, Rest, Garbage, frames_of}
+use Rattle.invocation_vm.specs.Making.{made}
+use Rattle.invocation_vm.specs.Views.{View, Calls, CallsFlat, Leaves, TakesOutput, after_closing, after_error, after_input, all_received, consumed, has_failed, left_by, left_over, received, spoiled}
+
+-- ---- one after another
+
+ends_after : (b : Bool) (ns : List Message) (c : Bool) → EndsOnce b ns c → EndsOnce false ns c
+ends_after false ns c e = e
+ends_after true ns c e = subst (λ xs. EndsOnce false xs c) (sym e.0) tt
+
+then_ends : (t : Bool) (ms ns : List Message) (b c : Bool) → EndsOnce b ns c → EndsIf t ms b (EndsOnce false ms b) → (EndsOnce false ms b → EndsOnce false (ms ++ ns) c) → EndsIf t (ms ++ ns) c (EndsOnce false (ms ++ ns) c)
+then_ends true ms ns b c e d more =
+    let f = subst (λ x. EndsOnce x ns c) d.1 e in
+    ((λ i. d.0 i ++ f.0 i), f.1)
+then_ends false ms ns b c e d more = more d
+
+both_end : (ms ns : List Message) (b c : Bool) → EndsOnce false ms b → EndsOnce b ns c → EndsOnce false (ms ++ ns) c
+both_end [] ns b c d e = ends_after b ns c e
+both_end (m ∷ ms) ns b c d e = then_ends (is_terminal m) ms ns b c e d (λ x. both_end ms ns b c x e)
+
+joins_at : (a : Bool) (ms ns : List Message) (b c : Bool) → EndsOnce a ms b → EndsOnce b ns c → EndsOnce a (ms ++ ns) c
+joins_at true ms ns b c d e =
+    let f = subst (λ x. EndsOnce x ns c) d.1 e in
+    ((λ i. d.0 i ++ f.0 i), f.1)
+joins_at false ms ns b c d e = both_end ms ns b c d e
+
+map_append : (ms ns : List Message) → map encoding (ms ++ ns) ≡ map encoding ms ++ map encoding ns
+map_append [] ns = refl
+map_append (m ∷ ms) ns = ap (λ t. encoding m ∷ t) (map_append ms ns)
+
+append_both : (xs ys zs : List (List ℕ)) → (xs ++ ys) ++ zs ≡ xs ++ (ys ++ zs)
+append_both [] ys zs = refl
+append_both (x ∷ xs) ys zs = ap (λ t. x ∷ t) (append_both xs ys zs)
+
+pub writes_then : (u v w : Machine) → Writes u v → Writes v w → Writes u w
+writes_then u v w a b = record {
+  messages = a.messages ++ b.messages;
+  output = b.output ∙ ap (λ t. t ++ map encoding b.messages) a.output ∙ append_both u.output (map encoding a.messages) (map encoding b.messages)
+      ∙ ap (λ t. u.output ++ t) (sym (map_append a.messages b.messages));
+  ends_once = joins_at (is_over u) a.messages b.messages (is_over v) (is_over w) a.ends_once b.ends_once;
+}
+
+-- ---- a call
+
+over_failed : (w : Machine) → is_some w.failure ≡ true → is_over w ≡ true
+over_failed w e = rw e refl
+
+starved_writes : (e : Error) (v w : Machine) → IsStarved e v w → Writes v w
+starved_writes e v w s = record {
+  messages = [];
+  output = s.output ∙ sym (append-nil v.output);
+  ends_once = subst (λ b. EndsOnce (is_over v) [] b) (sym (over_failed w s.failed)) (nothing_behind (is_over v));
+}
+
+does_writes : {A : Type 0} (o : Outcome A) (r : Result A Error) (v w : Machine) → EventWrites v o → Does o r v w → Writes v w
+does_writes o (Ok a) v w h d = subst (EventWrites v) d h
+does_writes o (Err e) v w h d = elim d as (λ _. Writes v w) [ inl x ↦ subst (EventWrites v) x h | inr x ↦ starved_writes e v w x ]
+
+left_writes : {A : Type 0} (o : Outcome A) (v : Machine) → EventWrites v o → Writes v (left_by o)
+left_writes (Done a w) v h = h
+left_writes (Failed e w) v h = h
+
+flat_writes : {A : Type 0} (o : Outcome (Result A Error)) (v : Machine) → EventWrites v o → EventWrites v (flat o)
+flat_writes (Done (Ok a) w) v h = h
+flat_writes (Done (Err e) w) v h = h
+flat_writes (Failed e w) v h = h
+
+-- ---- what is written in all
+
+bytes_of : (ms : List Message) → concat (map encoding ms) ≡ flat_map encoding ms
+bytes_of [] = refl
+bytes_of (m ∷ ms) = ap (λ t. encoding m ++ t) (bytes_of ms)
+
+pub stays : (old new : View) → Writes old.machine new.machine → StaysSo old new
+stays old new w taken e = record {
+  messages = e.messages ++ w.messages;
+  bytes = ap (λ t. taken ++ concat t) w.output ∙ ap (λ t. taken ++ t) (concat-append old.machine.output (map encoding w.messages) ∙ ap (λ t. concat old.machine.output ++ t) (bytes_of w.messages))
+      ∙ sym (append_assoc taken (concat old.machine.output) (flat_map encoding w.messages)) ∙ ap (λ t. t ++ flat_map encoding w.messages) e.bytes ∙ sym (flat_map-append encoding e.messages w.messages);
+  once = both_end e.messages w.messages (is_over old.machine) (is_over new.machine) e.once w.ends_once;
+}
+
+pub calls_stay : {A : Type 0} (step : Machine → Outcome A) (r : Result A Error) (old new : View) → EventWrites old.machine (called (step old.machine) old.machine) → Calls step r old new → StaysSo old new
+calls_stay step r old new h c = stays old new (does_writes (called (step old.machine) old.machine) r old.machine new.machine h c.0)
+
+pub leaves_stay : (after : View) (r : Result Unit AllocError) (old new : View) → Writes old.machine after.machine → Leaves after r old new → StaysSo old new
+leaves_stay after (Ok t) old new w l = stays old new (subst (λ (x : View). Writes old.machine x.machine) (sym l.ok) w)
+leaves_stay after (Err e) old new w l = stays old new (starved_writes no_memory old.machine new.machine l.err)
+
+-- ---- each call
+
+unit_event : (r : Request) (v : Machine) → v.failure ≡ None → Event v (unit_of (issued r v))
+unit_event r v live = answered v (issued r v) tt (issued_event r v live)
+
+unit_stays : (r : Request) (result : Result Unit Error) (old new : View) → Calls (λ v. unit_of (issued r v)) result old new → StaysSo old new
+unit_stays r result old new c = calls_stay (λ v. unit_of (issued r v)) result old new (called_writes old.machine (unit_of (issued r old.machine)) (unit_event r old.machine)) c
+
+handing_at : (b : Bool) (done : Outcome Unit) (v : Machine) → Event v done → Event v (if b then refused fault.UnsupportedFeatureForNegotiatedVersion v else done)
+handing_at true done v e = same v
+handing_at false done v e = e
+
+handing_stays : (value : NonEmptyValue) (r : Request) (result : Result Unit Error) (old new : View) → Calls (λ v. handing value (unit_of (issued r v)) v) result old new → StaysSo old new
+handing_stays value r result old new c =
+    calls_stay (λ v. handing value (unit_of (issued r v)) v) result old new
+    (called_writes old.machine (handing value (unit_of (issued r old.machine)) old.machine) (λ live. handing_at (needs_v6 old.machine value) (unit_of (issued r old.machine)) old.machine (unit_event r old.machine live))) c
+
+sleep_at : (b : Bool) (millis : ℕ) (name : List ℕ) (v : Machine) → v.failure ≡ None → Event v (if b then issued (request.Sleep millis name) v else refused fault.OutOfBoundsDuration v)
+sleep_at true millis name v live = issued_event (request.Sleep millis name) v live
+sleep_at false millis name v live = same v
+
+pub sleep_stays : (millis : ℕ) (name : List ℕ) (r : Result NotificationHandle Error) (old new : View) → Calls (sleep_step millis name) r old new → StaysSo old new
+sleep_stays millis name r old new c =
+    calls_stay (sleep_step millis name) r old new (called_writes old.machine (sleep_step millis name old.machine) (sleep_at (nat_lt millis 18446744073709551616) millis name old.machine)) c
+
+pub set_stays : (key value name : List ℕ) (options : PayloadOptions) (r : Result Unit Error) (old new : View) → Calls (state_set_step key value name options) r old new → StaysSo old new
+set_stays key value name options r old new c = unit_stays (request.SetState key value name options) r old new c
+
+pub clear_stays : (key name : List ℕ) (r : Result Unit Error) (old new : View) → Calls (state_clear_step key name) r old new → StaysSo old new
+clear_stays key name r old new c = unit_stays (request.ClearState key name) r old new c
+
+pub clear_all_stays : (name : List ℕ) (r : Result Unit Error) (old new : View) → Calls (state_clear_all_step name) r old new → StaysSo old new
+clear_all_stays name r old new c = unit_stays (request.ClearAllState name) r old new c
+
+pub awakeable_stays : (r : Result AwakeableHandle Error) (old new : View) → Calls awakeable_step r old new → StaysSo old new
+awakeable_stays r old new c = calls_stay awakeable_step r old new (awakeable_writes old.machine) c
+
+pub complete_awakeable_stays : (id : List ℕ) (value : NonEmptyValue) (options : PayloadOptions) (r : Result Unit Error) (old new : View) → Calls (complete_awakeable_step id value options) r old new → StaysSo old new
+complete_awakeable_stays id value options r old new c = handing_stays value (request.CompleteAwakeable id (value_message value) options) r old new c
+
+pub complete_signal_stays : (target signal : List ℕ) (value : NonEmptyValue) (r : Result Unit Error) (old new : View) → Calls (complete_signal_step target signal value) r old new → StaysSo old new
+complete_signal_stays target signal value r old new c = handing_stays value (request.CompleteSignal target signal (value_message value)) r old new c
+
+pub cancel_stays : (target : List ℕ) (r : Result Unit Error) (old new : View) → Calls (cancel_invocation_step target) r old new → StaysSo old new
+cancel_stays target r old new c = unit_stays (request.CancelInvocation target) r old new c
+
+pub output_stays : (value : NonEmptyValue) (options : PayloadOptions) (r : Result Unit Error) (old new : View) → Calls (output_step value options) r old new → StaysSo old new
+output_stays value options r old new c = handing_stays value (request.Output (value_message value) options) r old new c
+
+pub input_stays : (r : Result Input Error) (old new : View) → Calls input_step r old new → StaysSo old new
+input_stays r old new c = calls_stay input_step r old new (input_writes old.machine) c
+
+pub end_stays : (r : Result Unit Error) (old new : View) → Calls end_step r old new → StaysSo old new
+end_stays r old new c = calls_stay end_step r old new (end_writes old.machine) c
+
+pub take_stays : (handle : ℕ) (r : Result (Option Value) Error) (old new : View) → Calls (take_step handle) r old new → StaysSo old new
+take_stays handle r old new c = calls_stay (take_step handle) r old new (take_writes handle old.machine) c
+
+await_at : (future : UnresolvedFuture) (v : Machine) → EventWrites v (flat (called (future_step future v) v))
+await_at (Single handle) v = flat_writes (called (future_step (Single handle) v) v) v (await_writes handle.0 v)
+
+pub await_stays : (future : UnresolvedFuture) (r : Result AwaitResponse Error) (old new : View) → CallsFlat (future_step future) r old new → StaysSo old new
+await_stays future r old new c = stays old new (does_writes (flat (called (future_step future old.machine) old.machine)) r old.machine new.machine (await_at future old.machine) c.0)
+
+-- ---- what comes in
+
+received_writes : (raw : RawMessage) (v : Machine) → Writes v (received raw v)
+unfolding received
+received_writes raw v = left_writes (called (message_step raw v) v) v (message_writes raw v)
+
+spoiled_writes : (v : Machine) → Writes v (spoiled v)
+unfolding spoiled
+spoiled_writes v = left_writes (called (malformed_step v) v) v (malformed_writes v)
+
+all_write : (raws : List RawMessage) (v : Machine) → Writes v (all_received raws v)
+all_write [] v = writes_nothing v v (same v)
+all_write (raw ∷ raws) v = writes_then v (received raw v) (all_received raws (received raw v)) (received_writes raw v) (all_write raws (received raw v))
+
+left_over_writes : (tail : Tail) (u v : Machine) → Writes u v → Writes u (left_over tail v).machine
+left_over_writes (Rest bytes) u v w = w
+left_over_writes Garbage u v w = writes_then u v (spoiled v) w (spoiled_writes v)
+
+input_at : (b : Bool) (v : View) (bytes : List ℕ) → Writes v.machine (if b then v else consumed (frames_of (v.undecoded ++ bytes)) v.machine).machine
+input_at true v bytes = writes_nothing v.machine v.machine (same v.machine)
+input_at false v bytes =
+    let frames = frames_of (v.undecoded ++ bytes) in
+    left_over_writes frames.1 v.machine (all_received frames.0 v.machine) (all_write frames.0 v.machine)
+
+pub bytes_stay : (bytes : List ℕ) (r : Result Unit AllocError) (old new : View) → Leaves (after_input old bytes) r old new → StaysSo old new
+bytes_stay bytes r old new l = leaves_stay (after_input old bytes) r old new (input_at (has_failed old.machine) old bytes) l
+
+pub closing_stays : (r : Result Unit AllocError) (old new : View) → Leaves (after_closing old) r old new → StaysSo old new
+closing_stays r old new l = leaves_stay (after_closing old) r old new (left_writes (called (close_step old.machine) old.machine) old.machine (close_writes old.machine)) l
+
+pub error_stays : (e : Error) (relationship : Option CommandRelationship) (r : Result Unit AllocError) (old new : View) → Leaves (after_error old e relationship) r old new → StaysSo old new
+error_stays e relationship r old new l =
+    leaves_stay (after_error old e relationship) r old new (left_writes (called (report_step e relationship old.machine) old.machine) old.machine (report_writes e relationship old.machine)) l
+
+-- ---- a new VM, and what is taken
+
+pub made_ends : (alloc : Global) (options : VMOptions) (version : Version) → EndsOnceAfter [] (made alloc options version)
+made_ends alloc options version = record { messages = []; bytes = refl; once = tt }
+
+pub taken_ends : (bytes taken : List ℕ) (old new : View) → TakesOutput (Ok bytes) old new → EndsOnceAfter taken old → EndsOnceAfter (taken ++ bytes) new
+taken_ends bytes taken old new t e =
+    let emptied : View = record old { machine = record old.machine { output = [] } } in
+    let left : EndsOnceAfter (taken ++ bytes) emptied = record {
+      messages = e.messages;
+      bytes = append-nil (taken ++ bytes) ∙ ap (λ b. taken ++ b) t.bytes ∙ e.bytes;
+      once = e.once;
+    } in
+    subst (EndsOnceAfter (taken ++ bytes)) (sym t.ok) left
+
+pub untaken_stays : (e : AllocError) (old new : View) → TakesOutput (Err e) old new → StaysSo old new
+untaken_stays e old new t taken h = subst (EndsOnceAfter taken) (sym t.err) h

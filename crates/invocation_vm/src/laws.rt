@@ -1,0 +1,47 @@
+//! Laws of a VM over any list of its calls.
+ghost use Rattle.std.specs.Prelude.{ℕ, List, [], ◌++◌, Option, Result, Ok, Err};
+ghost use Rattle.std.proofs.Common.{Global};
+ghost use Rattle.std.specs.declared.alloc.AllocError.{AllocError};
+ghost use Rattle.journal_protocol.specs.declared.error.Error.{Error};
+ghost use Rattle.journal_protocol.specs.declared.version.Version.{Version};
+ghost use Rattle.vm_parts.specs.declared.command_type.CommandRelationship.{CommandRelationship};
+ghost use Rattle.vm_parts.specs.declared.options.PayloadOptions.{PayloadOptions};
+ghost use Rattle.vm_parts.specs.declared.options.VMOptions.{VMOptions};
+ghost use Rattle.vm_parts.specs.declared.types.AwaitResponse.{AwaitResponse};
+ghost use Rattle.vm_parts.specs.declared.types.AwakeableHandle.{AwakeableHandle};
+ghost use Rattle.vm_parts.specs.declared.types.NotificationHandle.{NotificationHandle};
+ghost use Rattle.vm_parts.specs.declared.types.UnresolvedFuture.{UnresolvedFuture};
+ghost use Rattle.vm_parts.specs.declared.values.Input.{Input};
+ghost use Rattle.vm_parts.specs.declared.values.NonEmptyValue.{NonEmptyValue};
+ghost use Rattle.vm_parts.specs.declared.values.Value.{Value};
+ghost use Rattle.vm_machine.specs.Awaits.{take_step};
+ghost use Rattle.vm_machine.specs.Inputs.{end_step, input_step};
+ghost use Rattle.vm_machine.specs.Signals.{awakeable_step};
+ghost use Rattle.invocation_vm.specs.Calls.{cancel_invocation_step, complete_awakeable_step, complete_signal_step, future_step, output_step, sleep_step, state_clear_all_step, state_clear_step, state_set_step};
+ghost use Rattle.invocation_vm.specs.Endings.{EndsOnceAfter, StaysSo};
+ghost use Rattle.invocation_vm.specs.Making.{made};
+ghost use Rattle.invocation_vm.specs.Views.{View, Calls, CallsFlat, Leaves, TakesOutput, after_closing, after_error, after_input};
+
+/// Over any list of calls, all output together has at most one Suspension, Error or End, and nothing behind it: that
+/// is so of a new VM, and each call of `VM`, by the clause that it ensures, leaves it so.
+pub fn all_output_ends_once()
+    ensures fresh { (alloc : Global) (options : VMOptions) (version : Version) → EndsOnceAfter [] (made alloc options version) }
+    ensures taken { (bytes taken : List ℕ) (old new : View) → TakesOutput (Ok bytes) old new → EndsOnceAfter taken old → EndsOnceAfter (taken ++ bytes) new }
+    ensures untaken { (e : AllocError) (old new : View) → TakesOutput (Err e) old new → StaysSo old new }
+    ensures bytes { (bytes : List ℕ) (r : Result Unit AllocError) (old new : View) → Leaves (after_input old bytes) r old new → StaysSo old new }
+    ensures closings { (r : Result Unit AllocError) (old new : View) → Leaves (after_closing old) r old new → StaysSo old new }
+    ensures errors { (e : Error) (relationship : Option CommandRelationship) (r : Result Unit AllocError) (old new : View) → Leaves (after_error old e relationship) r old new → StaysSo old new }
+    ensures awaits { (future : UnresolvedFuture) (r : Result AwaitResponse Error) (old new : View) → CallsFlat (future_step future) r old new → StaysSo old new }
+    ensures takes { (handle : ℕ) (r : Result (Option Value) Error) (old new : View) → Calls (take_step handle) r old new → StaysSo old new }
+    ensures inputs { (r : Result Input Error) (old new : View) → Calls input_step r old new → StaysSo old new }
+    ensures sleeps { (millis : ℕ) (name : List ℕ) (r : Result NotificationHandle Error) (old new : View) → Calls (sleep_step millis name) r old new → StaysSo old new }
+    ensures sets { (key value name : List ℕ) (options : PayloadOptions) (r : Result Unit Error) (old new : View) → Calls (state_set_step key value name options) r old new → StaysSo old new }
+    ensures clears { (key name : List ℕ) (r : Result Unit Error) (old new : View) → Calls (state_clear_step key name) r old new → StaysSo old new }
+    ensures all_clears { (name : List ℕ) (r : Result Unit Error) (old new : View) → Calls (state_clear_all_step name) r old new → StaysSo old new }
+    ensures awakeables { (r : Result AwakeableHandle Error) (old new : View) → Calls awakeable_step r old new → StaysSo old new }
+    ensures completed_awakeables { (id : List ℕ) (value : NonEmptyValue) (options : PayloadOptions) (r : Result Unit Error) (old new : View) → Calls (complete_awakeable_step id value options) r old new → StaysSo old new }
+    ensures completed_signals { (target signal : List ℕ) (value : NonEmptyValue) (r : Result Unit Error) (old new : View) → Calls (complete_signal_step target signal value) r old new → StaysSo old new }
+    ensures cancels { (target : List ℕ) (r : Result Unit Error) (old new : View) → Calls (cancel_invocation_step target) r old new → StaysSo old new }
+    ensures outputs { (value : NonEmptyValue) (options : PayloadOptions) (r : Result Unit Error) (old new : View) → Calls (output_step value options) r old new → StaysSo old new }
+    ensures ends { (r : Result Unit Error) (old new : View) → Calls end_step r old new → StaysSo old new }
+{}

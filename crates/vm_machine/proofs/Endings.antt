@@ -1,0 +1,445 @@
+-- Each event writes at most one terminal message, and nothing behind it.
+use Rattle.std.proofs.Common.{◌≡◌, ℕ, Bool, true, false, List, [], ◌∷◌, ◌++◌, Option, Some, None, refl, sym, ap, subst, ◌∙◌}
+use Rattle.std.specs.Prelude.{if◌then◌else◌, ◌||◌, ◌&&◌, ◌==◌, nat_le, nat_lt, not, map, is_some, Result, Ok, Err}
+use Rattle.std.proofs.lemmas.List.{append-nil}
+use Rattle.journal_protocol.specs.declared.error.Error.{Error}
+use Rattle.journal_protocol.specs.declared.faults.NamedFault.{NamedFault}
+use Rattle.journal_protocol.specs.declared.faults.NamedFault.TheVariants as fault
+use Rattle.journal_protocol.specs.declared.message.Message.{Message}
+use Rattle.journal_protocol.specs.declared.message.Message.TheVariants as message
+use Rattle.journal_protocol.specs.declared.message.RawMessage.{RawMessage}
+use Rattle.journal_protocol.specs.declared.types.MessageType.{MessageType}
+use Rattle.journal_protocol.specs.declared.commands.InputCommand.{InputCommand}
+use Rattle.journal_protocol.specs.declared.notification.Notification.{Notification}
+use Rattle.journal_protocol.specs.declared.notification.NotificationId.{NotificationId}
+use Rattle.journal_protocol.specs.declared.notification.NotificationResult.{NotificationResult}
+use Rattle.journal_protocol.specs.declared.start.Start.{Start}
+use Rattle.journal_protocol.specs.declared.types.MessageType.TheVariants as type
+use Rattle.journal_protocol.specs.Errors.{error_message, named_error}
+use Rattle.journal_protocol.specs.declared.future.Future.{Future}
+use Rattle.journal_protocol.specs.HeaderEqual.{header_equal}
+use Rattle.journal_protocol.specs.Message.{encoding, type_of}
+use Rattle.journal_protocol.specs.Reading.{input_in, message_in, notification_in, start_in}
+use Rattle.journal_protocol.specs.Types.{type_number}
+use Rattle.vm_parts.specs.declared.command_type.CommandRelationship.{CommandRelationship}
+use Rattle.vm_parts.specs.declared.types.AwaitResponse.{AwaitResponse}
+use Rattle.vm_parts.specs.declared.types.AwaitResponse.TheVariants.{AnyCompleted, WaitingExternalProgress}
+use Rattle.vm_parts.specs.declared.types.NotificationHandle.{NotificationHandle}
+use Rattle.vm_parts.specs.declared.values.Value.{Value}
+use Rattle.vm_parts.specs.Deliveries.{id_at, has_result_for, present_for, taken_by, used_for}
+use Rattle.vm_parts.specs.Values.{value_of}
+use Rattle.vm_parts.specs.CommandTypes.{message_type}
+use Rattle.vm_parts.specs.Counting.{missing, missing_signals}
+use Rattle.vm_machine.specs.declared.machine.Machine.{Machine}
+use Rattle.vm_machine.specs.declared.phase.Phase.{Phase}
+use Rattle.vm_machine.specs.declared.phase.Phase.TheVariants.{WaitingStart, WaitingReplayEntries, Replaying, Processing, Closed}
+use Rattle.vm_machine.specs.declared.request.Request.{Request}
+use Rattle.vm_machine.specs.declared.request.Request.TheVariants.{Sleep, Output, SetState, ClearState, ClearAllState, CompleteAwakeable, CompleteSignal, CancelInvocation}
+use Rattle.vm_machine.specs.Awaits.{await_step, future_of, pending, result_taken, suspended, take_step, taken_at, tried, value_taken}
+use Rattle.vm_machine.specs.Inputs.{close_step, closed_at, counted_entry, end_at, end_step, ended, enqueued, entries_in, entry_step, input_at, input_counted, input_read, input_step, malformed_step, message_step, notification_step, queued, start_step, started, started_with}
+use Rattle.vm_machine.specs.Reports.{is_retry, related_to, report_step}
+use Rattle.vm_machine.specs.Signals.{awakeable_counted, awakeable_step}
+use Rattle.vm_machine.specs.Commands.{entered, written, ignores_payloads, phase_after, popped, popped_from, compared, replayed, carried_out, prepared, counted, issued}
+use Rattle.vm_machine.specs.Endings.{EndsOnce, EventWrites, Writes, is_over, is_terminal}
+use Rattle.vm_machine.specs.Outcomes.{Outcome, Done, Failed, ◌>>=◌, about_last, called, called_at, failed, refused, ruled}
+use Rattle.vm_machine.specs.Phases.{is_closed, is_from_v7, is_processing, is_replaying, is_running, state_fault}
+use Rattle.vm_machine.specs.Requests.{command_of, ids_of, message_of, name_of}
+
+-- ---- nothing is written
+
+-- the same output, and over where it was
+pub record Same (v w : Machine) : Type 0 where
+  pub output : w.output ≡ v.output
+  pub closed : is_closed w.phase ≡ is_closed v.phase
+  pub failure : w.failure ≡ v.failure
+
+pub same : (v : Machine) → Same v v
+same v = record { output = refl; closed = refl; failure = refl }
+
+pub nothing_ends : (b : Bool) → EndsOnce b [] b
+nothing_ends true = (refl, refl)
+nothing_ends false = tt
+
+pub nothing_behind : (b : Bool) → EndsOnce b [] true
+nothing_behind true = (refl, refl)
+nothing_behind false = tt
+
+over_same : (v w : Machine) → Same v w → is_over w ≡ is_over v
+over_same v w s = λ i. is_some (s.failure i) || s.closed i
+
+pub writes_nothing : (v w : Machine) → Same v w → Writes v w
+writes_nothing v w s = record {
+  messages = [];
+  output = s.output ∙ sym (append-nil v.output);
+  ends_once = subst (λ b. EndsOnce (is_over v) [] b) (sym (over_same v w s)) (nothing_ends (is_over v));
+}
+
+-- ---- the error rule
+
+-- an event before the error rule: what fails has written nothing
+abbrev pub Event : {A : Type 0} → Machine → Outcome A → Type 0
+Event v (Done a w) = Writes v w
+Event v (Failed e w) = Same v w
+
+-- a machine that goes on
+abbrev pub Goes : Machine → Type 0
+Goes v = is_over v ≡ false
+
+error_written : (v w : Machine) (e : Error) (b : Bool) → is_closed w.phase ≡ b → v.failure ≡ None → Same v w → Writes v (failed e w)
+error_written v w e true c live s = record {
+  messages = [];
+  output = rw c (s.output ∙ sym (append-nil v.output));
+  ends_once = nothing_behind (is_over v);
+}
+error_written v w e false c live s =
+    let goes : is_over v ≡ false = λ i. is_some (live i) || (sym s.closed ∙ c) i in
+    record {
+      messages = message.Error (error_message e) ∷ [];
+      output = rw c (ap (λ t. t ++ encoding (message.Error (error_message e)) ∷ []) s.output);
+      ends_once = subst (λ b. EndsOnce b (message.Error (error_message e) ∷ []) true) (sym goes) (refl, refl);
+    }
+
+called_so : {A : Type 0} (f : Option Error) (v : Machine) (o : Outcome A) → v.failure ≡ f → (v.failure ≡ None → Event v o) → EventWrites v (called_at f o v)
+called_so None v (Done a w) e h = h e
+called_so None v (Failed x w) e h = error_written v w (ruled w x) (is_closed w.phase) refl e (h e)
+called_so (Some x) v o e h = writes_nothing v v (same v)
+
+pub called_writes : {A : Type 0} (v : Machine) (o : Outcome A) → (v.failure ≡ None → Event v o) → EventWrites v (called o v)
+unfolding called
+called_writes v o h = called_so v.failure v o refl h
+
+-- ---- commands
+
+not_closed : (p : Phase) → is_running p ≡ true → is_closed p ≡ false
+not_closed WaitingStart e = refl
+not_closed WaitingReplayEntries e = refl
+not_closed Replaying e = refl
+not_closed Processing e = refl
+not_closed Closed e = absurd cc
+
+goes_on : (v : Machine) → v.failure ≡ None → is_running v.phase ≡ true → is_over v ≡ false
+goes_on v live runs = λ i. is_some (live i) || not_closed v.phase runs i
+
+command_goes_on : (r : Request) (id : ℕ) → is_terminal (message_of r id) ≡ false
+command_goes_on (Sleep wake_up_time name) id = refl
+command_goes_on (Output value options) id = refl
+command_goes_on (SetState key value name options) id = refl
+command_goes_on (ClearState key name) id = refl
+command_goes_on (ClearAllState name) id = refl
+command_goes_on (CompleteAwakeable awakeable value options) id = refl
+command_goes_on (CompleteSignal target signal value) id = refl
+command_goes_on (CancelInvocation target) id = refl
+
+prepared_same : (r : Request) (v : Machine) → Same v (prepared r (entered (message_type (command_of r)) (name_of r) v))
+prepared_same (Sleep wake_up_time name) v = record { output = refl; closed = refl; failure = refl }
+prepared_same (Output value options) v = record { output = refl; closed = refl; failure = refl }
+prepared_same (SetState key value name options) v = record { output = refl; closed = refl; failure = refl }
+prepared_same (ClearState key name) v = record { output = refl; closed = refl; failure = refl }
+prepared_same (ClearAllState name) v = record { output = refl; closed = refl; failure = refl }
+prepared_same (CompleteAwakeable awakeable value options) v = record { output = refl; closed = refl; failure = refl }
+prepared_same (CompleteSignal target signal value) v = record { output = refl; closed = refl; failure = refl }
+prepared_same (CancelInvocation target) v = record { output = refl; closed = refl; failure = refl }
+
+one_message : (b : Bool) (m : Message) (after : Bool) → b ≡ false → is_terminal m ≡ false → EndsOnce b (m ∷ []) after
+one_message true m after e t = absurd cc
+one_message false m after e t = rw t tt
+
+written_so : (v u : Machine) (m : Message) → Same v u → is_over v ≡ false → is_terminal m ≡ false → Writes v (written m u)
+written_so v u m s goes t = record {
+  messages = m ∷ [];
+  output = ap (λ o. o ++ encoding m ∷ []) s.output;
+  ends_once = one_message (is_over v) m (is_over (written m u)) goes t;
+}
+
+-- an event that writes nothing
+abbrev pub Quiet : {A : Type 0} → Machine → Outcome A → Type 0
+Quiet v (Done a w) = Same v w
+Quiet v (Failed e w) = Same v w
+
+running_phase : (commands : List RawMessage) → is_closed (phase_after commands) ≡ false
+running_phase [] = refl
+running_phase (raw ∷ rest) = refl
+
+typed_quiet : (v w : Machine) (raw : RawMessage) (b : Bool) → Same v w → Quiet v (if b then Done raw w else Failed (about_last fault.CommandTypeMismatch w) w)
+typed_quiet v w raw true s = s
+typed_quiet v w raw false s = s
+
+popped_from_quiet : (commands : List RawMessage) (ty : MessageType) (v u : Machine) → Same v u → is_closed v.phase ≡ false → Quiet v (popped_from commands ty u)
+popped_from_quiet [] ty v u s c = s
+popped_from_quiet (raw ∷ rest) ty v u s c =
+    typed_quiet v (record u { commands = rest; phase = phase_after rest }) raw (type_number raw.ty == type_number ty)
+    (record { output = s.output; closed = running_phase rest ∙ sym c; failure = s.failure })
+
+pub popped_quiet : (ty : MessageType) (v u : Machine) → Same v u → is_closed v.phase ≡ false → Quiet v (popped ty u)
+unfolding popped
+popped_quiet ty v u s c = popped_from_quiet u.commands ty v u s c
+
+compared_at : (m : Message) (v u : Machine) (b : Bool) → Same v u → Quiet {A = Unit} v (if b then Done tt u else Failed (about_last fault.CommandMismatch u) u)
+compared_at m v u true s = s
+compared_at m v u false s = s
+
+compared_quiet : (m : Message) (ignore : Bool) (recorded : Option Message) (v u : Machine) → Same v u → Quiet v (compared m ignore recorded u)
+compared_quiet m ignore None v u s = s
+compared_quiet m ignore (Some recorded) v u s = compared_at m v u (header_equal recorded m ignore) s
+
+then_compared : (m : Message) (ignore : Bool) (v : Machine) (o : Outcome RawMessage) → Quiet v o → Quiet v (o >>= λ raw w. compared m ignore (message_in raw.ty raw.body) w)
+then_compared m ignore v (Done raw w) s = compared_quiet m ignore (message_in raw.ty raw.body) v w s
+then_compared m ignore v (Failed e w) s = s
+
+replayed_quiet : (m : Message) (ignore : Bool) (v u : Machine) → Same v u → is_closed v.phase ≡ false → Quiet v (replayed m ignore u)
+unfolding replayed
+replayed_quiet m ignore v u s c = then_compared m ignore v (popped (type_of m) u) (popped_quiet (type_of m) v u s c)
+
+quiet_event : {A : Type 0} (v : Machine) (o : Outcome A) → Quiet v o → Event v o
+quiet_event v (Done a w) s = writes_nothing v w s
+quiet_event v (Failed e w) s = s
+
+carried_at : (m : Message) (ignore b : Bool) (v u : Machine) → Same v u → is_over v ≡ false → is_closed v.phase ≡ false → is_terminal m ≡ false → Event v (if b then Done tt (written m u) else replayed m ignore u)
+carried_at m ignore true v u s goes c t = written_so v u m s goes t
+carried_at m ignore false v u s goes c t = quiet_event v (replayed m ignore u) (replayed_quiet m ignore v u s c)
+
+carried_event : (m : Message) (ignore : Bool) (v u : Machine) → Same v u → is_over v ≡ false → is_closed v.phase ≡ false → is_terminal m ≡ false → Event v (carried_out m ignore u)
+unfolding carried_out
+carried_event m ignore v u s goes c t = carried_at m ignore (is_processing u.phase) v u s goes c t
+
+pub answered : {A B : Type 0} (v : Machine) (o : Outcome A) (b : B) → Event v o → Event v (o >>= λ _ w. Done b w)
+answered v (Done a w) b h = h
+answered v (Failed e w) b h = h
+
+counted_event : (found : Option NamedFault) (r : Request) (v : Machine) → is_over v ≡ false → is_closed v.phase ≡ false → Event v (counted found r v)
+counted_event (Some name) r v goes c = same v
+counted_event None r v goes c =
+    let u = prepared r (entered (message_type (command_of r)) (name_of r) v) in
+    let handle : NotificationHandle = record { 0 = v.counters.handle } in
+    let m = message_of r v.counters.completion in
+    answered v (carried_out m (ignores_payloads v r) u) handle (carried_event m (ignores_payloads v r) v u (prepared_same r v) goes c (command_goes_on r v.counters.completion))
+
+issued_at : (r : Request) (v : Machine) (b : Bool) → is_running v.phase ≡ b → v.failure ≡ None
+    → Event v (if b then counted (missing (ids_of r) 0 (ids_of r) v.counters) r v else (let w = entered (message_type (command_of r)) (name_of r) v in Failed (about_last (state_fault v.phase) w) w))
+issued_at r v true e live = counted_event (missing (ids_of r) 0 (ids_of r) v.counters) r v (goes_on v live e) (not_closed v.phase e)
+issued_at r v false e live = record { output = refl; closed = refl; failure = refl }
+
+pub issued_event : (r : Request) (v : Machine) → v.failure ≡ None → Event v (issued r v)
+unfolding issued
+issued_event r v live = issued_at r v (is_running v.phase) refl live
+
+pub issued_writes : (r : Request) (v : Machine) → EventWrites v (called (issued r v) v)
+issued_writes r v = called_writes v (issued r v) (issued_event r v)
+
+-- ---- awakeables and reported errors
+
+awakeable_at : (found : Option NamedFault) (v : Machine) → Quiet v (awakeable_counted found v)
+awakeable_at (Some name) v = same v
+awakeable_at None v = record { output = refl; closed = refl; failure = refl }
+
+awakeable_so : (b : Bool) (v : Machine) → Quiet v (if b then awakeable_counted (missing_signals 1 1 v.counters) v else refused (state_fault v.phase) v)
+awakeable_so true v = awakeable_at (missing_signals 1 1 v.counters) v
+awakeable_so false v = same v
+
+pub awakeable_writes : (v : Machine) → EventWrites v (called (awakeable_step v) v)
+unfolding awakeable_step
+awakeable_writes v = called_writes v (awakeable_step v) (λ live. quiet_event v (awakeable_step v) (awakeable_so (is_running v.phase) v))
+
+report_so : (b : Bool) (e : Error) (relationship : Option CommandRelationship) (v : Machine)
+    → Quiet {A = Unit} v (if b then refused fault.UnsupportedFeatureForNegotiatedVersion v else Failed (related_to relationship e v) v)
+report_so true e relationship v = same v
+report_so false e relationship v = same v
+
+pub report_writes : (e : Error) (relationship : Option CommandRelationship) (v : Machine) → EventWrites v (called (report_step e relationship v) v)
+report_writes e relationship v =
+    called_writes v (report_step e relationship v) (λ live. quiet_event v (report_step e relationship v) (report_so (not (is_retry e.behavior) && not (is_from_v7 v.version)) e relationship v))
+
+-- ---- awaits and takes
+
+or_true : (b : Bool) → (b || true) ≡ true
+or_true true = refl
+or_true false = refl
+
+last_message : (b : Bool) (m : Message) (after : Bool) → b ≡ false → is_terminal m ≡ true → after ≡ true → EndsOnce b (m ∷ []) after
+last_message true m after e t o = absurd cc
+last_message false m after e t o = rw t (refl, o)
+
+suspended_so : (v u : Machine) (future : Future) → Same v u → is_over v ≡ false → Writes v (suspended future u)
+suspended_so v u future s goes =
+    let m = message.Suspension (record { future = future }) in
+    record {
+      messages = m ∷ [];
+      output = ap (λ o. o ++ encoding m ∷ []) s.output;
+      ends_once = last_message (is_over v) m (is_some u.failure || true) goes refl (or_true (is_some u.failure));
+    }
+
+pending_so : (handle : ℕ) (v u : Machine) (a b : Bool) → Same v u → is_over v ≡ false
+    → Event {A = Result AwaitResponse Error} v (if a then refused fault.UncompletedDoProgressDuringReplay u
+    else if b then Done (Err (named_error fault.Suspended None)) (suspended (future_of (id_at handle u.results.handles)) u)
+    else Done (Ok (WaitingExternalProgress true false)) u)
+pending_so handle v u true b s goes = s
+pending_so handle v u false true s goes = suspended_so v u (future_of (id_at handle u.results.handles)) s goes
+pending_so handle v u false false s goes = writes_nothing v u s
+
+tried_so : (handle : ℕ) (v u : Machine) (b : Bool) → Same v u → is_over v ≡ false
+    → Event {A = Result AwaitResponse Error} v (if b then Done (Ok AnyCompleted) u else pending handle u)
+tried_so handle v u true s goes = writes_nothing v u s
+tried_so handle v u false s goes = pending_so handle v u (is_replaying u.phase) u.input_closed s goes
+
+await_so : (handle : ℕ) (v : Machine) (b : Bool) → is_running v.phase ≡ b → v.failure ≡ None
+    → Event v (if b then tried handle (record v { results = used_for handle v.results }) else refused (state_fault v.phase) v)
+await_so handle v true e live =
+    let u = record v { results = used_for handle v.results } in
+    tried_so handle v u (has_result_for (id_at handle u.results.handles) u.results.ready) (record { output = refl; closed = refl; failure = refl }) (goes_on v live e)
+await_so handle v false e live = same v
+
+await_event : (handle : ℕ) (v : Machine) → v.failure ≡ None → Event v (await_step handle v)
+unfolding await_step
+await_event handle v live = await_so handle v (is_running v.phase) refl live
+
+pub await_writes : (handle : ℕ) (v : Machine) → EventWrites v (called (await_step handle v) v)
+await_writes handle v = called_writes v (await_step handle v) (await_event handle v)
+
+value_so : (value : Option Value) (v u : Machine) → Same v u → Quiet v (value_taken value u)
+value_so None v u s = s
+value_so (Some value) v u s = s
+
+result_so : (result : Option NotificationResult) (v u : Machine) → Same v u → Quiet v (result_taken result u)
+result_so None v u s = s
+result_so (Some result) v u s = value_so (value_of result) v u s
+
+taken_so : (handle : ℕ) (id : Option NotificationId) (v : Machine) → Quiet v (taken_at handle id v)
+taken_so handle id v =
+    let found = present_for v.options.signal_delivery id v.results.ready in
+    result_so found v (record v { results = taken_by v.options.signal_delivery handle id found v.results }) (record { output = refl; closed = refl; failure = refl })
+
+take_so : (handle : ℕ) (v : Machine) (b : Bool) → Quiet v (if b then taken_at handle (id_at handle v.results.handles) v else refused (state_fault v.phase) v)
+take_so handle v true = taken_so handle (id_at handle v.results.handles) v
+take_so handle v false = same v
+
+take_quiet : (handle : ℕ) (v : Machine) → Quiet v (take_step handle v)
+unfolding take_step
+take_quiet handle v = take_so handle v (is_running v.phase)
+
+pub take_writes : (handle : ℕ) (v : Machine) → EventWrites v (called (take_step handle v) v)
+take_writes handle v = called_writes v (take_step handle v) (λ live. quiet_event v (take_step handle v) (take_quiet handle v))
+
+-- ---- the handler's first call and its last
+
+read_so : (c : Option InputCommand) (v u : Machine) → Same v u → Quiet v (input_read c u)
+read_so None v u s = s
+read_so (Some c) v u s = s
+
+then_read : (v : Machine) (o : Outcome RawMessage) → Quiet v o → Quiet v (o >>= λ raw w. input_read (input_in raw.body) w)
+then_read v (Done raw w) s = read_so (input_in raw.body) v w s
+then_read v (Failed e w) s = s
+
+input_counted_so : (found : Option NamedFault) (v : Machine) → is_closed v.phase ≡ false → Quiet v (input_counted found v)
+input_counted_so (Some name) v c = same v
+input_counted_so None v c =
+    let u = entered type.InputCommand [] v in
+    then_read v (popped type.InputCommand u) (popped_quiet type.InputCommand v u (record { output = refl; closed = refl; failure = refl }) c)
+
+input_so : (p : Phase) (v : Machine) → v.phase ≡ p → Quiet v (input_at p v)
+input_so WaitingStart v e = record { output = refl; closed = refl; failure = refl }
+input_so WaitingReplayEntries v e = record { output = refl; closed = refl; failure = refl }
+input_so Replaying v e = input_counted_so (missing 0 0 0 v.counters) v (ap is_closed e)
+input_so Processing v e = record { output = refl; closed = refl; failure = refl }
+input_so Closed v e = record { output = refl; closed = refl; failure = refl }
+
+input_quiet : (v : Machine) → Quiet v (input_step v)
+unfolding input_step
+input_quiet v = input_so v.phase v refl
+
+pub input_writes : (v : Machine) → EventWrites v (called (input_step v) v)
+input_writes v = called_writes v (input_step v) (λ live. quiet_event v (input_step v) (input_quiet v))
+
+ended_so : (v : Machine) → is_over v ≡ false → Writes v (ended v)
+ended_so v goes = record {
+  messages = message.End ∷ [];
+  output = refl;
+  ends_once = last_message (is_over v) message.End (is_some v.failure || true) goes refl (or_true (is_some v.failure));
+}
+
+end_so : (p : Phase) (v : Machine) → v.phase ≡ p → v.failure ≡ None → Event v (end_at p v)
+end_so WaitingStart v e live = same v
+end_so WaitingReplayEntries v e live = same v
+end_so Replaying v e live = same v
+end_so Processing v e live = ended_so v (λ i. is_some (live i) || ap is_closed e i)
+end_so Closed v e live = writes_nothing v v (same v)
+
+pub end_writes : (v : Machine) → EventWrites v (called (end_step v) v)
+end_writes v = called_writes v (end_step v) (end_so v.phase v refl)
+
+-- ---- what comes in
+
+entered_phase : (b : Bool) → is_closed (if b then Replaying else WaitingReplayEntries) ≡ false
+entered_phase true = refl
+entered_phase false = refl
+
+counted_same : (v u : Machine) → v.phase ≡ WaitingReplayEntries → Same v u → Same v (counted_entry u)
+counted_same v u e s = record { output = s.output; closed = entered_phase (nat_le u.entries_missing 1) ∙ sym (ap is_closed e); failure = s.failure }
+
+started_at : (s : Start) (entries : List (List ℕ × Option (List ℕ))) (v : Machine) (b : Bool) (w : Machine) → Same v w
+    → Quiet {A = Unit} v (if b then refused fault.KnownEntriesIsZero v else Done tt w)
+started_at s entries v true w k = same v
+started_at s entries v false w k = k
+
+started_so : (s : Start) (entries : Option (List (List ℕ × Option (List ℕ)))) (v : Machine) → v.phase ≡ WaitingStart → Quiet v (started_with s entries v)
+started_so s None v e = same v
+started_so s (Some entries) v e = started_at s entries v (s.known_entries == 0) _ (record { output = refl; closed = sym (ap is_closed e); failure = refl })
+
+start_so : (start : Option Start) (v : Machine) → v.phase ≡ WaitingStart → Quiet v (started start v)
+start_so None v e = same v
+start_so (Some s) v e = started_so s (entries_in s.state) v e
+
+start_quiet : (raw : RawMessage) (p : Phase) (v : Machine) → v.phase ≡ p → Quiet v (start_step raw p v)
+start_quiet raw WaitingStart v e = start_so (start_in raw.body) v e
+start_quiet raw WaitingReplayEntries v e = same v
+start_quiet raw Replaying v e = same v
+start_quiet raw Processing v e = same v
+start_quiet raw Closed v e = same v
+
+entry_quiet : (raw : RawMessage) (p : Phase) (v : Machine) → v.phase ≡ p → Quiet v (entry_step raw p v)
+entry_quiet raw WaitingStart v e = same v
+entry_quiet raw WaitingReplayEntries v e = counted_same v (record v { commands = v.commands ++ raw ∷ [] }) e (record { output = refl; closed = refl; failure = refl })
+entry_quiet raw Replaying v e = same v
+entry_quiet raw Processing v e = same v
+entry_quiet raw Closed v e = same v
+
+queued_counted : (n : Option Notification) (v : Machine) → v.phase ≡ WaitingReplayEntries → Quiet v (queued n counted_entry v)
+queued_counted None v e = same v
+queued_counted (Some n) v e = counted_same v (enqueued n v) e (record { output = refl; closed = refl; failure = refl })
+
+queued_quiet : (n : Option Notification) (v : Machine) → Quiet v (queued n (λ w. w) v)
+queued_quiet None v = same v
+queued_quiet (Some n) v = record { output = refl; closed = refl; failure = refl }
+
+notification_quiet : (raw : RawMessage) (p : Phase) (v : Machine) → v.phase ≡ p → Quiet v (notification_step raw p v)
+notification_quiet raw WaitingStart v e = same v
+notification_quiet raw WaitingReplayEntries v e = queued_counted (notification_in raw.body) v e
+notification_quiet raw Replaying v e = queued_quiet (notification_in raw.body) v
+notification_quiet raw Processing v e = queued_quiet (notification_in raw.body) v
+notification_quiet raw Closed v e = same v
+
+message_so : (raw : RawMessage) (v : Machine) (a b c : Bool)
+    → Quiet v (if a then start_step raw v.phase v else if b then entry_step raw v.phase v else if c then notification_step raw v.phase v else refused fault.UnexpectedInputMessage v)
+message_so raw v true b c = start_quiet raw v.phase v refl
+message_so raw v false true c = entry_quiet raw v.phase v refl
+message_so raw v false false true = notification_quiet raw v.phase v refl
+message_so raw v false false false = same v
+
+message_quiet : (raw : RawMessage) (v : Machine) → Quiet v (message_step raw v)
+unfolding message_step
+message_quiet raw v = message_so raw v (type_number raw.ty == 1) (nat_le 10 (type_number raw.ty) && nat_lt (type_number raw.ty) 30) (type_number raw.ty == 30)
+
+pub message_writes : (raw : RawMessage) (v : Machine) → EventWrites v (called (message_step raw v) v)
+message_writes raw v = called_writes v (message_step raw v) (λ live. quiet_event v (message_step raw v) (message_quiet raw v))
+
+pub malformed_writes : (v : Machine) → EventWrites v (called (malformed_step v) v)
+malformed_writes v = called_writes v (malformed_step v) (λ live. same v)
+
+closed_quiet : (p : Phase) (v u : Machine) → Same v u → Quiet v (closed_at p u)
+closed_quiet WaitingStart v u s = s
+closed_quiet WaitingReplayEntries v u s = s
+closed_quiet Replaying v u s = s
+closed_quiet Processing v u s = s
+closed_quiet Closed v u s = s
+
+pub close_writes : (v : Machine) → EventWrites v (called (close_step v) v)
+close_writes v = called_writes v (close_step v) (λ live. quiet_event v (close_step v) (closed_quiet v.phase v (record v { input_closed = true }) (record { output = refl; closed = refl; failure = refl })))
