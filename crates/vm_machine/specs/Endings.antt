@@ -15,6 +15,7 @@ is_terminal m = nat_le 2 (type_number (type_of m)) && nat_le (type_number (type_
 abbrev pub is_over : Machine → Bool
 is_over v = is_some v.failure || is_closed v.phase
 
+-- behind a terminal message nothing comes, and it is over; behind another one, what the others may do
 abbrev pub EndsIf : Bool → List Message → Bool → Type 0 → Type 0
 EndsIf true messages after others = (messages ≡ []) × (after ≡ true)
 EndsIf false messages after others = others
