@@ -1,3 +1,4 @@
+pub mod Agreement
 pub mod Inside
 pub mod Record
 pub mod Stepping

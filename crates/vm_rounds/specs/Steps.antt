@@ -18,6 +18,7 @@ use Rattle.vm_machine.specs.Outcomes.{Outcome, Done, Failed, called, Does}
 use Rattle.vm_machine.specs.Signals.{awakeable_step}
 use Rattle.invocation_vm.specs.Calls.{cancel_invocation_step, complete_awakeable_step, complete_signal_step, future_step, output_step, sleep_step, state_clear_all_step, state_clear_step, state_set_step}
 use Rattle.invocation_vm.specs.Views.{View}
+use Rattle.vm_model.specs.Calls.{name_in}
 use Rattle.vm_rounds.specs.declared.progress.Reply.{Reply}
 use Rattle.vm_rounds.specs.declared.progress.Reply.TheVariants as reply
 
@@ -43,11 +44,6 @@ awakeable_made v = mapped (λ awakeable. reply.Answer (answer.Awakeable awakeabl
 abbrev pub done : (Machine → Outcome Unit) → Machine → Outcome Reply
 done event v = mapped (λ _. reply.Answer answer.Unit) (called (event v) v)
 
--- an absent name is empty
-abbrev pub name_of : Option (List ℕ) → List ℕ
-name_of None = []
-name_of (Some name) = name
-
 -- an await that is answered, that waits, or by which the invocation is suspended
 abbrev pub await_reply : Result AwaitResponse Error → Reply
 await_reply (Ok AnyCompleted) = reply.Answer answer.Awake
@@ -69,9 +65,9 @@ ended v = mapped (λ _. reply.Ended) (called (end_step v) v)
 -- what the call of a step does
 abbrev pub performed : Step → Machine → Outcome Reply
 performed (step.Sleep name wake_up_time now) v = slept name wake_up_time v
-performed (step.StateSet key value name options) v = done (state_set_step key value (name_of name) options) v
-performed (step.StateClear key name) v = done (state_clear_step key (name_of name)) v
-performed (step.StateClearAll name) v = done (state_clear_all_step (name_of name)) v
+performed (step.StateSet key value name options) v = done (state_set_step key value (name_in name) options) v
+performed (step.StateClear key name) v = done (state_clear_step key (name_in name)) v
+performed (step.StateClearAll name) v = done (state_clear_all_step (name_in name)) v
 performed step.Awakeable v = awakeable_made v
 performed (step.CompleteAwakeable id value options) v = done (complete_awakeable_step id value options) v
 performed (step.CompleteSignal target signal value) v = done (complete_signal_step target signal value) v

@@ -4,10 +4,12 @@
 mod attempt;
 mod handler;
 mod inner;
+mod laws;
 mod perform;
 mod progress;
 
 pub use attempt::Attempt;
 pub use handler::Handler;
+pub use laws::calls_follow;
 pub use progress::{Fed, Progress};
 pub use vm_parts::{Answer, Step};

@@ -3,8 +3,9 @@ ghost use Rattle.std.specs.Prelude.{◌≡◌};
 ghost use Rattle.invocation_vm.specs.Calls.{name_or_empty};
 ghost use Rattle.invocation_vm.specs.Seen.{seen};
 ghost use Rattle.vm_parts.specs.declared.steps.Answer.TheVariants as answer;
+ghost use Rattle.vm_model.specs.Calls.{name_in};
 ghost use Rattle.vm_rounds.specs.declared.progress.Reply.TheVariants as reply;
-ghost use Rattle.vm_rounds.specs.Steps.{performed, ended, awaited, await_reply, awakeable_made, name_of, result_mapped, taken, slept, Asked};
+ghost use Rattle.vm_rounds.specs.Steps.{performed, ended, awaited, await_reply, awakeable_made, result_mapped, taken, slept, Asked};
 
 use crate::progress::Reply;
 use invocation_vm::{AwaitResponse, CoreVM, NotificationHandle, UnresolvedFuture, VM, VMResult};
@@ -48,7 +49,7 @@ fn unit(given: VMResult<()>) -> VMResult<Reply>
 }
 
 fn string_of(name: Option<Text>) -> Option<String>
-    ensures { name_or_empty result ≡ name_of name }
+    ensures { name_or_empty result ≡ name_in name }
 {
     name.map(|text| text.into_string())
 }

@@ -1,0 +1,10 @@
+pub mod Runs
+pub mod Attempts
+pub mod Events
+pub mod Compared
+pub mod Reports
+pub mod Waking
+pub mod Results
+pub mod Took
+pub mod Sums
+pub mod Rows

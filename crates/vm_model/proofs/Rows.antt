@@ -1,0 +1,118 @@
+-- Runs of two handlers, computed.
+use Rattle.std.proofs.Common.{◌≡◌, ℕ, Bool, true, false, List, [], ◌∷◌, ◌++◌, map, Option, Some, None, refl}
+use Rattle.std.specs.Prelude.{codes}
+use Rattle.std.specs.Str.{chars, is_utf8}
+use Rattle.journal_protocol.specs.declared.commands.InputCommand.{InputCommand}
+use Rattle.journal_protocol.specs.declared.message.Message.TheVariants as message
+use Rattle.journal_protocol.specs.declared.message.RawMessage.{RawMessage}
+use Rattle.journal_protocol.specs.declared.notification.Notification.{Notification}
+use Rattle.journal_protocol.specs.declared.notification.NotificationId.TheVariants.{CompletionId, SignalId}
+use Rattle.journal_protocol.specs.declared.notification.NotificationResult.{NotificationResult}
+use Rattle.journal_protocol.specs.declared.notification.NotificationResult.TheVariants as came
+use Rattle.journal_protocol.specs.declared.parts.ValueOrFailure.TheVariants as given
+use Rattle.journal_protocol.specs.declared.types.MessageType.TheVariants as type
+use Rattle.journal_protocol.specs.declared.version.Version.TheVariants.{V7}
+use Rattle.journal_protocol.specs.HeaderEqual.{header_equal}
+use Rattle.journal_protocol.specs.Reading.{message_in, sleep_in, output_in, clear_state_in}
+use Rattle.journal_protocol.specs.Encoding.{clear_state, failure, output, sleep}
+use Rattle.journal_protocol.specs.Parts.{read_value}
+use Rattle.vm_parts.specs.declared.steps.Answer.{Answer}
+use Rattle.vm_parts.specs.declared.steps.Answer.TheVariants as answer
+use Rattle.vm_parts.specs.declared.steps.Step.{Step}
+use Rattle.vm_parts.specs.declared.steps.Step.TheVariants as step
+use Rattle.vm_parts.specs.declared.types.NotificationHandle.{NotificationHandle}
+use Rattle.vm_parts.specs.declared.types.UnresolvedFuture.TheVariants.{Single}
+use Rattle.vm_parts.specs.declared.values.NonEmptyValue.TheVariants.{Success, Failure}
+use Rattle.vm_parts.specs.declared.values.Value.TheVariants as value
+use Rattle.vm_parts.specs.Options.{default_options}
+use Rattle.vm_parts.specs.CommandTypes.{message_type}
+use Rattle.wire.specs.Format.{bytes, list, option, read_byte, read_bytes, read_items, read_list, read_option, read_pair, read_text, read_u16, read_u32, read_u64, u16s, u32s, u64s}
+use Rattle.vm_model.specs.Calls.{Setup, Meaning}
+use Rattle.vm_model.specs.Journal.{Entry, Recorded, Notified, stored_form}
+use Rattle.vm_model.specs.Moves.{Point, after, longer, next, start, supplied, told_input}
+use Rattle.vm_model.specs.Histories.{Event, Report, reports, rounds}
+use Rattle.vm_model.specs.Histories.Event.{Arrive, Feed, Act, Store}
+
+setup : Setup
+setup = record { version = V7; options = default_options; identity = record { id = codes "abc"; debug_id = codes "abc"; key = []; random_seed = 0; scope = None; limit_key = None; idempotency_key = None } }
+
+-- it sleeps, awaits that, takes it, writes an empty output and ends
+sleeper : Meaning
+sleeper (i ∷ []) = step.Sleep [] (record { secs = 1; nanos = 0 }) None
+sleeper (i ∷ answer.Handle h ∷ []) = step.Await (Single h)
+sleeper (i ∷ answer.Handle h ∷ answer.Awake ∷ []) = step.Take h
+sleeper (i ∷ answer.Handle h ∷ answer.Awake ∷ answer.Taken x ∷ []) = step.WriteOutput (Success []) (record { unstable_serialization = false })
+sleeper _ = step.End
+
+input : InputCommand
+input = record { headers = []; value = codes "Till" }
+
+void : ℕ → Notification
+void n = record { id = CompletionId n; result = came.Void }
+
+handle : ℕ → NotificationHandle
+handle n = record { 0 = n }
+
+told : Answer
+told = answer.Input (told_input setup.identity input)
+
+-- the first command of the journal; which bytes it has plays no part here
+first : RawMessage
+first = record { ty = type.InputCommand; body = [] }
+
+-- the first round stops once the sleep is stored, the second goes on to the end
+two : List (List Event)
+two =
+    (Act ∷ Act ∷ Store ∷ [])
+    ∷ (Act ∷ Act ∷ Arrive (void 1) ∷ Feed ∷ Act ∷ Act ∷ Act ∷ Act ∷ Act ∷ Store ∷ [])
+    ∷ []
+
+slept : RawMessage
+slept = stored_form (message.Sleep (record { wake_up_time = 1000; result_completion_id = 1; name = [] }))
+
+done : RawMessage
+done = stored_form (message.Output (record { result = given.Value [] }))
+
+after_two : rounds setup sleeper input two (Recorded first ∷ []) ≡ Recorded first ∷ Recorded slept ∷ Notified (void 1) ∷ Recorded done ∷ []
+unfolding setup sleeper two void slept done is_utf8 chars header_equal message_in sleep_in output_in sleep output read_value bytes read_byte read_bytes read_text read_pair read_u16 read_u32 read_u64 u16s u32s u64s
+after_two = refl
+
+-- the first attempt was answered as far as the second, which went on
+answers_of_two : map (λ r. r.answers) (reports setup sleeper input two (Recorded first ∷ [])) ≡ (told ∷ answer.Handle (handle 17) ∷ []) ∷ (told ∷ answer.Handle (handle 17) ∷ answer.Awake ∷ answer.Taken (Some value.Void) ∷ answer.Unit ∷ []) ∷ []
+unfolding setup sleeper two void told handle is_utf8 chars header_equal message_in sleep_in output_in sleep output read_value bytes read_byte read_bytes read_text read_pair read_u16 read_u32 read_u64 u16s u32s u64s
+answers_of_two = refl
+
+cleared : RawMessage
+cleared = stored_form (message.ClearState (record { name = []; key = codes "k" }))
+
+-- a journal of another handler tells nothing behind the input
+other_journal : after setup sleeper 1 (start setup input [] (cleared ∷ [])) ≡ None
+unfolding setup sleeper cleared message_type
+other_journal = refl
+
+-- it makes an awakeable and awaits it; by its value it clears a key, or writes the failure that it got
+chooser : Meaning
+chooser (i ∷ []) = step.Awakeable
+chooser (i ∷ answer.Awakeable a ∷ []) = step.Await (Single a.handle)
+chooser (i ∷ answer.Awakeable a ∷ answer.Awake ∷ []) = step.Take a.handle
+chooser (i ∷ answer.Awakeable a ∷ answer.Awake ∷ answer.Taken (Some (value.Success x)) ∷ []) = step.StateClear (codes "k") None
+chooser (i ∷ answer.Awakeable a ∷ answer.Awake ∷ answer.Taken (Some (value.Failure f)) ∷ []) = step.WriteOutput (Failure f) (record { unstable_serialization = false })
+chooser _ = step.End
+
+sent : NotificationResult → Notification
+sent r = record { id = SignalId 17; result = r }
+
+-- the signal comes, and the handler goes on to its command, which is stored
+once : NotificationResult → List (List Event)
+once r = (Arrive (sent r) ∷ Feed ∷ Act ∷ Act ∷ Act ∷ Act ∷ Act ∷ Store ∷ []) ∷ []
+
+completed : rounds setup chooser input (once (came.Value (codes "x"))) (Recorded first ∷ []) ≡ Recorded first ∷ Notified (sent (came.Value (codes "x"))) ∷ Recorded cleared ∷ []
+unfolding setup chooser once sent cleared is_utf8 chars header_equal message_in clear_state_in clear_state bytes read_byte read_bytes read_text read_pair read_u16 read_u32 read_u64 u16s u32s u64s lib.Utf8.encode
+completed = refl
+
+refused : RawMessage
+refused = stored_form (message.Output (record { result = given.Failure (record { code = 409; message = codes "no"; metadata = [] }) }))
+
+failed : rounds setup chooser input (once (came.Failure (record { code = 65945; message = codes "no"; metadata = [] }))) (Recorded first ∷ []) ≡ Recorded first ∷ Notified (sent (came.Failure (record { code = 65945; message = codes "no"; metadata = [] }))) ∷ Recorded refused ∷ []
+unfolding setup chooser once sent refused is_utf8 chars header_equal message_in output_in output failure list option read_value read_items read_list bytes read_byte read_bytes read_text read_pair read_u16 read_u32 read_u64 u16s u32s u64s lib.Utf8.encode
+failed = refl

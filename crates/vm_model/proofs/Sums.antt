@@ -1,0 +1,197 @@
+-- The numbers that a run has given are the sums over the calls that brought its answers.
+use Rattle.std.proofs.Common.{◌≡◌, ◌⊎◌, ℕ, zero, suc, ◌+◌, Bool, true, false, cond, List, [], ◌∷◌, ◌++◌, Option, Some, None, refl, sym, ap, ◌∙◌, subst, inl, inr, ⊎_elim, append_assoc, append-nil, arith}
+use native.Mathlib.Nat.{add-zero}
+use Rattle.std.specs.Prelude.{nat_lt}
+use Rattle.std.proofs.lemmas.Option.{same_Some}
+use Rattle.journal_protocol.specs.declared.commands.InputCommand.{InputCommand}
+use Rattle.journal_protocol.specs.declared.faults.NamedFault.{NamedFault}
+use Rattle.journal_protocol.specs.declared.message.RawMessage.{RawMessage}
+use Rattle.journal_protocol.specs.declared.notification.Notification.{Notification}
+use Rattle.journal_protocol.specs.declared.notification.NotificationId.{NotificationId}
+use Rattle.journal_protocol.specs.declared.notification.NotificationResult.{NotificationResult}
+use Rattle.vm_parts.specs.declared.steps.Answer.{Answer}
+use Rattle.vm_parts.specs.declared.steps.Step.{Step}
+use Rattle.vm_parts.specs.declared.steps.Step.TheVariants as step
+use Rattle.vm_parts.specs.declared.types.NotificationHandle.{NotificationHandle}
+use Rattle.vm_parts.specs.declared.values.NonEmptyValue.{NonEmptyValue}
+use Rattle.vm_parts.specs.declared.values.Value.{Value}
+use Rattle.vm_parts.specs.Counting.{missing, missing_signals}
+use Rattle.vm_parts.specs.Deliveries.{id_at, present_for}
+use Rattle.vm_parts.specs.Values.{value_message, value_of}
+use Rattle.vm_machine.specs.declared.request.Request.{Request}
+use Rattle.vm_machine.specs.declared.request.Request.TheVariants as request
+use Rattle.vm_machine.specs.Phases.{is_from_v6}
+use Rattle.vm_machine.specs.Requests.{ids_of}
+use Rattle.invocation_vm.specs.Calls.{has_metadata}
+use Rattle.vm_model.specs.Calls.{Setup, Meaning, Derived, Demand, Move, awakeable_made, awaiting, call_of, commanded, handing, is_awake, name_in, numbered, ready_in, requested, result_taken, sleeping, value_taken}
+use Rattle.vm_model.specs.Calls.Move.{Answers, Needs, Awaits, Stops}
+use Rattle.vm_model.specs.Moves.{Point, after, command_used, move_at, moved, next, stands_for, start, uses_arrival, uses_command}
+use Rattle.vm_model.specs.Sums.{calls_after, calls_for, completion_ids, handles, signal_ids, total}
+use Rattle.vm_model.proofs.Runs.{and_then_some, none_some}
+
+-- so many numbers were given
+record Given (ids signals numbers : ℕ) (d e : Derived) : Type 0 where
+  completion : e.counters.completion ≡ d.counters.completion + ids
+  signal : e.counters.signal ≡ d.counters.signal + signals
+  handle : e.counters.handle ≡ d.counters.handle + numbers
+
+-- a move that answers gives one answer and so many numbers
+abbrev GivenAfter : ℕ → ℕ → Derived → Move → Type 0
+GivenAfter ids signals d (Answers gives e) = (a : Answer) × (gives ≡ a ∷ []) × Given ids signals (ids + signals) d e
+GivenAfter ids signals d (Needs demand gives e) = (a : Answer) × (gives ≡ a ∷ []) × Given ids signals (ids + signals) d e
+GivenAfter ids signals d Awaits = Unit {0}
+GivenAfter ids signals d Stops = Unit {0}
+
+commanded_given : (r : Request) (d : Derived) → Given (ids_of r) 0 (ids_of r + 0) d (commanded r d)
+commanded_given (request.Sleep wake_up_time name) d = record { completion = refl; signal = sym (add-zero d.counters.signal); handle = refl }
+commanded_given (request.Output value options) d = record { completion = sym (add-zero d.counters.completion); signal = sym (add-zero d.counters.signal); handle = sym (add-zero d.counters.handle) }
+commanded_given (request.SetState key value name options) d = record { completion = sym (add-zero d.counters.completion); signal = sym (add-zero d.counters.signal); handle = sym (add-zero d.counters.handle) }
+commanded_given (request.ClearState key name) d = record { completion = sym (add-zero d.counters.completion); signal = sym (add-zero d.counters.signal); handle = sym (add-zero d.counters.handle) }
+commanded_given (request.ClearAllState name) d = record { completion = sym (add-zero d.counters.completion); signal = sym (add-zero d.counters.signal); handle = sym (add-zero d.counters.handle) }
+commanded_given (request.CompleteAwakeable id value options) d = record { completion = sym (add-zero d.counters.completion); signal = sym (add-zero d.counters.signal); handle = sym (add-zero d.counters.handle) }
+commanded_given (request.CompleteSignal target signal value) d = record { completion = sym (add-zero d.counters.completion); signal = sym (add-zero d.counters.signal); handle = sym (add-zero d.counters.handle) }
+commanded_given (request.CancelInvocation target) d = record { completion = sym (add-zero d.counters.completion); signal = sym (add-zero d.counters.signal); handle = sym (add-zero d.counters.handle) }
+
+numbered_given : (s : Setup) (r : Request) (o : Option NamedFault) (d : Derived) → GivenAfter (ids_of r) 0 d (numbered s r o d)
+numbered_given s r (Some fault) d = tt
+numbered_given s r None d = (_, refl, commanded_given r d)
+
+requested_given : (s : Setup) (r : Request) (d : Derived) → GivenAfter (ids_of r) 0 d (requested s r d)
+requested_given s r d = numbered_given s r (missing (ids_of r) 0 (ids_of r) d.counters) d
+
+handing_given : (s : Setup) (value : NonEmptyValue) (r : Request) (d : Derived) → GivenAfter (ids_of r) 0 d (handing s value r d)
+handing_given s value r d = by_tests (has_metadata value) (is_from_v6 s.version)
+  where
+    by_tests : (a b : Bool) → GivenAfter (ids_of r) 0 d (cond a (cond b (requested s r d) Stops) (requested s r d))
+    by_tests true true = requested_given s r d
+    by_tests true false = tt
+    by_tests false b = requested_given s r d
+
+sleeping_given : (s : Setup) (millis : ℕ) (name : List ℕ) (d : Derived) → GivenAfter 1 0 d (sleeping s millis name d)
+sleeping_given s millis name d = by_test (nat_lt millis 18446744073709551616)
+  where
+    by_test : (b : Bool) → GivenAfter 1 0 d (cond b (requested s (request.Sleep millis name) d) Stops)
+    by_test true = requested_given s (request.Sleep millis name) d
+    by_test false = tt
+
+awakeable_given : (s : Setup) (o : Option NamedFault) (d : Derived) → GivenAfter 0 1 d (awakeable_made s o d)
+awakeable_given s (Some fault) d = tt
+awakeable_given s None d = (_, refl, record { completion = sym (add-zero d.counters.completion); signal = refl; handle = refl })
+
+nothing_given : (d e : Derived) → e.counters ≡ d.counters → Given 0 0 0 d e
+nothing_given d e is = record { completion = ap (λ c. c.completion) is ∙ sym (add-zero d.counters.completion); signal = ap (λ c. c.signal) is ∙ sym (add-zero d.counters.signal); handle = ap (λ c. c.handle) is ∙ sym (add-zero d.counters.handle) }
+
+awaiting_given : (b : Bool) (d : Derived) → GivenAfter 0 0 d (awaiting b d)
+awaiting_given true d = (_, refl, nothing_given d d refl)
+awaiting_given false d = tt
+
+value_given : (handle : NotificationHandle) (id : NotificationId) (o : Option Value) (d : Derived) → GivenAfter 0 0 d (value_taken handle id o d)
+value_given handle id None d = tt
+value_given handle id (Some value) d = (_, refl, nothing_given d _ refl)
+
+result_given : (handle : NotificationHandle) (id : Option NotificationId) (o : Option NotificationResult) (d : Derived) → GivenAfter 0 0 d (result_taken handle id o d)
+result_given handle (Some id) (Some result) d = value_given handle id (value_of result) d
+result_given handle (Some id) None d = (_, refl, nothing_given d d refl)
+result_given handle None o d = (_, refl, nothing_given d d refl)
+
+call_given : (s : Setup) (step : Step) (d : Derived) → GivenAfter (completion_ids step) (signal_ids step) d (call_of s step d)
+call_given s (step.Sleep name wake_up_time now) d = sleeping_given s _ name d
+call_given s (step.StateSet key value name options) d = requested_given s (request.SetState key value (name_in name) options) d
+call_given s (step.StateClear key name) d = requested_given s (request.ClearState key (name_in name)) d
+call_given s (step.StateClearAll name) d = requested_given s (request.ClearAllState (name_in name)) d
+call_given s step.Awakeable d = awakeable_given s (missing_signals 1 1 d.counters) d
+call_given s (step.CompleteAwakeable id value options) d = handing_given s value (request.CompleteAwakeable id (value_message value) options) d
+call_given s (step.CompleteSignal target signal value) d = handing_given s value (request.CompleteSignal target signal (value_message value)) d
+call_given s (step.CancelInvocation target) d = requested_given s (request.CancelInvocation target) d
+call_given s (step.WriteOutput value options) d = handing_given s value (request.Output (value_message value) options) d
+call_given s (step.Await future) d = awaiting_given (is_awake s future d) d
+call_given s (step.Take handle) d = result_given handle (id_at handle.0 d.handles) (present_for s.options.signal_delivery (id_at handle.0 d.handles) (ready_in s d)) d
+call_given s (step.Completed handle) d = (_, refl, nothing_given d d refl)
+call_given s step.End d = tt
+
+-- ---- one move
+
+-- one answer came and so many numbers were given, or nothing changed but what was used
+Moves : ℕ → ℕ → Point → Point → Type 0
+Moves ids signals p q = ((a : Answer) × (q.answers ≡ p.answers ++ a ∷ []) × Given ids signals (ids + signals) p.derived q.derived) ⊎ ((q.answers ≡ p.answers) × (q.derived.counters ≡ p.derived.counters))
+
+command_moves : (ids signals : ℕ) (b : Bool) (e : Demand) (gives : List Answer) (d : Derived) (left : List RawMessage) (p q : Point) → (a : Answer) × (gives ≡ a ∷ []) × Given ids signals (ids + signals) p.derived d → command_used b e gives d left p ≡ Some q → Moves ids signals p q
+unfolding Moves
+command_moves ids signals false e gives d left p q g m = none_some m
+command_moves ids signals true e gives d left p q g m =
+    let is = same_Some _ q m in
+    inl (g.0, ap (λ z. z.answers) (sym is) ∙ ap (λ l. p.answers ++ l) g.1, subst (λ z. Given ids signals (ids + signals) p.derived z.derived) is g.2)
+
+uses_moves : (ids signals : ℕ) (e : Demand) (gives : List Answer) (d : Derived) (left : List RawMessage) (p q : Point) → (a : Answer) × (gives ≡ a ∷ []) × Given ids signals (ids + signals) p.derived d → uses_command e gives d left p ≡ Some q → Moves ids signals p q
+uses_moves ids signals e gives d [] p q g m = none_some m
+uses_moves ids signals e gives d (c ∷ left) p q g m = command_moves ids signals (stands_for e c) e gives d left p q g m
+
+arrival_moves : (ids signals : ℕ) (queue : List Notification) (p q : Point) → uses_arrival queue p ≡ Some q → Moves ids signals p q
+unfolding Moves
+arrival_moves ids signals [] p q m = none_some m
+arrival_moves ids signals (n ∷ queue) p q m = let is = same_Some _ q m in inr (ap (λ z. z.answers) (sym is), ap (λ z. z.derived.counters) (sym is))
+
+moved_moves : (ids signals : ℕ) (mv : Move) (p q : Point) → GivenAfter ids signals p.derived mv → moved mv p ≡ Some q → Moves ids signals p q
+unfolding Moves
+moved_moves ids signals (Answers gives d) p q g m =
+    let is = same_Some _ q m in
+    inl (g.0, ap (λ z. z.answers) (sym is) ∙ ap (λ l. p.answers ++ l) g.1, subst (λ z. Given ids signals (ids + signals) p.derived z.derived) is g.2)
+moved_moves ids signals (Needs e gives d) p q g m = uses_moves ids signals e gives d p.left p q g m
+moved_moves ids signals Awaits p q g m = arrival_moves ids signals p.queue p q m
+moved_moves ids signals Stops p q g m = none_some m
+
+-- ---- so many moves
+
+-- the numbers given between two points are the sums over the calls between them
+record Sums (m : Meaning) (p q : Point) : Type 0 where
+  gained : List Answer
+  answers : q.answers ≡ p.answers ++ gained
+  numbers : Given (total completion_ids (calls_after m p.answers gained)) (total signal_ids (calls_after m p.answers gained)) (total handles (calls_after m p.answers gained)) p.derived q.derived
+
+sums_none : (m : Meaning) (p : Point) → Sums m p p
+sums_none m p = record { gained = []; answers = sym (append-nil p.answers); numbers = nothing_given p.derived p.derived refl }
+
+sums_answer : (m : Meaning) (p r q : Point) (a : Answer) → r.answers ≡ p.answers ++ a ∷ [] → Given (completion_ids (m p.answers)) (signal_ids (m p.answers)) (completion_ids (m p.answers) + signal_ids (m p.answers)) p.derived r.derived → Sums m r q → Sums m p q
+sums_answer m p r q a is g t =
+    let n = subst (λ l. Given (total completion_ids (calls_after m l t.gained)) (total signal_ids (calls_after m l t.gained)) (total handles (calls_after m l t.gained)) r.derived q.derived) is t.numbers in
+    let c1 = n.completion in
+    let c2 = g.completion in
+    let s1 = n.signal in
+    let s2 = g.signal in
+    let h1 = n.handle in
+    let h2 = g.handle in
+    record {
+      gained = a ∷ t.gained;
+      answers = t.answers ∙ ap (λ l. l ++ t.gained) is ∙ append_assoc p.answers (a ∷ []) t.gained;
+      numbers = record { completion = omega (arith, c1, c2); signal = omega (arith, s1, s2); handle = omega (arith, h1, h2) };
+    }
+
+sums_arrival : (m : Meaning) (p r q : Point) → r.answers ≡ p.answers → r.derived.counters ≡ p.derived.counters → Sums m r q → Sums m p q
+sums_arrival m p r q is same t =
+    let n = subst (λ l. Given (total completion_ids (calls_after m l t.gained)) (total signal_ids (calls_after m l t.gained)) (total handles (calls_after m l t.gained)) r.derived q.derived) is t.numbers in
+    record {
+      gained = t.gained;
+      answers = t.answers ∙ ap (λ l. l ++ t.gained) is;
+      numbers = record {
+        completion = n.completion ∙ ap (λ c. c.completion + total completion_ids (calls_after m p.answers t.gained)) same;
+        signal = n.signal ∙ ap (λ c. c.signal + total signal_ids (calls_after m p.answers t.gained)) same;
+        handle = n.handle ∙ ap (λ c. c.handle + total handles (calls_after m p.answers t.gained)) same;
+      };
+    }
+
+after_sums : (s : Setup) (m : Meaning) (n : ℕ) (p q : Point) → after s m n p ≡ Some q → Sums m p q
+unfolding Moves
+after_sums s m zero p q e = subst (λ z. Sums m p z) (same_Some _ q e) (sums_none m p)
+after_sums s m (suc n) p q e =
+    let x = and_then_some (next s m p) (after s m n) q e in
+    ⊎_elim
+    (λ (y : (a : Answer) × (x.0.answers ≡ p.answers ++ a ∷ []) × Given (completion_ids (m p.answers)) (signal_ids (m p.answers)) (completion_ids (m p.answers) + signal_ids (m p.answers)) p.derived x.0.derived). sums_answer m p x.0 q y.0 y.1 y.2 (after_sums s m n x.0 q x.2))
+    (λ (y : (x.0.answers ≡ p.answers) × (x.0.derived.counters ≡ p.derived.counters)). sums_arrival m p x.0 q y.0 y.1 (after_sums s m n x.0 q x.2))
+    (moved_moves (completion_ids (m p.answers)) (signal_ids (m p.answers)) (move_at s m p) p x.0 (call_given s (m p.answers) p.derived) x.1)
+
+-- in a run that a journal tells: completion ids from 1, signal ids and handles from 17
+pub told_sums : (s : Setup) (m : Meaning) (n : ℕ) (input : InputCommand) (ns : List Notification) (cs : List RawMessage) (q : Point) → after s m n (start s input ns cs) ≡ Some q
+    → (q.derived.counters.completion ≡ 1 + total completion_ids (calls_for m q.answers)) × (q.derived.counters.signal ≡ 17 + total signal_ids (calls_for m q.answers)) × (q.derived.counters.handle ≡ 17 + total handles (calls_for m q.answers))
+told_sums s m n input ns cs q e =
+    let t = after_sums s m n (start s input ns cs) q e in
+    rw t.answers (t.numbers.completion, t.numbers.signal, t.numbers.handle)

@@ -1,0 +1,124 @@
+-- Each take of a run took a result that was present.
+use Rattle.std.proofs.Common.{◌≡◌, ℕ, zero, suc, Bool, true, false, cond, is_some, List, [], ◌∷◌, Option, Some, None, refl, sym, ap, ◌∙◌, subst}
+use Rattle.std.proofs.lemmas.Option.{same_Some}
+use Rattle.journal_protocol.specs.declared.commands.InputCommand.{InputCommand}
+use Rattle.journal_protocol.specs.declared.faults.NamedFault.{NamedFault}
+use Rattle.journal_protocol.specs.declared.message.RawMessage.{RawMessage}
+use Rattle.journal_protocol.specs.declared.notification.Notification.{Notification}
+use Rattle.journal_protocol.specs.declared.notification.NotificationId.{NotificationId}
+use Rattle.journal_protocol.specs.declared.notification.NotificationResult.{NotificationResult}
+use Rattle.vm_parts.specs.declared.steps.Answer.{Answer}
+use Rattle.vm_parts.specs.declared.steps.Step.{Step}
+use Rattle.vm_parts.specs.declared.steps.Step.TheVariants as step
+use Rattle.vm_parts.specs.declared.types.NotificationHandle.{NotificationHandle}
+use Rattle.vm_parts.specs.declared.values.NonEmptyValue.{NonEmptyValue}
+use Rattle.vm_parts.specs.declared.values.Value.{Value}
+use Rattle.vm_parts.specs.Counting.{missing, missing_signals}
+use Rattle.vm_parts.specs.Deliveries.{id_at, present, present_for}
+use Rattle.vm_parts.specs.Values.{value_message, value_of}
+use Rattle.vm_machine.specs.declared.request.Request.{Request}
+use Rattle.vm_machine.specs.declared.request.Request.TheVariants as request
+use Rattle.vm_machine.specs.Phases.{is_from_v6}
+use Rattle.vm_machine.specs.Requests.{ids_of}
+use Rattle.invocation_vm.specs.Calls.{has_metadata}
+use Rattle.vm_model.specs.Calls.{Setup, Meaning, Derived, Demand, Move, Usage, awakeable_made, awaiting, call_of, commanded, completions_given, handing, is_awake, name_in, numbered, ready_in, requested, result_taken, sleeping, value_taken}
+use Rattle.vm_model.specs.Calls.Move.{Answers, Needs, Awaits, Stops}
+use Rattle.vm_model.specs.Moves.{Point, after, command_used, move_at, moved, next, stands_for, start, uses_arrival, uses_command}
+use Rattle.vm_model.specs.Deliveries.{EachTookAResult}
+use Rattle.vm_model.proofs.Runs.{and_then_some, none_some}
+
+-- what each take of a run took was present
+abbrev Took : Setup → Derived → Type 0
+Took s d = EachTookAResult s.options.signal_delivery d.usage
+
+abbrev TookAfter : Setup → Move → Type 0
+TookAfter s (Answers gives d) = Took s d
+TookAfter s (Needs demand gives d) = Took s d
+TookAfter s Awaits = Unit {0}
+TookAfter s Stops = Unit {0}
+
+given_took : (s : Setup) (n : ℕ) (d : Derived) → Took s d → Took s (completions_given n d)
+given_took s zero d h = h
+given_took s (suc n) d h = given_took s n _ h
+
+numbered_took : (s : Setup) (r : Request) (o : Option NamedFault) (d : Derived) → Took s d → TookAfter s (numbered s r o d)
+numbered_took s r (Some fault) d h = tt
+numbered_took s r None d h = given_took s (ids_of r) _ h
+
+requested_took : (s : Setup) (r : Request) (d : Derived) → Took s d → TookAfter s (requested s r d)
+requested_took s r d h = numbered_took s r (missing (ids_of r) 0 (ids_of r) d.counters) d h
+
+handing_took : (s : Setup) (value : NonEmptyValue) (r : Request) (d : Derived) → Took s d → TookAfter s (handing s value r d)
+handing_took s value r d h = by_tests (has_metadata value) (is_from_v6 s.version)
+  where
+    by_tests : (a b : Bool) → TookAfter s (cond a (cond b (requested s r d) Stops) (requested s r d))
+    by_tests true true = requested_took s r d h
+    by_tests true false = tt
+    by_tests false b = requested_took s r d h
+
+sleeping_took : (s : Setup) (millis : ℕ) (name : List ℕ) (d : Derived) → Took s d → TookAfter s (sleeping s millis name d)
+sleeping_took s millis name d h = by_test (Rattle.std.specs.Prelude.nat_lt millis 18446744073709551616)
+  where
+    by_test : (b : Bool) → TookAfter s (cond b (requested s (request.Sleep millis name) d) Stops)
+    by_test true = requested_took s (request.Sleep millis name) d h
+    by_test false = tt
+
+awakeable_took : (s : Setup) (o : Option NamedFault) (d : Derived) → Took s d → TookAfter s (awakeable_made s o d)
+awakeable_took s (Some fault) d h = tt
+awakeable_took s None d h = h
+
+awaiting_took : (s : Setup) (b : Bool) (d : Derived) → Took s d → TookAfter s (awaiting b d)
+awaiting_took s true d h = h
+awaiting_took s false d h = tt
+
+value_took : (s : Setup) (handle : NotificationHandle) (id : NotificationId) (o : Option Value) (d : Derived) → is_some (present s.options.signal_delivery id (ready_in s d)) ≡ true → Took s d → TookAfter s (value_taken handle id o d)
+value_took s handle id None d there h = tt
+value_took s handle id (Some value) d there h = (there, h)
+
+result_took : (s : Setup) (handle : NotificationHandle) (id : Option NotificationId) (o : Option NotificationResult) (d : Derived) → present_for s.options.signal_delivery id (ready_in s d) ≡ o → Took s d → TookAfter s (result_taken handle id o d)
+result_took s handle (Some id) (Some result) d is h = value_took s handle id (value_of result) d (ap is_some is) h
+result_took s handle (Some id) None d is h = h
+result_took s handle None o d is h = h
+
+call_took : (s : Setup) (step : Step) (d : Derived) → Took s d → TookAfter s (call_of s step d)
+call_took s (step.Sleep name wake_up_time now) d h = sleeping_took s _ name d h
+call_took s (step.StateSet key value name options) d h = requested_took s (request.SetState key value (name_in name) options) d h
+call_took s (step.StateClear key name) d h = requested_took s (request.ClearState key (name_in name)) d h
+call_took s (step.StateClearAll name) d h = requested_took s (request.ClearAllState (name_in name)) d h
+call_took s step.Awakeable d h = awakeable_took s (missing_signals 1 1 d.counters) d h
+call_took s (step.CompleteAwakeable id value options) d h = handing_took s value (request.CompleteAwakeable id (value_message value) options) d h
+call_took s (step.CompleteSignal target signal value) d h = handing_took s value (request.CompleteSignal target signal (value_message value)) d h
+call_took s (step.CancelInvocation target) d h = requested_took s (request.CancelInvocation target) d h
+call_took s (step.WriteOutput value options) d h = handing_took s value (request.Output (value_message value) options) d h
+call_took s (step.Await future) d h = awaiting_took s (is_awake s future d) d h
+call_took s (step.Take handle) d h = result_took s handle (id_at handle.0 d.handles) (present_for s.options.signal_delivery (id_at handle.0 d.handles) (ready_in s d)) d refl h
+call_took s (step.Completed handle) d h = h
+call_took s step.End d h = tt
+
+command_took : (s : Setup) (b : Bool) (e : Demand) (gives : List Answer) (d : Derived) (left : List RawMessage) (p q : Point) → Took s d → command_used b e gives d left p ≡ Some q → Took s q.derived
+command_took s false e gives d left p q h m = none_some m
+command_took s true e gives d left p q h m = subst (λ z. Took s z.derived) (same_Some _ q m) h
+
+uses_took : (s : Setup) (e : Demand) (gives : List Answer) (d : Derived) (left : List RawMessage) (p q : Point) → Took s d → uses_command e gives d left p ≡ Some q → Took s q.derived
+uses_took s e gives d [] p q h m = none_some m
+uses_took s e gives d (c ∷ left) p q h m = command_took s (stands_for e c) e gives d left p q h m
+
+arrival_took : (s : Setup) (queue : List Notification) (p q : Point) → Took s p.derived → uses_arrival queue p ≡ Some q → Took s q.derived
+arrival_took s [] p q h m = none_some m
+arrival_took s (n ∷ queue) p q h m = subst (λ z. Took s z.derived) (same_Some _ q m) h
+
+moved_took : (s : Setup) (mv : Move) (p q : Point) → Took s p.derived → TookAfter s mv → moved mv p ≡ Some q → Took s q.derived
+moved_took s (Answers gives d) p q h t m = subst (λ z. Took s z.derived) (same_Some _ q m) t
+moved_took s (Needs e gives d) p q h t m = uses_took s e gives d p.left p q t m
+moved_took s Awaits p q h t m = arrival_took s p.queue p q h m
+moved_took s Stops p q h t m = none_some m
+
+after_took : (s : Setup) (m : Meaning) (n : ℕ) (p q : Point) → Took s p.derived → after s m n p ≡ Some q → Took s q.derived
+after_took s m zero p q h e = subst (λ z. Took s z.derived) (same_Some _ q e) h
+after_took s m (suc n) p q h e =
+    let x = and_then_some (next s m p) (after s m n) q e in
+    after_took s m n x.0 q (moved_took s (move_at s m p) p x.0 h (call_took s (m p.answers) p.derived h) x.1) x.2
+
+-- in a run that a journal tells each take took what was present
+pub told_took : (s : Setup) (m : Meaning) (n : ℕ) (input : InputCommand) (ns : List Notification) (cs : List RawMessage) (q : Point) → after s m n (start s input ns cs) ≡ Some q → EachTookAResult s.options.signal_delivery q.derived.usage
+told_took s m n input ns cs q e = after_took s m n (start s input ns cs) q tt e

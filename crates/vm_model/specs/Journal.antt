@@ -1,0 +1,35 @@
+-- A journal: its entries, and the two lists that a run reads them as.
+use Rattle.std.specs.Prelude.{List, [], ◌∷◌, Option, None, ◌==◌, if◌then◌else◌}
+use Rattle.journal_protocol.specs.declared.commands.InputCommand.{InputCommand}
+use Rattle.journal_protocol.specs.declared.message.Message.{Message}
+use Rattle.journal_protocol.specs.declared.message.RawMessage.{RawMessage}
+use Rattle.journal_protocol.specs.declared.notification.Notification.{Notification}
+use Rattle.journal_protocol.specs.declared.types.MessageType.TheVariants as type
+use Rattle.journal_protocol.specs.Message.{type_of, body}
+use Rattle.journal_protocol.specs.Reading.{input_in}
+use Rattle.journal_protocol.specs.Types.{type_number}
+
+-- An entry is a command as it was stored, or a notification.
+pub data Entry : Type 0 where
+  Recorded : RawMessage → Entry
+  Notified : Notification → Entry
+
+-- the commands of a journal, in order
+abbrev pub commands_in : List Entry → List RawMessage
+commands_in [] = []
+commands_in (Recorded c ∷ es) = c ∷ commands_in es
+commands_in (Notified n ∷ es) = commands_in es
+
+-- the notifications of a journal, in order
+abbrev pub notifications_in : List Entry → List Notification
+notifications_in [] = []
+notifications_in (Recorded c ∷ es) = notifications_in es
+notifications_in (Notified n ∷ es) = n ∷ notifications_in es
+
+-- a message as it is stored
+abbrev pub stored_form : Message → RawMessage
+stored_form m = record { ty = type_of m; body = body m }
+
+-- the input that a stored command is; none where it is another command
+abbrev pub input_read_from : RawMessage → Option InputCommand
+input_read_from raw = if type_number raw.ty == type_number type.InputCommand then input_in raw.body else None

@@ -1,0 +1,6 @@
+pub mod Journal
+pub mod Calls
+pub mod Moves
+pub mod Histories
+pub mod Deliveries
+pub mod Sums

@@ -1,0 +1,148 @@
+-- A point of a handler's run over two lists, the recorded commands and the arrivals that aren't used yet, and the
+-- moves from one point to the next.
+use Rattle.std.specs.Prelude.{ℕ, zero, suc, ◌+◌, ◌==◌, Bool, false, cond, if◌then◌else◌, List, [], ◌∷◌, ◌++◌, Option, Some, None}
+use Rattle.journal_protocol.specs.declared.commands.InputCommand.{InputCommand}
+use Rattle.journal_protocol.specs.declared.message.Message.{Message}
+use Rattle.journal_protocol.specs.declared.message.Message.TheVariants as message
+use Rattle.journal_protocol.specs.declared.message.RawMessage.{RawMessage}
+use Rattle.journal_protocol.specs.declared.notification.Notification.{Notification}
+use Rattle.journal_protocol.specs.declared.types.MessageType.TheVariants as type
+use Rattle.journal_protocol.specs.HeaderEqual.{header_equal}
+use Rattle.journal_protocol.specs.Message.{type_of}
+use Rattle.journal_protocol.specs.Reading.{message_in}
+use Rattle.journal_protocol.specs.Types.{type_number}
+use Rattle.vm_parts.specs.declared.context.StateMap.{StateMap}
+use Rattle.vm_parts.specs.declared.steps.Answer.{Answer}
+use Rattle.vm_parts.specs.declared.steps.Answer.TheVariants as answer
+use Rattle.vm_parts.specs.declared.values.Input.{Input}
+use Rattle.vm_parts.specs.Counting.{fresh_counters}
+use Rattle.vm_parts.specs.Deliveries.{no_results}
+use Rattle.vm_parts.specs.States.{state_set, state_cleared, all_cleared}
+use Rattle.vm_model.specs.Calls.{Setup, Identity, Meaning, Derived, Usage, Demand, Move, call_of}
+use Rattle.vm_model.specs.Calls.Usage.{Used}
+use Rattle.vm_model.specs.Calls.Move.{Answers, Needs, Awaits, Stops}
+use Rattle.vm_model.specs.Journal.{stored_form}
+
+-- The answers so far, what follows from them, the commands of the calls so far, the arrivals that no await has used,
+-- and the recorded commands that no call has used.
+pub record Point : Type 0 where
+  pub answers : List Answer
+  pub derived : Derived
+  pub said : List Message
+  pub queue : List Notification
+  pub left : List RawMessage
+
+-- ---- a recorded command
+
+abbrev pub reads_as : Bool → Message → Option Message → Bool
+reads_as ignore own None = false
+reads_as ignore own (Some recorded) = header_equal recorded own ignore
+
+-- a recorded command stands for a call's: it is of its type and header-equal to it
+abbrev pub stands_for : Demand → RawMessage → Bool
+stands_for d raw = if type_number raw.ty == type_number (type_of d.command) then reads_as d.ignores_payload d.command (message_in raw.ty raw.body) else false
+
+-- ---- moves
+
+-- an arrival is used
+abbrev pub arrival_used : Notification → Derived → Derived
+arrival_used n d = record d { usage = Used n ∷ d.usage }
+
+abbrev pub command_used : Bool → Demand → List Answer → Derived → List RawMessage → Point → Option Point
+command_used b demand gives d left p =
+    cond b (Some (record { answers = p.answers ++ gives; derived = d; said = p.said ++ demand.command ∷ []; queue = p.queue; left = left })) None
+
+-- the next recorded command is used, where it stands for the call's
+abbrev pub uses_command : Demand → List Answer → Derived → List RawMessage → Point → Option Point
+uses_command demand gives d [] p = None
+uses_command demand gives d (c ∷ left) p = command_used (stands_for demand c) demand gives d left p
+
+-- the next arrival is used
+abbrev pub uses_arrival : List Notification → Point → Option Point
+uses_arrival [] p = None
+uses_arrival (n ∷ queue) p = Some (record p { derived = arrival_used n p.derived; queue = queue })
+
+abbrev pub moved : Move → Point → Option Point
+moved (Answers gives d) p = Some (record p { answers = p.answers ++ gives; derived = d })
+moved (Needs demand gives d) p = uses_command demand gives d p.left p
+moved Awaits p = uses_arrival p.queue p
+moved Stops p = None
+
+-- what the handler asks for at a point
+abbrev pub move_at : Setup → Meaning → Point → Move
+move_at s m p = call_of s (m p.answers) p.derived
+
+-- the next point
+abbrev pub next : Setup → Meaning → Point → Option Point
+next s m p = moved (move_at s m p) p
+
+abbrev pub and_then : {A B : Type 0} → Option A → (A → Option B) → Option B
+and_then None f = None
+and_then (Some x) f = f x
+
+-- the point after so many moves
+abbrev pub after : Setup → Meaning → ℕ → Point → Option Point
+after s m zero p = Some p
+after s m (suc n) p = and_then (next s m p) (after s m n)
+
+-- ---- the first point
+
+-- what a handler is told with its input
+abbrev pub told_input : Identity → InputCommand → Input
+told_input i c = record {
+  invocation_id = i.debug_id;
+  random_seed = i.random_seed;
+  key = i.key;
+  headers = c.headers;
+  input = c.value;
+  scope = i.scope;
+  limit_key = i.limit_key;
+  idempotency_key = i.idempotency_key;
+}
+
+-- after the input: one command is counted, and only the cancel handle stands for an id
+abbrev pub first_derived : Derived
+first_derived = record {
+  counters = record fresh_counters { command = Some 0 };
+  last = record { ty = type.InputCommand; name = [] };
+  handles = no_results.handles;
+  usage = [];
+}
+
+-- the point after the input, which is the journal's first command
+abbrev pub start : Setup → InputCommand → List Notification → List RawMessage → Point
+start s input ns cs = record { answers = answer.Input (told_input s.identity input) ∷ []; derived = first_derived; said = []; queue = ns; left = cs }
+
+-- ---- the state
+
+-- the state after a command
+abbrev pub changed : Message → StateMap → StateMap
+changed (message.SetState c) state = state_set c.key c.value state
+changed (message.ClearState c) state = state_cleared c.key state
+changed (message.ClearAllState c) state = all_cleared state
+changed _ state = state
+
+abbrev pub changed_by : List Message → StateMap → StateMap
+changed_by [] state = state
+changed_by (c ∷ cs) state = changed_by cs (changed c state)
+
+-- ---- what a call brings itself
+
+abbrev pub supply : Move → List RawMessage → List RawMessage
+supply (Needs demand gives d) [] = stored_form demand.command ∷ []
+supply (Needs demand gives d) (c ∷ left) = []
+supply (Answers gives d) left = []
+supply Awaits left = []
+supply Stops left = []
+
+-- where no recorded command is left, the command that the call needs
+abbrev pub supplied : Setup → Meaning → Point → List RawMessage
+supplied s m p = supply (move_at s m p) p.left
+
+-- the point with more recorded commands behind its own
+abbrev pub longer : List RawMessage → Point → Point
+longer cs p = record p { left = p.left ++ cs }
+
+-- the point with more arrivals behind its own
+abbrev pub later : List Notification → Point → Point
+later ns p = record p { queue = p.queue ++ ns }

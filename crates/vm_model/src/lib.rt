@@ -1,0 +1,15 @@
+//! What whole runs of a handler are: the table of its calls, the moves that a journal tells, what an attempt writes, and
+//! what rounds of attempts leave; with the laws of these, as functions that do nothing.
+#![tactic(auto)]
+
+mod awaits;
+mod numbers;
+mod rounds;
+mod told;
+
+pub use awaits::{awaits_wake, results_are_present};
+pub use numbers::numbers_are_sums;
+pub use rounds::{answers_agree, one_history, one_undisturbed, undisturbed};
+pub use told::{
+    attempt_is_told, attempts_go_on, later_changes_nothing, none_refused, one_told,
+};

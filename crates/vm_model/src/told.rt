@@ -1,0 +1,37 @@
+//! Laws of one attempt: what a journal tells of it.
+ghost use Rattle.std.specs.Prelude.{◌≡◌, ◌⊎◌, ◌∷◌, ◌++◌, List, [], ℕ, Some};
+ghost use Rattle.journal_protocol.specs.declared.commands.InputCommand.{InputCommand};
+ghost use Rattle.journal_protocol.specs.declared.message.RawMessage.{RawMessage};
+ghost use Rattle.journal_protocol.specs.declared.notification.Notification.{Notification};
+ghost use Rattle.vm_model.specs.Calls.{Setup, Meaning};
+ghost use Rattle.vm_model.specs.Journal.{Entry, notifications_in};
+ghost use Rattle.vm_model.specs.Moves.{Point, after, later, longer, next, start};
+ghost use Rattle.vm_model.specs.Histories.{History, IsStuck, Made, OneBegins, Told};
+
+/// Later arrivals and further recorded commands change nothing of what a run did.
+pub fn later_changes_nothing()
+    ensures { (s : Setup) (m : Meaning) (n : ℕ) (cs : List RawMessage) (ns : List Notification) (p q : Point) → after s m n p ≡ Some q → after s m n (longer cs (later ns p)) ≡ Some (longer cs (later ns q)) }
+{}
+
+/// Of two points that a journal tells, also with more arrivals and commands, the answers of one begin the other's.
+pub fn one_told()
+    ensures { (s : Setup) (m : Meaning) (input : InputCommand) (ns more_notes : List Notification) (cs more : List RawMessage) (p q : Point) → Told s m input ns cs p → Told s m input (ns ++ more_notes) (cs ++ more) q → OneBegins p.answers q.answers }
+{}
+
+/// What an attempt does is told by its journal followed by what it wrote, and it wrote nothing while recorded commands
+/// were left.
+pub fn attempt_is_told()
+    ensures { (s : Setup) (m : Meaning) (input : InputCommand) (n : ℕ) (ns : List Notification) (cs written : List RawMessage) (q : Point) → Made s m n (start s input ns cs) written q → Told s m input ns (cs ++ written) q × ((written ≡ []) ⊎ (q.left ≡ [])) }
+{}
+
+/// While recorded commands of a history are left, an attempt goes on: no mismatch, no pending await, no end.
+pub fn attempts_go_on()
+    ensures { (s : Setup) (m : Meaning) (journal : List Entry) (delivered : List Notification) (k : ℕ) (written left : List RawMessage) (c : RawMessage) (q : Point) (h : History s m journal) →
+        Made s m k (start s h.input (notifications_in journal ++ delivered) h.rest) written q → q.left ≡ c ∷ left → (r : Point) × (next s m q ≡ Some r) }
+{}
+
+/// On a history no call is refused while recorded commands are left.
+pub fn none_refused()
+    ensures { (s : Setup) (m : Meaning) (journal : List Entry) (delivered : List Notification) (k : ℕ) (written left : List RawMessage) (c : RawMessage) (q : Point) (h : History s m journal) →
+        Made s m k (start s h.input (notifications_in journal ++ delivered) h.rest) written q → q.left ≡ c ∷ left → IsStuck s m q → ⊥ }
+{}

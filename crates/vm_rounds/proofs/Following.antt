@@ -1,0 +1,204 @@
+-- Each call of a handler, in a machine that agrees with a point, does what the moves from there lead to.
+use Rattle.std.proofs.Common.{◌≡◌, ℕ, ◌+◌, Bool, true, false, cond, ◌&&◌, List, [], ◌∷◌, ◌++◌, Option, Some, None, refl, sym, ap, ◌∙◌, subst, append-nil}
+use Rattle.std.specs.Prelude.{if◌then◌else◌, nat_lt, not, ◌/◌, ◌==◌}
+use Rattle.std.specs.Duration.{as_nanos}
+use Rattle.std.specs.declared.time.Duration.{Duration}
+use Rattle.journal_protocol.specs.declared.faults.NamedFault.{NamedFault}
+use Rattle.journal_protocol.specs.declared.faults.NamedFault.TheVariants as fault
+use Rattle.journal_protocol.specs.declared.message.RawMessage.{RawMessage}
+use Rattle.journal_protocol.specs.declared.notification.NotificationId.{NotificationId}
+use Rattle.journal_protocol.specs.declared.notification.NotificationResult.{NotificationResult}
+use Rattle.journal_protocol.specs.Errors.{named_error}
+use Rattle.journal_protocol.specs.Runs.{IsWhole}
+use Rattle.vm_parts.specs.declared.context.StateMap.{StateMap}
+use Rattle.vm_parts.specs.declared.steps.Answer.{Answer}
+use Rattle.vm_parts.specs.declared.steps.Answer.TheVariants as answer
+use Rattle.vm_parts.specs.declared.steps.Step.{Step}
+use Rattle.vm_parts.specs.declared.steps.Step.TheVariants as step
+use Rattle.vm_parts.specs.declared.types.NotificationHandle.{NotificationHandle}
+use Rattle.vm_parts.specs.declared.values.NonEmptyValue.{NonEmptyValue}
+use Rattle.vm_parts.specs.declared.values.Value.{Value}
+use Rattle.vm_parts.specs.Counting.{missing, missing_signals}
+use Rattle.vm_parts.specs.Deliveries.{id_at, present_for, taken_by, unmapped}
+use Rattle.journal_protocol.specs.declared.notification.NotificationId.TheVariants.{SignalId}
+use Rattle.vm_parts.specs.Values.{value_message, value_of}
+use Rattle.vm_machine.specs.declared.machine.Machine.{Machine}
+use Rattle.vm_machine.specs.declared.request.Request.{Request}
+use Rattle.vm_machine.specs.declared.request.Request.TheVariants as request
+use Rattle.vm_machine.specs.Awaits.{take_step}
+use Rattle.vm_machine.specs.Awaits as awaits
+use Rattle.vm_machine.specs.Commands.{issued, phase_after, unit_of}
+use Rattle.vm_machine.specs.Inputs.{end_at, end_step}
+use Rattle.vm_machine.specs.Outcomes.{Outcome, Done, Failed, called, refused, ruled}
+use Rattle.vm_machine.specs.Phases.{is_closed, is_from_v6, is_running, state_fault}
+use Rattle.vm_machine.specs.Requests.{ids_of, message_of}
+use Rattle.vm_machine.specs.Signals.{awakeable_counted, awakeable_id, awakeable_step}
+use Rattle.invocation_vm.specs.Calls.{handing, has_metadata, sleep_step}
+use Rattle.vm_model.specs.Calls.{Setup, Meaning, Derived, Demand, Move, answer_of, awakeable_made, call_of, commanded, demand_of, has_result_in, identity_of, name_in, numbered, ready_in, requested, result_taken, sleeping, taking, value_taken}
+use Rattle.vm_model.specs.Calls.Usage.{Taken}
+use Rattle.vm_model.specs.Calls.Move.{Answers, Needs, Awaits, Stops}
+use Rattle.vm_model.specs.Moves.{Point, longer, move_at, moved, supply}
+use Rattle.vm_model.proofs.Runs.{longer_nothing}
+use Rattle.vm_rounds.specs.declared.progress.Reply.{Reply}
+use Rattle.vm_rounds.specs.declared.progress.Reply.TheVariants as reply
+use Rattle.vm_rounds.specs.Agreement.{Agrees, Aside, CanBeWritten, Follows, HasEnded, IsRefused, machine_at}
+use Rattle.vm_rounds.specs.Steps.{awakeable_made as made_awakeable, done, ended, mapped, performed, slept, taken}
+use Rattle.vm_rounds.proofs.Leading.{Leads, error_written, follows_from, no_move, open_after, with_frames}
+use Rattle.vm_rounds.proofs.Own.{stands_for_itself}
+use Rattle.vm_rounds.proofs.Requesting.{issues, runs_at}
+use Rattle.vm_rounds.proofs.Waiting.{awaits_follow}
+
+-- a move that brings no command of its own leads where it leads
+abbrev LeadsOn : {A : Type 0} → Setup → StateMap → List RawMessage → Aside → Point → (A → Answer) → Move → Outcome A → Type 0
+LeadsOn s given written aside p gives mv o = Leads s given written aside p (supply mv p.left) (λ a. gives a ∷ []) (moved mv (longer (supply mv p.left) p)) o
+
+-- an answer with nothing used
+answers : {A : Type 0} (s : Setup) (given : StateMap) (written : List RawMessage) (aside : Aside) (p : Point) (gives : A → Answer) (a : A) (d : Derived) → LeadsOn s given written aside p gives (Answers (gives a ∷ []) d) (Done a (machine_at s given written aside (record p { derived = d })))
+answers s given written aside p gives a d = (refl, λ i. record (machine_at s given (sym (append-nil written) i) (record aside { output = sym (append-nil aside.output) i }) (record p { derived = d })) { commands = sym (append-nil p.left) i; phase = phase_after (sym (append-nil p.left) i) })
+
+-- a refusal where there is no move
+refuses : {A : Type 0} (s : Setup) (given : StateMap) (written : List RawMessage) (aside : Aside) (p : Point) (gives : A → Answer) (name : NamedFault) (w : Machine) → w.output ≡ aside.output → w.phase ≡ phase_after p.left → LeadsOn s given written aside p gives Stops (refused name w)
+refuses s given written aside p gives name w output phase = (output, ap is_closed phase ∙ open_after p.left)
+
+-- ---- takes
+
+takes_value : (s : Setup) (given : StateMap) (written : List RawMessage) (aside : Aside) (p : Point) (h : NotificationHandle) (id : NotificationId) (result : NotificationResult) (o : Option Value)
+    → LeadsOn s given written aside p answer.Taken (value_taken h id o p.derived) (awaits.value_taken o (record (machine_at s given written aside p) { results = taken_by s.options.signal_delivery h.0 (Some id) (Some result) (machine_at s given written aside p).results }))
+takes_value s given written aside p h id result None = (refl, open_after p.left)
+takes_value s given written aside p h id result (Some value) = answers s given written aside p answer.Taken (Some value) (record p.derived { handles = cond (h.0 == 1) p.derived.handles (unmapped h.0 p.derived.handles); usage = Taken id ∷ p.derived.usage })
+
+takes_result : (s : Setup) (given : StateMap) (written : List RawMessage) (aside : Aside) (p : Point) (h : NotificationHandle) (id : Option NotificationId) (o : Option NotificationResult) → (id ≡ None → o ≡ None)
+    → LeadsOn s given written aside p answer.Taken (result_taken h id o p.derived) (awaits.result_taken o (record (machine_at s given written aside p) { results = taken_by s.options.signal_delivery h.0 id o (machine_at s given written aside p).results }))
+takes_result s given written aside p h (Some id) (Some result) none = takes_value s given written aside p h id result (value_of result)
+takes_result s given written aside p h (Some id) None none = answers s given written aside p answer.Taken None p.derived
+takes_result s given written aside p h None None none = answers s given written aside p answer.Taken None p.derived
+takes_result s given written aside p h None (Some result) none = absurd (let z : Some result ≡ None = none refl in cc)
+
+none_for : (s : Setup) (id : Option NotificationId) (d : Derived) → id ≡ None → present_for s.options.signal_delivery id (ready_in s d) ≡ None
+none_for s id d e = ap (λ x. present_for s.options.signal_delivery x (ready_in s d)) e
+
+takes_follow : (s : Setup) (given : StateMap) (written : List RawMessage) (aside : Aside) (p : Point) (h : NotificationHandle) → LeadsOn s given written aside p answer.Taken (taking s h (id_at h.0 p.derived.handles) p.derived) (take_step h.0 (machine_at s given written aside p))
+unfolding take_step
+takes_follow s given written aside p h =
+    let id = id_at h.0 p.derived.handles in
+    rw runs_at p.left (takes_result s given written aside p h id (present_for s.options.signal_delivery id (ready_in s p.derived)) (none_for s id p.derived))
+
+-- ---- awakeables
+
+awakeables_follow : (s : Setup) (given : StateMap) (written : List RawMessage) (aside : Aside) (p : Point) → s.identity ≡ identity_of aside.start → (o : Option NamedFault) → LeadsOn s given written aside p answer.Awakeable (awakeable_made s o p.derived) (awakeable_counted o (machine_at s given written aside p))
+awakeables_follow s given written aside p identity (Some name) = (refl, open_after p.left)
+awakeables_follow s given written aside p identity None = rw identity (answers s given written aside p answer.Awakeable (record { id = awakeable_id aside.start.id p.derived.counters.signal; handle = record { 0 = p.derived.counters.handle } }) (record p.derived {
+    handles = p.derived.handles ++ record { handle = p.derived.counters.handle; id = SignalId p.derived.counters.signal } ∷ [];
+    counters = record p.derived.counters { signal = p.derived.counters.signal + 1; handle = p.derived.counters.handle + 1 };
+  }))
+
+makes_awakeable : (s : Setup) (given : StateMap) (written : List RawMessage) (aside : Aside) (p : Point) → s.identity ≡ identity_of aside.start → LeadsOn s given written aside p answer.Awakeable (awakeable_made s (missing_signals 1 1 p.derived.counters) p.derived) (awakeable_step (machine_at s given written aside p))
+unfolding awakeable_step
+makes_awakeable s given written aside p identity = rw runs_at p.left (awakeables_follow s given written aside p identity (missing_signals 1 1 p.derived.counters))
+
+-- ---- calls with a command
+
+-- what the table needs of a request's command, where its numbers are left
+abbrev Own : Setup → Request → Point → Type 0
+Own s r p = missing (ids_of r) 0 (ids_of r) p.derived.counters ≡ None → IsWhole (message_of r p.derived.counters.completion)
+
+own_of : (s : Setup) (m : Meaning) (p : Point) (r : Request) → CanBeWritten s m p → move_at s m p ≡ requested s r p.derived → Own s r p
+own_of s m p r whole is none = whole (demand_of s r p.derived) (answer_of r p.derived ∷ []) (commanded r p.derived) (is ∙ ap (λ o. numbered s r o p.derived) none)
+
+requests : (s : Setup) (given : StateMap) (written : List RawMessage) (aside : Aside) (p : Point) (r : Request) (gives : NotificationHandle → Answer) → gives (record { 0 = p.derived.counters.handle }) ≡ answer_of r p.derived → Own s r p → LeadsOn s given written aside p gives (requested s r p.derived) (issued r (machine_at s given written aside p))
+requests s given written aside p r gives answer own = issues s given written aside r p (λ h. gives h ∷ []) (ap (λ a. a ∷ []) answer) (λ none. stands_for_itself s r p.derived (own none))
+
+-- an outcome whose answer is dropped
+drops : (s : Setup) (given : StateMap) (written : List RawMessage) (aside : Aside) (p : Point) (mv : Move) (to : Option Point) (o : Outcome NotificationHandle) → Leads s given written aside p (supply mv p.left) (λ _. answer.Unit ∷ []) to o → Leads s given written aside p (supply mv p.left) (λ _. answer.Unit ∷ []) to (unit_of o)
+drops s given written aside p mv (Some q) (Done a w) g = g
+drops s given written aside p mv None (Failed e w) g = g
+drops s given written aside p mv (Some q) (Failed e w) g = absurd g
+drops s given written aside p mv None (Done a w) g = absurd g
+
+-- a request whose call answers nothing
+unit_request : (s : Setup) (given : StateMap) (written : List RawMessage) (aside : Aside) (p : Point) (r : Request) → answer.Unit ≡ answer_of r p.derived → Own s r p → LeadsOn s given written aside p (λ _. answer.Unit) (requested s r p.derived) (unit_of (issued r (machine_at s given written aside p)))
+unit_request s given written aside p r answer own =
+    let mv = requested s r p.derived in
+    drops s given written aside p mv (moved mv (longer (supply mv p.left) p)) (issued r (machine_at s given written aside p)) (requests s given written aside p r (λ _. answer.Unit) answer own)
+
+-- a request that hands a value on
+hands : (s : Setup) (given : StateMap) (written : List RawMessage) (aside : Aside) (p : Point) (r : Request) → answer.Unit ≡ answer_of r p.derived → (a b : Bool) → (cond a (cond b (requested s r p.derived) Stops) (requested s r p.derived) ≡ requested s r p.derived → Own s r p)
+    → LeadsOn s given written aside p (λ _. answer.Unit) (cond a (cond b (requested s r p.derived) Stops) (requested s r p.derived))
+    (if a && not b then refused fault.UnsupportedFeatureForNegotiatedVersion (machine_at s given written aside p) else unit_of (issued r (machine_at s given written aside p)))
+hands s given written aside p r answer true true own = unit_request s given written aside p r answer (own refl)
+hands s given written aside p r answer true false own = (refl, open_after p.left)
+hands s given written aside p r answer false b own = unit_request s given written aside p r answer (own refl)
+
+-- a sleep, where its time fits
+sleeps : (s : Setup) (given : StateMap) (written : List RawMessage) (aside : Aside) (p : Point) (millis : ℕ) (name : List ℕ) (b : Bool) → (cond b (requested s (request.Sleep millis name) p.derived) Stops ≡ requested s (request.Sleep millis name) p.derived → Own s (request.Sleep millis name) p)
+    → LeadsOn s given written aside p answer.Handle (cond b (requested s (request.Sleep millis name) p.derived) Stops) (cond b (issued (request.Sleep millis name) (machine_at s given written aside p)) (refused fault.OutOfBoundsDuration (machine_at s given written aside p)))
+sleeps s given written aside p millis name true own = requests s given written aside p (request.Sleep millis name) answer.Handle refl (own refl)
+sleeps s given written aside p millis name false own = (refl, open_after p.left)
+
+-- ---- the end
+
+ends : (s : Setup) (m : Meaning) (given : StateMap) (written : List RawMessage) (aside : Aside) (p : Point) → m p.answers ≡ step.End → (left : List RawMessage) → p.left ≡ left → Follows s m given written p (machine_at s given written aside p) (mapped (λ _. reply.Ended) (called (end_at (phase_after left) (machine_at s given written aside p)) (machine_at s given written aside p)))
+unfolding called
+ends s m given written aside p is [] e = record { step = is; no_command = e; output = refl; closed = refl }
+ends s m given written aside p is (c ∷ left) e =
+    let v = machine_at s given written aside p in
+    let stops : move_at s m p ≡ Stops = ap (λ st. call_of s st p.derived) is in
+    record {
+      at = p;
+      moves = no_move s m p;
+      stuck = ap (λ mv. moved mv (longer (supply mv p.left) p)) stops;
+      output = error_written (ruled v (named_error (state_fault (phase_after (c ∷ left))) None)) v aside.output refl (open_after p.left);
+      failure = refl;
+    }
+
+-- ---- all calls
+
+completes : (s : Setup) (m : Meaning) (given : StateMap) (written : List RawMessage) (aside : Aside) (p : Point) (h : NotificationHandle) → s.identity ≡ identity_of aside.start → m p.answers ≡ step.Completed h → Follows s m given written p (machine_at s given written aside p) (performed (step.Completed h) (machine_at s given written aside p))
+unfolding called
+completes s m given written aside p h identity is =
+    rw runs_at p.left (follows_from s m given written aside p answer.Completed (call_of s (step.Completed h) p.derived) (Done (has_result_in s h p.derived) (machine_at s given written aside p)) identity (ap (λ st. call_of s st p.derived) is) (answers s given written aside p answer.Completed (has_result_in s h p.derived) p.derived))
+
+-- In a machine that agrees with a point, the handler's call does what the moves from there lead to.
+pub call_follows : (s : Setup) (m : Meaning) (given : StateMap) (written : List RawMessage) (aside : Aside) (p : Point) → s.identity ≡ identity_of aside.start → CanBeWritten s m p → (st : Step) → m p.answers ≡ st → Follows s m given written p (machine_at s given written aside p) (performed st (machine_at s given written aside p))
+call_follows s m given written aside p identity whole (step.Sleep name until now) is =
+    let millis = as_nanos until / 1000000 in
+    let r = request.Sleep millis name in
+    follows_from s m given written aside p answer.Handle _ _ identity (ap (λ st. call_of s st p.derived) is) (sleeps s given written aside p millis name (nat_lt millis 18446744073709551616) (λ e. own_of s m p r whole (ap (λ st. call_of s st p.derived) is ∙ e)))
+call_follows s m given written aside p identity whole (step.StateSet key value name options) is =
+    let r = request.SetState key value (name_in name) options in
+    let at = ap (λ st. call_of s st p.derived) is in
+    follows_from s m given written aside p (λ _. answer.Unit) _ _ identity at (unit_request s given written aside p r refl (own_of s m p r whole at))
+call_follows s m given written aside p identity whole (step.StateClear key name) is =
+    let r = request.ClearState key (name_in name) in
+    let at = ap (λ st. call_of s st p.derived) is in
+    follows_from s m given written aside p (λ _. answer.Unit) _ _ identity at (unit_request s given written aside p r refl (own_of s m p r whole at))
+call_follows s m given written aside p identity whole (step.StateClearAll name) is =
+    let r = request.ClearAllState (name_in name) in
+    let at = ap (λ st. call_of s st p.derived) is in
+    follows_from s m given written aside p (λ _. answer.Unit) _ _ identity at (unit_request s given written aside p r refl (own_of s m p r whole at))
+call_follows s m given written aside p identity whole step.Awakeable is =
+    follows_from s m given written aside p answer.Awakeable _ _ identity (ap (λ st. call_of s st p.derived) is) (makes_awakeable s given written aside p identity)
+call_follows s m given written aside p identity whole (step.CompleteAwakeable id value options) is =
+    let r = request.CompleteAwakeable id (value_message value) options in
+    let at = ap (λ st. call_of s st p.derived) is in
+    follows_from s m given written aside p (λ _. answer.Unit) _ _ identity at (hands s given written aside p r refl (has_metadata value) (is_from_v6 s.version) (λ e. own_of s m p r whole (at ∙ e)))
+call_follows s m given written aside p identity whole (step.CompleteSignal target signal value) is =
+    let r = request.CompleteSignal target signal (value_message value) in
+    let at = ap (λ st. call_of s st p.derived) is in
+    follows_from s m given written aside p (λ _. answer.Unit) _ _ identity at (hands s given written aside p r refl (has_metadata value) (is_from_v6 s.version) (λ e. own_of s m p r whole (at ∙ e)))
+call_follows s m given written aside p identity whole (step.CancelInvocation target) is =
+    let r = request.CancelInvocation target in
+    let at = ap (λ st. call_of s st p.derived) is in
+    follows_from s m given written aside p (λ _. answer.Unit) _ _ identity at (unit_request s given written aside p r refl (own_of s m p r whole at))
+call_follows s m given written aside p identity whole (step.WriteOutput value options) is =
+    let r = request.Output (value_message value) options in
+    let at = ap (λ st. call_of s st p.derived) is in
+    follows_from s m given written aside p (λ _. answer.Unit) _ _ identity at (hands s given written aside p r refl (has_metadata value) (is_from_v6 s.version) (λ e. own_of s m p r whole (at ∙ e)))
+call_follows s m given written aside p identity whole (step.Await future) is = awaits_follow s m given written aside p future identity is
+call_follows s m given written aside p identity whole (step.Take h) is =
+    follows_from s m given written aside p answer.Taken _ _ identity (ap (λ st. call_of s st p.derived) is) (takes_follow s given written aside p h)
+call_follows s m given written aside p identity whole (step.Completed h) is = completes s m given written aside p h identity is
+call_follows s m given written aside p identity whole step.End is = ends s m given written aside p is p.left refl
+
+pub agreeing_follows : (s : Setup) (m : Meaning) (given : StateMap) (written : List RawMessage) (v : Machine) (p : Point) → Agrees s given written v p → CanBeWritten s m p → Follows s m given written p v (performed (m p.answers) v)
+agreeing_follows s m given written v p a whole = rw a.machine (call_follows s m given written a.aside p a.identity whole (m p.answers) refl)

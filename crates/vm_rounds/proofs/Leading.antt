@@ -1,0 +1,71 @@
+-- An event of a machine that agrees with a point does what the next move does.
+use Rattle.std.proofs.Common.{◌≡◌, ◌⊎◌, ℕ, zero, suc, Bool, true, false, cond, List, [], ◌∷◌, ◌++◌, map, Option, Some, None, refl, sym, ap, ◌∙◌, subst, append-nil}
+use Rattle.journal_protocol.specs.declared.error.Error.{Error}
+use Rattle.journal_protocol.specs.declared.message.Message.TheVariants as message
+use Rattle.journal_protocol.specs.declared.message.RawMessage.{RawMessage}
+use Rattle.journal_protocol.specs.Errors.{error_message}
+use Rattle.journal_protocol.specs.Message.{encoding}
+use Rattle.vm_parts.specs.declared.context.StateMap.{StateMap}
+use Rattle.vm_parts.specs.declared.steps.Answer.{Answer}
+use Rattle.vm_machine.specs.declared.machine.Machine.{Machine}
+use Rattle.vm_machine.specs.Outcomes.{Outcome, Done, Failed, called, failed, ruled}
+use Rattle.vm_machine.specs.Phases.{is_closed}
+use Rattle.vm_machine.specs.Commands.{phase_after}
+use Rattle.vm_model.specs.Calls.{Setup, Meaning, Move, identity_of}
+use Rattle.vm_model.specs.Moves.{Point, longer, move_at, moved, next, supplied, supply}
+use Rattle.vm_model.specs.Histories.{IsStuck, Made}
+use Rattle.vm_model.proofs.Runs.{longer_nothing}
+use Rattle.vm_rounds.specs.declared.progress.Reply.{Reply}
+use Rattle.vm_rounds.specs.declared.progress.Reply.TheVariants as reply
+use Rattle.vm_rounds.specs.Agreement.{Agrees, Answered, Aside, Follows, IsRefused, MovesOn, frames_of, machine_at}
+use Rattle.vm_rounds.specs.Steps.{mapped}
+
+-- what stands aside, with these frames written
+abbrev pub with_frames : List RawMessage → Aside → Aside
+with_frames made aside = record aside { output = aside.output ++ frames_of made }
+
+-- An outcome is what a move leads to: the machine at the next point, or a refusal that writes nothing where there is none.
+abbrev pub Leads : {A : Type 0} → Setup → StateMap → List RawMessage → Aside → Point → List RawMessage → (A → List Answer) → Option Point → Outcome A → Type 0
+Leads s given written aside p made gives (Some q) (Done a w) = (q.answers ≡ p.answers ++ gives a) × (w ≡ machine_at s given (written ++ made) (with_frames made aside) q)
+Leads s given written aside p made gives None (Failed e w) = (w.output ≡ aside.output) × (is_closed w.phase ≡ false)
+Leads s given written aside p made gives (Some q) (Failed e w) = ⊥
+Leads s given written aside p made gives None (Done a w) = ⊥
+
+pub open_after : (left : List RawMessage) → is_closed (phase_after left) ≡ false
+open_after [] = refl
+open_after (c ∷ left) = refl
+
+-- the error rule writes one Error
+pub error_written : (e : Error) (w : Machine) (output : List (List ℕ)) → w.output ≡ output → is_closed w.phase ≡ false → (failed e w).output ≡ output ++ encoding (message.Error (error_message e)) ∷ []
+error_written e w output is open = rw open (ap (λ l. l ++ encoding (message.Error (error_message e)) ∷ []) is)
+
+-- one move, with what the call brings itself
+pub one_move : (s : Setup) (m : Meaning) (p q : Point) → next s m (longer (supplied s m p) p) ≡ Some q → Made s m 1 p (supplied s m p) q
+one_move s m p q h = (q, [], sym (append-nil (supplied s m p)), h, (refl, refl))
+
+-- no move
+pub no_move : (s : Setup) (m : Meaning) (p : Point) → MovesOn s m p [] [] p
+no_move s m p = record { moves = 0; run = (refl, refl); answers = sym (append-nil p.answers) }
+
+-- a call whose outcome is what its move leads to
+pub follows_from : {A : Type 0} (s : Setup) (m : Meaning) (given : StateMap) (written : List RawMessage) (aside : Aside) (p : Point) (gives : A → Answer) (mv : Move) (o : Outcome A) → s.identity ≡ identity_of aside.start → move_at s m p ≡ mv
+    → Leads s given written aside p (supply mv p.left) (λ a. gives a ∷ []) (moved mv (longer (supply mv p.left) p)) o → Follows s m given written p (machine_at s given written aside p) (mapped (λ a. reply.Answer (gives a)) (called o (machine_at s given written aside p)))
+unfolding called
+follows_from s m given written aside p gives mv o identity is h = by_cases (moved mv (longer (supply mv p.left) p)) refl o h
+  where
+    supplies : supplied s m p ≡ supply mv p.left
+    supplies = ap (λ x. supply x p.left) is
+    leads : (to : Option Point) → moved mv (longer (supply mv p.left) p) ≡ to → next s m (longer (supplied s m p) p) ≡ to
+    leads to e = ap (λ l. next s m (longer l p)) supplies ∙ ap (λ x. moved x (longer (supply mv p.left) p)) is ∙ e
+    by_cases : (to : Option Point) → moved mv (longer (supply mv p.left) p) ≡ to → (x : Outcome _) → Leads s given written aside p (supply mv p.left) (λ a. gives a ∷ []) to x → Follows s m given written p (machine_at s given written aside p) (mapped (λ a. reply.Answer (gives a)) (called x (machine_at s given written aside p)))
+    by_cases (Some q) e (Done a w) g =
+        record {
+          at = q;
+          made = supply mv p.left;
+          moves = record { moves = 1; run = subst (λ l. Made s m 1 p l q) supplies (one_move s m p q (leads (Some q) e)); answers = g.0 };
+          agrees = record { aside = with_frames (supply mv p.left) aside; machine = g.1; identity = identity };
+          output = ap (λ w. w.output) g.1;
+        }
+    by_cases None e (Failed f w) g = record { at = p; moves = no_move s m p; stuck = leads None e; output = error_written (ruled w f) w aside.output g.0 g.1; failure = refl }
+    by_cases (Some q) e (Failed f w) g = absurd g
+    by_cases None e (Done a w) g = absurd g

@@ -1,0 +1,164 @@
+-- The calls with a command, in a machine that agrees with a point.
+use Rattle.std.proofs.Common.{◌≡◌, ◌⊎◌, ℕ, zero, suc, ◌+◌, Bool, true, false, cond, ◌&&◌, ◌||◌, List, [], ◌∷◌, ◌++◌, Option, Some, None, refl, sym, ap, ◌∙◌, subst, append-nil}
+use Rattle.std.specs.Prelude.{◌==◌, if◌then◌else◌}
+use Rattle.journal_protocol.specs.declared.faults.NamedFault.{NamedFault}
+use Rattle.journal_protocol.specs.declared.faults.NamedFault.TheVariants as fault
+use Rattle.journal_protocol.specs.declared.message.Message.{Message}
+use Rattle.journal_protocol.specs.declared.message.RawMessage.{RawMessage}
+use Rattle.journal_protocol.specs.HeaderEqual.{header_equal}
+use Rattle.journal_protocol.specs.Message.{type_of}
+use Rattle.journal_protocol.specs.Reading.{message_in}
+use Rattle.journal_protocol.specs.Types.{type_number}
+use Rattle.vm_parts.specs.declared.context.StateMap.{StateMap}
+use Rattle.vm_parts.specs.declared.steps.Answer.{Answer}
+use Rattle.vm_parts.specs.declared.types.NotificationHandle.{NotificationHandle}
+use Rattle.vm_parts.specs.CommandTypes.{message_type}
+use Rattle.vm_parts.specs.Counting.{missing}
+use Rattle.vm_machine.specs.declared.machine.Machine.{Machine}
+use Rattle.vm_machine.specs.declared.request.Request.{Request}
+use Rattle.vm_machine.specs.declared.request.Request.TheVariants as request
+use Rattle.vm_machine.specs.declared.phase.Phase.TheVariants.{Replaying, Processing}
+use Rattle.vm_machine.specs.Commands.{carried_out, compared, counted, entered, ignores_payloads, issued, phase_after, popped, popped_from, prepared, replayed, typed, written as wrote}
+use Rattle.vm_machine.specs.Phases.{is_processing, is_running}
+use Rattle.vm_machine.specs.Outcomes.{Outcome, Done, Failed, ◌>>=◌, about_last}
+use Rattle.vm_machine.specs.Requests.{command_of, ids_of, message_of, name_of}
+use Rattle.vm_model.specs.Calls.{Setup, Derived, Demand, Move, answer_of, commanded, demand_of, numbered, requested}
+use Rattle.vm_model.specs.Calls.Move.{Answers, Needs, Awaits, Stops}
+use Rattle.vm_model.specs.Journal.{stored_form}
+use Rattle.vm_model.specs.Moves.{Point, changed, changed_by, command_used, longer, moved, reads_as, stands_for, supply, uses_command}
+use Rattle.vm_model.proofs.Runs.{longer_nothing}
+use Rattle.vm_rounds.specs.Agreement.{Aside, frames_of, is_some_command, machine_at}
+use Rattle.vm_rounds.proofs.Leading.{Leads, open_after, with_frames}
+
+-- ---- the event, by what is left
+
+carries_spent : (m : Message) (ignore : Bool) (w : Machine) → w.phase ≡ Processing → carried_out m ignore w ≡ Done tt (wrote m w)
+unfolding carried_out
+carries_spent m ignore w e = ap (λ phase. if is_processing phase then Done tt (wrote m w) else replayed m ignore w) e
+
+carries_recorded : (m : Message) (ignore : Bool) (w : Machine) → w.phase ≡ Replaying → carried_out m ignore w ≡ replayed m ignore w
+unfolding carried_out
+carries_recorded m ignore w e = ap (λ phase. if is_processing phase then Done tt (wrote m w) else replayed m ignore w) e
+
+replays_next : (m : Message) (ignore : Bool) (c : RawMessage) (left : List RawMessage) (w : Machine) → w.commands ≡ c ∷ left → replayed m ignore w ≡ (typed c (type_of m) (record w { commands = left; phase = phase_after left }) >>= λ raw z. compared m ignore (message_in raw.ty raw.body) z)
+unfolding replayed popped
+replays_next m ignore c left w e = ap (λ l. popped_from l (type_of m) w >>= λ raw z. compared m ignore (message_in raw.ty raw.body) z) e
+
+pub changed_behind : (cs : List Message) (c : Message) (state : StateMap) → changed_by (cs ++ c ∷ []) state ≡ changed c (changed_by cs state)
+changed_behind [] c state = refl
+changed_behind (x ∷ cs) c state = changed_behind cs c (changed x state)
+
+pub some_behind : (cs : List RawMessage) (c : RawMessage) → is_some_command (cs ++ c ∷ []) ≡ true
+some_behind [] c = refl
+some_behind (x ∷ cs) c = refl
+
+-- the point of a call whose command is counted and said, but neither used nor answered
+abbrev said_by : Request → Point → Point
+said_by r p = record p { derived = commanded r p.derived; said = p.said ++ message_of r p.derived.counters.completion ∷ [] }
+
+-- and the point behind it
+abbrev past : Request → List Answer → List RawMessage → Point → Point
+past r gives left p = record { answers = p.answers ++ gives; derived = commanded r p.derived; said = p.said ++ message_of r p.derived.counters.completion ∷ []; queue = p.queue; left = left }
+
+abbrev state_said : Setup → StateMap → List RawMessage → Aside → Request → Point → StateMap → Machine
+state_said s given written aside r p state = record (machine_at s given written aside (said_by r p)) { state = state }
+
+-- what a call changes before its command
+prepares : (s : Setup) (given : StateMap) (written : List RawMessage) (aside : Aside) (r : Request) (p : Point) → prepared r (entered (message_type (command_of r)) (name_of r) (machine_at s given written aside p)) ≡ machine_at s given written aside (said_by r p)
+prepares s given written aside (request.Sleep wake_up_time name) p = let r = request.Sleep wake_up_time name in ap (state_said s given written aside r p) (sym (changed_behind p.said (message_of r p.derived.counters.completion) given))
+prepares s given written aside (request.Output value options) p = let r = request.Output value options in ap (state_said s given written aside r p) (sym (changed_behind p.said (message_of r p.derived.counters.completion) given))
+prepares s given written aside (request.SetState key value name options) p = let r = request.SetState key value name options in ap (state_said s given written aside r p) (sym (changed_behind p.said (message_of r p.derived.counters.completion) given))
+prepares s given written aside (request.ClearState key name) p = let r = request.ClearState key name in ap (state_said s given written aside r p) (sym (changed_behind p.said (message_of r p.derived.counters.completion) given))
+prepares s given written aside (request.ClearAllState name) p = let r = request.ClearAllState name in ap (state_said s given written aside r p) (sym (changed_behind p.said (message_of r p.derived.counters.completion) given))
+prepares s given written aside (request.CompleteAwakeable id value options) p = let r = request.CompleteAwakeable id value options in ap (state_said s given written aside r p) (sym (changed_behind p.said (message_of r p.derived.counters.completion) given))
+prepares s given written aside (request.CompleteSignal target signal value) p = let r = request.CompleteSignal target signal value in ap (state_said s given written aside r p) (sym (changed_behind p.said (message_of r p.derived.counters.completion) given))
+prepares s given written aside (request.CancelInvocation target) p = let r = request.CancelInvocation target in ap (state_said s given written aside r p) (sym (changed_behind p.said (message_of r p.derived.counters.completion) given))
+
+-- the outcome of a call whose command was carried out
+abbrev handed : Point → Outcome Unit → Outcome NotificationHandle
+handed p o = o >>= λ _ w. Done (record { 0 = p.derived.counters.handle }) w
+
+-- ---- no recorded command is left: the call's own is written
+
+writes : (s : Setup) (given : StateMap) (written : List RawMessage) (aside : Aside) (r : Request) (p : Point) (gives : NotificationHandle → List Answer) → gives (record { 0 = p.derived.counters.handle }) ≡ answer_of r p.derived ∷ [] → p.left ≡ [] → stands_for (demand_of s r p.derived) (stored_form (message_of r p.derived.counters.completion)) ≡ true
+    → (b : Bool) → stands_for (demand_of s r p.derived) (stored_form (message_of r p.derived.counters.completion)) ≡ b
+    → Leads s given written aside p (stored_form (message_of r p.derived.counters.completion) ∷ []) gives (command_used b (demand_of s r p.derived) (answer_of r p.derived ∷ []) (commanded r p.derived) [] p) (handed p (Done tt (wrote (message_of r p.derived.counters.completion) (machine_at s given written aside (said_by r p)))))
+writes s given written aside r p gives answer spent own false e = absurd (let z : true ≡ false = sym own ∙ e in cc)
+writes s given written aside r p gives answer spent own true e =
+    let m = message_of r p.derived.counters.completion in (
+      ap (λ l. p.answers ++ l) (sym answer),
+      λ i. record (machine_at s given written (with_frames (stored_form m ∷ []) aside) (past r (answer_of r p.derived ∷ []) [] p)) { commands = spent i; phase = phase_after (spent i); wrote_command = sym (some_behind written (stored_form m)) i },
+    )
+
+-- ---- the next recorded command is popped
+
+-- what the machine is once it has popped a command
+abbrev popped_to : Setup → StateMap → List RawMessage → Aside → Request → List RawMessage → Point → Machine
+popped_to s given written aside r left p = record (machine_at s given written aside (said_by r p)) { commands = left; phase = phase_after left }
+
+reads : (s : Setup) (given : StateMap) (written : List RawMessage) (aside : Aside) (r : Request) (p : Point) (left : List RawMessage) (gives : NotificationHandle → List Answer) → gives (record { 0 = p.derived.counters.handle }) ≡ answer_of r p.derived ∷ []
+    → (o : Option Message) → Leads s given written aside p [] gives (command_used (reads_as (demand_of s r p.derived).ignores_payload (message_of r p.derived.counters.completion) o) (demand_of s r p.derived) (answer_of r p.derived ∷ []) (commanded r p.derived) left p) (handed p (compared (message_of r p.derived.counters.completion) (demand_of s r p.derived).ignores_payload o (popped_to s given written aside r left p)))
+reads s given written aside r p left gives answer None = (refl, open_after left)
+reads s given written aside r p left gives answer (Some recorded) = by_test (header_equal recorded (message_of r p.derived.counters.completion) (demand_of s r p.derived).ignores_payload)
+  where
+    m : Message
+    m = message_of r p.derived.counters.completion
+    by_test : (b : Bool) → Leads s given written aside p [] gives (command_used b (demand_of s r p.derived) (answer_of r p.derived ∷ []) (commanded r p.derived) left p) (handed p (if b then Done tt (popped_to s given written aside r left p) else Failed (about_last fault.CommandMismatch (popped_to s given written aside r left p)) (popped_to s given written aside r left p)))
+    by_test false = (refl, open_after left)
+    by_test true = (ap (λ l. p.answers ++ l) (sym answer), λ i. machine_at s given (sym (append-nil written) i) (record aside { output = sym (append-nil aside.output) i }) (past r (answer_of r p.derived ∷ []) left p))
+
+replays : (s : Setup) (given : StateMap) (written : List RawMessage) (aside : Aside) (r : Request) (p : Point) (c : RawMessage) (left : List RawMessage) (gives : NotificationHandle → List Answer) → gives (record { 0 = p.derived.counters.handle }) ≡ answer_of r p.derived ∷ []
+    → Leads s given written aside p [] gives (command_used (stands_for (demand_of s r p.derived) c) (demand_of s r p.derived) (answer_of r p.derived ∷ []) (commanded r p.derived) left p)
+    (handed p (typed c (type_of (message_of r p.derived.counters.completion)) (popped_to s given written aside r left p) >>= λ raw z. compared (message_of r p.derived.counters.completion) (demand_of s r p.derived).ignores_payload (message_in raw.ty raw.body) z))
+replays s given written aside r p c left gives answer = by_test (type_number c.ty == type_number (type_of m))
+  where
+    m : Message
+    m = message_of r p.derived.counters.completion
+    e : Demand
+    e = demand_of s r p.derived
+    w : Machine
+    w = popped_to s given written aside r left p
+    by_test : (b : Bool) → Leads s given written aside p [] gives (command_used (if b then reads_as e.ignores_payload m (message_in c.ty c.body) else false) e (answer_of r p.derived ∷ []) (commanded r p.derived) left p) (handed p ((if b then Done c w else Failed (about_last fault.CommandTypeMismatch w) w) >>= λ raw z. compared m e.ignores_payload (message_in raw.ty raw.body) z))
+    by_test true = reads s given written aside r p left gives answer (message_in c.ty c.body)
+    by_test false = (refl, open_after left)
+
+-- ---- the whole event
+
+-- the counters suffice: the command is written or popped
+carries : (s : Setup) (given : StateMap) (written : List RawMessage) (aside : Aside) (r : Request) (p : Point) (gives : NotificationHandle → List Answer) → gives (record { 0 = p.derived.counters.handle }) ≡ answer_of r p.derived ∷ []
+    → stands_for (demand_of s r p.derived) (stored_form (message_of r p.derived.counters.completion)) ≡ true
+    → (left : List RawMessage) → p.left ≡ left
+    → Leads s given written aside p (supply (Needs (demand_of s r p.derived) (answer_of r p.derived ∷ []) (commanded r p.derived)) left) gives
+    (moved (Needs (demand_of s r p.derived) (answer_of r p.derived ∷ []) (commanded r p.derived)) (longer (supply (Needs (demand_of s r p.derived) (answer_of r p.derived ∷ []) (commanded r p.derived)) left) p))
+    (handed p (carried_out (message_of r p.derived.counters.completion) (demand_of s r p.derived).ignores_payload (machine_at s given written aside (said_by r p))))
+carries s given written aside r p gives answer own [] is =
+    let m = message_of r p.derived.counters.completion in
+    let e = demand_of s r p.derived in
+    let w = machine_at s given written aside (said_by r p) in
+    let next : moved (Needs e (answer_of r p.derived ∷ []) (commanded r p.derived)) (longer (stored_form m ∷ []) p) ≡ command_used (stands_for e (stored_form m)) e (answer_of r p.derived ∷ []) (commanded r p.derived) [] p = ap (λ l. uses_command e (answer_of r p.derived ∷ []) (commanded r p.derived) (l ++ stored_form m ∷ []) (record p { left = l ++ stored_form m ∷ [] })) is in
+    rw (next, carries_spent m e.ignores_payload w (ap phase_after is)) (writes s given written aside r p gives answer is own (stands_for e (stored_form m)) refl)
+carries s given written aside r p gives answer own (c ∷ left) is =
+    let m = message_of r p.derived.counters.completion in
+    let e = demand_of s r p.derived in
+    let w = machine_at s given written aside (said_by r p) in
+    let next : moved (Needs e (answer_of r p.derived ∷ []) (commanded r p.derived)) (longer [] p) ≡ command_used (stands_for e c) e (answer_of r p.derived ∷ []) (commanded r p.derived) left p = ap (moved (Needs e (answer_of r p.derived ∷ []) (commanded r p.derived))) (longer_nothing p) ∙ ap (λ l. uses_command e (answer_of r p.derived ∷ []) (commanded r p.derived) l p) is in
+    rw (next, carries_recorded m e.ignores_payload w (ap phase_after is), replays_next m e.ignores_payload c left w is) (replays s given written aside r p c left gives answer)
+
+counts : (s : Setup) (given : StateMap) (written : List RawMessage) (aside : Aside) (r : Request) (p : Point) (gives : NotificationHandle → List Answer) → gives (record { 0 = p.derived.counters.handle }) ≡ answer_of r p.derived ∷ []
+    → (o : Option NamedFault) → (o ≡ None → stands_for (demand_of s r p.derived) (stored_form (message_of r p.derived.counters.completion)) ≡ true)
+    → Leads s given written aside p (supply (numbered s r o p.derived) p.left) gives (moved (numbered s r o p.derived) (longer (supply (numbered s r o p.derived) p.left) p)) (counted o r (machine_at s given written aside p))
+counts s given written aside r p gives answer (Some name) own = (refl, open_after p.left)
+counts s given written aside r p gives answer None own =
+    rw prepares s given written aside r p (carries s given written aside r p gives answer (own refl) p.left refl)
+
+pub runs_at : (left : List RawMessage) → is_running (phase_after left) ≡ true
+runs_at [] = refl
+runs_at (c ∷ left) = refl
+
+-- a call with a command does what its move leads to
+pub issues : (s : Setup) (given : StateMap) (written : List RawMessage) (aside : Aside) (r : Request) (p : Point) (gives : NotificationHandle → List Answer) → gives (record { 0 = p.derived.counters.handle }) ≡ answer_of r p.derived ∷ []
+    → (missing (ids_of r) 0 (ids_of r) p.derived.counters ≡ None → stands_for (demand_of s r p.derived) (stored_form (message_of r p.derived.counters.completion)) ≡ true)
+    → Leads s given written aside p (supply (requested s r p.derived) p.left) gives (moved (requested s r p.derived) (longer (supply (requested s r p.derived) p.left) p)) (issued r (machine_at s given written aside p))
+unfolding issued
+issues s given written aside r p gives answer own =
+    rw runs_at p.left (counts s given written aside r p gives answer (missing (ids_of r) 0 (ids_of r) p.derived.counters) own)

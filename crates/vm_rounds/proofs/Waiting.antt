@@ -1,0 +1,154 @@
+-- An await, in a machine that agrees with a point: it uses arrivals until it wakes or none is left.
+use Rattle.std.proofs.Common.{◌≡◌, ◌⊎◌, ℕ, zero, suc, ◌+◌, Bool, true, false, cond, List, [], ◌∷◌, ◌++◌, Option, Some, None, refl, sym, ap, ◌∙◌, subst, inl, inr, ⊎_elim, append-nil, Result, Ok, Err}
+use Rattle.std.specs.Prelude.{if◌then◌else◌}
+use Rattle.journal_protocol.specs.declared.error.Error.{Error}
+use Rattle.journal_protocol.specs.declared.faults.NamedFault.TheVariants as fault
+use Rattle.journal_protocol.specs.declared.message.RawMessage.{RawMessage}
+use Rattle.journal_protocol.specs.declared.notification.Notification.{Notification}
+use Rattle.journal_protocol.specs.declared.notification.NotificationId.{NotificationId}
+use Rattle.journal_protocol.specs.Errors.{named_error}
+use Rattle.vm_parts.specs.declared.context.StateMap.{StateMap}
+use Rattle.vm_parts.specs.declared.steps.Answer.TheVariants as answer
+use Rattle.vm_parts.specs.declared.steps.Step.TheVariants as step
+use Rattle.vm_parts.specs.declared.types.AwaitResponse.{AwaitResponse}
+use Rattle.vm_parts.specs.declared.types.AwaitResponse.TheVariants.{AnyCompleted, WaitingExternalProgress}
+use Rattle.vm_parts.specs.declared.types.UnresolvedFuture.{UnresolvedFuture}
+use Rattle.vm_parts.specs.declared.types.UnresolvedFuture.TheVariants.{Single}
+use Rattle.vm_parts.specs.Deliveries.{has_result_for, id_at, used_for, used_until}
+use Rattle.vm_machine.specs.declared.machine.Machine.{Machine}
+use Rattle.vm_machine.specs.Awaits.{await_step, future_of, pending, suspended, tried}
+use Rattle.vm_machine.specs.Commands.{phase_after}
+use Rattle.vm_machine.specs.Outcomes.{Outcome, Done, Failed, called, refused, ruled}
+use Rattle.vm_machine.specs.Phases.{is_running}
+use Rattle.vm_model.specs.Calls.{Setup, Meaning, Derived, Usage, awaiting, call_of, identity_of, is_awake, ready_in}
+use Rattle.vm_model.specs.Calls.Move.{Answers, Awaits}
+use Rattle.vm_model.specs.Calls.Usage.{Used}
+use Rattle.vm_parts.specs.declared.types.NotificationHandle.{NotificationHandle}
+use Rattle.vm_model.specs.Moves.{Point, arrival_used, longer, move_at, moved, next, supplied, supply, uses_arrival}
+use Rattle.vm_model.specs.Histories.{IsStuck, Made}
+use Rattle.vm_model.proofs.Runs.{longer_nothing, made_add}
+use Rattle.vm_rounds.specs.Agreement.{Agrees, Answered, Aside, Follows, HasEnded, IsRefused, IsSuspended, MovesOn, StillAgrees, Waits, frames_of, machine_at}
+use Rattle.vm_rounds.specs.Steps.{await_reply, awaited, mapped}
+use Rattle.vm_rounds.proofs.Leading.{error_written, open_after}
+use Rattle.vm_rounds.proofs.Requesting.{runs_at}
+
+-- a point with this usage and these arrivals left
+abbrev at_usage : Point → List Usage → List Notification → Point
+at_usage p us queue = record p { derived = record p.derived { usage = us }; queue = queue }
+
+-- Arrivals were used until the id has a result or none is left.
+record Ran (s : Setup) (m : Meaning) (p : Point) (id : Option NotificationId) (us : List Usage) (queue : List Notification) : Type 0 where
+  usage : List Usage
+  left : List Notification
+  moves : ℕ
+  run : Made s m moves (at_usage p us queue) [] (at_usage p usage left)
+  used : used_until id (ready_in s (record p.derived { usage = us })) queue ≡ (ready_in s (record p.derived { usage = usage }), left)
+  ends : (has_result_for id (ready_in s (record p.derived { usage = usage })) ≡ true) ⊎ ((left ≡ []) × (has_result_for id (ready_in s (record p.derived { usage = usage })) ≡ false))
+
+-- the move of an await that isn't awake
+waits_on : (s : Setup) (m : Meaning) (p : Point) (future : UnresolvedFuture) → m p.answers ≡ step.Await future → is_awake s future p.derived ≡ false → move_at s m p ≡ Awaits
+waits_on s m p future is asleep = ap (λ st. call_of s st p.derived) is ∙ ap (λ b. awaiting b p.derived) asleep
+
+-- a move that brings no command
+quiet_next : (s : Setup) (m : Meaning) (p q : Point) → supplied s m p ≡ [] → next s m p ≡ Some q → next s m (longer (supplied s m p) p) ≡ Some q
+quiet_next s m p q none h = ap (λ l. next s m (longer l p)) none ∙ ap (next s m) (longer_nothing p) ∙ h
+
+runs_until : (s : Setup) (m : Meaning) (p : Point) (h : NotificationHandle) → m p.answers ≡ step.Await (Single h) → (us : List Usage) (queue : List Notification) → Ran s m p (id_at h.0 p.derived.handles) us queue
+runs_until s m p h is us [] = by_test (has_result_for (id_at h.0 p.derived.handles) (ready_in s (record p.derived { usage = us }))) refl
+  where
+    by_test : (b : Bool) → has_result_for (id_at h.0 p.derived.handles) (ready_in s (record p.derived { usage = us })) ≡ b → Ran s m p (id_at h.0 p.derived.handles) us []
+    by_test true e = record { usage = us; left = []; moves = 0; run = (refl, refl); used = refl; ends = inl e }
+    by_test false e = record { usage = us; left = []; moves = 0; run = (refl, refl); used = refl; ends = inr (refl, e) }
+runs_until s m p h is us (n ∷ ns) = by_test (has_result_for (id_at h.0 p.derived.handles) (ready_in s (record p.derived { usage = us }))) refl (runs_until s m p h is (Used n ∷ us) ns)
+  where
+    id : Option NotificationId
+    id = id_at h.0 p.derived.handles
+    by_test : (b : Bool) → has_result_for id (ready_in s (record p.derived { usage = us })) ≡ b → Ran s m p id (Used n ∷ us) ns → Ran s m p id us (n ∷ ns)
+    by_test true e r = record { usage = us; left = n ∷ ns; moves = 0; run = (refl, refl); used = rw e refl; ends = inl e }
+    by_test false e r =
+        let here = at_usage p us (n ∷ ns) in
+        let there = at_usage p (Used n ∷ us) ns in
+        let waits : move_at s m here ≡ Awaits = waits_on s m here (Single h) is e in
+        let none : supplied s m here ≡ [] = ap (λ mv. supply mv p.left) waits in
+        let goes : next s m here ≡ Some there = ap (λ mv. moved mv here) waits in
+        record {
+          usage = r.usage;
+          left = r.left;
+          moves = suc r.moves;
+          run = (there, [], sym (append-nil (supplied s m here) ∙ none), quiet_next s m here there none goes, r.run);
+          used = rw e r.used;
+          ends = r.ends;
+        }
+
+-- the run up to where an await stands
+waits_at : (s : Setup) (m : Meaning) (p : Point) (h : NotificationHandle) (is : m p.answers ≡ step.Await (Single h)) (r : Ran s m p (id_at h.0 p.derived.handles) p.derived.usage p.queue) → MovesOn s m p [] [] (at_usage p r.usage r.left)
+waits_at s m p h is r = record { moves = r.moves; run = r.run; answers = sym (append-nil p.answers) }
+
+-- an await that isn't awake when no arrival is left
+stands : (s : Setup) (m : Meaning) (p : Point) (h : NotificationHandle) (is : m p.answers ≡ step.Await (Single h)) (r : Ran s m p (id_at h.0 p.derived.handles) p.derived.usage p.queue)
+    → r.left ≡ [] → has_result_for (id_at h.0 p.derived.handles) (ready_in s (record p.derived { usage = r.usage })) ≡ false → p.left ≡ [] → Waits s m p (at_usage p r.usage r.left)
+stands s m p h is r none asleep spent = record { moves = waits_at s m p h is r; needs = waits_on s m (at_usage p r.usage r.left) (Single h) is asleep; no_arrival = none; no_command = spent }
+
+stuck_at : (s : Setup) (m : Meaning) (q : Point) → move_at s m q ≡ Awaits → q.queue ≡ [] → IsStuck s m q
+stuck_at s m q needs none =
+    let nothing : supplied s m q ≡ [] = ap (λ mv. supply mv q.left) needs in
+    ap (λ l. next s m (longer l q)) nothing ∙ ap (next s m) (longer_nothing q) ∙ ap (λ mv. moved mv q) needs ∙ ap (λ l. uses_arrival l q) none
+
+-- what an await that stays pending does, where the machine agrees with where it stands
+pends : (s : Setup) (m : Meaning) (given : StateMap) (written : List RawMessage) (aside : Aside) (p : Point) (h : NotificationHandle) (is : m p.answers ≡ step.Await (Single h)) (r : Ran s m p (id_at h.0 p.derived.handles) p.derived.usage p.queue) → s.identity ≡ identity_of aside.start
+    → r.left ≡ [] → has_result_for (id_at h.0 p.derived.handles) (ready_in s (record p.derived { usage = r.usage })) ≡ false → (left : List RawMessage) → p.left ≡ left
+    → Follows s m given written p (machine_at s given written aside p) (mapped await_reply (called (pending h.0 (record (machine_at s given written aside (at_usage p r.usage r.left)) { phase = phase_after left })) (machine_at s given written aside p)))
+unfolding called
+pends s m given written aside p h is r identity none asleep (c ∷ left) e =
+    let q = at_usage p r.usage r.left in
+    let w : Machine = record (machine_at s given written aside q) { phase = phase_after (c ∷ left) } in
+    record { at = q; moves = waits_at s m p h is r; stuck = stuck_at s m q (waits_on s m q (Single h) is asleep) none; output = error_written (ruled w (named_error fault.UncompletedDoProgressDuringReplay None)) w aside.output refl refl; failure = refl }
+pends s m given written aside p h is r identity none asleep [] e = by_test aside.input_closed refl
+  where
+    q : Point
+    q = at_usage p r.usage r.left
+    w : Machine
+    w = record (machine_at s given written aside q) { phase = phase_after [] }
+    by_test : (b : Bool) → aside.input_closed ≡ b → Follows s m given written p (machine_at s given written aside p) (mapped await_reply (called (if b then Done (Err (named_error fault.Suspended None)) (suspended (future_of (id_at h.0 w.results.handles)) w) else Done (Ok (WaitingExternalProgress true false)) w) (machine_at s given written aside p)))
+    by_test true closed = record { at = q; waits = stands s m p h is r none asleep e; suspension = record { future = future_of (id_at h.0 w.results.handles) }; output = refl; closed = refl }
+    by_test false closed = record { at = q; waits = stands s m p h is r none asleep e; agrees = record { aside = aside; machine = λ i. record (machine_at s given written aside q) { phase = phase_after (sym e i) }; identity = identity }; output = refl }
+
+-- an await that wakes
+wakes : (s : Setup) (m : Meaning) (given : StateMap) (written : List RawMessage) (aside : Aside) (p : Point) (h : NotificationHandle) (is : m p.answers ≡ step.Await (Single h)) (r : Ran s m p (id_at h.0 p.derived.handles) p.derived.usage p.queue) → s.identity ≡ identity_of aside.start
+    → has_result_for (id_at h.0 p.derived.handles) (ready_in s (record p.derived { usage = r.usage })) ≡ true → Answered s m given written p (machine_at s given written aside p) answer.Awake (machine_at s given written aside (at_usage p r.usage r.left))
+wakes s m given written aside p h is r identity awake =
+    let q = at_usage p r.usage r.left in
+    let to : Point = record q { answers = q.answers ++ answer.Awake ∷ [] } in
+    let wake : move_at s m q ≡ Answers (answer.Awake ∷ []) q.derived = ap (λ st. call_of s st q.derived) is ∙ ap (λ b. awaiting b q.derived) awake in
+    let none : supplied s m q ≡ [] = ap (λ mv. supply mv q.left) wake in
+    let goes : next s m q ≡ Some to = ap (λ mv. moved mv q) wake in
+    record {
+      at = to;
+      made = [];
+      moves = record {
+        moves = r.moves + 1;
+        run = made_add s m r.moves 1 p [] q [] to r.run (to, [], sym (append-nil (supplied s m q) ∙ none), quiet_next s m q to none goes, (refl, refl));
+        answers = refl;
+      };
+      agrees = record { aside = aside; machine = λ i. machine_at s given (sym (append-nil written) i) aside to; identity = identity };
+      output = sym (append-nil aside.output);
+    }
+
+-- an await does what its moves lead to
+pub awaits_follow : (s : Setup) (m : Meaning) (given : StateMap) (written : List RawMessage) (aside : Aside) (p : Point) (future : UnresolvedFuture) → s.identity ≡ identity_of aside.start → m p.answers ≡ step.Await future → Follows s m given written p (machine_at s given written aside p) (awaited future (machine_at s given written aside p))
+unfolding called await_step
+awaits_follow s m given written aside p (Single h) identity is =
+    let r = runs_until s m p h is p.derived.usage p.queue in
+    let q = at_usage p r.usage r.left in
+    let v = machine_at s given written aside p in
+    let used : record v { results = used_for h.0 v.results } ≡ machine_at s given written aside q = λ i. record v { results = record { queued = (r.used i).1; ready = (r.used i).0; handles = p.derived.handles } } in
+    rw (runs_at p.left, used) (by_end r)
+  where
+    v : Machine
+    v = machine_at s given written aside p
+    by_end : (r : Ran s m p (id_at h.0 p.derived.handles) p.derived.usage p.queue) → Follows s m given written p v (mapped await_reply (called (tried h.0 (machine_at s given written aside (at_usage p r.usage r.left))) v))
+    by_end r =
+        ⊎_elim
+        (λ (e : has_result_for (id_at h.0 p.derived.handles) (ready_in s (record p.derived { usage = r.usage })) ≡ true). rw e (wakes s m given written aside p h is r identity e))
+        (λ (e : (r.left ≡ []) × (has_result_for (id_at h.0 p.derived.handles) (ready_in s (record p.derived { usage = r.usage })) ≡ false)). rw e.1 (pends s m given written aside p h is r identity e.0 e.1 p.left refl))
+        r.ends

@@ -1,0 +1,135 @@
+-- When the machine of an attempt agrees with a point of the handler's run, and what a call then does.
+use Rattle.std.specs.Prelude.{◌≡◌, ℕ, Bool, true, false, List, [], ◌∷◌, ◌++◌, map, Option, Some, None}
+use Rattle.std.proofs.Common.{Global}
+use Rattle.journal_protocol.specs.declared.control.Suspension.{Suspension}
+use Rattle.journal_protocol.specs.declared.error.Error.{Error}
+use Rattle.journal_protocol.specs.declared.message.Message.TheVariants as message
+use Rattle.journal_protocol.specs.declared.message.RawMessage.{RawMessage}
+use Rattle.journal_protocol.specs.Errors.{error_message}
+use Rattle.journal_protocol.specs.Message.{encoding, frame}
+use Rattle.journal_protocol.specs.Runs.{IsWhole}
+use Rattle.vm_parts.specs.declared.context.StartInfo.{StartInfo}
+use Rattle.vm_parts.specs.declared.context.StateMap.{StateMap}
+use Rattle.vm_parts.specs.declared.steps.Answer.{Answer}
+use Rattle.vm_parts.specs.declared.steps.Step.TheVariants as step
+use Rattle.vm_machine.specs.declared.machine.Machine.{Machine}
+use Rattle.vm_machine.specs.declared.phase.Phase.TheVariants.{Closed}
+use Rattle.vm_machine.specs.Commands.{phase_after}
+use Rattle.vm_machine.specs.Outcomes.{Outcome, Done, Failed}
+use Rattle.vm_model.specs.Calls.{Setup, Meaning, Derived, Demand, identity_of, ready_in}
+use Rattle.vm_model.specs.Calls.Move.{Awaits, Needs}
+use Rattle.vm_model.specs.Moves.{Point, changed_by, move_at}
+use Rattle.vm_model.specs.Histories.{IsStuck, Made}
+use Rattle.vm_rounds.specs.declared.progress.Reply.{Reply}
+use Rattle.vm_rounds.specs.declared.progress.Reply.TheVariants as reply
+
+-- what a machine has that no call of a run depends on
+pub record Aside : Type 0 where
+  pub alloc : Global
+  pub start : StartInfo
+  pub input_closed : Bool
+  pub entries_missing : ℕ
+  pub output : List (List ℕ)
+
+abbrev pub is_some_command : List RawMessage → Bool
+is_some_command [] = false
+is_some_command (c ∷ cs) = true
+
+-- The machine at a point: what was handed out as state, what the attempt has written, and the point tell all else of it.
+abbrev pub machine_at : Setup → StateMap → List RawMessage → Aside → Point → Machine
+machine_at s given written aside p = record {
+  alloc = aside.alloc;
+  version = s.version;
+  options = s.options;
+  phase = phase_after p.left;
+  failure = None;
+  input_closed = aside.input_closed;
+  start = aside.start;
+  entries_missing = aside.entries_missing;
+  commands = p.left;
+  counters = p.derived.counters;
+  last_command = p.derived.last;
+  wrote_command = is_some_command written;
+  results = record { queued = p.queue; ready = ready_in s p.derived; handles = p.derived.handles };
+  state = changed_by p.said given;
+  runs = [];
+  proposals = [];
+  tracked = [];
+  ephemeral = [];
+  output = aside.output;
+  output_ended = false;
+}
+
+-- A machine agrees with a point: it is what the point tells, for an invocation of this identity.
+pub record Agrees (s : Setup) (given : StateMap) (written : List RawMessage) (v : Machine) (p : Point) : Type 0 where
+  pub aside : Aside
+  pub machine : v ≡ machine_at s given written aside p
+  pub identity : s.identity ≡ identity_of aside.start
+
+-- the frames of commands
+abbrev pub frames_of : List RawMessage → List (List ℕ)
+frames_of cs = map (λ c. frame c.ty c.body) cs
+
+-- the run moves on: to a point with these answers more, and these commands made
+pub record MovesOn (s : Setup) (m : Meaning) (p : Point) (gives : List Answer) (made : List RawMessage) (q : Point) : Type 0 where
+  pub moves : ℕ
+  pub run : Made s m moves p made q
+  pub answers : q.answers ≡ p.answers ++ gives
+
+-- A call was answered: the run moves on by that answer, the machine agrees with where that leads, and what was made is
+-- what was written.
+pub record Answered (s : Setup) (m : Meaning) (given : StateMap) (written : List RawMessage) (p : Point) (v : Machine) (a : Answer) (w : Machine) : Type 0 where
+  pub at : Point
+  pub made : List RawMessage
+  pub moves : MovesOn s m p (a ∷ []) made at
+  pub agrees : Agrees s given (written ++ made) w at
+  pub output : w.output ≡ v.output ++ frames_of made
+
+-- An await waits: the run uses all arrivals, and the await still needs one.
+pub record Waits (s : Setup) (m : Meaning) (p q : Point) : Type 0 where
+  pub moves : MovesOn s m p [] [] q
+  pub needs : move_at s m q ≡ Awaits
+  pub no_arrival : q.queue ≡ []
+  pub no_command : q.left ≡ []
+
+-- it waits in a machine that agrees with where that leads, and nothing was written
+pub record StillAgrees (s : Setup) (m : Meaning) (given : StateMap) (written : List RawMessage) (p : Point) (v w : Machine) : Type 0 where
+  pub at : Point
+  pub waits : Waits s m p at
+  pub agrees : Agrees s given written w at
+  pub output : w.output ≡ v.output
+
+-- it waits, and the invocation is suspended: one Suspension is written
+pub record IsSuspended (s : Setup) (m : Meaning) (p : Point) (v w : Machine) : Type 0 where
+  pub at : Point
+  pub waits : Waits s m p at
+  pub suspension : Suspension
+  pub output : w.output ≡ v.output ++ encoding (message.Suspension suspension) ∷ []
+  pub closed : w.phase ≡ Closed
+
+-- the handler ends where no recorded command is left: one End is written
+pub record HasEnded (m : Meaning) (p : Point) (v w : Machine) : Type 0 where
+  pub step : m p.answers ≡ step.End
+  pub no_command : p.left ≡ []
+  pub output : w.output ≡ v.output ++ encoding message.End ∷ []
+  pub closed : w.phase ≡ Closed
+
+-- A call was refused: the run comes to a point from which no move leads on, and one Error is written.
+pub record IsRefused (s : Setup) (m : Meaning) (p : Point) (v : Machine) (e : Error) (w : Machine) : Type 0 where
+  pub at : Point
+  pub moves : MovesOn s m p [] [] at
+  pub stuck : IsStuck s m at
+  pub output : w.output ≡ v.output ++ encoding (message.Error (error_message e)) ∷ []
+  pub failure : w.failure ≡ Some e
+
+-- What a call does, by what it answers.
+abbrev pub Follows : Setup → Meaning → StateMap → List RawMessage → Point → Machine → Outcome Reply → Type 0
+Follows s m given written p v (Done (reply.Answer a) w) = Answered s m given written p v a w
+Follows s m given written p v (Done (reply.Waiting input run) w) = StillAgrees s m given written p v w
+Follows s m given written p v (Done reply.Suspended w) = IsSuspended s m p v w
+Follows s m given written p v (Done reply.Ended w) = HasEnded m p v w
+Follows s m given written p v (Failed e w) = IsRefused s m p v e w
+
+-- the command that the handler's call needs, if it needs one, can be encoded
+abbrev pub CanBeWritten : Setup → Meaning → Point → Type 0
+CanBeWritten s m p = (demand : Demand) (gives : List Answer) (d : Derived) → move_at s m p ≡ Needs demand gives d → IsWhole demand.command
