@@ -81,20 +81,20 @@ takes_follow : (s : Setup) (given : StateMap) (written : List RawMessage) (aside
 unfolding take_step
 takes_follow s given written aside p h =
     let id = id_at h.0 p.derived.handles in
-    rw runs_at p.left (takes_result s given written aside p h id (present_for s.options.signal_delivery id (ready_in s p.derived)) (none_for s id p.derived))
+    rw (runs_at p.left) (takes_result s given written aside p h id (present_for s.options.signal_delivery id (ready_in s p.derived)) (none_for s id p.derived))
 
 -- ---- awakeables
 
 awakeables_follow : (s : Setup) (given : StateMap) (written : List RawMessage) (aside : Aside) (p : Point) → s.identity ≡ identity_of aside.start → (o : Option NamedFault) → LeadsOn s given written aside p answer.Awakeable (awakeable_made s o p.derived) (awakeable_counted o (machine_at s given written aside p))
 awakeables_follow s given written aside p identity (Some name) = (refl, open_after p.left)
 awakeables_follow s given written aside p identity None = rw identity (answers s given written aside p answer.Awakeable (record { id = awakeable_id aside.start.id p.derived.counters.signal; handle = record { 0 = p.derived.counters.handle } }) (record p.derived {
-    handles = p.derived.handles ++ record { handle = p.derived.counters.handle; id = SignalId p.derived.counters.signal } ∷ [];
-    counters = record p.derived.counters { signal = p.derived.counters.signal + 1; handle = p.derived.counters.handle + 1 };
-  }))
+  handles = p.derived.handles ++ record { handle = p.derived.counters.handle; id = SignalId p.derived.counters.signal } ∷ [];
+  counters = record p.derived.counters { signal = p.derived.counters.signal + 1; handle = p.derived.counters.handle + 1 };
+}))
 
 makes_awakeable : (s : Setup) (given : StateMap) (written : List RawMessage) (aside : Aside) (p : Point) → s.identity ≡ identity_of aside.start → LeadsOn s given written aside p answer.Awakeable (awakeable_made s (missing_signals 1 1 p.derived.counters) p.derived) (awakeable_step (machine_at s given written aside p))
 unfolding awakeable_step
-makes_awakeable s given written aside p identity = rw runs_at p.left (awakeables_follow s given written aside p identity (missing_signals 1 1 p.derived.counters))
+makes_awakeable s given written aside p identity = rw (runs_at p.left) (awakeables_follow s given written aside p identity (missing_signals 1 1 p.derived.counters))
 
 -- ---- calls with a command
 
@@ -106,7 +106,7 @@ own_of : (s : Setup) (m : Meaning) (p : Point) (r : Request) → CanBeWritten s 
 own_of s m p r whole is none = whole (demand_of s r p.derived) (answer_of r p.derived ∷ []) (commanded r p.derived) (is ∙ ap (λ o. numbered s r o p.derived) none)
 
 requests : (s : Setup) (given : StateMap) (written : List RawMessage) (aside : Aside) (p : Point) (r : Request) (gives : NotificationHandle → Answer) → gives (record { 0 = p.derived.counters.handle }) ≡ answer_of r p.derived → Own s r p → LeadsOn s given written aside p gives (requested s r p.derived) (issued r (machine_at s given written aside p))
-requests s given written aside p r gives answer own = issues s given written aside r p (λ h. gives h ∷ []) (ap (λ a. a ∷ []) answer) (λ none. stands_for_itself s r p.derived (own none))
+requests s given written aside p r gives is own = issues s given written aside r p (λ h. gives h ∷ []) (ap (λ a. a ∷ []) is) (λ none. stands_for_itself s r p.derived (own none))
 
 -- an outcome whose answer is dropped
 drops : (s : Setup) (given : StateMap) (written : List RawMessage) (aside : Aside) (p : Point) (mv : Move) (to : Option Point) (o : Outcome NotificationHandle) → Leads s given written aside p (supply mv p.left) (λ _. answer.Unit ∷ []) to o → Leads s given written aside p (supply mv p.left) (λ _. answer.Unit ∷ []) to (unit_of o)
@@ -117,17 +117,17 @@ drops s given written aside p mv None (Done a w) g = absurd g
 
 -- a request whose call answers nothing
 unit_request : (s : Setup) (given : StateMap) (written : List RawMessage) (aside : Aside) (p : Point) (r : Request) → answer.Unit ≡ answer_of r p.derived → Own s r p → LeadsOn s given written aside p (λ _. answer.Unit) (requested s r p.derived) (unit_of (issued r (machine_at s given written aside p)))
-unit_request s given written aside p r answer own =
+unit_request s given written aside p r is own =
     let mv = requested s r p.derived in
-    drops s given written aside p mv (moved mv (longer (supply mv p.left) p)) (issued r (machine_at s given written aside p)) (requests s given written aside p r (λ _. answer.Unit) answer own)
+    drops s given written aside p mv (moved mv (longer (supply mv p.left) p)) (issued r (machine_at s given written aside p)) (requests s given written aside p r (λ _. answer.Unit) is own)
 
 -- a request that hands a value on
 hands : (s : Setup) (given : StateMap) (written : List RawMessage) (aside : Aside) (p : Point) (r : Request) → answer.Unit ≡ answer_of r p.derived → (a b : Bool) → (cond a (cond b (requested s r p.derived) Stops) (requested s r p.derived) ≡ requested s r p.derived → Own s r p)
     → LeadsOn s given written aside p (λ _. answer.Unit) (cond a (cond b (requested s r p.derived) Stops) (requested s r p.derived))
     (if a && not b then refused fault.UnsupportedFeatureForNegotiatedVersion (machine_at s given written aside p) else unit_of (issued r (machine_at s given written aside p)))
-hands s given written aside p r answer true true own = unit_request s given written aside p r answer (own refl)
-hands s given written aside p r answer true false own = (refl, open_after p.left)
-hands s given written aside p r answer false b own = unit_request s given written aside p r answer (own refl)
+hands s given written aside p r is true true own = unit_request s given written aside p r is (own refl)
+hands s given written aside p r is true false own = (refl, open_after p.left)
+hands s given written aside p r is false b own = unit_request s given written aside p r is (own refl)
 
 -- a sleep, where its time fits
 sleeps : (s : Setup) (given : StateMap) (written : List RawMessage) (aside : Aside) (p : Point) (millis : ℕ) (name : List ℕ) (b : Bool) → (cond b (requested s (request.Sleep millis name) p.derived) Stops ≡ requested s (request.Sleep millis name) p.derived → Own s (request.Sleep millis name) p)
@@ -156,7 +156,7 @@ ends s m given written aside p is (c ∷ left) e =
 completes : (s : Setup) (m : Meaning) (given : StateMap) (written : List RawMessage) (aside : Aside) (p : Point) (h : NotificationHandle) → s.identity ≡ identity_of aside.start → m p.answers ≡ step.Completed h → Follows s m given written p (machine_at s given written aside p) (performed (step.Completed h) (machine_at s given written aside p))
 unfolding called
 completes s m given written aside p h identity is =
-    rw runs_at p.left (follows_from s m given written aside p answer.Completed (call_of s (step.Completed h) p.derived) (Done (has_result_in s h p.derived) (machine_at s given written aside p)) identity (ap (λ st. call_of s st p.derived) is) (answers s given written aside p answer.Completed (has_result_in s h p.derived) p.derived))
+    rw (runs_at p.left) (follows_from s m given written aside p answer.Completed (call_of s (step.Completed h) p.derived) (Done (has_result_in s h p.derived) (machine_at s given written aside p)) identity (ap (λ st. call_of s st p.derived) is) (answers s given written aside p answer.Completed (has_result_in s h p.derived) p.derived))
 
 -- In a machine that agrees with a point, the handler's call does what the moves from there lead to.
 pub call_follows : (s : Setup) (m : Meaning) (given : StateMap) (written : List RawMessage) (aside : Aside) (p : Point) → s.identity ≡ identity_of aside.start → CanBeWritten s m p → (st : Step) → m p.answers ≡ st → Follows s m given written p (machine_at s given written aside p) (performed st (machine_at s given written aside p))

@@ -37,7 +37,7 @@ open_after (c ∷ left) = refl
 
 -- the error rule writes one Error
 pub error_written : (e : Error) (w : Machine) (output : List (List ℕ)) → w.output ≡ output → is_closed w.phase ≡ false → (failed e w).output ≡ output ++ encoding (message.Error (error_message e)) ∷ []
-error_written e w output is open = rw open (ap (λ l. l ++ encoding (message.Error (error_message e)) ∷ []) is)
+error_written e w output is runs = rw runs (ap (λ l. l ++ encoding (message.Error (error_message e)) ∷ []) is)
 
 -- one move, with what the call brings itself
 pub one_move : (s : Setup) (m : Meaning) (p q : Point) → next s m (longer (supplied s m p) p) ≡ Some q → Made s m 1 p (supplied s m p) q
@@ -55,8 +55,10 @@ follows_from s m given written aside p gives mv o identity is h = by_cases (move
   where
     supplies : supplied s m p ≡ supply mv p.left
     supplies = ap (λ x. supply x p.left) is
+
     leads : (to : Option Point) → moved mv (longer (supply mv p.left) p) ≡ to → next s m (longer (supplied s m p) p) ≡ to
     leads to e = ap (λ l. next s m (longer l p)) supplies ∙ ap (λ x. moved x (longer (supply mv p.left) p)) is ∙ e
+
     by_cases : (to : Option Point) → moved mv (longer (supply mv p.left) p) ≡ to → (x : Outcome _) → Leads s given written aside p (supply mv p.left) (λ a. gives a ∷ []) to x → Follows s m given written p (machine_at s given written aside p) (mapped (λ a. reply.Answer (gives a)) (called x (machine_at s given written aside p)))
     by_cases (Some q) e (Done a w) g =
         record {

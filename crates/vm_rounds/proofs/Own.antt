@@ -3,9 +3,9 @@ use Rattle.std.proofs.Common.{◌≡◌, ℕ, Bool, true, false, ◌&&◌, ◌||
 use Rattle.std.specs.Prelude.{◌==◌, nat_eq, if◌then◌else◌}
 use Rattle.std.specs.Cmp.Lexicographic.{bytes_decides, pointwise}
 use Rattle.std.proofs.lemmas.Bool.{eq-eqb}
-use Rattle.journal_protocol.specs.contracts.parts.ValueOrFailureEq.TheImpl as values_of
-use Rattle.journal_protocol.specs.contracts.signals.SignalEq.TheImpl as signals_of
-use Rattle.journal_protocol.specs.contracts.signals.SignalResultEq.TheImpl as sent_of
+use Rattle.journal_protocol.specs.contracts.parts.ValueOrFailureEq.TheImpl.Laws as values_of
+use Rattle.journal_protocol.specs.contracts.signals.SignalEq.TheImpl.Laws as signals_of
+use Rattle.journal_protocol.specs.contracts.signals.SignalResultEq.TheImpl.Laws as sent_of
 use Rattle.journal_protocol.specs.declared.message.Message.{Message}
 use Rattle.journal_protocol.specs.declared.signals.Signal.TheVariants.{Index, Name}
 use Rattle.journal_protocol.specs.declared.signals.SignalResult.TheVariants as sent
@@ -36,13 +36,13 @@ or_true false b e = e
 same_header : (r : Request) (id : ℕ) (ignore : Bool) → header_equal (message_of r id) (message_of r id) ignore ≡ true
 unfolding header_equal
 same_header (request.Sleep wake_up_time name) id ignore = rw (number_same id, text_same name) refl
-same_header (request.Output value options) id ignore = or_true ignore _ ((values_of.ghosts).laws.refl value)
+same_header (request.Output value options) id ignore = or_true ignore _ ((values_of.laws-law).refl value)
 same_header (request.SetState key value name options) id ignore = rw (text_same name, text_same key) (or_true ignore _ (text_same value))
 same_header (request.ClearState key name) id ignore = rw (text_same name, text_same key) refl
 same_header (request.ClearAllState name) id ignore = text_same name
-same_header (request.CompleteAwakeable awakeable value options) id ignore = rw (text_same awakeable) (or_true ignore _ ((values_of.ghosts).laws.refl value))
-same_header (request.CompleteSignal target signal value) id ignore = rw (text_same target, (signals_of.ghosts).laws.refl (Name signal)) (or_true ignore _ ((sent_of.ghosts).laws.refl (signal_result value)))
-same_header (request.CancelInvocation target) id ignore = rw (text_same target, (signals_of.ghosts).laws.refl (Index 1)) (or_true ignore _ ((sent_of.ghosts).laws.refl sent.Void))
+same_header (request.CompleteAwakeable awakeable value options) id ignore = rw (text_same awakeable) (or_true ignore _ ((values_of.laws-law).refl value))
+same_header (request.CompleteSignal target signal value) id ignore = rw (text_same target, (signals_of.laws-law).refl (Name signal)) (or_true ignore _ ((sent_of.laws-law).refl (signal_result value)))
+same_header (request.CancelInvocation target) id ignore = rw (text_same target, (signals_of.laws-law).refl (Index 1)) (or_true ignore _ ((sent_of.laws-law).refl sent.Void))
 
 pub stands_for_itself : (s : Setup) (r : Request) (d : Derived) → IsWhole (message_of r d.counters.completion) → stands_for (demand_of s r d) (stored_form (message_of r d.counters.completion)) ≡ true
 stands_for_itself s r d whole =

@@ -103,6 +103,7 @@ reads s given written aside r p left gives answer (Some recorded) = by_test (hea
   where
     m : Message
     m = message_of r p.derived.counters.completion
+
     by_test : (b : Bool) → Leads s given written aside p [] gives (command_used b (demand_of s r p.derived) (answer_of r p.derived ∷ []) (commanded r p.derived) left p) (handed p (if b then Done tt (popped_to s given written aside r left p) else Failed (about_last fault.CommandMismatch (popped_to s given written aside r left p)) (popped_to s given written aside r left p)))
     by_test false = (refl, open_after left)
     by_test true = (ap (λ l. p.answers ++ l) (sym answer), λ i. machine_at s given (sym (append-nil written) i) (record aside { output = sym (append-nil aside.output) i }) (past r (answer_of r p.derived ∷ []) left p))
@@ -114,10 +115,13 @@ replays s given written aside r p c left gives answer = by_test (type_number c.t
   where
     m : Message
     m = message_of r p.derived.counters.completion
+
     e : Demand
     e = demand_of s r p.derived
+
     w : Machine
     w = popped_to s given written aside r left p
+
     by_test : (b : Bool) → Leads s given written aside p [] gives (command_used (if b then reads_as e.ignores_payload m (message_in c.ty c.body) else false) e (answer_of r p.derived ∷ []) (commanded r p.derived) left p) (handed p ((if b then Done c w else Failed (about_last fault.CommandTypeMismatch w) w) >>= λ raw z. compared m e.ignores_payload (message_in raw.ty raw.body) z))
     by_test true = reads s given written aside r p left gives answer (message_in c.ty c.body)
     by_test false = (refl, open_after left)
@@ -149,7 +153,7 @@ counts : (s : Setup) (given : StateMap) (written : List RawMessage) (aside : Asi
     → Leads s given written aside p (supply (numbered s r o p.derived) p.left) gives (moved (numbered s r o p.derived) (longer (supply (numbered s r o p.derived) p.left) p)) (counted o r (machine_at s given written aside p))
 counts s given written aside r p gives answer (Some name) own = (refl, open_after p.left)
 counts s given written aside r p gives answer None own =
-    rw prepares s given written aside r p (carries s given written aside r p gives answer (own refl) p.left refl)
+    rw (prepares s given written aside r p) (carries s given written aside r p gives answer (own refl) p.left refl)
 
 pub runs_at : (left : List RawMessage) → is_running (phase_after left) ≡ true
 runs_at [] = refl
@@ -161,4 +165,4 @@ pub issues : (s : Setup) (given : StateMap) (written : List RawMessage) (aside :
     → Leads s given written aside p (supply (requested s r p.derived) p.left) gives (moved (requested s r p.derived) (longer (supply (requested s r p.derived) p.left) p)) (issued r (machine_at s given written aside p))
 unfolding issued
 issues s given written aside r p gives answer own =
-    rw runs_at p.left (counts s given written aside r p gives answer (missing (ids_of r) 0 (ids_of r) p.derived.counters) own)
+    rw (runs_at p.left) (counts s given written aside r p gives answer (missing (ids_of r) 0 (ids_of r) p.derived.counters) own)

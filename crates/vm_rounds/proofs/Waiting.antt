@@ -19,7 +19,7 @@ use Rattle.vm_machine.specs.declared.machine.Machine.{Machine}
 use Rattle.vm_machine.specs.Awaits.{await_step, future_of, pending, suspended, tried}
 use Rattle.vm_machine.specs.Commands.{phase_after}
 use Rattle.vm_machine.specs.Outcomes.{Outcome, Done, Failed, called, refused, ruled}
-use Rattle.vm_machine.specs.Phases.{is_running}
+use Rattle.vm_machine.specs.Phases.{state_fault}
 use Rattle.vm_model.specs.Calls.{Setup, Meaning, Derived, Usage, awaiting, call_of, identity_of, is_awake, ready_in}
 use Rattle.vm_model.specs.Calls.Move.{Answers, Awaits}
 use Rattle.vm_model.specs.Calls.Usage.{Used}
@@ -63,6 +63,7 @@ runs_until s m p h is us (n ∷ ns) = by_test (has_result_for (id_at h.0 p.deriv
   where
     id : Option NotificationId
     id = id_at h.0 p.derived.handles
+
     by_test : (b : Bool) → has_result_for id (ready_in s (record p.derived { usage = us })) ≡ b → Ran s m p id (Used n ∷ us) ns → Ran s m p id us (n ∷ ns)
     by_test true e r = record { usage = us; left = n ∷ ns; moves = 0; run = (refl, refl); used = rw e refl; ends = inl e }
     by_test false e r =
@@ -107,8 +108,10 @@ pends s m given written aside p h is r identity none asleep [] e = by_test aside
   where
     q : Point
     q = at_usage p r.usage r.left
+
     w : Machine
     w = record (machine_at s given written aside q) { phase = phase_after [] }
+
     by_test : (b : Bool) → aside.input_closed ≡ b → Follows s m given written p (machine_at s given written aside p) (mapped await_reply (called (if b then Done (Err (named_error fault.Suspended None)) (suspended (future_of (id_at h.0 w.results.handles)) w) else Done (Ok (WaitingExternalProgress true false)) w) (machine_at s given written aside p)))
     by_test true closed = record { at = q; waits = stands s m p h is r none asleep e; suspension = record { future = future_of (id_at h.0 w.results.handles) }; output = refl; closed = refl }
     by_test false closed = record { at = q; waits = stands s m p h is r none asleep e; agrees = record { aside = aside; machine = λ i. record (machine_at s given written aside q) { phase = phase_after (sym e i) }; identity = identity }; output = refl }
@@ -134,21 +137,28 @@ wakes s m given written aside p h is r identity awake =
       output = sym (append-nil aside.output);
     }
 
+-- an await, where its arrivals are used
+tries : (s : Setup) (m : Meaning) (given : StateMap) (written : List RawMessage) (aside : Aside) (p : Point) (h : NotificationHandle) (r : Ran s m p (id_at h.0 p.derived.handles) p.derived.usage p.queue)
+    → await_step h.0 (machine_at s given written aside p) ≡ tried h.0 (machine_at s given written aside (at_usage p r.usage r.left))
+unfolding await_step
+tries s m given written aside p h r =
+    let v = machine_at s given written aside p in
+    ap (λ b. if b then tried h.0 (record v { results = used_for h.0 v.results }) else refused (state_fault v.phase) v) (runs_at p.left)
+    ∙ ap (tried h.0) (λ i. record v { results = record { queued = (r.used i).1; ready = (r.used i).0; handles = p.derived.handles } })
+
+-- an await that was tried
+tried_follows : (s : Setup) (m : Meaning) (given : StateMap) (written : List RawMessage) (aside : Aside) (p : Point) (h : NotificationHandle) (is : m p.answers ≡ step.Await (Single h)) (r : Ran s m p (id_at h.0 p.derived.handles) p.derived.usage p.queue) → s.identity ≡ identity_of aside.start
+    → Follows s m given written p (machine_at s given written aside p) (mapped await_reply (called (tried h.0 (machine_at s given written aside (at_usage p r.usage r.left))) (machine_at s given written aside p)))
+unfolding called
+tried_follows s m given written aside p h is r identity =
+    ⊎_elim
+    (λ (e : has_result_for (id_at h.0 p.derived.handles) (ready_in s (record p.derived { usage = r.usage })) ≡ true). rw e (wakes s m given written aside p h is r identity e))
+    (λ (e : (r.left ≡ []) × (has_result_for (id_at h.0 p.derived.handles) (ready_in s (record p.derived { usage = r.usage })) ≡ false)). rw (e.1) (pends s m given written aside p h is r identity e.0 e.1 p.left refl))
+    r.ends
+
 -- an await does what its moves lead to
 pub awaits_follow : (s : Setup) (m : Meaning) (given : StateMap) (written : List RawMessage) (aside : Aside) (p : Point) (future : UnresolvedFuture) → s.identity ≡ identity_of aside.start → m p.answers ≡ step.Await future → Follows s m given written p (machine_at s given written aside p) (awaited future (machine_at s given written aside p))
-unfolding called await_step
 awaits_follow s m given written aside p (Single h) identity is =
     let r = runs_until s m p h is p.derived.usage p.queue in
-    let q = at_usage p r.usage r.left in
     let v = machine_at s given written aside p in
-    let used : record v { results = used_for h.0 v.results } ≡ machine_at s given written aside q = λ i. record v { results = record { queued = (r.used i).1; ready = (r.used i).0; handles = p.derived.handles } } in
-    rw (runs_at p.left, used) (by_end r)
-  where
-    v : Machine
-    v = machine_at s given written aside p
-    by_end : (r : Ran s m p (id_at h.0 p.derived.handles) p.derived.usage p.queue) → Follows s m given written p v (mapped await_reply (called (tried h.0 (machine_at s given written aside (at_usage p r.usage r.left))) v))
-    by_end r =
-        ⊎_elim
-        (λ (e : has_result_for (id_at h.0 p.derived.handles) (ready_in s (record p.derived { usage = r.usage })) ≡ true). rw e (wakes s m given written aside p h is r identity e))
-        (λ (e : (r.left ≡ []) × (has_result_for (id_at h.0 p.derived.handles) (ready_in s (record p.derived { usage = r.usage })) ≡ false)). rw e.1 (pends s m given written aside p h is r identity e.0 e.1 p.left refl))
-        r.ends
+    subst (λ o. Follows s m given written p v (mapped await_reply (called o v))) (sym (tries s m given written aside p h r)) (tried_follows s m given written aside p h is r identity)
