@@ -36,7 +36,7 @@ use Rattle.vm_machine.specs.Signals.{awakeable_step}
 use Rattle.vm_machine.specs.Outcomes.{Does, IsStarved, Outcome, Done, Failed, called, flat, refused}
 use Rattle.vm_machine.specs.Reports.{report_step}
 use Rattle.vm_machine.proofs.Endings.{Event, answered, await_writes, awakeable_writes, called_writes, close_writes, end_writes, input_writes, issued_event, malformed_writes, message_writes, nothing_behind, report_writes, same, take_writes, writes_nothing}
-use Rattle.invocation_vm.specs.Calls.{cancel_invocation_step, complete_awakeable_step, complete_signal_step, future_step, handing, needs_v6, output_step, sleep_step, state_clear_all_step, state_clear_step, state_set_step}
+use Rattle.invocation_vm.specs.Calls.{cancel_invocation_step, complete_awakeable_step, complete_signal_step, future_step, handing, needs_v6, new_awakeable_step, output_step, skips_replay, sleep_step, state_clear_all_step, state_clear_step, state_set_step}
 use Rattle.invocation_vm.specs.Endings.{EndsOnceAfter, StaysSo}
 use Rattle.invocation_vm.specs.Frames.{Tail, Rest, Garbage, frames_of}
 use Rattle.invocation_vm.specs.Making.{made}
@@ -160,8 +160,12 @@ clear_stays key name r old new c = unit_stays (request.ClearState key name) r ol
 pub clear_all_stays : (name : List ℕ) (r : Result Unit Error) (old new : View) → Calls (state_clear_all_step name) r old new → StaysSo old new
 clear_all_stays name r old new c = unit_stays (request.ClearAllState name) r old new c
 
-pub awakeable_stays : (r : Result AwakeableHandle Error) (old new : View) → Calls awakeable_step r old new → StaysSo old new
-awakeable_stays r old new c = calls_stay awakeable_step r old new (awakeable_writes old.machine) c
+new_awakeable_writes : (b : Bool) (v : Machine) → EventWrites v (called (if b then refused fault.UnsupportedFeature v else awakeable_step v) v)
+new_awakeable_writes true v = called_writes v (refused {A = AwakeableHandle} fault.UnsupportedFeature v) (λ live. same v)
+new_awakeable_writes false v = awakeable_writes v
+
+pub awakeable_stays : (r : Result AwakeableHandle Error) (old new : View) → Calls new_awakeable_step r old new → StaysSo old new
+awakeable_stays r old new c = calls_stay new_awakeable_step r old new (new_awakeable_writes (skips_replay old.machine.options.journal_replay) old.machine) c
 
 pub complete_awakeable_stays : (id : List ℕ) (value : NonEmptyValue) (options : PayloadOptions) (r : Result Unit Error) (old new : View) → Calls (complete_awakeable_step id value options) r old new → StaysSo old new
 complete_awakeable_stays id value options r old new c = handing_stays value (request.CompleteAwakeable id (value_message value) options) r old new c

@@ -3,3 +3,4 @@ pub mod Endings
 pub mod Concats
 pub mod Cuts
 pub mod Feeds
+pub mod Lawful

@@ -4,8 +4,11 @@ use Rattle.std.proofs.Common.{Global}
 use Rattle.std.specs.declared.string.String.{String}
 use Rattle.journal_protocol.specs.declared.error.Error.{Error}
 use Rattle.journal_protocol.specs.declared.faults.NamedFault.TheVariants as fault
+use Rattle.vm_parts.specs.declared.options.JournalReplay.{JournalReplay}
+use Rattle.vm_parts.specs.declared.options.JournalReplay.TheVariants.{Enabled, Disabled}
 use Rattle.vm_parts.specs.declared.options.PayloadOptions.{PayloadOptions}
 use Rattle.vm_parts.specs.declared.types.AwaitResponse.{AwaitResponse}
+use Rattle.vm_parts.specs.declared.types.AwakeableHandle.{AwakeableHandle}
 use Rattle.vm_parts.specs.declared.types.NotificationHandle.{NotificationHandle}
 use Rattle.vm_parts.specs.declared.types.UnresolvedFuture.{UnresolvedFuture}
 use Rattle.vm_parts.specs.declared.types.UnresolvedFuture.TheVariants.{Single}
@@ -18,6 +21,7 @@ use Rattle.vm_machine.specs.Awaits.{await_step}
 use Rattle.vm_machine.specs.Commands.{issued, unit_of}
 use Rattle.vm_machine.specs.Outcomes.{Outcome, refused}
 use Rattle.vm_machine.specs.Phases.{is_from_v6}
+use Rattle.vm_machine.specs.Signals.{awakeable_step}
 
 -- a sleep to a time in whole milliseconds, as far as a u64 goes
 abbrev pub sleep_step : ℕ → List ℕ → Machine → Outcome NotificationHandle
@@ -57,6 +61,15 @@ state_clear_step key name v = unit_of (issued (request.ClearState key name) v)
 -- all state keys are cleared
 abbrev pub state_clear_all_step : List ℕ → Machine → Outcome Unit
 state_clear_all_step name v = unit_of (issued (request.ClearAllState name) v)
+
+-- recorded commands are skipped
+abbrev pub skips_replay : JournalReplay → Bool
+skips_replay Enabled = false
+skips_replay Disabled = true
+
+-- An awakeable is made, where recorded commands are replayed.
+abbrev pub new_awakeable_step : Machine → Outcome AwakeableHandle
+new_awakeable_step v = if skips_replay v.options.journal_replay then refused fault.UnsupportedFeature v else awakeable_step v
 
 -- an awakeable is completed
 abbrev pub complete_awakeable_step : List ℕ → NonEmptyValue → PayloadOptions → Machine → Outcome Unit

@@ -3,4 +3,5 @@ pub mod Endings
 pub mod Frames
 pub mod Making
 pub mod Seen
+pub mod Sleeps
 pub mod Views

@@ -87,3 +87,7 @@ pub record TakesOutput (r : Result (List ℕ) AllocError) (old new : View) : Typ
   pub bytes : IfOk r (λ bytes. bytes ≡ concat old.machine.output)
   pub ok : OnOk r (new ≡ record old { machine = record old.machine { output = [] } })
   pub err : OnErr r (new ≡ old)
+
+-- a failed VM's answer: its first error, and it stays as it is; or it finds no memory, and writes nothing
+abbrev pub AnswersFirst : {A : Type 0} → Error → Result A Error → View → View → Type 0
+AnswersFirst e r old new = ((r ≡ Err e) × (new ≡ old)) ⊎ ((r ≡ Err no_memory) × (new.machine.output ≡ old.machine.output))

@@ -1,10 +1,11 @@
-//! The arguments of the calls that have a command: what is checked, and the request that they are.
+//! The arguments of the calls that have a command: what is checked, and the request that they are; and what is checked
+//! of the call that makes an awakeable.
 ghost use Rattle.std.specs.Prelude.{◌≡◌, ◌/◌, None, string_bytes};
 ghost use Rattle.std.specs.Duration.{as_nanos};
 ghost use Rattle.journal_protocol.specs.Errors.{named_error};
 ghost use Rattle.vm_machine.specs.declared.fault.Fault.TheVariants.{Refused};
 ghost use Rattle.vm_machine.specs.Outcomes.{Gives};
-ghost use Rattle.invocation_vm.specs.Calls.{cancel_invocation_step, complete_awakeable_step, complete_signal_step, has_metadata, name_or_empty, needs_v6, output_step, sleep_step, state_clear_all_step, state_clear_step, state_set_step};
+ghost use Rattle.invocation_vm.specs.Calls.{cancel_invocation_step, complete_awakeable_step, complete_signal_step, has_metadata, name_or_empty, needs_v6, new_awakeable_step, output_step, skips_replay, sleep_step, state_clear_all_step, state_clear_step, state_set_step};
 
 use bytes::Bytes;
 use journal_protocol::{Error, NamedFault};
@@ -13,7 +14,7 @@ use std::time::Duration;
 use vm_machine::phase::is_from_v6;
 use vm_machine::{Fault, Machine, Request};
 use vm_parts::values::write_value;
-use vm_parts::{NonEmptyValue, NotificationHandle, PayloadOptions};
+use vm_parts::{AwakeableHandle, JournalReplay, NonEmptyValue, NotificationHandle, PayloadOptions};
 use wire::Text;
 
 /// A refusal that relates to no command.
@@ -122,6 +123,21 @@ pub(crate) fn clear_all_state(machine: &mut Machine, name: Option<String>) -> Re
         name: name_text(machine.alloc, name),
     })?;
     Ok(())
+}
+
+fn skips_replay(option: JournalReplay) -> bool
+    ensures { result ≡ skips_replay option }
+{
+    matches!(option, JournalReplay::Disabled)
+}
+
+pub(crate) fn make_awakeable(machine: &mut Machine) -> Result<AwakeableHandle, Fault>
+    ensures { Gives (new_awakeable_step machine.old) result machine.old machine.new }
+{
+    if skips_replay(machine.options.journal_replay) {
+        return Err(refuse(NamedFault::UnsupportedFeature));
+    }
+    machine.awakeable()
 }
 
 pub(crate) fn complete_awakeable(

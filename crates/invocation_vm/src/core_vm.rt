@@ -8,7 +8,7 @@ ghost use Rattle.invocation_vm.specs.Views.{Calls};
 
 use crate::commands::{
     cancel_invocation, clear_all_state, clear_state, complete_awakeable, complete_signal,
-    set_state, sleep, write_output,
+    make_awakeable, set_state, sleep, write_output,
 };
 use crate::output::{joined, len_of};
 use crate::versions::{response_head, version_in};
@@ -226,7 +226,7 @@ impl VM for CoreVM {
         if let Err(error) = self.machine.live() {
             return Err(error);
         }
-        let given = self.machine.awakeable();
+        let given = make_awakeable(&mut self.machine);
         self.machine.settle(given)
     }
 

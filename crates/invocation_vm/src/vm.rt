@@ -3,8 +3,7 @@ ghost use Rattle.std.specs.Prelude.{◌≡◌, ◌/◌, IfOk, string_bytes, code
 ghost use Rattle.std.specs.Duration.{as_nanos};
 ghost use Rattle.vm_machine.specs.Awaits.{IsReadyAt, is_completed, last_index, state_of, take_step};
 ghost use Rattle.vm_machine.specs.Inputs.{end_step, input_step};
-ghost use Rattle.vm_machine.specs.Signals.{awakeable_step};
-ghost use Rattle.invocation_vm.specs.Calls.{cancel_invocation_step, complete_awakeable_step, complete_signal_step, future_step, name_or_empty, output_step, sleep_step, state_clear_all_step, state_clear_step, state_set_step};
+ghost use Rattle.invocation_vm.specs.Calls.{cancel_invocation_step, complete_awakeable_step, complete_signal_step, future_step, name_or_empty, new_awakeable_step, output_step, sleep_step, state_clear_all_step, state_clear_step, state_set_step};
 ghost use Rattle.invocation_vm.specs.Making.{Makes, response_head, version_in};
 ghost use Rattle.invocation_vm.specs.Views.{View, Calls, CallsFlat, Leaves, TakesOutput, after_closing, after_error, after_input};
 
@@ -104,9 +103,10 @@ pub trait VM: Sized {
     fn sys_state_clear_all(&mut self, name: Option<String>) -> VMResult<()>
         ensures { Calls (state_clear_all_step (name_or_empty name)) result (view self.old) (view self.new) };
 
-    /// Makes an awakeable: an id for others to complete it by, and a handle to await it by. It has no command.
+    /// Makes an awakeable: an id for others to complete it by, and a handle to await it by. It has no command, and is
+    /// refused where the options disable replay.
     fn sys_awakeable(&mut self) -> VMResult<AwakeableHandle>
-        ensures { Calls awakeable_step result (view self.old) (view self.new) };
+        ensures { Calls new_awakeable_step result (view self.old) (view self.new) };
 
     /// Gives the awakeable of this id its result. A failure with metadata needs V6.
     fn sys_complete_awakeable(

@@ -32,16 +32,16 @@ abbrev Keeps : Machine → Machine → Type 0
 Keeps v w = (w.state ≡ v.state) × (w.counters ≡ v.counters)
 
 -- an event that answers nothing is done
-abbrev IsDone : Outcome Unit → Machine → Type 0
+abbrev pub IsDone : Outcome Unit → Machine → Type 0
 IsDone o w = o ≡ Done tt w
 
-same_machine : {A : Type 0} (a b : A) (v w : Machine) → Done a v ≡ Done b w → v ≡ w
+pub same_machine : {A : Type 0} (a b : A) (v w : Machine) → Done a v ≡ Done b w → v ≡ w
 same_machine a b v w h = cc
 
 same_answer : {A : Type 0} (a b : A) (v w : Machine) → Done a v ≡ Done b w → b ≡ a
 same_answer a b v w h = cc
 
-no_answer : {A : Type 0} (e : Error) (a : A) (v w : Machine) → Failed e v ≡ Done a w → ⊥
+pub no_answer : {A : Type 0} (e : Error) (a : A) (v w : Machine) → Failed e v ≡ Done a w → ⊥
 no_answer e a v w h = cc
 
 keeps_same : (v u w : Machine) → u ≡ w → Keeps v u → Keeps v w
@@ -77,7 +77,7 @@ unfolding carried_out
 carried_keeps m ignore v w h = carried_at m ignore (is_processing v.phase) v w h
 
 -- a call's answer is the handle that comes next
-answered : (o : Outcome Unit) (given handle : NotificationHandle) (w : Machine) → (o >>= λ _ u. Done given u) ≡ Done handle w → IsDone o w × (handle ≡ given)
+pub answered : (o : Outcome Unit) (given handle : NotificationHandle) (w : Machine) → (o >>= λ _ u. Done given u) ≡ Done handle w → IsDone o w × (handle ≡ given)
 answered (Done t u) given handle w h = (ap (λ x. Done tt x) (same_machine given handle u w h), same_answer given handle u w h)
 answered (Failed e u) given handle w h = absurd (no_answer e handle u w h)
 

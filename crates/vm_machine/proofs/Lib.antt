@@ -1,4 +1,5 @@
 pub mod Carried
 pub mod Endings
 pub mod Preparing
+pub mod Replaying
 pub mod States

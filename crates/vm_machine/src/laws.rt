@@ -1,22 +1,27 @@
 //! Laws of the calls, in replay as in Processing.
-ghost use Rattle.std.specs.Prelude.{◌≡◌, ℕ, List, Option};
+ghost use Rattle.std.specs.Prelude.{◌≡◌, ℕ, true, false, List, [], ◌∷◌, Option, Some, None};
 ghost use Rattle.vm_parts.specs.declared.options.PayloadOptions.{PayloadOptions};
 ghost use Rattle.vm_parts.specs.declared.types.AwakeableHandle.{AwakeableHandle};
 ghost use Rattle.vm_parts.specs.declared.types.NotificationHandle.{NotificationHandle};
 ghost use Rattle.vm_parts.specs.States.{state_set, state_cleared, all_cleared};
 ghost use Rattle.vm_machine.specs.declared.machine.Machine.{Machine};
+ghost use Rattle.vm_machine.specs.declared.phase.Phase.TheVariants.{Replaying};
 ghost use Rattle.vm_machine.specs.declared.request.Request.{Request};
 ghost use Rattle.vm_machine.specs.declared.request.Request.TheVariants.{SetState, ClearState, ClearAllState};
 ghost use Rattle.journal_protocol.specs.declared.error.Error.{Error};
+ghost use Rattle.journal_protocol.specs.declared.faults.NamedFault.TheVariants as fault;
+ghost use Rattle.journal_protocol.specs.declared.message.Message.{Message};
 ghost use Rattle.journal_protocol.specs.declared.message.RawMessage.{RawMessage};
+ghost use Rattle.journal_protocol.specs.Reading.{message_in};
 ghost use Rattle.vm_parts.specs.declared.command_type.CommandRelationship.{CommandRelationship};
 ghost use Rattle.vm_machine.specs.Awaits.{await_step, take_step};
 ghost use Rattle.vm_machine.specs.Commands.{issued};
-ghost use Rattle.vm_machine.specs.Endings.{EventWrites};
+ghost use Rattle.vm_machine.specs.Endings.{EventWrites, Writes, is_over};
 ghost use Rattle.vm_machine.specs.Inputs.{close_step, end_step, input_step, malformed_step, message_step};
 ghost use Rattle.vm_machine.specs.Reports.{report_step};
 ghost use Rattle.vm_machine.specs.Numbers.{Counted};
-ghost use Rattle.vm_machine.specs.Outcomes.{Done, called};
+ghost use Rattle.vm_machine.specs.Outcomes.{Done, Failed, Outcome, called};
+ghost use Rattle.vm_machine.specs.Replays.{MayReplay, Pops, Refuses, is_header_equal, is_of_its_type};
 ghost use Rattle.vm_machine.specs.Requests.{ids_of};
 ghost use Rattle.vm_machine.specs.Signals.{awakeable_step};
 
@@ -50,4 +55,27 @@ pub fn output_ends_once()
     ensures messages { (raw : RawMessage) (v : Machine) → EventWrites v (called (message_step raw v) v) }
     ensures malformed { (v : Machine) → EventWrites v (called (malformed_step v) v) }
     ensures closings { (v : Machine) → EventWrites v (called (close_step v) v) }
+{}
+
+/// A replayed command writes nothing, and the next recorded command is popped only where it is header-equal to the
+/// call's; else the call is refused with the error that says why.
+pub fn replay_pops_what_is_equal()
+    ensures popped { (r : Request) (h : NotificationHandle) (v w : Machine) → v.phase ≡ Replaying → issued r v ≡ Done h w → Pops r v w }
+    ensures none_left { (r : Request) (v : Machine) → MayReplay r v → v.commands ≡ [] → Refuses fault.UnavailableEntry r v }
+    ensures other_type { (r : Request) (raw : RawMessage) (rest : List RawMessage) (v : Machine) → MayReplay r v → v.commands ≡ raw ∷ rest → is_of_its_type raw r v ≡ false → Refuses fault.CommandTypeMismatch r v }
+    ensures not_read { (r : Request) (raw : RawMessage) (rest : List RawMessage) (v : Machine) → MayReplay r v → v.commands ≡ raw ∷ rest → is_of_its_type raw r v ≡ true → message_in raw.ty raw.body ≡ None → Refuses fault.BadMessage r v }
+    ensures not_equal { (r : Request) (raw : RawMessage) (rest : List RawMessage) (recorded : Message) (v : Machine) → MayReplay r v → v.commands ≡ raw ∷ rest → is_of_its_type raw r v ≡ true → message_in raw.ty raw.body ≡ Some recorded → is_header_equal recorded r v ≡ false → Refuses fault.CommandMismatch r v }
+{}
+
+/// Once a machine has failed, has ended or is suspended nothing is written: each event writes as `output_ends_once`
+/// says.
+#[tactic(auto, using(crate::proofs::Replaying::nothing_more))]
+pub fn nothing_follows()
+    ensures { (v w : Machine) → is_over v ≡ true → Writes v w → w.output ≡ v.output }
+{}
+
+/// A machine that has failed answers its first error to each event, whatever its answers are, and stays as it is.
+#[tactic(auto, using(crate::proofs::Replaying::answers_first))]
+pub fn first_error_stays<A>()
+    ensures { (o : Outcome A) (e : Error) (v : Machine) → v.failure ≡ Some e → called o v ≡ Failed e v }
 {}

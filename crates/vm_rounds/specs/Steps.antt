@@ -15,8 +15,7 @@ use Rattle.vm_machine.specs.declared.machine.Machine.{Machine}
 use Rattle.vm_machine.specs.Awaits.{is_completed, take_step}
 use Rattle.vm_machine.specs.Inputs.{end_step}
 use Rattle.vm_machine.specs.Outcomes.{Outcome, Done, Failed, called, Does}
-use Rattle.vm_machine.specs.Signals.{awakeable_step}
-use Rattle.invocation_vm.specs.Calls.{cancel_invocation_step, complete_awakeable_step, complete_signal_step, future_step, output_step, sleep_step, state_clear_all_step, state_clear_step, state_set_step}
+use Rattle.invocation_vm.specs.Calls.{cancel_invocation_step, complete_awakeable_step, complete_signal_step, future_step, new_awakeable_step, output_step, sleep_step, state_clear_all_step, state_clear_step, state_set_step}
 use Rattle.invocation_vm.specs.Views.{View}
 use Rattle.vm_model.specs.Calls.{name_in}
 use Rattle.vm_rounds.specs.declared.progress.Reply.{Reply}
@@ -38,7 +37,7 @@ slept name wake_up_time v = mapped (λ handle. reply.Answer (answer.Handle handl
 
 -- an awakeable: the answer is its id and its handle
 abbrev pub awakeable_made : Machine → Outcome Reply
-awakeable_made v = mapped (λ awakeable. reply.Answer (answer.Awakeable awakeable)) (called (awakeable_step v) v)
+awakeable_made v = mapped (λ awakeable. reply.Answer (answer.Awakeable awakeable)) (called (new_awakeable_step v) v)
 
 -- a call that answers nothing
 abbrev pub done : (Machine → Outcome Unit) → Machine → Outcome Reply

@@ -1,0 +1,101 @@
+-- What a sleep does in Processing, and what each call does to a VM that has failed.
+use Rattle.std.proofs.Common.{◌≡◌, inl, inr, ℕ, ◌<◌, Option, Some, None, List, sym, ap, ◌∙◌}
+use Rattle.std.specs.Prelude.{if◌then◌else◌, Result, Ok, Err}
+use Rattle.std.proofs.lemmas.Bool.{lt-ltb}
+use Rattle.journal_protocol.specs.declared.error.Error.{Error}
+use Rattle.journal_protocol.specs.declared.faults.NamedFault.{NamedFault}
+use Rattle.journal_protocol.specs.declared.faults.NamedFault.TheVariants as fault
+use Rattle.vm_parts.specs.declared.types.NotificationHandle.{NotificationHandle}
+use Rattle.vm_parts.specs.CommandTypes.{message_type}
+use Rattle.vm_parts.specs.Counting.{missing}
+use Rattle.vm_machine.specs.declared.machine.Machine.{Machine}
+use Rattle.vm_machine.specs.declared.phase.Phase.{Phase}
+use Rattle.vm_machine.specs.declared.phase.Phase.TheVariants.{Processing}
+use Rattle.vm_machine.specs.declared.request.Request.TheVariants as request
+use Rattle.vm_machine.specs.Commands.{carried_out, counted, entered, ignores_payloads, issued, prepared, replayed, written}
+use Rattle.vm_machine.specs.Outcomes.{Outcome, Done, Failed, ◌>>=◌, Does, IsStarved, about_last, called, called_at, flat, refused}
+use Rattle.vm_machine.specs.Phases.{is_processing, is_running, state_fault}
+use Rattle.vm_machine.specs.Requests.{command_of, message_of}
+use Rattle.vm_machine.proofs.Replaying.{answers_first}
+use Rattle.invocation_vm.specs.Calls.{sleep_step}
+use Rattle.invocation_vm.specs.Sleeps.{MaySleep, sleeping}
+use Rattle.invocation_vm.specs.Views.{View, AnswersFirst, Calls, CallsFlat}
+
+-- ---- a sleep
+
+-- the call that the time is in bounds of
+in_bounds : (millis : ℕ) (name : List ℕ) (v : Machine) → millis < 18446744073709551616 → sleep_step millis name v ≡ issued (request.Sleep millis name) v
+in_bounds millis name v b = ap (λ x. if x then issued (request.Sleep millis name) v else refused fault.OutOfBoundsDuration v) (lt-ltb millis 18446744073709551616 b)
+
+carries_out : (millis : ℕ) (name : List ℕ) (v : Machine) → v.phase ≡ Processing → counted None (request.Sleep millis name) v ≡ Done (record { 0 = v.counters.handle }) (sleeping millis name v)
+unfolding carried_out message_type
+carries_out millis name v p =
+    let r = request.Sleep millis name in
+    let m = message_of r v.counters.completion in
+    let u = prepared r (entered (message_type (command_of r)) name v) in
+    let answer : NotificationHandle = record { 0 = v.counters.handle } in
+    ap (λ (x : Phase). (if is_processing x then Done tt (written m u) else replayed m (ignores_payloads v r) u) >>= λ _ w. Done answer w) p
+
+issues : (millis : ℕ) (name : List ℕ) (v : Machine) → MaySleep v → issued (request.Sleep millis name) v ≡ Done (record { 0 = v.counters.handle }) (sleeping millis name v)
+unfolding issued
+issues millis name v may =
+    let r = request.Sleep millis name in
+    ap
+    (λ (x : Phase). if is_running x then counted (missing 1 0 1 v.counters) r v
+    else (let w = entered (message_type (command_of r)) name v in Failed (about_last (state_fault v.phase) w) w))
+    may.phase ∙ ap (λ (o : Option NamedFault). counted o r v) may.numbers ∙ carries_out millis name v may.phase
+
+sleeps : (millis : ℕ) (name : List ℕ) (v : Machine) → MaySleep v → millis < 18446744073709551616
+    → called (sleep_step millis name v) v ≡ Done (record { 0 = v.counters.handle }) (sleeping millis name v)
+unfolding called
+sleeps millis name v may b =
+    ap (λ (o : Outcome NotificationHandle). called_at v.failure o v) (in_bounds millis name v b ∙ issues millis name v may)
+    ∙ ap (λ (f : Option Error). called_at f (Done (record { 0 = v.counters.handle }) (sleeping millis name v)) v) may.live
+
+same_done : {A : Type 0} (a b : A) (v w : Machine) → Done a v ≡ Done b w → (b ≡ a) × (w ≡ v)
+same_done a b v w h = (cc, cc)
+
+not_failed : {A : Type 0} (a : A) (e : Error) (v w : Machine) → Done a v ≡ Failed e w → ⊥
+not_failed a e v w h = cc
+
+viewed : (old new : View) (m : Machine) → new.machine ≡ m → new.undecoded ≡ old.undecoded → new ≡ record old { machine = m }
+viewed old new m h u = λ i. record { undecoded = u i; machine = h i }
+
+pub slept : (millis : ℕ) (name : List ℕ) (handle : NotificationHandle) (old new : View) → MaySleep old.machine → millis < 18446744073709551616
+    → Calls (sleep_step millis name) (Ok handle) old new → (handle.0 ≡ old.machine.counters.handle) × (new ≡ record old { machine = sleeping millis name old.machine })
+slept millis name handle old new may b c =
+    let given : NotificationHandle = record { 0 = old.machine.counters.handle } in
+    let s = same_done given handle (sleeping millis name old.machine) new.machine (sym (sleeps millis name old.machine may b) ∙ c.0) in
+    (ap (λ x. x.0) s.0, viewed old new (sleeping millis name old.machine) s.1 c.1)
+
+pub sleep_starved : (millis : ℕ) (name : List ℕ) (e : Error) (old new : View) → MaySleep old.machine → millis < 18446744073709551616
+    → Calls (sleep_step millis name) (Err e) old new → IsStarved e old.machine new.machine
+sleep_starved millis name e old new may b c =
+    let given : NotificationHandle = record { 0 = old.machine.counters.handle } in
+    elim c.0 as (λ _. IsStarved e old.machine new.machine) [
+      | inl x ↦ absurd (not_failed given e (sleeping millis name old.machine) new.machine (sym (sleeps millis name old.machine may b) ∙ x))
+      | inr x ↦ x
+    ]
+
+-- ---- a VM that has failed
+
+not_done : {A : Type 0} (e : Error) (a : A) (v w : Machine) → Failed e v ≡ Done a w → ⊥
+not_done e a v w h = cc
+
+same_failed : {A : Type 0} (o : Outcome A) (d e : Error) (v w : Machine) → o ≡ Failed d v → o ≡ Failed e w → (e ≡ d) × (w ≡ v)
+same_failed o d e v w h k = (cc, cc)
+
+first_at : {A : Type 0} (o : Outcome A) (r : Result A Error) (e : Error) (old new : View) → o ≡ Failed e old.machine → Does o r old.machine new.machine → new.undecoded ≡ old.undecoded → AnswersFirst e r old new
+first_at o (Ok a) e old new f d u = absurd (not_done e a old.machine new.machine (sym f ∙ d))
+first_at {A = A} o (Err x) e old new f d u =
+    elim d as (λ _. AnswersFirst {A = A} e (Err x) old new) [
+      | inl h ↦ (let s = same_failed o e x old.machine new.machine f h in inl (ap (λ y. Err y) s.0, viewed old new old.machine s.1 u))
+      | inr h ↦ inr (ap (λ y. Err y) h.error, h.output)
+    ]
+
+pub first_answered : {A : Type 0} (step : Machine → Outcome A) (r : Result A Error) (e : Error) (old new : View) → old.machine.failure ≡ Some e → Calls step r old new → AnswersFirst e r old new
+first_answered step r e old new f c = first_at (called (step old.machine) old.machine) r e old new (answers_first (step old.machine) e old.machine f) c.0 c.1
+
+pub first_awaited : {A : Type 0} (step : Machine → Outcome (Result A Error)) (r : Result A Error) (e : Error) (old new : View) → old.machine.failure ≡ Some e → CallsFlat step r old new → AnswersFirst e r old new
+first_awaited {A = A} step r e old new f c =
+    first_at (flat (called (step old.machine) old.machine)) r e old new (ap (λ (o : Outcome (Result A Error)). flat o) (answers_first (step old.machine) e old.machine f)) c.0 c.1

@@ -1,0 +1,8 @@
+use Rattle.invocation_vm.proofs.Lawful.{slept, sleep_starved}
+use Rattle.invocation_vm.proofs.laws.sleep_is_written.Goals as goal
+
+pub returns-clause-slept : goal.returns-clause-slept
+returns-clause-slept c = slept
+
+pub returns-clause-starved : goal.returns-clause-starved
+returns-clause-starved c = sleep_starved
