@@ -22,8 +22,8 @@ use Rattle.vm_machine.specs.declared.request.Request.{Request}
 use Rattle.vm_machine.specs.declared.request.Request.TheVariants as request
 use Rattle.vm_machine.specs.Phases.{is_from_v6}
 use Rattle.vm_machine.specs.Requests.{ids_of}
-use Rattle.invocation_vm.specs.Calls.{has_metadata}
-use Rattle.vm_model.specs.Calls.{Setup, Meaning, Derived, Demand, Move, awakeable_made, awaiting, call_of, commanded, handing, is_awake, name_in, numbered, ready_in, requested, result_taken, sleeping, value_taken}
+use Rattle.invocation_vm.specs.Calls.{has_metadata, skips_replay}
+use Rattle.vm_model.specs.Calls.{Setup, Meaning, Derived, Demand, Move, awakeable_made, awaiting, call_of, commanded, handing, is_awake, making_awakeable, name_in, numbered, ready_in, requested, result_taken, sleeping, value_taken}
 use Rattle.vm_model.specs.Calls.Move.{Answers, Needs, Awaits, Stops}
 use Rattle.vm_model.specs.Moves.{Point, after, command_used, move_at, moved, next, stands_for, start, uses_arrival, uses_command}
 use Rattle.vm_model.specs.Sums.{calls_after, calls_for, completion_ids, handles, signal_ids, total}
@@ -78,6 +78,10 @@ awakeable_given : (s : Setup) (o : Option NamedFault) (d : Derived) → GivenAft
 awakeable_given s (Some fault) d = tt
 awakeable_given s None d = (_, refl, record { completion = sym (add-zero d.counters.completion); signal = refl; handle = refl })
 
+making_given : (s : Setup) (b : Bool) (d : Derived) → GivenAfter 0 1 d (making_awakeable s b d)
+making_given s true d = tt
+making_given s false d = awakeable_given s (missing_signals 1 1 d.counters) d
+
 nothing_given : (d e : Derived) → e.counters ≡ d.counters → Given 0 0 0 d e
 nothing_given d e is = record { completion = ap (λ c. c.completion) is ∙ sym (add-zero d.counters.completion); signal = ap (λ c. c.signal) is ∙ sym (add-zero d.counters.signal); handle = ap (λ c. c.handle) is ∙ sym (add-zero d.counters.handle) }
 
@@ -99,7 +103,7 @@ call_given s (step.Sleep name wake_up_time now) d = sleeping_given s _ name d
 call_given s (step.StateSet key value name options) d = requested_given s (request.SetState key value (name_in name) options) d
 call_given s (step.StateClear key name) d = requested_given s (request.ClearState key (name_in name)) d
 call_given s (step.StateClearAll name) d = requested_given s (request.ClearAllState (name_in name)) d
-call_given s step.Awakeable d = awakeable_given s (missing_signals 1 1 d.counters) d
+call_given s step.Awakeable d = making_given s (skips_replay s.options.journal_replay) d
 call_given s (step.CompleteAwakeable id value options) d = handing_given s value (request.CompleteAwakeable id (value_message value) options) d
 call_given s (step.CompleteSignal target signal value) d = handing_given s value (request.CompleteSignal target signal (value_message value)) d
 call_given s (step.CancelInvocation target) d = requested_given s (request.CancelInvocation target) d

@@ -20,8 +20,8 @@ use Rattle.vm_machine.specs.declared.request.Request.{Request}
 use Rattle.vm_machine.specs.declared.request.Request.TheVariants as request
 use Rattle.vm_machine.specs.Phases.{is_from_v6}
 use Rattle.vm_machine.specs.Requests.{ids_of}
-use Rattle.invocation_vm.specs.Calls.{has_metadata}
-use Rattle.vm_model.specs.Calls.{Setup, Meaning, Derived, Demand, Move, Usage, awakeable_made, awaiting, call_of, commanded, completions_given, handing, is_awake, name_in, numbered, ready_in, requested, result_taken, sleeping, value_taken}
+use Rattle.invocation_vm.specs.Calls.{has_metadata, skips_replay}
+use Rattle.vm_model.specs.Calls.{Setup, Meaning, Derived, Demand, Move, Usage, awakeable_made, awaiting, call_of, commanded, completions_given, handing, is_awake, making_awakeable, name_in, numbered, ready_in, requested, result_taken, sleeping, value_taken}
 use Rattle.vm_model.specs.Calls.Move.{Answers, Needs, Awaits, Stops}
 use Rattle.vm_model.specs.Moves.{Point, after, command_used, move_at, moved, next, stands_for, start, uses_arrival, uses_command}
 use Rattle.vm_model.specs.Deliveries.{EachTookAResult}
@@ -67,6 +67,10 @@ awakeable_took : (s : Setup) (o : Option NamedFault) (d : Derived) → Took s d 
 awakeable_took s (Some fault) d h = tt
 awakeable_took s None d h = h
 
+making_took : (s : Setup) (b : Bool) (d : Derived) → Took s d → TookAfter s (making_awakeable s b d)
+making_took s true d h = tt
+making_took s false d h = awakeable_took s (missing_signals 1 1 d.counters) d h
+
 awaiting_took : (s : Setup) (b : Bool) (d : Derived) → Took s d → TookAfter s (awaiting b d)
 awaiting_took s true d h = h
 awaiting_took s false d h = tt
@@ -85,7 +89,7 @@ call_took s (step.Sleep name wake_up_time now) d h = sleeping_took s _ name d h
 call_took s (step.StateSet key value name options) d h = requested_took s (request.SetState key value (name_in name) options) d h
 call_took s (step.StateClear key name) d h = requested_took s (request.ClearState key (name_in name)) d h
 call_took s (step.StateClearAll name) d h = requested_took s (request.ClearAllState (name_in name)) d h
-call_took s step.Awakeable d h = awakeable_took s (missing_signals 1 1 d.counters) d h
+call_took s step.Awakeable d h = making_took s (skips_replay s.options.journal_replay) d h
 call_took s (step.CompleteAwakeable id value options) d h = handing_took s value (request.CompleteAwakeable id (value_message value) options) d h
 call_took s (step.CompleteSignal target signal value) d h = handing_took s value (request.CompleteSignal target signal (value_message value)) d h
 call_took s (step.CancelInvocation target) d h = requested_took s (request.CancelInvocation target) d h

@@ -33,7 +33,7 @@ use Rattle.vm_machine.specs.Commands.{checks_are_off}
 use Rattle.vm_machine.specs.Phases.{is_from_v6}
 use Rattle.vm_machine.specs.Requests.{command_of, ids_of, is_unstable, message_of, name_of}
 use Rattle.vm_machine.specs.Signals.{awakeable_id}
-use Rattle.invocation_vm.specs.Calls.{has_metadata}
+use Rattle.invocation_vm.specs.Calls.{has_metadata, skips_replay}
 
 -- What stays the same over all attempts of an invocation, as a handler is told it.
 pub record Identity : Type 0 where
@@ -169,6 +169,11 @@ awakeable_made s None d =
       counters = record d.counters { signal = d.counters.signal + 1; handle = d.counters.handle + 1 };
     })
 
+-- an awakeable is made, where recorded commands are replayed
+abbrev pub making_awakeable : Setup → Bool → Derived → Move
+making_awakeable s true d = Stops
+making_awakeable s false d = awakeable_made s (missing_signals 1 1 d.counters) d
+
 -- an await ends once its future is awake
 abbrev pub awaiting : Bool → Derived → Move
 awaiting true d = Answers (answer.Awake ∷ []) d
@@ -198,7 +203,7 @@ call_of s (step.Sleep name wake_up_time now) d = sleeping s (as_nanos wake_up_ti
 call_of s (step.StateSet key value name options) d = requested s (request.SetState key value (name_in name) options) d
 call_of s (step.StateClear key name) d = requested s (request.ClearState key (name_in name)) d
 call_of s (step.StateClearAll name) d = requested s (request.ClearAllState (name_in name)) d
-call_of s step.Awakeable d = awakeable_made s (missing_signals 1 1 d.counters) d
+call_of s step.Awakeable d = making_awakeable s (skips_replay s.options.journal_replay) d
 call_of s (step.CompleteAwakeable id value options) d = handing s value (request.CompleteAwakeable id (value_message value) options) d
 call_of s (step.CompleteSignal target signal value) d = handing s value (request.CompleteSignal target signal (value_message value)) d
 call_of s (step.CancelInvocation target) d = requested s (request.CancelInvocation target) d

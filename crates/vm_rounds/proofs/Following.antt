@@ -33,8 +33,8 @@ use Rattle.vm_machine.specs.Outcomes.{Outcome, Done, Failed, called, refused, ru
 use Rattle.vm_machine.specs.Phases.{is_closed, is_from_v6, is_running, state_fault}
 use Rattle.vm_machine.specs.Requests.{ids_of, message_of}
 use Rattle.vm_machine.specs.Signals.{awakeable_counted, awakeable_id, awakeable_step}
-use Rattle.invocation_vm.specs.Calls.{handing, has_metadata, sleep_step}
-use Rattle.vm_model.specs.Calls.{Setup, Meaning, Derived, Demand, Move, answer_of, awakeable_made, call_of, commanded, demand_of, has_result_in, identity_of, name_in, numbered, ready_in, requested, result_taken, sleeping, taking, value_taken}
+use Rattle.invocation_vm.specs.Calls.{handing, has_metadata, new_awakeable_step, skips_replay, sleep_step}
+use Rattle.vm_model.specs.Calls.{Setup, Meaning, Derived, Demand, Move, answer_of, awakeable_made, call_of, commanded, making_awakeable, demand_of, has_result_in, identity_of, name_in, numbered, ready_in, requested, result_taken, sleeping, taking, value_taken}
 use Rattle.vm_model.specs.Calls.Usage.{Taken}
 use Rattle.vm_model.specs.Calls.Move.{Answers, Needs, Awaits, Stops}
 use Rattle.vm_model.specs.Moves.{Point, longer, move_at, moved, supply}
@@ -92,9 +92,13 @@ awakeables_follow s given written aside p identity None = rw identity (answers s
   counters = record p.derived.counters { signal = p.derived.counters.signal + 1; handle = p.derived.counters.handle + 1 };
 }))
 
-makes_awakeable : (s : Setup) (given : StateMap) (written : List RawMessage) (aside : Aside) (p : Point) → s.identity ≡ identity_of aside.start → LeadsOn s given written aside p answer.Awakeable (awakeable_made s (missing_signals 1 1 p.derived.counters) p.derived) (awakeable_step (machine_at s given written aside p))
+counts_awakeable : (s : Setup) (given : StateMap) (written : List RawMessage) (aside : Aside) (p : Point) → s.identity ≡ identity_of aside.start → LeadsOn s given written aside p answer.Awakeable (awakeable_made s (missing_signals 1 1 p.derived.counters) p.derived) (awakeable_step (machine_at s given written aside p))
 unfolding awakeable_step
-makes_awakeable s given written aside p identity = rw (runs_at p.left) (awakeables_follow s given written aside p identity (missing_signals 1 1 p.derived.counters))
+counts_awakeable s given written aside p identity = rw (runs_at p.left) (awakeables_follow s given written aside p identity (missing_signals 1 1 p.derived.counters))
+
+makes_awakeable : (s : Setup) (given : StateMap) (written : List RawMessage) (aside : Aside) (p : Point) → s.identity ≡ identity_of aside.start → (b : Bool) → LeadsOn s given written aside p answer.Awakeable (making_awakeable s b p.derived) (if b then refused fault.UnsupportedFeature (machine_at s given written aside p) else awakeable_step (machine_at s given written aside p))
+makes_awakeable s given written aside p identity true = (refl, open_after p.left)
+makes_awakeable s given written aside p identity false = counts_awakeable s given written aside p identity
 
 -- ---- calls with a command
 
@@ -177,7 +181,7 @@ call_follows s m given written aside p identity whole (step.StateClearAll name) 
     let at = ap (λ st. call_of s st p.derived) is in
     follows_from s m given written aside p (λ _. answer.Unit) _ _ identity at (unit_request s given written aside p r refl (own_of s m p r whole at))
 call_follows s m given written aside p identity whole step.Awakeable is =
-    follows_from s m given written aside p answer.Awakeable _ _ identity (ap (λ st. call_of s st p.derived) is) (makes_awakeable s given written aside p identity)
+    follows_from s m given written aside p answer.Awakeable _ _ identity (ap (λ st. call_of s st p.derived) is) (makes_awakeable s given written aside p identity (skips_replay s.options.journal_replay))
 call_follows s m given written aside p identity whole (step.CompleteAwakeable id value options) is =
     let r = request.CompleteAwakeable id (value_message value) options in
     let at = ap (λ st. call_of s st p.derived) is in
