@@ -6,3 +6,5 @@ pub mod Own
 pub mod Requesting
 pub mod Waiting
 pub mod Following
+pub mod Arriving
+pub mod Beginning

@@ -1,5 +1,6 @@
 pub mod Agreement
 pub mod Inside
+pub mod Journals
 pub mod Record
 pub mod Stepping
 pub mod Steps

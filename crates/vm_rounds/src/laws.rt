@@ -1,11 +1,17 @@
 //! What an attempt's machine and a handler's run have to do with each other.
-ghost use Rattle.std.specs.Prelude.{List};
+ghost use Rattle.std.specs.Prelude.{◌≡◌, ◌⊎◌, ◌∷◌, IsSome, List};
 ghost use Rattle.journal_protocol.specs.declared.message.RawMessage.{RawMessage};
+ghost use Rattle.journal_protocol.specs.declared.notification.Notification.{Notification};
 ghost use Rattle.vm_machine.specs.declared.machine.Machine.{Machine};
-ghost use Rattle.vm_model.specs.Calls.{Setup, Meaning};
-ghost use Rattle.vm_model.specs.Moves.{Point};
+ghost use Rattle.vm_machine.specs.declared.phase.Phase.TheVariants.{Replaying};
+ghost use Rattle.vm_machine.specs.Inputs.{input_step};
+ghost use Rattle.invocation_vm.specs.Views.{all_received};
+ghost use Rattle.vm_model.specs.Calls.{Setup, Meaning, identity_of};
+ghost use Rattle.vm_model.specs.Journal.{input_read_from};
+ghost use Rattle.vm_model.specs.Moves.{Point, later};
 ghost use Rattle.vm_parts.specs.declared.context.StateMap.{StateMap};
-ghost use Rattle.vm_rounds.specs.Agreement.{Agrees, CanBeWritten, Follows};
+ghost use Rattle.vm_rounds.specs.Agreement.{Agrees, Aside, CanBeWritten, Follows};
+ghost use Rattle.vm_rounds.specs.Journals.{BeginsOrFails, machine_fed, notifications_among};
 ghost use Rattle.vm_rounds.specs.Steps.{performed};
 
 /// In a machine that agrees with a point of the handler's run, the handler's call does what the moves from there lead to:
@@ -14,4 +20,16 @@ ghost use Rattle.vm_rounds.specs.Steps.{performed};
 /// ends, where no recorded command is left; or the call is refused, where no move leads on.
 pub fn calls_follow()
     ensures { (s : Setup) (m : Meaning) (given : StateMap) (written : List RawMessage) (v : Machine) (p : Point) → Agrees s given written v p → CanBeWritten s m p → Follows s m given written p v (performed (m p.answers) v) }
+{}
+
+/// Frames that come to a machine that agrees with a point are arrivals: the machine then agrees with that point and these
+/// arrivals behind its own; or it has failed.
+pub fn frames_arrive()
+    ensures { (s : Setup) (given : StateMap) (written : List RawMessage) (v : Machine) (p : Point) (raws : List RawMessage) → Agrees s given written v p → Agrees s given written (all_received raws v) (later (notifications_among raws) p) ⊎ IsSome (all_received raws v).failure }
+{}
+
+/// A machine that has the whole journal reads its input: where the first command is one, the handler is told it, and the
+/// machine agrees with the first point of the handler's run; else the call is refused.
+pub fn attempts_begin()
+    ensures { (s : Setup) (given : StateMap) (aside : Aside) (first : RawMessage) (rest : List RawMessage) (ns : List Notification) → s.identity ≡ identity_of aside.start → BeginsOrFails s given rest ns (input_read_from first) (input_step (machine_fed s given aside (first ∷ rest) ns Replaying)) }
 {}

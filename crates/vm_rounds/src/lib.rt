@@ -10,6 +10,6 @@ mod progress;
 
 pub use attempt::Attempt;
 pub use handler::Handler;
-pub use laws::calls_follow;
+pub use laws::{attempts_begin, calls_follow, frames_arrive};
 pub use progress::{Fed, Progress};
 pub use vm_parts::{Answer, Step};
