@@ -97,7 +97,7 @@ one_comes s given written aside p raw identity false e =
     let is : received raw v ≡ left_by (settled (refused {A = Unit {0}} no.0 v)) = live_receives v raw refl ∙ ap (λ o. left_by (settled o)) (other_is v raw e ∙ no.1) in
     inr (ap (λ w. is_some w.failure) is)
 
-behind_one : (b : Bool) (o : Option Notification) (ns : List Notification) → cond b (notified_by o []) [] ++ ns ≡ cond b (notified_by o ns) ns
+pub behind_one : (b : Bool) (o : Option Notification) (ns : List Notification) → cond b (notified_by o []) [] ++ ns ≡ cond b (notified_by o ns) ns
 behind_one false o ns = refl
 behind_one true None ns = refl
 behind_one true (Some n) ns = refl
@@ -105,7 +105,7 @@ behind_one true (Some n) ns = refl
 later_twice : (ms ns : List Notification) (p : Point) → later ns (later ms p) ≡ later (ms ++ ns) p
 later_twice ms ns p = λ i. record p { queue = append_assoc p.queue ms ns i }
 
-some_failure : (v : Machine) → IsSome v.failure → (e : Error) × (v.failure ≡ Some e)
+pub some_failure : (v : Machine) → IsSome v.failure → (e : Error) × (v.failure ≡ Some e)
 some_failure v h = by_option v.failure h
   where
     by_option : (o : Option Error) → IsSome o → (e : Error) × (o ≡ Some e)

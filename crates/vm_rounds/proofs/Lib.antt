@@ -8,3 +8,4 @@ pub mod Waiting
 pub mod Following
 pub mod Arriving
 pub mod Beginning
+pub mod Entries

@@ -1,19 +1,25 @@
 -- The journal that an attempt was fed, and the machine that it makes of it.
-use Rattle.std.specs.Prelude.{◌≡◌, ℕ, Bool, false, ◌&&◌, ◌==◌, nat_le, nat_lt, cond, List, [], ◌∷◌, Option, Some, None}
+use Rattle.std.specs.Prelude.{◌≡◌, ◌⊎◌, ℕ, zero, suc, ◌+◌, Bool, false, ◌&&◌, ◌==◌, nat_le, nat_lt, cond, length, List, [], ◌∷◌, ◌++◌, Option, Some, None, IsSome}
+use Rattle.std.proofs.Common.{Global}
 use Rattle.journal_protocol.specs.declared.commands.InputCommand.{InputCommand}
 use Rattle.journal_protocol.specs.declared.message.RawMessage.{RawMessage}
 use Rattle.journal_protocol.specs.declared.notification.Notification.{Notification}
+use Rattle.journal_protocol.specs.declared.start.Start.{Start}
 use Rattle.journal_protocol.specs.declared.types.MessageType.TheVariants as type
-use Rattle.journal_protocol.specs.Reading.{notification_in}
+use Rattle.journal_protocol.specs.declared.version.Version.{Version}
+use Rattle.journal_protocol.specs.Reading.{notification_in, start_in}
 use Rattle.journal_protocol.specs.Types.{type_number}
 use Rattle.vm_parts.specs.declared.context.StateMap.{StateMap}
+use Rattle.vm_parts.specs.declared.options.VMOptions.{VMOptions}
 use Rattle.vm_parts.specs.declared.values.Input.{Input}
 use Rattle.vm_parts.specs.Counting.{fresh_counters}
 use Rattle.vm_parts.specs.Deliveries.{no_results}
 use Rattle.vm_machine.specs.declared.machine.Machine.{Machine}
 use Rattle.vm_machine.specs.declared.phase.Phase.{Phase}
+use Rattle.vm_machine.specs.declared.phase.Phase.TheVariants.{WaitingReplayEntries, Replaying}
+use Rattle.vm_machine.specs.Inputs.{coverage_of, entries_in, info_of}
 use Rattle.vm_machine.specs.Outcomes.{Outcome, Done, Failed}
-use Rattle.vm_model.specs.Calls.{Setup}
+use Rattle.vm_model.specs.Calls.{Setup, identity_of}
 use Rattle.vm_model.specs.Moves.{start, told_input}
 use Rattle.vm_rounds.specs.Agreement.{Agrees, Aside}
 
@@ -69,3 +75,65 @@ BeginsOrFails s given rest ns (Some c) (Done i w) = (i ≡ told_input s.identity
 BeginsOrFails s given rest ns None (Failed e w) = Unit {0}
 BeginsOrFails s given rest ns (Some c) (Failed e w) = ⊥
 BeginsOrFails s given rest ns None (Done i w) = ⊥
+
+-- ---- the machine as its journal comes
+
+-- what stands aside while so many entries are missing
+abbrev pub missing : ℕ → Aside → Aside
+missing k aside = record aside { entries_missing = k }
+
+-- the phase while so many are missing
+abbrev pub phase_missing : ℕ → Phase
+phase_missing zero = Replaying
+phase_missing (suc k) = WaitingReplayEntries
+
+abbrev pub waiting : Setup → StateMap → Aside → ℕ → List RawMessage → List Notification → Machine
+waiting s given aside k cs ns = machine_fed s given (missing k aside) cs ns (phase_missing k)
+
+-- What frames make of a machine that waits: it has failed; or it waits for those that are missing; or the journal is the
+-- first of them, as many as were missing, and all their notifications are arrivals.
+pub record StillWaits (s : Setup) (given : StateMap) (aside : Aside) (k : ℕ) (cs : List RawMessage) (ns : List Notification) (raws : List RawMessage) (m : Machine) : Type 0 where
+  pub left : ℕ
+  pub count : k ≡ length raws + suc left
+  pub machine : m ≡ waiting s given aside (suc left) (cs ++ commands_among raws) (ns ++ notifications_among raws)
+
+pub record HasAll (s : Setup) (given : StateMap) (aside : Aside) (k : ℕ) (cs : List RawMessage) (ns : List Notification) (raws : List RawMessage) (m : Machine) : Type 0 where
+  pub entries : List RawMessage
+  pub others : List RawMessage
+  pub split : raws ≡ entries ++ others
+  pub count : length entries ≡ k
+  pub machine : m ≡ waiting s given aside 0 (cs ++ commands_among entries) (ns ++ notifications_among raws)
+
+abbrev pub Fed : Setup → StateMap → Aside → ℕ → List RawMessage → List Notification → List RawMessage → Machine → Type 0
+Fed s given aside k cs ns raws m = IsSome m.failure ⊎ (StillWaits s given aside k cs ns raws m ⊎ HasAll s given aside k cs ns raws m)
+
+-- ---- from Start on
+
+-- the setup of an attempt with this Start
+abbrev pub setup_for : Version → VMOptions → Start → Setup
+setup_for version options st = record { version = version; options = options; identity = identity_of (info_of version options.fallback_random_seed st) }
+
+abbrev pub aside_for : Global → Version → VMOptions → Start → Aside
+aside_for alloc version options st = record { alloc = alloc; start = info_of version options.fallback_random_seed st; input_closed = false; entries_missing = 0; output = [] }
+
+-- the first frame was a Start: its state is kept, and the machine waits for as many entries as it tells
+pub record HasStarted (alloc : Global) (version : Version) (options : VMOptions) (raw : RawMessage) (m : Machine) : Type 0 where
+  pub start : Start
+  pub entries : List (List ℕ × Option (List ℕ))
+  pub reads : start_in raw.body ≡ Some start
+  pub keys : entries_in start.state ≡ Some entries
+  pub machine : m ≡ waiting (setup_for version options start) (record { entries = entries; coverage = coverage_of start.partial }) (aside_for alloc version options start) start.known_entries [] []
+
+abbrev pub StartCame : Global → Version → VMOptions → RawMessage → Machine → Type 0
+StartCame alloc version options raw m = IsSome m.failure ⊎ HasStarted alloc version options raw m
+
+-- the first frame was a Start, and the others were fed
+pub record StartedWith (alloc : Global) (version : Version) (options : VMOptions) (first : RawMessage) (raws : List RawMessage) (m : Machine) : Type 0 where
+  pub start : Start
+  pub entries : List (List ℕ × Option (List ℕ))
+  pub reads : start_in first.body ≡ Some start
+  pub keys : entries_in start.state ≡ Some entries
+  pub fed : Fed (setup_for version options start) (record { entries = entries; coverage = coverage_of start.partial }) (aside_for alloc version options start) start.known_entries [] [] raws m
+
+abbrev pub Started : Global → Version → VMOptions → RawMessage → List RawMessage → Machine → Type 0
+Started alloc version options first raws m = IsSome m.failure ⊎ StartedWith alloc version options first raws m

@@ -5,13 +5,17 @@ ghost use Rattle.journal_protocol.specs.declared.notification.Notification.{Noti
 ghost use Rattle.vm_machine.specs.declared.machine.Machine.{Machine};
 ghost use Rattle.vm_machine.specs.declared.phase.Phase.TheVariants.{Replaying};
 ghost use Rattle.vm_machine.specs.Inputs.{input_step};
+ghost use Rattle.vm_machine.specs.Making.{fresh};
+ghost use Rattle.std.proofs.Common.{Global};
+ghost use Rattle.journal_protocol.specs.declared.version.Version.{Version};
+ghost use Rattle.vm_parts.specs.declared.options.VMOptions.{VMOptions};
 ghost use Rattle.invocation_vm.specs.Views.{all_received};
 ghost use Rattle.vm_model.specs.Calls.{Setup, Meaning, identity_of};
 ghost use Rattle.vm_model.specs.Journal.{input_read_from};
 ghost use Rattle.vm_model.specs.Moves.{Point, later};
 ghost use Rattle.vm_parts.specs.declared.context.StateMap.{StateMap};
 ghost use Rattle.vm_rounds.specs.Agreement.{Agrees, Aside, CanBeWritten, Follows};
-ghost use Rattle.vm_rounds.specs.Journals.{BeginsOrFails, machine_fed, notifications_among};
+ghost use Rattle.vm_rounds.specs.Journals.{BeginsOrFails, Started, machine_fed, notifications_among};
 ghost use Rattle.vm_rounds.specs.Steps.{performed};
 
 /// In a machine that agrees with a point of the handler's run, the handler's call does what the moves from there lead to:
@@ -32,4 +36,10 @@ pub fn frames_arrive()
 /// machine agrees with the first point of the handler's run; else the call is refused.
 pub fn attempts_begin()
     ensures { (s : Setup) (given : StateMap) (aside : Aside) (first : RawMessage) (rest : List RawMessage) (ns : List Notification) → s.identity ≡ identity_of aside.start → BeginsOrFails s given rest ns (input_read_from first) (input_step (machine_fed s given aside (first ∷ rest) ns Replaying)) }
+{}
+
+/// Frames that come to a new machine: it has failed; or the first is a Start, and the machine waits for as many of the known
+/// entries as are missing; or the known entries are the journal, and all notifications that came are arrivals.
+pub fn journals_come()
+    ensures { (alloc : Global) (version : Version) (options : VMOptions) (first : RawMessage) (raws : List RawMessage) → Started alloc version options first raws (all_received (first ∷ raws) (fresh alloc version options)) }
 {}
