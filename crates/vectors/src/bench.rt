@@ -19,6 +19,8 @@ pub const V6: &str = "application/vnd.restate.invocation.v6";
 
 pub const V7: &str = "application/vnd.restate.invocation.v7";
 
+pub const V8: &str = "application/vnd.restate.invocation.v8";
+
 /// A call of the handler, or of its runner.
 #[derive(Clone, Copy, Debug)]
 pub enum Call {
@@ -80,8 +82,12 @@ pub enum Act {
     Refuses(Call, u16, &'static str),
     /// Each call is answered with this error, and nothing is sent.
     Failed(u16, &'static str),
+    /// A call is answered without an error.
+    Does(Call),
     /// These frames are sent, and nothing more.
     Sends(&'static [&'static [u8]]),
+    /// Frames of these types are sent, and nothing more.
+    SendsTypes(&'static [u8]),
     /// The state, and the index of the last command.
     At(State, i64),
 }
@@ -158,6 +164,31 @@ pub fn assert_sends(
     let wanted = frames.concat(alloc)?;
     assert_eq!(rt; output.as_slice(), wanted.as_slice());
     assert!(rt; vm.take_output()?.is_empty());
+    Ok(())
+}
+
+/// What stands behind a first frame of this type, whose body is shorter than 256 bytes.
+fn behind(bytes: &[u8], ty: u8) -> Option<&[u8]> {
+    if bytes.len() < 10 || bytes[1] != ty || bytes[8] != 0 {
+        return None;
+    }
+    bytes.get(10 + usize::from(bytes[9])..)
+}
+
+fn are_frames(bytes: &[u8], types: &[u8]) -> bool {
+    let mut rest = bytes;
+    for ty in types {
+        match behind(rest, *ty) {
+            Some(more) => rest = more,
+            None => return false,
+        }
+    }
+    rest.is_empty()
+}
+
+fn assert_types(rt: &impl Abort, vm: &mut CoreVM, types: &[u8]) -> Result<(), Fail> {
+    let output = vm.take_output()?;
+    assert!(rt; are_frames(output.as_slice(), types));
     Ok(())
 }
 
@@ -240,7 +271,9 @@ fn play(rt: &impl Abort, alloc: Global, vm: &mut CoreVM, act: Act) -> Result<(),
         Act::End => vm.sys_end()?,
         Act::Refuses(call, code, text) => assert_is(rt, error_of(alloc, vm, call), code, text)?,
         Act::Failed(code, text) => assert_failed(rt, alloc, vm, code, text)?,
+        Act::Does(call) => assert!(rt; error_of(alloc, vm, call).is_none()),
         Act::Sends(frames) => assert_sends(rt, alloc, vm, frames)?,
+        Act::SendsTypes(types) => assert_types(rt, vm, types)?,
         Act::At(state, index) => {
             assert_eq!(rt; vm.state(), state);
             assert_eq!(rt; vm.last_command_index(), index);
@@ -267,7 +300,22 @@ pub fn assert_row_under(
     options: VMOptions,
     acts: &[Act],
 ) -> Result<(), Fail> {
+    assert_after(rt, alloc, content_type, options, &[], acts)
+}
+
+/// Plays a row on such a VM after another.
+pub fn assert_after(
+    rt: &impl Abort,
+    alloc: Global,
+    content_type: &'static str,
+    options: VMOptions,
+    before: &[Act],
+    acts: &[Act],
+) -> Result<(), Fail> {
     let mut vm = CoreVM::new(alloc, Headers::ContentType(content_type), options)?;
+    for act in before {
+        play(rt, alloc, &mut vm, *act)?;
+    }
     for act in acts {
         play(rt, alloc, &mut vm, *act)?;
     }

@@ -18,6 +18,8 @@ pub enum Change {
     AwakeableMetadata,
     /// Sends the signal "s" with "v" to "inv1".
     Signal,
+    /// Sends it with a failure that has metadata.
+    SignalMetadata,
     /// Cancels "inv1".
     Cancel,
 }
@@ -67,6 +69,13 @@ fn signal(alloc: Global, vm: &mut CoreVM) -> VMResult<()> {
     vm.sys_complete_signal(target, name, value(b"v"))
 }
 
+fn signal_metadata(alloc: Global, vm: &mut CoreVM) -> VMResult<()> {
+    let target = text(alloc, "inv1")?;
+    let name = text(alloc, "s")?;
+    let failure = failure_with_metadata(alloc)?;
+    vm.sys_complete_signal(target, name, NonEmptyValue::Failure(failure))
+}
+
 fn cancel(alloc: Global, vm: &mut CoreVM) -> VMResult<()> {
     let target = text(alloc, "inv1")?;
     vm.sys_cancel_invocation(target)
@@ -81,6 +90,7 @@ pub fn make(alloc: Global, vm: &mut CoreVM, change: Change) -> VMResult<()> {
         Change::Awakeable => awakeable(alloc, vm),
         Change::AwakeableMetadata => awakeable_metadata(alloc, vm),
         Change::Signal => signal(alloc, vm),
+        Change::SignalMetadata => signal_metadata(alloc, vm),
         Change::Cancel => cancel(alloc, vm),
     }
 }

@@ -133,10 +133,21 @@ pub const SLEEP_TO_THE_END: &[u8] = b"\0\x12\0\0\0\0\0\0\0\x14\
     \0\0\0\x01\
     \0\0\0\0\0\0\0\0";
 
+/// A sleep to 1000 ms, completed under id 2.
+pub const SLEEP_UNDER_2: &[u8] = b"\0\x12\0\0\0\0\0\0\0\x14\
+    \0\0\0\0\0\0\x03\xe8\
+    \0\0\0\x02\
+    \0\0\0\0\0\0\0\0";
+
 /// The empty output.
 pub const OUTPUT_EMPTY: &[u8] = b"\0\x1d\0\0\0\0\0\0\0\x09\
     \0\
     \0\0\0\0\0\0\0\0";
+
+/// The output "x".
+pub const OUTPUT_X: &[u8] = b"\0\x1d\0\0\0\0\0\0\0\x0a\
+    \0\
+    \0\0\0\0\0\0\0\x01x";
 
 /// The end of the handler.
 pub const END: &[u8] = b"\0\x04\0\0\0\0\0\0\0\0";
@@ -328,31 +339,68 @@ pub const ERROR_UNSUPPORTED: &[u8] = b"\0\x03\0\0\0\0\0\0\0\x3f\
     \0\
     \0";
 
+/// The error `UNSUPPORTED_FEATURE`, of no command.
+pub const ERROR_NO_REPLAY: &[u8] = b"\0\x03\0\0\0\0\0\0\0\x2c\
+    \0\0\x02\x3d\
+    \0\0\0\0\0\0\0\x13UNSUPPORTED_FEATURE\
+    \0\0\0\0\0\0\0\0\
+    \0\
+    \0\
+    \0\
+    \0\
+    \0";
+
 /// Sets the key "k" to "1".
 pub const SET_K: &[u8] = b"\0\x0f\0\0\0\0\0\0\0\x1a\
     \0\0\0\0\0\0\0\0\
     \0\0\0\0\0\0\0\x01k\
     \0\0\0\0\0\0\0\x011";
 
+/// Sets the key "k" to "2".
+pub const SET_K_TO_2: &[u8] = b"\0\x0f\0\0\0\0\0\0\0\x1a\
+    \0\0\0\0\0\0\0\0\
+    \0\0\0\0\0\0\0\x01k\
+    \0\0\0\0\0\0\0\x012";
+
 /// Clears the key "k", under the name "n".
 pub const CLEAR_K: &[u8] = b"\0\x10\0\0\0\0\0\0\0\x12\
     \0\0\0\0\0\0\0\x01n\
     \0\0\0\0\0\0\0\x01k";
 
+/// Clears the key "l", under the name "n".
+pub const CLEAR_L: &[u8] = b"\0\x10\0\0\0\0\0\0\0\x12\
+    \0\0\0\0\0\0\0\x01n\
+    \0\0\0\0\0\0\0\x01l";
+
 /// Clears all keys.
 pub const CLEAR_ALL: &[u8] = b"\0\x11\0\0\0\0\0\0\0\x08\
     \0\0\0\0\0\0\0\0";
+
+/// Clears all keys, under the name "n".
+pub const CLEAR_ALL_N: &[u8] = b"\0\x11\0\0\0\0\0\0\0\x09\
+    \0\0\0\0\0\0\0\x01n";
 
 /// Completes the awakeable "sign_1" with "x".
 pub const AWAKEABLE_X: &[u8] = b"\0\x15\0\0\0\0\0\0\0\x18\
     \0\0\0\0\0\0\0\x06sign_1\
     \0\0\0\0\0\0\0\0\x01x";
 
+/// Completes the awakeable "sign_1" with "y".
+pub const AWAKEABLE_Y: &[u8] = b"\0\x15\0\0\0\0\0\0\0\x18\
+    \0\0\0\0\0\0\0\x06sign_1\
+    \0\0\0\0\0\0\0\0\x01y";
+
 /// Sends the signal "s" with "v" to "inv1".
 pub const SIGNAL_V: &[u8] = b"\0\x16\0\0\0\0\0\0\0\x20\
     \0\0\0\0\0\0\0\x04inv1\
     \x01\0\0\0\0\0\0\0\x01s\
     \x01\0\0\0\0\0\0\0\x01v";
+
+/// Sends the signal "s" with "w" to "inv1".
+pub const SIGNAL_W: &[u8] = b"\0\x16\0\0\0\0\0\0\0\x20\
+    \0\0\0\0\0\0\0\x04inv1\
+    \x01\0\0\0\0\0\0\0\x01s\
+    \x01\0\0\0\0\0\0\0\x01w";
 
 /// Cancels "inv1".
 pub const CANCEL_INV1: &[u8] = b"\0\x16\0\0\0\0\0\0\0\x12\

@@ -12,6 +12,8 @@ mod bench;
 mod calls;
 #[cfg(test)]
 mod changes;
+#[cfg(test)]
+mod commands;
 pub mod frames;
 pub mod headers;
 #[cfg(test)]
@@ -20,8 +22,12 @@ pub mod napper;
 #[cfg(test)]
 mod parts;
 #[cfg(test)]
+mod places;
+#[cfg(test)]
 mod refusals;
 #[cfg(test)]
 mod reports;
 #[cfg(test)]
 mod sleeps;
+#[cfg(test)]
+mod states;
