@@ -1,7 +1,7 @@
 //! A whole stream as messages.
-ghost use Rattle.std.specs.Prelude.{◌≡◌, ℕ, List, IfOk};
+ghost use Rattle.std.specs.Prelude.{◌≡◌, ℕ, List, IfOk, IfErr};
 ghost use Rattle.std.specs.List.{flat_map};
-ghost use Rattle.journal_protocol.specs.Runs.{Splits};
+ghost use Rattle.journal_protocol.specs.Runs.{Splits, IsRefused};
 ghost use Rattle.journal_protocol.specs.declared.message.Message.{Message};
 
 use crate::{Decoder, Message};
@@ -15,6 +15,8 @@ pub fn messages_of(alloc: Global, pieces: &[Bytes]) -> Result<Vec<Message>, Faul
     ensures split { IfOk result (λ out. (rest : List ℕ) × Splits (flat_map (λ piece. piece) pieces.now) out.items rest) }
     // No other messages are, so it doesn't matter how the stream was cut.
     ensures only { IfOk result (λ out. (others : List Message) (rest : List ℕ) → Splits (flat_map (λ piece. piece) pieces.now) others rest → out.items ≡ others) }
+    // It is malformed only where it is no messages at all up to such a rest.
+    ensures refused { IfErr result (IsRefused (flat_map (λ piece. piece) pieces.now)) }
 {
     let mut decoder = Decoder::new(alloc);
     let mut out = Vec::new(alloc);
