@@ -6,7 +6,8 @@ ghost use Rattle.vmscript.specs.Performed.{Printed};
 
 use crate::reply::Reply;
 use invocation_vm::{
-    AwaitResponse, Error, Input, ResponseHead, State, TerminalFailure, Value, Version,
+    AwaitResponse, AwakeableHandle, Error, Input, ResponseHead, State, TerminalFailure, Value,
+    Version,
 };
 use journal_protocol::Header;
 use lines::line::Line;
@@ -179,6 +180,13 @@ fn input(input: &Input, line: &mut Line) -> Result<(), AllocError> {
     optional(&input.idempotency_key, line)
 }
 
+/// The handle of an awakeable, and its id.
+fn awakeable(given: &AwakeableHandle, line: &mut Line) -> Result<(), AllocError> {
+    line.number(u64::from(given.handle.0))?;
+    line.word(" ")?;
+    text(&given.id, line)
+}
+
 /// What a call answered with a value.
 fn print_value(reply: &Reply, line: &mut Line) -> Result<(), AllocError> {
     line.word("ok ")?;
@@ -192,6 +200,7 @@ fn print_value(reply: &Reply, line: &mut Line) -> Result<(), AllocError> {
         Reply::Taken(Some(given)) => value(given, line),
         Reply::Taken(None) => line.word("none"),
         Reply::Handle(handle) => line.number(u64::from(handle.0)),
+        Reply::Awakeable(given) => awakeable(given, line),
         _ => Ok(()),
     }
 }

@@ -9,10 +9,12 @@ pub mod options;
 pub mod parse;
 pub mod perform;
 pub mod reply;
+pub mod report;
 pub mod request;
 pub mod run;
 #[cfg(test)]
 mod tests;
+pub mod verb;
 
 use exit_status::ExitStatus;
 use run::run;

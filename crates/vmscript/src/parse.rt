@@ -1,9 +1,18 @@
 //! A line of the script, read as a whole.
+ghost use Rattle.std.specs.Prelude.{◌≡◌, IfOk, string_bytes};
+ghost use Rattle.std.specs.Str.Parse.{digits_value};
+ghost use Rattle.lines.specs.Atoms.{IsAtom};
+ghost use Rattle.vmscript.specs.declared.verb.Verb.TheVariants as verb;
+ghost use Rattle.vmscript.specs.Verbs.{HasCodeAndText, IsLine, IsAsked, text_at};
+
 use crate::atoms::{duration_of, handle_of, shared_of, string_of, text_of, u16_of};
 use crate::content_type::ContentType;
 use crate::options::options_of;
+use crate::report::error_of;
 use crate::request::{Call, Request};
-use invocation_vm::{NonEmptyValue, PayloadOptions, TerminalFailure};
+use crate::verb::{Verb, verb_of_word};
+use bytes::Bytes;
+use invocation_vm::{NonEmptyValue, NotificationHandle, PayloadOptions, TerminalFailure};
 use lines::fields::Fields;
 use lines::pieces::{between, words};
 use std::alloc::{AllocError, Global};
@@ -105,7 +114,9 @@ fn pairs_of(alloc: Global, words: &[&[u8]]) -> Result<Items<(Text, Text)>, Fault
 fn failure_of<'w, 'a>(
     alloc: Global,
     words: &'w [&'a [u8]],
-) -> Result<(TerminalFailure, &'w [&'a [u8]]), Fault> {
+) -> Result<(TerminalFailure, &'w [&'a [u8]]), Fault>
+    ensures { IfOk result (λ found. HasCodeAndText found.0.code found.0.message words.now) }
+{
     let [code, message, others @ ..] = words else {
         return Err(Fault::Malformed);
     };
@@ -160,9 +171,55 @@ fn value_alone(alloc: Global, words: &[&[u8]]) -> Result<NonEmptyValue, Fault> {
     }
 }
 
-fn set_of(alloc: Global, key: &[u8], value: &[u8], others: &[&[u8]]) -> Result<Call, Fault> {
-    let key = string_of(alloc, key)?;
-    let value = shared_of(alloc, value)?;
+/// A call without arguments.
+fn alone(arguments: &[&[u8]], call: Call) -> Result<Call, Fault>
+    ensures { IfOk result (λ it. it ≡ call) }
+{
+    if arguments.is_empty() {
+        Ok(call)
+    } else {
+        Err(Fault::Malformed)
+    }
+}
+
+/// `H` alone.
+fn handle_alone(arguments: &[&[u8]]) -> Result<NotificationHandle, Fault>
+    ensures { IfOk result (λ handle. handle.0 ≡ digits_value 10 (text_at 0 arguments.now)) }
+{
+    match arguments {
+        [handle] => handle_of(*handle),
+        _ => Err(Fault::Malformed),
+    }
+}
+
+/// `T` alone.
+fn string_alone(alloc: Global, arguments: &[&[u8]]) -> Result<String, Fault>
+    ensures { IfOk result (λ string. IsAtom (text_at 0 arguments.now) (string_bytes string)) }
+{
+    match arguments {
+        [text] => string_of(alloc, *text),
+        _ => Err(Fault::Malformed),
+    }
+}
+
+/// `B` alone.
+fn bytes_alone(alloc: Global, arguments: &[&[u8]]) -> Result<Bytes, Fault>
+    ensures { IfOk result (λ bytes. IsAtom (text_at 0 arguments.now) bytes) }
+{
+    match arguments {
+        [bytes] => shared_of(alloc, *bytes),
+        _ => Err(Fault::Malformed),
+    }
+}
+
+fn set_of(alloc: Global, arguments: &[&[u8]]) -> Result<Call, Fault>
+    ensures { IfOk result (λ call. IsLine verb.Set arguments.now call) }
+{
+    let [key, value, others @ ..] = arguments else {
+        return Err(Fault::Malformed);
+    };
+    let key = string_of(alloc, *key)?;
+    let value = shared_of(alloc, *value)?;
     let Extras { name, payload } = extras_of(alloc, others)?;
     Ok(Call::Set {
         key,
@@ -172,33 +229,48 @@ fn set_of(alloc: Global, key: &[u8], value: &[u8], others: &[&[u8]]) -> Result<C
     })
 }
 
-fn clear_of(alloc: Global, key: &[u8], others: &[&[u8]]) -> Result<Call, Fault> {
-    let key = string_of(alloc, key)?;
+fn clear_of(alloc: Global, arguments: &[&[u8]]) -> Result<Call, Fault>
+    ensures { IfOk result (λ call. IsLine verb.Clear arguments.now call) }
+{
+    let [key, others @ ..] = arguments else {
+        return Err(Fault::Malformed);
+    };
+    let key = string_of(alloc, *key)?;
     let name = name_of(alloc, others)?;
     Ok(Call::Clear { key, name })
 }
 
-fn sleep_of(alloc: Global, name: &[u8], until: &[u8], others: &[&[u8]]) -> Result<Call, Fault> {
-    let name = string_of(alloc, name)?;
-    let until = duration_of(until)?;
+fn sleep_of(alloc: Global, arguments: &[&[u8]]) -> Result<Call, Fault>
+    ensures { IfOk result (λ call. IsLine verb.Sleep arguments.now call) }
+{
+    let [name, until, others @ ..] = arguments else {
+        return Err(Fault::Malformed);
+    };
+    let name = string_of(alloc, *name)?;
+    let until = duration_of(*until)?;
     let now = now_of(alloc, others)?;
     Ok(Call::Sleep { name, until, now })
 }
 
-fn complete_awakeable_of(alloc: Global, id: &[u8], value: &[&[u8]]) -> Result<Call, Fault> {
-    let id = string_of(alloc, id)?;
+fn complete_awakeable_of(alloc: Global, arguments: &[&[u8]]) -> Result<Call, Fault>
+    ensures { IfOk result (λ call. IsLine verb.CompleteAwakeable arguments.now call) }
+{
+    let [id, value @ ..] = arguments else {
+        return Err(Fault::Malformed);
+    };
+    let id = string_of(alloc, *id)?;
     let (value, options) = value_and_payload(alloc, value)?;
     Ok(Call::CompleteAwakeable { id, value, options })
 }
 
-fn complete_signal_of(
-    alloc: Global,
-    target: &[u8],
-    name: &[u8],
-    value: &[&[u8]],
-) -> Result<Call, Fault> {
-    let target = string_of(alloc, target)?;
-    let name = string_of(alloc, name)?;
+fn complete_signal_of(alloc: Global, arguments: &[&[u8]]) -> Result<Call, Fault>
+    ensures { IfOk result (λ call. IsLine verb.CompleteSignal arguments.now call) }
+{
+    let [target, name, value @ ..] = arguments else {
+        return Err(Fault::Malformed);
+    };
+    let target = string_of(alloc, *target)?;
+    let name = string_of(alloc, *name)?;
     let value = value_alone(alloc, value)?;
     Ok(Call::CompleteSignal {
         target,
@@ -207,56 +279,55 @@ fn complete_signal_of(
     })
 }
 
-fn write_output_of(alloc: Global, value: &[&[u8]]) -> Result<Call, Fault> {
-    let (value, options) = value_and_payload(alloc, value)?;
+fn write_output_of(alloc: Global, arguments: &[&[u8]]) -> Result<Call, Fault>
+    ensures { IfOk result (λ call. IsLine verb.WriteOutput arguments.now call) }
+{
+    let (value, options) = value_and_payload(alloc, arguments)?;
     Ok(Call::WriteOutput(value, options))
 }
 
-/// The rows of input, output and state.
-fn stream_call(alloc: Global, words: &[&[u8]]) -> Result<Call, Fault> {
-    match words {
-        [b"head"] => Ok(Call::Head),
-        [b"input", bytes] => Ok(Call::Input(shared_of(alloc, *bytes)?)),
-        [b"close"] => Ok(Call::Close),
-        [b"output"] => Ok(Call::Output),
-        [b"ready"] => Ok(Call::Ready),
-        [b"state"] => Ok(Call::State),
-        [b"index"] => Ok(Call::Index),
-        _ => Err(Fault::Malformed),
+/// The call of this name, with the arguments behind it.
+fn call_named(alloc: Global, verb: Verb, arguments: &[&[u8]]) -> Result<Call, Fault>
+    ensures { IfOk result (λ call. IsLine verb arguments.now call) }
+{
+    match verb {
+        Verb::Head => alone(arguments, Call::Head),
+        Verb::Input => Ok(Call::Input(bytes_alone(alloc, arguments)?)),
+        Verb::Close => alone(arguments, Call::Close),
+        Verb::Output => alone(arguments, Call::Output),
+        Verb::Ready => alone(arguments, Call::Ready),
+        Verb::State => alone(arguments, Call::State),
+        Verb::Index => alone(arguments, Call::Index),
+        Verb::Error => error_of(alloc, arguments),
+        Verb::Await => Ok(Call::Await(handle_alone(arguments)?)),
+        Verb::Completed => Ok(Call::Completed(handle_alone(arguments)?)),
+        Verb::Take => Ok(Call::Take(handle_alone(arguments)?)),
+        Verb::SysInput => alone(arguments, Call::SysInput),
+        Verb::Set => set_of(alloc, arguments),
+        Verb::Clear => clear_of(alloc, arguments),
+        Verb::ClearAll => Ok(Call::ClearAll {
+            name: name_of(alloc, arguments)?,
+        }),
+        Verb::Sleep => sleep_of(alloc, arguments),
+        Verb::Awakeable => alone(arguments, Call::Awakeable),
+        Verb::CompleteAwakeable => complete_awakeable_of(alloc, arguments),
+        Verb::CompleteSignal => complete_signal_of(alloc, arguments),
+        Verb::Cancel => Ok(Call::Cancel {
+            target: string_alone(alloc, arguments)?,
+        }),
+        Verb::WriteOutput => write_output_of(alloc, arguments),
+        Verb::End => alone(arguments, Call::End),
     }
 }
 
-/// The rows of awaits, and those before.
-fn await_call(alloc: Global, words: &[&[u8]]) -> Result<Call, Fault> {
-    match words {
-        [b"await", handle] => Ok(Call::Await(handle_of(*handle)?)),
-        [b"completed", handle] => Ok(Call::Completed(handle_of(*handle)?)),
-        [b"take", handle] => Ok(Call::Take(handle_of(*handle)?)),
-        _ => stream_call(alloc, words),
-    }
-}
-
-/// The rows of calls, and those before.
-fn call_of(alloc: Global, words: &[&[u8]]) -> Result<Call, Fault> {
-    match words {
-        [b"sys_input"] => Ok(Call::SysInput),
-        [b"set", key, value, others @ ..] => set_of(alloc, *key, *value, others),
-        [b"clear", key, others @ ..] => clear_of(alloc, *key, others),
-        [b"clear_all", others @ ..] => Ok(Call::ClearAll {
-            name: name_of(alloc, others)?,
-        }),
-        [b"sleep", name, until, others @ ..] => sleep_of(alloc, *name, *until, others),
-        [b"complete_awakeable", id, value @ ..] => complete_awakeable_of(alloc, *id, value),
-        [b"complete_signal", target, name, value @ ..] => {
-            complete_signal_of(alloc, *target, *name, value)
-        }
-        [b"cancel", target] => Ok(Call::Cancel {
-            target: string_of(alloc, *target)?,
-        }),
-        [b"write_output", value @ ..] => write_output_of(alloc, value),
-        [b"end"] => Ok(Call::End),
-        _ => await_call(alloc, words),
-    }
+/// The call that the words of a line ask for.
+fn call_of(alloc: Global, words: &[&[u8]]) -> Result<Call, Fault>
+    ensures { IfOk result (λ call. IsAsked words.now call) }
+{
+    let [word, arguments @ ..] = words else {
+        return Err(Fault::Malformed);
+    };
+    call_named(alloc, verb_of_word(*word)?, arguments)
 }
 
 fn content_type_of(alloc: Global, text: &[u8]) -> Result<ContentType, Fault> {

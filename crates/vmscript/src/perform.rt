@@ -1,20 +1,22 @@
 //! What a line asks for, done.
-ghost use Rattle.std.specs.Prelude.{◌≡◌, MatchResult};
-ghost use Rattle.journal_protocol.specs.Errors.{no_memory};
+ghost use Rattle.std.specs.Prelude.{◌≡◌, IfOk};
+ghost use Rattle.invocation_vm.specs.Seen.{seen};
+ghost use Rattle.vmscript.specs.Called.{Called, reply_of, reply_or_memory};
 ghost use Rattle.vmscript.specs.declared.reply.Reply.TheVariants as reply;
 ghost use Rattle.vmscript.specs.Performed.{Made, Performed};
 
 use crate::content_type::ContentType;
 use crate::reply::Reply;
 use crate::request::{Call, Request};
+use bytes::Bytes;
 use invocation_vm::{
-    AwaitResponse, CoreVM, Error, Input, NotificationHandle, UnresolvedFuture, VM, VMOptions,
-    VMResult, Value, Version,
+    AwaitResponse, AwakeableHandle, CoreVM, Error, Input, NotificationHandle, ResponseHead,
+    UnresolvedFuture, VM, VMOptions, VMResult, Value, Version,
 };
 use std::alloc::{AllocError, Global};
 
 fn done(given: VMResult<()>) -> Reply
-    ensures { MatchResult given (λ _. result ≡ reply.Done) (λ e. result ≡ reply.Refused e) }
+    ensures { result ≡ reply_of (λ _. reply.Done) given }
 {
     match given {
         Ok(()) => Reply::Done,
@@ -24,7 +26,7 @@ fn done(given: VMResult<()>) -> Reply
 
 /// The answer of a call that answers nothing but want of memory.
 fn fed(given: Result<(), AllocError>) -> Reply
-    ensures { MatchResult given (λ _. result ≡ reply.Done) (λ _. result ≡ reply.Refused no_memory) }
+    ensures { result ≡ reply_or_memory (λ _. reply.Done) given }
 {
     match given {
         Ok(()) => Reply::Done,
@@ -33,7 +35,7 @@ fn fed(given: Result<(), AllocError>) -> Reply
 }
 
 fn handle(given: VMResult<NotificationHandle>) -> Reply
-    ensures { MatchResult given (λ value. result ≡ reply.Handle value) (λ e. result ≡ reply.Refused e) }
+    ensures { result ≡ reply_of reply.Handle given }
 {
     match given {
         Ok(handle) => Reply::Handle(handle),
@@ -41,8 +43,17 @@ fn handle(given: VMResult<NotificationHandle>) -> Reply
     }
 }
 
+fn awakeable(given: VMResult<AwakeableHandle>) -> Reply
+    ensures { result ≡ reply_of reply.Awakeable given }
+{
+    match given {
+        Ok(awakeable) => Reply::Awakeable(awakeable),
+        Err(error) => Reply::Refused(error),
+    }
+}
+
 fn flag(given: VMResult<bool>) -> Reply
-    ensures { MatchResult given (λ value. result ≡ reply.Flag value) (λ e. result ≡ reply.Refused e) }
+    ensures { result ≡ reply_of reply.Flag given }
 {
     match given {
         Ok(flag) => Reply::Flag(flag),
@@ -51,7 +62,7 @@ fn flag(given: VMResult<bool>) -> Reply
 }
 
 fn awaited(given: VMResult<AwaitResponse>) -> Reply
-    ensures { MatchResult given (λ value. result ≡ reply.Awaited value) (λ e. result ≡ reply.Refused e) }
+    ensures { result ≡ reply_of reply.Awaited given }
 {
     match given {
         Ok(response) => Reply::Awaited(response),
@@ -60,7 +71,7 @@ fn awaited(given: VMResult<AwaitResponse>) -> Reply
 }
 
 fn taken(given: VMResult<Option<Value>>) -> Reply
-    ensures { MatchResult given (λ value. result ≡ reply.Taken value) (λ e. result ≡ reply.Refused e) }
+    ensures { result ≡ reply_of reply.Taken given }
 {
     match given {
         Ok(value) => Reply::Taken(value),
@@ -69,7 +80,7 @@ fn taken(given: VMResult<Option<Value>>) -> Reply
 }
 
 fn input(given: VMResult<Input>) -> Reply
-    ensures { MatchResult given (λ value. result ≡ reply.Input value) (λ e. result ≡ reply.Refused e) }
+    ensures { result ≡ reply_of reply.Input given }
 {
     match given {
         Ok(input) => Reply::Input(input),
@@ -77,30 +88,38 @@ fn input(given: VMResult<Input>) -> Reply
     }
 }
 
-fn head(vm: &CoreVM) -> Reply {
-    match vm.get_response_head() {
+fn head(given: Result<ResponseHead, AllocError>) -> Reply
+    ensures { result ≡ reply_or_memory reply.Head given }
+{
+    match given {
         Ok(head) => Reply::Head(head),
         Err(error) => Reply::Refused(Error::from(error)),
     }
 }
 
-fn output(vm: &mut CoreVM) -> Reply {
-    match vm.take_output() {
+fn output(given: Result<Bytes, AllocError>) -> Reply
+    ensures { result ≡ reply_or_memory reply.Output given }
+{
+    match given {
         Ok(bytes) => Reply::Output(bytes),
         Err(error) => Reply::Refused(Error::from(error)),
     }
 }
 
 /// Makes a call.
-fn perform_call(vm: &mut CoreVM, call: Call) -> Reply {
+#[tactic(auto, using(crate::proofs::Told::answers, crate::proofs::Told::awaits, crate::proofs::Told::feeds, crate::proofs::Told::drains))]
+fn perform_call(vm: &mut CoreVM, call: Call) -> Reply
+    ensures { Called call result (seen vm.old) (seen vm.new) }
+{
     match call {
-        Call::Head => head(vm),
+        Call::Head => head(vm.get_response_head()),
         Call::Input(bytes) => fed(vm.notify_input(bytes)),
         Call::Close => fed(vm.notify_input_closed()),
-        Call::Output => output(vm),
+        Call::Output => output(vm.take_output()),
         Call::Ready => flag(vm.is_ready_to_execute()),
         Call::State => Reply::State(vm.state()),
         Call::Index => Reply::Index(vm.last_command_index()),
+        Call::Error(error, relationship) => fed(vm.notify_error(error, relationship)),
         Call::Await(handle) => awaited(vm.do_await(UnresolvedFuture::Single(handle))),
         Call::Completed(handle) => Reply::Flag(vm.is_completed(handle)),
         Call::Take(handle) => taken(vm.take_notification(handle)),
@@ -114,6 +133,7 @@ fn perform_call(vm: &mut CoreVM, call: Call) -> Reply {
         Call::Clear { key, name } => done(vm.sys_state_clear(key, name)),
         Call::ClearAll { name } => done(vm.sys_state_clear_all(name)),
         Call::Sleep { name, until, now } => handle(vm.sys_sleep(name, until, now)),
+        Call::Awakeable => awakeable(vm.sys_awakeable()),
         Call::CompleteAwakeable { id, value, options } => {
             done(vm.sys_complete_awakeable(id, value, options))
         }
@@ -129,7 +149,9 @@ fn perform_call(vm: &mut CoreVM, call: Call) -> Reply {
 }
 
 /// The version of a VM.
-fn version_of(vm: &CoreVM) -> Result<Version, AllocError> {
+fn version_of(vm: &CoreVM) -> Result<Version, AllocError>
+    ensures { IfOk result (λ version. version ≡ (seen vm.now).machine.version) }
+{
     match vm.get_response_head() {
         Ok(head) => Ok(head.version),
         Err(error) => Err(error),

@@ -52,7 +52,7 @@ const MAKES: [(&str, &str); 11] = [
 ];
 
 /// Calls where there is no VM.
-const WITHOUT_A_VM: [(&str, &str); 21] = [
+const WITHOUT_A_VM: [(&str, &str); 23] = [
     ("head", "none"),
     ("input 0x", "none"),
     ("close", "none"),
@@ -73,11 +73,13 @@ const WITHOUT_A_VM: [(&str, &str); 21] = [
     ("cancel \"a\"", "none"),
     ("write_output success \"\"", "none"),
     ("end", "none"),
+    ("error 500 \"x\"", "none"),
+    ("awakeable", "none"),
     ("nothing", "bad"),
 ];
 
 /// Lines without a meaning do nothing, but those that begin with `vm` drop the VM.
-const WITHOUT_A_MEANING: [(&str, &str); 71] = [
+const WITHOUT_A_MEANING: [(&str, &str); 105] = [
     ("vm \"application/vnd.restate.invocation.v7\"", "ok V7"),
     ("vmm", "bad"),
     ("Head", "bad"),
@@ -133,6 +135,40 @@ const WITHOUT_A_MEANING: [(&str, &str); 71] = [
     ("output output", "bad"),
     ("get \"k\"", "bad"),
     ("run \"a\"", "bad"),
+    ("error", "bad"),
+    ("error 500", "bad"),
+    ("error 65536 \"x\"", "bad"),
+    ("error \"500\" \"x\"", "bad"),
+    ("error -1 \"x\"", "bad"),
+    ("error 500 x", "bad"),
+    ("error 500 \"\\xff\"", "bad"),
+    ("error 500 \"x\" \"y\"", "bad"),
+    ("error 500 \"x\" stack=x", "bad"),
+    ("error 500 \"x\" stack=\"\\xff\"", "bad"),
+    ("error 500 \"x\" stack=\"a\" stack=\"b\"", "bad"),
+    ("error 500 \"x\" behaviour=later", "bad"),
+    ("error 500 \"x\" behaviour=Pause", "bad"),
+    ("error 500 \"x\" behavior=pause", "bad"),
+    ("error 500 \"x\" delay=1s", "bad"),
+    ("error 500 \"x\" delay=", "bad"),
+    ("error 500 \"x\" rel=first", "bad"),
+    ("error 500 \"x\" rel=last()", "bad"),
+    ("error 500 \"x\" rel=next", "bad"),
+    ("error 500 \"x\" rel=next()", "bad"),
+    ("error 500 \"x\" rel=next(Sleep)", "bad"),
+    ("error 500 \"x\" rel=next(sleep -)", "bad"),
+    ("error 500 \"x\" rel=next(Sleep x)", "bad"),
+    ("error 500 \"x\" rel=next(Sleep \"a\" \"b\")", "bad"),
+    ("error 500 \"x\" rel=next (Sleep -)", "bad"),
+    ("error 500 \"x\" rel=next[Sleep -]", "bad"),
+    ("error 500 \"x\" rel=at(Sleep -)", "bad"),
+    ("error 500 \"x\" rel=at(-1 Sleep -)", "bad"),
+    ("error 500 \"x\" rel=at(4294967296 Sleep -)", "bad"),
+    ("error 500 \"x\" rel=at(1 Sleep - -)", "bad"),
+    ("error 500 \"x\" rel=last rel=last", "bad"),
+    ("error 500 \"x\" unstable", "bad"),
+    ("awakeable 17", "bad"),
+    ("awakeable \"a\"", "bad"),
     ("(", "bad"),
     (")", "bad"),
     ("\"", "bad"),
@@ -354,6 +390,116 @@ const INPUTS: [(&str, &str); 3] = [
     ),
 ];
 
+/// Awakeables before the input, in replay and behind it; the second id is the next signal's.
+const AWAKEABLES: [(&str, &str); 22] = [
+    ("vm \"application/vnd.restate.invocation.v7\"", "ok V7"),
+    ("awakeable", "err 571 \"UnexpectedStateError\""),
+    ("vm \"application/vnd.restate.invocation.v7\"", "ok V7"),
+    (
+        "input 0x00010000000000000042000000000000000361626300000000000000036162630000000000000000000000010000000000000000010000000000000000000000000000000000000000000000000a00000000000000140000000000000000000000000000000454696c6c",
+        "ok",
+    ),
+    (
+        "sys_input",
+        "ok id=\"abc\" seed=0 key=\"\" headers=[] value=\"Till\" scope=- limit=- idem=-",
+    ),
+    ("awakeable", "ok 17 \"sign_1YWJjAAAAEQ\""),
+    ("awakeable", "ok 18 \"sign_1YWJjAAAAEg\""),
+    ("index", "ok 0"),
+    ("output", "ok 0x"),
+    ("input 0x001e0000000000000006010000001100", "ok"),
+    ("await 17", "ok any"),
+    ("take 17", "ok void"),
+    ("await 18", "ok wait true false"),
+    ("vm \"application/vnd.restate.invocation.v7\"", "ok V7"),
+    (
+        "input 0x00010000000000000042000000000000000361626300000000000000036162630000000000000000000000030000000000000000010000000000000000000000000000000000000000000000000a00000000000000140000000000000000000000000000000454696c6c0012000000000000001400000000000003e8000000010000000000000000001e0000000000000006000000000100",
+        "ok",
+    ),
+    (
+        "sys_input",
+        "ok id=\"abc\" seed=0 key=\"\" headers=[] value=\"Till\" scope=- limit=- idem=-",
+    ),
+    ("state", "ok Replaying"),
+    ("awakeable", "ok 17 \"sign_1YWJjAAAAEQ\""),
+    ("sleep \"\" 1000", "ok 18"),
+    ("awakeable", "ok 19 \"sign_1YWJjAAAAEg\""),
+    ("state", "ok Processing"),
+    ("await 18", "ok any"),
+];
+
+/// Errors that are reported, with each option, and what is sent of them.
+const ERRORS: [(&str, &str); 29] = [
+    ("vm \"application/vnd.restate.invocation.v7\"", "ok V7"),
+    ("error 500 \"no\"", "ok"),
+    ("state", "ok Closed"),
+    ("index", "ok -1"),
+    (
+        "output",
+        "ok 0x0003000000000000001b000001f400000000000000026e6f00000000000000000000000000",
+    ),
+    ("error 501 \"later\"", "ok"),
+    ("output", "ok 0x"),
+    ("end", "err 500 \"no\""),
+    ("vm \"application/vnd.restate.invocation.v7\"", "ok V7"),
+    (
+        "input 0x00010000000000000042000000000000000361626300000000000000036162630000000000000000000000010000000000000000010000000000000000000000000000000000000000000000000a00000000000000140000000000000000000000000000000454696c6c",
+        "ok",
+    ),
+    (
+        "sys_input",
+        "ok id=\"abc\" seed=0 key=\"\" headers=[] value=\"Till\" scope=- limit=- idem=-",
+    ),
+    (
+        "error 42 \"x\" rel=last delay=1500 behaviour=pause stack=\"at\"",
+        "ok",
+    ),
+    (
+        "output",
+        "ok 0x0003000000000000002c0000002a00000000000000017800000000000000026174010100000000010000000a000100000000000005dc",
+    ),
+    ("vm \"application/vnd.restate.invocation.v7\"", "ok V7"),
+    (
+        "input 0x00010000000000000042000000000000000361626300000000000000036162630000000000000000000000010000000000000000010000000000000000000000000000000000000000000000000a00000000000000140000000000000000000000000000000454696c6c",
+        "ok",
+    ),
+    (
+        "sys_input",
+        "ok id=\"abc\" seed=0 key=\"\" headers=[] value=\"Till\" scope=- limit=- idem=-",
+    ),
+    (
+        "error 65535 \"\" behaviour=fail rel=next(Sleep \"n\") delay=2999999ns",
+        "ok",
+    ),
+    (
+        "output",
+        "ok 0x000300000000000000320000ffff0000000000000000000000000000000002010000000101000000120100000000000000016e010000000000000002",
+    ),
+    ("end", "err 65535 \"\""),
+    ("vm \"application/vnd.restate.invocation.v8\"", "ok V8"),
+    (
+        "error 0 \"\\x0a\" behaviour=retry rel=at(7  GetState - ) stack=\"\"",
+        "ok",
+    ),
+    (
+        "output",
+        "ok 0x000300000000000000220000000000000000000000010a0000000000000000000100000007010000000c0000",
+    ),
+    ("state", "ok Closed"),
+    ("vm \"application/vnd.restate.invocation.v7\"", "ok V7"),
+    (
+        "error 1 \"\" rel=at(4294967295 CancelInvocation \"\\\"\")",
+        "ok",
+    ),
+    (
+        "output",
+        "ok 0x0003000000000000002a00000001000000000000000000000000000000000001ffffffff01000000160100000000000000012200",
+    ),
+    ("vm \"application/vnd.restate.invocation.v6\"", "ok V6"),
+    ("error 1 \"\" behaviour=pause rel=last", "ok"),
+    ("end", "err 573 \"UnsupportedFeatureForNegotiatedVersion\""),
+];
+
 /// What the program writes for these lines is these answers.
 fn is_answered(alloc: Global, rows: &[(&str, &str)]) -> Result<bool, Fail> {
     let mut script = String::new(alloc);
@@ -418,6 +564,64 @@ fn takes_as_written(rt: HostRuntime) -> Result<(), Fail> {
 #[test]
 fn inputs_as_written(rt: HostRuntime) -> Result<(), Fail> {
     assert!(rt; is_answered(rt.alloc(), &INPUTS)?);
+    Ok(())
+}
+
+#[test]
+fn awakeables_as_written(rt: HostRuntime) -> Result<(), Fail> {
+    assert!(rt; is_answered(rt.alloc(), &AWAKEABLES)?);
+    Ok(())
+}
+
+#[test]
+fn errors_as_written(rt: HostRuntime) -> Result<(), Fail> {
+    assert!(rt; is_answered(rt.alloc(), &ERRORS)?);
+    Ok(())
+}
+
+/// Each type of command, and the number of the message type by which an error names it, in hex.
+const TYPES: [(&str, &str); 19] = [
+    ("Input", "0a"),
+    ("Output", "1d"),
+    ("GetState", "0c"),
+    ("GetStateKeys", "0e"),
+    ("SetState", "0f"),
+    ("ClearState", "10"),
+    ("ClearAllState", "11"),
+    ("GetPromise", "17"),
+    ("PeekPromise", "18"),
+    ("CompletePromise", "19"),
+    ("Sleep", "12"),
+    ("Call", "13"),
+    ("OneWayCall", "14"),
+    ("SendSignal", "16"),
+    ("Run", "1a"),
+    ("AttachInvocation", "1b"),
+    ("GetInvocationOutput", "1c"),
+    ("CompleteAwakeable", "15"),
+    ("CancelInvocation", "16"),
+];
+
+#[test]
+fn each_type_is_named(rt: HostRuntime) -> Result<(), Fail> {
+    for (ty, number) in TYPES {
+        let mut script = String::new(rt.alloc());
+        writeln!(script, "vm \"application/vnd.restate.invocation.v7\"")?;
+        writeln!(script, "error 1 \"\" rel=at(2 {ty} -)")?;
+        writeln!(script, "output")?;
+        let mut transcript = String::new(rt.alloc());
+        writeln!(transcript, "ok V7\nok")?;
+        write!(transcript, "ok 0x0003000000000000002100000001")?;
+        write!(transcript, "00000000000000000000000000000000000100000002")?;
+        writeln!(transcript, "01000000{number}0000")?;
+        let mut written = Vec::new(rt.alloc());
+        run(
+            rt.alloc(),
+            &mut Cursor::new(script.as_bytes()),
+            &mut written,
+        );
+        assert!(rt; written.as_slice() == transcript.as_bytes());
+    }
     Ok(())
 }
 
