@@ -35,7 +35,7 @@ moved_answers Stops p q h = none_some h
 prefix_trans : {A : Type 0} (a b c : List A) → IsPrefix a b → IsPrefix b c → IsPrefix a c
 prefix_trans a b c x y = (x.0 ++ y.0, y.1 ∙ ap (λ l. l ++ y.0) x.1 ∙ append_assoc a x.0 y.0)
 
-after_answers : (s : Setup) (m : Meaning) (n : ℕ) (p q : Point) → after s m n p ≡ Some q → IsPrefix p.answers q.answers
+pub after_answers : (s : Setup) (m : Meaning) (n : ℕ) (p q : Point) → after s m n p ≡ Some q → IsPrefix p.answers q.answers
 after_answers s m zero p q h = ([], ap (λ z. z.answers) (sym (same_Some _ _ h)) ∙ sym (append-nil p.answers))
 after_answers s m (suc n) p q h =
     let x = and_then_some (next s m p) (after s m n) q h in

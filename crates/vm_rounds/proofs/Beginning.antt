@@ -25,18 +25,18 @@ use Rattle.vm_rounds.specs.Journals.{BeginsOrFails, machine_fed}
 abbrev popped_first : Setup → StateMap → Aside → List RawMessage → List Notification → Machine
 popped_first s given aside rest ns = record (entered type.InputCommand [] (machine_fed s given aside rest ns Replaying)) { phase = phase_after rest }
 
-reads_input : (s : Setup) (given : StateMap) (aside : Aside) (rest : List RawMessage) (ns : List Notification) → s.identity ≡ identity_of aside.start → (o : Option InputCommand) → BeginsOrFails s given rest ns o (input_read o (popped_first s given aside rest ns))
-reads_input s given aside rest ns identity (Some c) = (ap (λ i. told_input i c) (sym identity), record { aside = aside; machine = refl; identity = identity })
+reads_input : (s : Setup) (given : StateMap) (aside : Aside) (rest : List RawMessage) (ns : List Notification) → s.identity ≡ identity_of aside.start → (o : Option InputCommand) → BeginsOrFails s given aside rest ns o (input_read o (popped_first s given aside rest ns))
+reads_input s given aside rest ns identity (Some c) = (ap (λ i. told_input i c) (sym identity), (record { aside = aside; machine = refl; identity = identity }, refl))
 reads_input s given aside rest ns identity None = tt
 
 -- the input of a machine that has the whole journal
-pub input_begins : (s : Setup) (given : StateMap) (aside : Aside) (first : RawMessage) (rest : List RawMessage) (ns : List Notification) → s.identity ≡ identity_of aside.start → BeginsOrFails s given rest ns (input_read_from first) (input_step (machine_fed s given aside (first ∷ rest) ns Replaying))
+pub input_begins : (s : Setup) (given : StateMap) (aside : Aside) (first : RawMessage) (rest : List RawMessage) (ns : List Notification) → s.identity ≡ identity_of aside.start → BeginsOrFails s given aside rest ns (input_read_from first) (input_step (machine_fed s given aside (first ∷ rest) ns Replaying))
 unfolding input_step popped
 input_begins s given aside first rest ns identity = by_test (type_number first.ty == type_number type.InputCommand)
   where
     w : Machine
     w = popped_first s given aside rest ns
 
-    by_test : (b : Bool) → BeginsOrFails s given rest ns (if b then input_in first.body else None) ((if b then Done first w else Failed (about_last fault.CommandTypeMismatch w) w) >>= λ raw u. input_read (input_in raw.body) u)
+    by_test : (b : Bool) → BeginsOrFails s given aside rest ns (if b then input_in first.body else None) ((if b then Done first w else Failed (about_last fault.CommandTypeMismatch w) w) >>= λ raw u. input_read (input_in raw.body) u)
     by_test true = reads_input s given aside rest ns identity (input_in first.body)
     by_test false = tt

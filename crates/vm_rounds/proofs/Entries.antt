@@ -46,14 +46,14 @@ counts_to s given aside k cs ns = λ i. machine_fed s given (missing (one_less k
 
 -- ---- one frame
 
-abbrev message_by : RawMessage → Phase → Machine → Bool → Bool → Bool → Outcome Unit
+abbrev pub message_by : RawMessage → Phase → Machine → Bool → Bool → Bool → Outcome Unit
 message_by raw phase v a b c =
     if a then start_step raw phase v
     else if b then entry_step raw phase v
     else if c then notification_step raw phase v
     else refused fault.UnexpectedInputMessage v
 
-receives_by : (v : Machine) (raw : RawMessage) → v.failure ≡ None → received raw v ≡ left_by (settled (message_by raw v.phase v (type_number raw.ty == 1) (is_command raw) (is_notification raw)))
+pub receives_by : (v : Machine) (raw : RawMessage) → v.failure ≡ None → received raw v ≡ left_by (settled (message_by raw v.phase v (type_number raw.ty == 1) (is_command raw) (is_notification raw)))
 unfolding message_step
 receives_by v raw is = live_receives v raw is
 
@@ -107,14 +107,14 @@ more_comes s given aside cs ns raw =
 
 -- ---- all frames
 
-commands_behind : (raw : RawMessage) (raws : List RawMessage) → commands_among (raw ∷ []) ++ commands_among raws ≡ commands_among (raw ∷ raws)
+pub commands_behind : (raw : RawMessage) (raws : List RawMessage) → commands_among (raw ∷ []) ++ commands_among raws ≡ commands_among (raw ∷ raws)
 commands_behind raw raws = by_test (is_command raw)
   where
     by_test : (b : Bool) → cond b (raw ∷ []) [] ++ commands_among raws ≡ cond b (raw ∷ commands_among raws) (commands_among raws)
     by_test true = refl
     by_test false = refl
 
-notifications_behind : (raw : RawMessage) (raws : List RawMessage) → notifications_among (raw ∷ []) ++ notifications_among raws ≡ notifications_among (raw ∷ raws)
+pub notifications_behind : (raw : RawMessage) (raws : List RawMessage) → notifications_among (raw ∷ []) ++ notifications_among raws ≡ notifications_among (raw ∷ raws)
 notifications_behind raw raws = behind_one (is_notification raw) (notification_in raw.body) (notifications_among raws)
 
 -- a failure stays

@@ -9,3 +9,8 @@ pub mod Following
 pub mod Arriving
 pub mod Beginning
 pub mod Entries
+pub mod Quiet
+pub mod Pieces
+pub mod Kept
+pub mod Stepped
+pub mod Advanced

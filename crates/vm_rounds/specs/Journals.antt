@@ -68,13 +68,13 @@ machine_fed s given aside cs ns phase = record {
   output_ended = false;
 }
 
--- Where the first command is an input, the handler is told it, and the machine agrees with the first point; else the call
--- is refused.
-abbrev pub BeginsOrFails : Setup → StateMap → List RawMessage → List Notification → Option InputCommand → Outcome Input → Type 0
-BeginsOrFails s given rest ns (Some c) (Done i w) = (i ≡ told_input s.identity c) × Agrees s given [] w (start s c ns rest)
-BeginsOrFails s given rest ns None (Failed e w) = Unit {0}
-BeginsOrFails s given rest ns (Some c) (Failed e w) = ⊥
-BeginsOrFails s given rest ns None (Done i w) = ⊥
+-- Where the first command is an input, the handler is told it, the machine agrees with the first point, and nothing is
+-- written; else the call is refused.
+abbrev pub BeginsOrFails : Setup → StateMap → Aside → List RawMessage → List Notification → Option InputCommand → Outcome Input → Type 0
+BeginsOrFails s given aside rest ns (Some c) (Done i w) = (i ≡ told_input s.identity c) × (Agrees s given [] w (start s c ns rest) × (w.output ≡ aside.output))
+BeginsOrFails s given aside rest ns None (Failed e w) = Unit {0}
+BeginsOrFails s given aside rest ns (Some c) (Failed e w) = ⊥
+BeginsOrFails s given aside rest ns None (Done i w) = ⊥
 
 -- ---- the machine as its journal comes
 

@@ -4,3 +4,4 @@ pub mod Journals
 pub mod Record
 pub mod Stepping
 pub mod Steps
+pub mod Told

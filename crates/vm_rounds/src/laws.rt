@@ -1,11 +1,12 @@
 //! What an attempt's machine and a handler's run have to do with each other.
-ghost use Rattle.std.specs.Prelude.{◌≡◌, ◌⊎◌, ◌∷◌, IsSome, List};
+ghost use Rattle.std.specs.Prelude.{◌≡◌, ◌⊎◌, ◌∷◌, ◌++◌, [], IsSome, List, None};
 ghost use Rattle.journal_protocol.specs.declared.message.RawMessage.{RawMessage};
 ghost use Rattle.journal_protocol.specs.declared.notification.Notification.{Notification};
 ghost use Rattle.vm_machine.specs.declared.machine.Machine.{Machine};
 ghost use Rattle.vm_machine.specs.declared.phase.Phase.TheVariants.{Replaying};
 ghost use Rattle.vm_machine.specs.Inputs.{input_step};
 ghost use Rattle.vm_machine.specs.Making.{fresh};
+ghost use Rattle.invocation_vm.specs.Making.{made};
 ghost use Rattle.std.proofs.Common.{Global};
 ghost use Rattle.journal_protocol.specs.declared.version.Version.{Version};
 ghost use Rattle.vm_parts.specs.declared.options.VMOptions.{VMOptions};
@@ -17,6 +18,18 @@ ghost use Rattle.vm_parts.specs.declared.context.StateMap.{StateMap};
 ghost use Rattle.vm_rounds.specs.Agreement.{Agrees, Aside, CanBeWritten, Follows};
 ghost use Rattle.vm_rounds.specs.Journals.{BeginsOrFails, Started, machine_fed, notifications_among};
 ghost use Rattle.vm_rounds.specs.Steps.{performed};
+ghost use Rattle.vm_rounds.specs.Told.{AnswersAreTold, CanWriteNext, IsKept};
+ghost use Rattle.vm_rounds.specs.declared.progress.Progress.{Progress};
+ghost use Rattle.std.specs.Prelude.{Result};
+ghost use Rattle.journal_protocol.specs.declared.error.Error.{Error};
+ghost use Rattle.std.specs.declared.alloc.AllocError.{AllocError};
+ghost use Rattle.vm_rounds.specs.Stepping.{CloseDoes, FeedDoes, StepDoes, Takes, fresh_record};
+ghost use Rattle.vm_rounds.specs.declared.progress.Fed.{Fed};
+ghost use Rattle.vm_rounds.specs.Record.{Record};
+ghost use Rattle.invocation_vm.specs.Views.{View, after_input};
+ghost use Rattle.std.specs.Prelude.{ℕ, Option};
+ghost use Rattle.vm_parts.specs.declared.steps.Answer.{Answer};
+ghost use Rattle.vm_parts.specs.declared.types.UnresolvedFuture.{UnresolvedFuture};
 
 /// In a machine that agrees with a point of the handler's run, the handler's call does what the moves from there lead to:
 /// it is answered as they are, writes the commands that they make and no others, and agrees with the point where they lead;
@@ -35,11 +48,28 @@ pub fn frames_arrive()
 /// A machine that has the whole journal reads its input: where the first command is one, the handler is told it, and the
 /// machine agrees with the first point of the handler's run; else the call is refused.
 pub fn attempts_begin()
-    ensures { (s : Setup) (given : StateMap) (aside : Aside) (first : RawMessage) (rest : List RawMessage) (ns : List Notification) → s.identity ≡ identity_of aside.start → BeginsOrFails s given rest ns (input_read_from first) (input_step (machine_fed s given aside (first ∷ rest) ns Replaying)) }
+    ensures { (s : Setup) (given : StateMap) (aside : Aside) (first : RawMessage) (rest : List RawMessage) (ns : List Notification) → s.identity ≡ identity_of aside.start → BeginsOrFails s given aside rest ns (input_read_from first) (input_step (machine_fed s given aside (first ∷ rest) ns Replaying)) }
 {}
 
 /// Frames that come to a new machine: it has failed; or the first is a Start, and the machine waits for as many of the known
 /// entries as are missing; or the known entries are the journal, and all notifications that came are arrivals.
 pub fn journals_come()
     ensures { (alloc : Global) (version : Version) (options : VMOptions) (first : RawMessage) (raws : List RawMessage) → Started alloc version options first raws (all_received (first ∷ raws) (fresh alloc version options)) }
+{}
+
+/// What each call of an attempt keeps: before the input, that nothing was answered and no command written; then, that so many
+/// moves of the handler's run lead to its answers and made what was written, and that the machine agrees with that point as
+/// long as it can make calls. A step keeps it where the command that the handler's next call needs can be encoded.
+pub fn attempts_keep()
+    ensures made { (m : Meaning) (alloc : Global) (version : Version) (options : VMOptions) → IsKept m version options (fresh_record (made alloc options version)) }
+    ensures fed { (m : Meaning) (version : Version) (options : VMOptions) (piece : List ℕ) (old : Record) (result : Result Unit AllocError) (new : Record) → IsKept m version options old → FeedDoes old.starved piece old result new → IsKept m version options new }
+    ensures closed { (m : Meaning) (version : Version) (options : VMOptions) (old : Record) (result : Result Unit AllocError) (new : Record) → IsKept m version options old → CloseDoes old.starved old result new → IsKept m version options new }
+    ensures taken { (m : Meaning) (version : Version) (options : VMOptions) (old : Record) (result : Result (List ℕ) AllocError) (new : Record) → IsKept m version options old → Takes old result new → IsKept m version options new }
+    ensures stepped { (m : Meaning) (version : Version) (options : VMOptions) (old : Record) (result : Result Progress Error) (new : Record) → IsKept m version options old → CanWriteNext m version options old → StepDoes m old result new → IsKept m version options new }
+{}
+
+/// The answers of an attempt are those of a point that its journal tells, followed by what it wrote, with the arrivals that it
+/// was fed; while recorded commands are left, it has written none.
+pub fn answers_are_told()
+    ensures { (m : Meaning) (version : Version) (options : VMOptions) (r : Record) → IsKept m version options r → (r.answers ≡ []) ⊎ AnswersAreTold m version options r }
 {}

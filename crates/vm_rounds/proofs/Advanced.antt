@@ -1,0 +1,262 @@
+-- Each call of an attempt keeps what is kept of it: the input, and all that a step does.
+use Rattle.std.proofs.Common.{◌≡◌, ◌≢◌, ◌⊎◌, ℕ, suc, Bool, true, false, List, [], ◌∷◌, ◌++◌, Option, Some, None, Result, Ok, Err, refl, sym, ap, ◌∙◌, subst, inl, inr, ⊎_elim, append-nil, Global}
+use Rattle.std.specs.Prelude.{◌==◌, if◌then◌else◌, is_some, IsSome}
+use Rattle.journal_protocol.specs.declared.commands.InputCommand.{InputCommand}
+use Rattle.journal_protocol.specs.declared.error.Error.{Error}
+use Rattle.journal_protocol.specs.declared.faults.NamedFault.{NamedFault}
+use Rattle.journal_protocol.specs.declared.faults.NamedFault.TheVariants as fault
+use Rattle.journal_protocol.specs.declared.message.RawMessage.{RawMessage}
+use Rattle.journal_protocol.specs.declared.notification.Notification.{Notification}
+use Rattle.journal_protocol.specs.declared.types.MessageType.TheVariants as type
+use Rattle.journal_protocol.specs.declared.version.Version.{Version}
+use Rattle.journal_protocol.specs.Reading.{input_in}
+use Rattle.journal_protocol.specs.Types.{type_number}
+use Rattle.vm_parts.specs.declared.context.StateMap.{StateMap}
+use Rattle.vm_parts.specs.declared.options.VMOptions.{VMOptions}
+use Rattle.vm_parts.specs.declared.steps.Answer.{Answer}
+use Rattle.vm_parts.specs.declared.steps.Answer.TheVariants as answer
+use Rattle.vm_parts.specs.declared.types.UnresolvedFuture.{UnresolvedFuture}
+use Rattle.vm_parts.specs.declared.values.Input.{Input}
+use Rattle.vm_parts.specs.Counting.{missing as lacking}
+use Rattle.vm_machine.specs.declared.machine.Machine.{Machine}
+use Rattle.vm_machine.specs.declared.phase.Phase.{Phase}
+use Rattle.vm_machine.specs.declared.phase.Phase.TheVariants.{WaitingStart, WaitingReplayEntries, Replaying, Processing, Closed}
+use Rattle.vm_machine.specs.Commands.{entered, phase_after, popped, popped_from}
+use Rattle.vm_machine.specs.Inputs.{coverage_of, info_of, input_at, input_counted, input_read, input_step}
+use Rattle.vm_machine.specs.Making.{fresh}
+use Rattle.vm_machine.specs.Outcomes.{Does, IsStarved, Outcome, Done, Failed, ◌>>=◌, about_last, called, called_at, settled, ruled, failed}
+use Rattle.vm_machine.specs.Phases.{is_closed, is_running}
+use Rattle.invocation_vm.specs.Frames.{Rest, frames_of}
+use Rattle.invocation_vm.specs.Making.{made}
+use Rattle.invocation_vm.specs.Views.{Calls, View, left_by}
+use Rattle.vm_model.specs.Calls.{Meaning, Setup, identity_of}
+use Rattle.vm_model.specs.Journal.{input_read_from}
+use Rattle.vm_model.specs.Moves.{longer, start, told_input}
+use Rattle.vm_model.proofs.Compared.{after_answers, attempt_is_told}
+use Rattle.vm_model.proofs.Runs.{made_after}
+use Rattle.vm_rounds.specs.declared.progress.Fed.{Fed}
+use Rattle.vm_rounds.specs.declared.progress.Progress.{Progress}
+use Rattle.vm_rounds.specs.Agreement.{Agrees, Aside}
+use Rattle.vm_rounds.specs.Journals.{BeginsOrFails, HasAll, StillWaits, commands_among, machine_fed, missing, notifications_among, setup_for, waiting}
+use Rattle.vm_rounds.specs.Record.{Record}
+use Rattle.vm_rounds.specs.Stepping.{Advances, Asks, LacksMemory, Reads, StepAt, StepDoes, StepFrom, StepUnless, fresh_record, with_vm}
+use Rattle.vm_rounds.specs.Told.{AnswersAreTold, BeforeInput, Begun, CanWriteNext, Comes, IsKept, IsLive, Quiet, Runs, StillAwaits, Wrote, arrivals, bytes_fed, frames_fed}
+use Rattle.vm_rounds.proofs.Beginning.{input_begins}
+use Rattle.vm_rounds.proofs.Kept.{dead_same}
+use Rattle.vm_rounds.proofs.Pieces.{agrees_running}
+use Rattle.vm_rounds.proofs.Quiet.{Silent, error_quiet, quiet_same, wrote_quiet}
+use Rattle.vm_rounds.proofs.Stepped.{asks_keep}
+
+-- ---- an event that failed
+
+failed_quiet : {A : Type 0} (v : Machine) (o : Outcome A) (e : Error) (w : Machine) → Silent v o → called o v ≡ Failed e w → Quiet v w × IsSome w.failure
+unfolding called
+failed_quiet {A} v o e w silent is = by_option v.failure refl is
+  where
+    by_outcome : (q : Outcome A) → Silent v q → settled q ≡ Failed e w → Quiet v w × IsSome w.failure
+    by_outcome (Done a x) s h = absurd (cc)
+    by_outcome (Failed f x) s h =
+        let at : failed (ruled x f) x ≡ w = ap left_by h in
+        (subst (Quiet v) at (error_quiet (ruled x f) v x s (is_closed x.phase) refl), ap (λ (z : Machine). is_some z.failure) (sym at))
+
+    by_option : (f : Option Error) → v.failure ≡ f → called_at f o v ≡ Failed e w → Quiet v w × IsSome w.failure
+    by_option None live h = by_outcome o silent h
+    by_option (Some f) dead h =
+        let at : v ≡ w = ap left_by h in
+        (quiet_same v w (ap (λ (z : Machine). z.output) (sym at)), ap (λ (z : Machine). is_some z.failure) (sym at) ∙ ap is_some dead)
+
+read_silent : (o : Option InputCommand) (v w : Machine) → w.output ≡ v.output → Silent v (input_read o w)
+read_silent None v w is = is
+read_silent (Some c) v w is = is
+
+popped_silent : (commands : List RawMessage) (v w : Machine) → w.output ≡ v.output → Silent v (popped_from commands type.InputCommand w >>= λ raw u. input_read (input_in raw.body) u)
+popped_silent [] v w is = is
+popped_silent (raw ∷ rest) v w is = by_test (type_number raw.ty == type_number type.InputCommand)
+  where
+    u : Machine
+    u = record w { commands = rest; phase = phase_after rest }
+
+    by_test : (b : Bool) → Silent v ((if b then Done raw u else Failed (about_last fault.CommandTypeMismatch u) u) >>= λ raw u. input_read (input_in raw.body) u)
+    by_test true = read_silent (input_in raw.body) v u is
+    by_test false = is
+
+counted_silent : (o : Option NamedFault) (v : Machine) → Silent v (input_counted o v)
+unfolding popped
+counted_silent (Some name) v = refl
+counted_silent None v = popped_silent v.commands v (entered type.InputCommand [] v) refl
+
+input_silent : (v : Machine) → Silent v (input_step v)
+unfolding input_step
+input_silent v = by_phase v.phase
+  where
+    by_phase : (ph : Phase) → Silent v (input_at ph v)
+    by_phase WaitingStart = refl
+    by_phase WaitingReplayEntries = refl
+    by_phase Replaying = counted_silent (lacking 0 0 0 v.counters) v
+    by_phase Processing = refl
+    by_phase Closed = refl
+
+-- ---- the input is read
+
+done_of : {A : Type 0} (v : Machine) (o : Outcome A) (a : A) (w : Machine) → v.failure ≡ None → called o v ≡ Done a w → o ≡ Done a w
+unfolding called
+done_of {A} v o a w live is = by_outcome o (ap (λ f. called_at f o v) (sym live) ∙ is)
+  where
+    by_outcome : (q : Outcome A) → settled q ≡ Done a w → q ≡ Done a w
+    by_outcome (Done b x) h = h
+    by_outcome (Failed e x) h = absurd (cc)
+
+-- a machine that waits reads no input
+waits_reads : {A : Type 0} (v : Machine) (i : Input) (w : Machine) → is_running v.phase ≡ false → input_step v ≡ Done i w → A
+unfolding input_step
+waits_reads {A} v i w asleep is = by_phase v.phase asleep is
+  where
+    by_phase : (ph : Phase) → is_running ph ≡ false → input_at ph v ≡ Done i w → A
+    by_phase WaitingStart a h = absurd (cc)
+    by_phase WaitingReplayEntries a h = absurd (cc)
+    by_phase Closed a h = absurd (cc)
+    by_phase Replaying a h = absurd (cc)
+    by_phase Processing a h = absurd (cc)
+
+no_command_reads : {A : Type 0} (s : Setup) (given : StateMap) (aside : Aside) (ns : List Notification) (i : Input) (w : Machine) → input_step (machine_fed s given aside [] ns Replaying) ≡ Done i w → A
+unfolding input_step popped
+no_command_reads s given aside ns i w is = absurd (cc)
+
+read_begins : (m : Meaning) (version : Version) (options : VMOptions) (fed : List Fed) (before : Option UnresolvedFuture) (taken : List (List ℕ)) (v w : View) (b : Begun version options fed v.machine) (h : HasAll (setup_for version options b.start) (record { entries = b.state; coverage = coverage_of b.start.partial }) b.aside b.start.known_entries [] [] b.others v.machine)
+    → (i : Input) → input_step v.machine ≡ Done i w.machine → before ≡ None → Wrote taken v.machine.output [] → (frames_of (bytes_fed fed)).1 ≡ Rest w.undecoded
+    → (cs : List RawMessage) → commands_among h.entries ≡ cs → Runs m version options fed (answer.Input i ∷ []) before taken w
+read_begins m version options fed before taken v w b h i is none wrote tail [] e =
+    let s = setup_for version options b.start in
+    let given : StateMap = record { entries = b.state; coverage = coverage_of b.start.partial } in
+    no_command_reads s given (missing 0 b.aside) (notifications_among b.others) i w.machine (sym (ap input_step (h.machine ∙ λ j. machine_fed s given (missing 0 b.aside) (e j) (notifications_among b.others) Replaying)) ∙ is)
+read_begins m version options fed before taken v w b h i is none wrote tail (first ∷ rest) e =
+    let s = setup_for version options b.start in
+    let given : StateMap = record { entries = b.state; coverage = coverage_of b.start.partial } in
+    let ns = notifications_among b.others in
+    let at : v.machine ≡ machine_fed s given (missing 0 b.aside) (first ∷ rest) ns Replaying = h.machine ∙ λ j. machine_fed s given (missing 0 b.aside) (e j) ns Replaying in
+    by_input (input_read_from first) refl (subst (BeginsOrFails s given (missing 0 b.aside) rest ns (input_read_from first)) (sym (ap input_step at) ∙ is) (input_begins s given (missing 0 b.aside) first rest ns (ap identity_of (sym b.of_start))))
+  where
+    by_input : (o : Option InputCommand) → input_read_from first ≡ o → BeginsOrFails (setup_for version options b.start) (record { entries = b.state; coverage = coverage_of b.start.partial }) (missing 0 b.aside) rest (notifications_among b.others) o (Done i w.machine) → Runs m version options fed (answer.Input i ∷ []) before taken w
+    by_input None reads g = absurd g
+    by_input (Some c) reads g =
+        let s = setup_for version options b.start in
+        let agrees = subst (λ l. Agrees s (record { entries = b.state; coverage = coverage_of b.start.partial }) [] w.machine (start s c (notifications_among l) rest)) h.split g.1.0 in
+        record {
+          journal = record {
+            first_frame = b.first_frame;
+            entries = h.entries;
+            others = h.others;
+            frames = b.frames ∙ ap (λ l. b.first_frame ∷ l) h.split;
+            start = b.start;
+            reads_start = b.reads_start;
+            count = h.count;
+            state = b.state;
+            reads_state = b.reads_state;
+            first = first;
+            rest = rest;
+            commands = e;
+            input = c;
+            reads_input = reads;
+          };
+          written = [];
+          wrote = wrote_quiet taken v.machine w.machine [] (quiet_same v.machine w.machine (g.1.1 ∙ sym (ap (λ (z : Machine). z.output) h.machine))) wrote;
+          at = start s c (notifications_among (h.entries ++ h.others)) rest;
+          moves = 0;
+          run = (refl, refl);
+          answers = ap (λ x. answer.Input x ∷ []) (sym g.0);
+          awaits = subst (StillAwaits m (start s c (notifications_among (h.entries ++ h.others)) rest)) (sym none) tt;
+          agrees = λ _. agrees;
+          phase = λ _. inl (agrees_running s (record { entries = b.state; coverage = coverage_of b.start.partial }) [] w.machine (start s c (notifications_among (h.entries ++ h.others)) rest) agrees);
+          tail = λ _. tail;
+        }
+
+reads_done : (m : Meaning) (version : Version) (options : VMOptions) (fed : List Fed) (before : Option UnresolvedFuture) (taken : List (List ℕ)) (v w : View) (i : Input) → Comes version options fed v.machine → input_step v.machine ≡ Done i w.machine → before ≡ None → Wrote taken v.machine.output [] → (frames_of (bytes_fed fed)).1 ≡ Rest w.undecoded → Runs m version options fed (answer.Input i ∷ []) before taken w
+reads_done m version options fed before taken v w i comes is none wrote tail =
+    ⊎_elim
+    (λ (x : (frames_fed fed ≡ []) × ((alloc : Global) × (v.machine ≡ fresh alloc version options))). waits_reads v.machine i w.machine (ap (λ (z : Machine). is_running z.phase) x.1.1) is)
+    (λ (b : Begun version options fed v.machine).
+    ⊎_elim
+    (λ (x : StillWaits (setup_for version options b.start) (record { entries = b.state; coverage = coverage_of b.start.partial }) b.aside b.start.known_entries [] [] b.others v.machine). waits_reads v.machine i w.machine (ap (λ (z : Machine). is_running z.phase) x.machine) is)
+    (λ (x : HasAll (setup_for version options b.start) (record { entries = b.state; coverage = coverage_of b.start.partial }) b.aside b.start.known_entries [] [] b.others v.machine). read_begins m version options fed before taken v w b x i is none wrote tail (commands_among x.entries) refl)
+    b.waits)
+    comes
+
+reads_keep : (m : Meaning) (version : Version) (options : VMOptions) (old : Record) (result : Result Progress Error) (new : Record) → BeforeInput version options old.fed old.answers old.waiting old.taken old.vm → old.vm.machine.failure ≡ None → Reads old result new → IsKept m version options new
+reads_keep m version options old (Ok progress) new b live (stepped, (i, w, does, is)) =
+    subst (IsKept m version options) (sym is) (inr (reads_done m version options old.fed old.waiting old.taken old.vm w i (b.comes live) (done_of old.vm.machine (input_step old.vm.machine) i w.machine live does.0) b.waits_not b.wrote (b.tail live ∙ ap Rest (sym does.1))))
+reads_keep m version options old (Err e) new b live (w, does, is) =
+    subst (IsKept m version options) (sym is)
+    (⊎_elim
+    (λ (x : called (input_step old.vm.machine) old.vm.machine ≡ Failed e w.machine).
+    let q = failed_quiet old.vm.machine (input_step old.vm.machine) e w.machine (input_silent old.vm.machine) x in
+    dead_same m version options old w (inl b) q.0 q.1)
+    (λ (x : IsStarved e old.vm.machine w.machine). dead_same m version options old w (inl b) (quiet_same old.vm.machine w.machine x.output) x.failed)
+    does.0)
+
+-- ---- a step
+
+-- once the handler runs there is an answer
+runs_answered : (m : Meaning) (version : Version) (options : VMOptions) (fed : List Fed) (answers : List Answer) (before : Option UnresolvedFuture) (taken : List (List ℕ)) (v : View) → Runs m version options fed answers before taken v → answers ≢ []
+runs_answered m version options fed answers before taken v k none =
+    let s = setup_for version options k.journal.start in
+    let p = start s k.journal.input (arrivals k.journal) k.journal.rest in
+    let a = after_answers s m k.moves (longer k.written p) k.at (made_after s m k.moves p k.written k.at k.run) in
+    let z : [] ≡ answer.Input (told_input s.identity k.journal.input) ∷ a.0 = sym none ∙ sym k.answers ∙ a.1 in
+    cc
+
+advances_keep : (m : Meaning) (version : Version) (options : VMOptions) (old : Record) (result : Result Progress Error) (new : Record) → IsKept m version options old → IsLive old.vm.machine → CanWriteNext m version options old → Advances m old result new → IsKept m version options new
+advances_keep m version options old result new k live whole =
+    ⊎_elim
+    (λ (x : LacksMemory old result new). subst (IsKept m version options) (sym x.1) k)
+    (λ (o : ((old.answers ≡ []) × Reads old result new) ⊎ ((old.answers ≢ []) × Asks m old result new)).
+    ⊎_elim
+    (λ (x : (old.answers ≡ []) × Reads old result new).
+    ⊎_elim
+    (λ (b : BeforeInput version options old.fed old.answers old.waiting old.taken old.vm). reads_keep m version options old result new b live.failure x.1)
+    (λ (b : Runs m version options old.fed old.answers old.waiting old.taken old.vm). absurd (runs_answered m version options old.fed old.answers old.waiting old.taken old.vm b x.0))
+    k)
+    (λ (x : (old.answers ≢ []) × Asks m old result new).
+    ⊎_elim
+    (λ (b : BeforeInput version options old.fed old.answers old.waiting old.taken old.vm). absurd (x.0 b.answers))
+    (λ (b : Runs m version options old.fed old.answers old.waiting old.taken old.vm). asks_keep m version options old result new b live whole x.1)
+    k)
+    o)
+
+step_at : (m : Meaning) (version : Version) (options : VMOptions) (old : Record) (result : Result Progress Error) (new : Record) → IsKept m version options old → CanWriteNext m version options old → old.vm.machine.failure ≡ None → (ph : Phase) → old.vm.machine.phase ≡ ph → StepAt ph m old result new → IsKept m version options new
+step_at m version options old result new k whole live WaitingStart at d = subst (IsKept m version options) (sym d.1) k
+step_at m version options old result new k whole live WaitingReplayEntries at d = subst (IsKept m version options) (sym d.1) k
+step_at m version options old result new k whole live Closed at d = subst (IsKept m version options) (sym d.1) k
+step_at m version options old result new k whole live Replaying at d = advances_keep m version options old result new k (record { failure = live; phase = ap is_running at }) whole d
+step_at m version options old result new k whole live Processing at d = advances_keep m version options old result new k (record { failure = live; phase = ap is_running at }) whole d
+
+step_unless : (m : Meaning) (version : Version) (options : VMOptions) (old : Record) (result : Result Progress Error) (new : Record) → IsKept m version options old → CanWriteNext m version options old → (f : Option Error) → old.vm.machine.failure ≡ f → (over : Option Progress) → StepUnless f over m old result new → IsKept m version options new
+step_unless m version options old result new k whole (Some e) is over d = subst (IsKept m version options) (sym d.1) k
+step_unless m version options old result new k whole None is (Some made) d = subst (IsKept m version options) (sym d.1) k
+step_unless m version options old result new k whole None is None d = step_at m version options old result new k whole is old.vm.machine.phase refl d
+
+pub step_keeps : (m : Meaning) (version : Version) (options : VMOptions) (old : Record) (result : Result Progress Error) (new : Record) → IsKept m version options old → CanWriteNext m version options old → StepDoes m old result new → IsKept m version options new
+step_keeps m version options old result new k whole does = by_test old.starved does
+  where
+    by_test : (b : Bool) → StepFrom b m old result new → IsKept m version options new
+    by_test true d = subst (IsKept m version options) (sym d.1) k
+    by_test false d = step_unless m version options old result new k whole old.vm.machine.failure refl old.over d
+
+-- ---- a new attempt, and what is told
+
+pub made_kept : (m : Meaning) (alloc : Global) (version : Version) (options : VMOptions) → IsKept m version options (fresh_record (made alloc options version))
+unfolding frames_of
+made_kept m alloc version options = inl (record {
+  answers = refl;
+  waits_not = refl;
+  wrote = record { messages = []; output = refl; commands = refl };
+  comes = λ _. inl (refl, (alloc, refl));
+  tail = λ _. refl;
+})
+
+pub kept_told : (m : Meaning) (version : Version) (options : VMOptions) (r : Record) → IsKept m version options r → (r.answers ≡ []) ⊎ AnswersAreTold m version options r
+kept_told m version options r =
+    ⊎_elim
+    (λ (b : BeforeInput version options r.fed r.answers r.waiting r.taken r.vm). inl b.answers)
+    (λ (k : Runs m version options r.fed r.answers r.waiting r.taken r.vm).
+    let told = attempt_is_told (setup_for version options k.journal.start) m k.journal.input k.moves (arrivals k.journal) k.journal.rest k.written k.at k.run in
+    inr (record { journal = k.journal; written = k.written; wrote = k.wrote; at = k.at; told = told.0; answers = k.answers; in_order = told.1 }))

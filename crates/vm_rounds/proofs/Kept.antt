@@ -1,0 +1,360 @@
+-- What the calls of an attempt keep, but for its steps: feeding, closing the input, taking the output.
+use Rattle.std.proofs.Common.{◌≡◌, ◌≢◌, ◌⊎◌, ℕ, Bool, true, false, List, [], ◌∷◌, ◌++◌, Option, Some, None, Result, Ok, Err, refl, sym, ap, ◌∙◌, subst, inl, inr, ⊎_elim, append_assoc, append-nil}
+use Rattle.std.specs.Prelude.{if◌then◌else◌, is_some, IsSome}
+use Rattle.std.specs.List.{concat}
+use Rattle.std.proofs.lemmas.List.Folds.{concat-append}
+use Rattle.std.specs.declared.alloc.AllocError.{AllocError}
+use Rattle.journal_protocol.specs.declared.error.Error.{Error}
+use Rattle.journal_protocol.specs.declared.message.RawMessage.{RawMessage}
+use Rattle.journal_protocol.specs.declared.version.Version.{Version}
+use Rattle.journal_protocol.specs.Errors.{no_memory}
+use Rattle.vm_parts.specs.declared.options.VMOptions.{VMOptions}
+use Rattle.vm_parts.specs.declared.steps.Answer.{Answer}
+use Rattle.vm_parts.specs.declared.types.UnresolvedFuture.{UnresolvedFuture}
+use Rattle.vm_machine.specs.declared.machine.Machine.{Machine}
+use Rattle.vm_machine.specs.declared.phase.Phase.{Phase}
+use Rattle.vm_machine.specs.declared.phase.Phase.TheVariants.{WaitingStart, WaitingReplayEntries, Replaying, Processing, Closed}
+use Rattle.journal_protocol.specs.Types.{type_number}
+use Rattle.std.specs.Prelude.{◌==◌}
+use Rattle.std.proofs.Common.{Global}
+use Rattle.vm_model.specs.Moves.{Point, later}
+use Rattle.vm_machine.specs.Inputs.{close_step, closed_at, coverage_of, info_of, malformed_step, message_step}
+use Rattle.vm_machine.specs.Making.{fresh}
+use Rattle.vm_machine.specs.Outcomes.{IsStarved, called, called_at, settled}
+use Rattle.vm_machine.specs.Phases.{is_running}
+use Rattle.invocation_vm.specs.Frames.{Tail, Rest, Garbage, frames_of, joined}
+use Rattle.invocation_vm.specs.Views.{View, after_closing, after_input, all_received, consumed, has_failed, left_by, left_over, received, spoiled}
+use Rattle.invocation_vm.proofs.Cuts.{frames_of-append}
+use Rattle.vm_model.specs.Calls.{Meaning, Setup}
+use Rattle.vm_rounds.specs.declared.progress.Fed.{Fed}
+use Rattle.vm_parts.specs.declared.context.StateMap.{StateMap}
+use Rattle.vm_rounds.specs.Agreement.{Agrees, Aside}
+use Rattle.vm_rounds.specs.Journals.{HasAll, StillWaits, is_command, is_notification, notifications_among, setup_for}
+use Rattle.vm_rounds.specs.Record.{Record}
+use Rattle.vm_rounds.specs.Stepping.{CloseDoes, Closes, FeedDoes, Feeds, Takes, emptied, kept, kept_at, output_len, taken_from, with_vm}
+use Rattle.vm_rounds.specs.Told.{BeforeInput, Begun, Comes, IsKept, IsLive, Journal, Quiet, Runs, Wrote, bytes_fed, frames_fed, handed_out}
+use Rattle.vm_rounds.proofs.Arriving.{failed_receives}
+use Rattle.vm_rounds.proofs.Entries.{message_by, receives_by}
+use Rattle.vm_rounds.proofs.Pieces.{agrees_running, before_fed, bytes_behind, journal_to, more_frames, not_failed, run_to, running_fed, still_awaits}
+use Rattle.vm_rounds.proofs.Quiet.{closing_quiet, input_quiet, quiet_same, wrote_quiet}
+
+-- ---- a VM that has failed
+
+before_dead : (version : Version) (options : VMOptions) (fed to : List Fed) (answers : List Answer) (waiting : Option UnresolvedFuture) (taken : List (List ℕ)) (v w : View) → BeforeInput version options fed answers waiting taken v → Quiet v.machine w.machine → IsSome w.machine.failure → BeforeInput version options to answers waiting taken w
+before_dead version options fed to answers waiting taken v w b q dead = record {
+  answers = b.answers;
+  waits_not = b.waits_not;
+  wrote = wrote_quiet taken v.machine w.machine [] q b.wrote;
+  comes = λ alive. not_failed w.machine dead alive;
+  tail = λ alive. not_failed w.machine dead alive;
+}
+
+runs_dead : (m : Meaning) (version : Version) (options : VMOptions) (fed to : List Fed) (G : List RawMessage) → frames_fed to ≡ frames_fed fed ++ G → (answers : List Answer) (waiting : Option UnresolvedFuture) (taken : List (List ℕ)) (v w : View) → Runs m version options fed answers waiting taken v → Quiet v.machine w.machine → IsSome w.machine.failure → Runs m version options to answers waiting taken w
+runs_dead m version options fed to G frames answers waiting taken v w k q dead = record {
+  journal = journal_to fed to G frames k.journal;
+  written = k.written;
+  wrote = wrote_quiet taken v.machine w.machine k.written q k.wrote;
+  at = later (notifications_among G) k.at;
+  moves = k.moves;
+  run = run_to (setup_for version options k.journal.start) m fed k.journal G k.moves k.written k.at k.run;
+  answers = k.answers;
+  awaits = still_awaits m k.at (notifications_among G) waiting k.awaits;
+  agrees = λ alive. not_failed w.machine dead alive.failure;
+  phase = λ alive. not_failed w.machine dead alive;
+  tail = λ alive. not_failed w.machine dead alive.failure;
+}
+
+pub dead_same : (m : Meaning) (version : Version) (options : VMOptions) (r : Record) (w : View) → IsKept m version options r → Quiet r.vm.machine w.machine → IsSome w.machine.failure → IsKept m version options (with_vm w r)
+dead_same m version options r w k q dead =
+    ⊎_elim
+    (λ (b : BeforeInput version options r.fed r.answers r.waiting r.taken r.vm). inl (before_dead version options r.fed r.fed r.answers r.waiting r.taken r.vm w b q dead))
+    (λ (b : Runs m version options r.fed r.answers r.waiting r.taken r.vm). inr (runs_dead m version options r.fed r.fed [] (sym (append-nil (frames_fed r.fed))) r.answers r.waiting r.taken r.vm w b q dead))
+    k
+
+dead_more : (m : Meaning) (version : Version) (options : VMOptions) (r : Record) (f : Fed) (w : View) → IsKept m version options r → Quiet r.vm.machine w.machine → IsSome w.machine.failure → IsKept m version options (record r { fed = r.fed ++ f ∷ []; vm = w })
+dead_more m version options r f w k q dead =
+    let more = more_frames (frames_of (bytes_fed r.fed)) f.piece in
+    let frames : frames_fed (r.fed ++ f ∷ []) ≡ frames_fed r.fed ++ more.0 = ap (λ l. (frames_of l).0) (bytes_behind r.fed f) ∙ ap (λ p. p.0) (frames_of-append (bytes_fed r.fed) f.piece) ∙ more.1 in
+    ⊎_elim
+    (λ (b : BeforeInput version options r.fed r.answers r.waiting r.taken r.vm). inl (before_dead version options r.fed (r.fed ++ f ∷ []) r.answers r.waiting r.taken r.vm w b q dead))
+    (λ (b : Runs m version options r.fed r.answers r.waiting r.taken r.vm). inr (runs_dead m version options r.fed (r.fed ++ f ∷ []) more.0 frames r.answers r.waiting r.taken r.vm w b q dead))
+    k
+
+-- ---- a VM that is closed
+
+closed_by : (raw : RawMessage) (v : Machine) (a b c : Bool) → (left_by (settled (message_by raw Closed v a b c))).phase ≡ v.phase
+closed_by raw v true b c = refl
+closed_by raw v false true c = refl
+closed_by raw v false false true = refl
+closed_by raw v false false false = refl
+
+closed_received : (raw : RawMessage) (v : Machine) → v.phase ≡ Closed → (received raw v).phase ≡ Closed
+closed_received raw v closed = by_option v.failure refl
+  where
+    by_option : (o : Option Error) → v.failure ≡ o → (received raw v).phase ≡ Closed
+    by_option (Some e) is = ap (λ w. w.phase) (failed_receives e v raw is) ∙ closed
+    by_option None is =
+        ap (λ w. w.phase) (receives_by v raw is)
+        ∙ ap (λ ph. (left_by (settled (message_by raw ph v (type_number raw.ty == 1) (is_command raw) (is_notification raw)))).phase) closed
+        ∙ closed_by raw v (type_number raw.ty == 1) (is_command raw) (is_notification raw)
+        ∙ closed
+
+closed_spoiled : (v : Machine) → v.phase ≡ Closed → (spoiled v).phase ≡ Closed
+unfolding spoiled called
+closed_spoiled v closed = by_option v.failure
+  where
+    by_option : (o : Option Error) → (left_by (called_at o (malformed_step v) v)).phase ≡ Closed
+    by_option (Some e) = closed
+    by_option None = closed
+
+closed_all : (raws : List RawMessage) (v : Machine) → v.phase ≡ Closed → (all_received raws v).phase ≡ Closed
+closed_all [] v closed = closed
+closed_all (raw ∷ raws) v closed = closed_all raws (received raw v) (closed_received raw v closed)
+
+closed_left : (t : Tail) (v : Machine) → v.phase ≡ Closed → (left_over t v).machine.phase ≡ Closed
+closed_left (Rest bytes) v closed = closed
+closed_left Garbage v closed = closed_spoiled v closed
+
+closed_input : (v : View) (bytes : List ℕ) → v.machine.phase ≡ Closed → (after_input v bytes).machine.phase ≡ Closed
+closed_input v bytes closed = by_test (has_failed v.machine)
+  where
+    by_test : (b : Bool) → (if b then v else consumed (frames_of (v.undecoded ++ bytes)) v.machine).machine.phase ≡ Closed
+    by_test true = closed
+    by_test false = let f = frames_of (v.undecoded ++ bytes) in closed_left f.1 (all_received f.0 v.machine) (closed_all f.0 v.machine closed)
+
+-- it doesn't run
+pub not_live : {A : Type 0} (v : Machine) → v.phase ≡ Closed → IsLive v → A
+not_live v closed live = absurd (let z : false ≡ true = sym (ap is_running closed) ∙ live.phase in cc)
+
+-- before the input no VM is closed
+pub open_before : {A : Type 0} (version : Version) (options : VMOptions) (fed : List Fed) (v : Machine) → Comes version options fed v → v.phase ≡ Closed → A
+open_before {A} version options fed v c closed =
+    ⊎_elim
+    (λ (x : (frames_fed fed ≡ []) × ((alloc : Global) × (v ≡ fresh alloc version options))). absurd (let z : WaitingStart ≡ Closed = sym (ap (λ w. w.phase) x.1.1) ∙ closed in cc))
+    (λ (b : Begun version options fed v).
+    ⊎_elim
+    (λ (x : StillWaits (setup_for version options b.start) (record { entries = b.state; coverage = coverage_of b.start.partial }) b.aside b.start.known_entries [] [] b.others v). absurd (let z : WaitingReplayEntries ≡ Closed = sym (ap (λ w. w.phase) x.machine) ∙ closed in cc))
+    (λ (x : HasAll (setup_for version options b.start) (record { entries = b.state; coverage = coverage_of b.start.partial }) b.aside b.start.known_entries [] [] b.others v). absurd (let z : Replaying ≡ Closed = sym (ap (λ w. w.phase) x.machine) ∙ closed in cc))
+    b.waits)
+    c
+
+-- a run whose VM is closed, and stays so
+pub runs_closed : (m : Meaning) (version : Version) (options : VMOptions) (fed : List Fed) (answers : List Answer) (waiting : Option UnresolvedFuture) (taken : List (List ℕ)) (v w : View) → Runs m version options fed answers waiting taken v → Quiet v.machine w.machine → w.machine.phase ≡ Closed → Runs m version options fed answers waiting taken w
+runs_closed m version options fed answers waiting taken v w k q closed = record {
+  journal = k.journal;
+  written = k.written;
+  wrote = wrote_quiet taken v.machine w.machine k.written q k.wrote;
+  at = k.at;
+  moves = k.moves;
+  run = k.run;
+  answers = k.answers;
+  awaits = k.awaits;
+  agrees = λ live. not_live w.machine closed live;
+  phase = λ alive. inr closed;
+  tail = λ live. not_live w.machine closed live;
+}
+
+-- ---- a piece
+
+-- a piece that is kept
+piece_kept : (m : Meaning) (version : Version) (options : VMOptions) (r : Record) (f : Fed) → IsKept m version options r → r.vm.machine.failure ≡ None → r.vm.machine.phase ≢ Closed → IsKept m version options (record r { fed = r.fed ++ f ∷ []; vm = after_input r.vm f.piece })
+piece_kept m version options r f k live open_yet =
+    ⊎_elim
+    (λ (b : BeforeInput version options r.fed r.answers r.waiting r.taken r.vm). inl (before_fed version options r.fed r.answers r.waiting r.taken r.vm f b live))
+    (λ (b : Runs m version options r.fed r.answers r.waiting r.taken r.vm).
+    inr (running_fed m version options r.fed r.answers r.waiting r.taken r.vm f b (record { failure = live; phase = ⊎_elim (λ (x : is_running r.vm.machine.phase ≡ true). x) (λ (x : r.vm.machine.phase ≡ Closed). absurd (open_yet x)) (b.phase live) })))
+    k
+
+-- a piece for a VM that is closed
+piece_closed : (m : Meaning) (version : Version) (options : VMOptions) (r : Record) (piece : List ℕ) → IsKept m version options r → r.vm.machine.failure ≡ None → r.vm.machine.phase ≡ Closed → IsKept m version options (with_vm (after_input r.vm piece) r)
+piece_closed m version options r piece k live closed =
+    ⊎_elim
+    (λ (b : BeforeInput version options r.fed r.answers r.waiting r.taken r.vm). open_before version options r.fed r.vm.machine (b.comes live) closed)
+    (λ (b : Runs m version options r.fed r.answers r.waiting r.taken r.vm). inr (runs_closed m version options r.fed r.answers r.waiting r.taken r.vm (after_input r.vm piece) b (input_quiet r.vm piece) (closed_input r.vm piece closed)))
+    k
+
+-- a piece for a VM that has failed
+piece_dropped : (v : View) (piece : List ℕ) (e : Error) → v.machine.failure ≡ Some e → after_input v piece ≡ v
+piece_dropped v piece e is = ap (λ o. if is_some o then v else consumed (frames_of (v.undecoded ++ piece)) v.machine) is
+
+piece_comes : (m : Meaning) (version : Version) (options : VMOptions) (r : Record) (piece : List ℕ) → IsKept m version options r → (o : Option Error) → r.vm.machine.failure ≡ o → (ph : Phase) → r.vm.machine.phase ≡ ph → IsKept m version options (with_vm (after_input r.vm piece) (kept_at o ph piece r))
+piece_comes m version options r piece k (Some e) is ph at = subst (λ w. IsKept m version options (with_vm w r)) (sym (piece_dropped r.vm piece e is)) k
+piece_comes m version options r piece k None is WaitingStart at = piece_kept m version options r _ k is (λ c. let z : WaitingStart ≡ Closed = sym at ∙ c in cc)
+piece_comes m version options r piece k None is WaitingReplayEntries at = piece_kept m version options r _ k is (λ c. let z : WaitingReplayEntries ≡ Closed = sym at ∙ c in cc)
+piece_comes m version options r piece k None is Replaying at = piece_kept m version options r _ k is (λ c. let z : Replaying ≡ Closed = sym at ∙ c in cc)
+piece_comes m version options r piece k None is Processing at = piece_kept m version options r _ k is (λ c. let z : Processing ≡ Closed = sym at ∙ c in cc)
+piece_comes m version options r piece k None is Closed at = piece_closed m version options r piece k is at
+
+dead_kept : (m : Meaning) (version : Version) (options : VMOptions) (r : Record) (piece : List ℕ) (w : View) → IsKept m version options r → Quiet r.vm.machine w.machine → IsSome w.machine.failure → (o : Option Error) (ph : Phase) → IsKept m version options (with_vm w (kept_at o ph piece r))
+dead_kept m version options r piece w k q dead (Some e) ph = dead_same m version options r w k q dead
+dead_kept m version options r piece w k q dead None WaitingStart = dead_more m version options r _ w k q dead
+dead_kept m version options r piece w k q dead None WaitingReplayEntries = dead_more m version options r _ w k q dead
+dead_kept m version options r piece w k q dead None Replaying = dead_more m version options r _ w k q dead
+dead_kept m version options r piece w k q dead None Processing = dead_more m version options r _ w k q dead
+dead_kept m version options r piece w k q dead None Closed = dead_same m version options r w k q dead
+
+feeds_keep : (m : Meaning) (version : Version) (options : VMOptions) (piece : List ℕ) (old : Record) (result : Result Unit AllocError) (new : Record) → IsKept m version options old → Feeds piece old result new → IsKept m version options new
+feeds_keep m version options piece old (Ok t) new k does = subst (IsKept m version options) (sym does) (piece_comes m version options old piece k old.vm.machine.failure refl old.vm.machine.phase refl)
+feeds_keep m version options piece old (Err e) new k does =
+    ⊎_elim
+    (λ (x : new ≡ record old { starved = true }). subst (IsKept m version options) (sym x) k)
+    (λ (x : (w : View) × IsStarved no_memory old.vm.machine w.machine × (new ≡ with_vm w (kept piece old))).
+    subst (IsKept m version options) (sym x.2) (dead_kept m version options old piece x.0 k (quiet_same old.vm.machine x.0.machine x.1.output) x.1.failed old.vm.machine.failure old.vm.machine.phase))
+    does
+
+pub feed_keeps : (m : Meaning) (version : Version) (options : VMOptions) (piece : List ℕ) (old : Record) (result : Result Unit AllocError) (new : Record) → IsKept m version options old → FeedDoes old.starved piece old result new → IsKept m version options new
+feed_keeps m version options piece old result new k does = by_test old.starved does
+  where
+    by_test : (b : Bool) → FeedDoes b piece old result new → IsKept m version options new
+    by_test true d = subst (IsKept m version options) (sym d.1) k
+    by_test false d = feeds_keep m version options piece old result new k d
+
+-- ---- the output is taken
+
+-- what came, beside something else
+with_aside : (version : Version) (options : VMOptions) (fed : List Fed) (v w : Machine) (b : Begun version options fed v) (aside : Aside) → aside.start ≡ info_of version options.fallback_random_seed b.start
+    → StillWaits (setup_for version options b.start) (record { entries = b.state; coverage = coverage_of b.start.partial }) aside b.start.known_entries [] [] b.others w ⊎ HasAll (setup_for version options b.start) (record { entries = b.state; coverage = coverage_of b.start.partial }) aside b.start.known_entries [] [] b.others w → Begun version options fed w
+with_aside version options fed v w b aside is waits = record {
+  first_frame = b.first_frame;
+  others = b.others;
+  frames = b.frames;
+  start = b.start;
+  reads_start = b.reads_start;
+  state = b.state;
+  reads_state = b.reads_state;
+  aside = aside;
+  of_start = is;
+  waits = waits;
+}
+
+takes_wrote : (taken output : List (List ℕ)) (written : List RawMessage) → Wrote taken output written → Wrote (taken ++ concat output ∷ []) [] written
+takes_wrote taken output written w = record {
+  messages = w.messages;
+  output = append-nil (concat (taken ++ concat output ∷ [])) ∙ concat-append taken (concat output ∷ []) ∙ ap (λ l. concat taken ++ l) (append-nil (concat output)) ∙ w.output;
+  commands = w.commands;
+}
+
+comes_emptied : (version : Version) (options : VMOptions) (fed : List Fed) (v : Machine) → Comes version options fed v → Comes version options fed (record v { output = [] })
+comes_emptied version options fed v =
+    ⊎_elim
+    (λ (x : (frames_fed fed ≡ []) × ((alloc : Global) × (v ≡ fresh alloc version options))). inl (x.0, (x.1.0, ap (λ (w : Machine). record w { output = [] }) x.1.1)))
+    (λ (b : Begun version options fed v). inr (with_aside version options fed v (record v { output = [] }) b (record b.aside { output = [] }) b.of_start
+    (⊎_elim
+    (λ (x : StillWaits (setup_for version options b.start) (record { entries = b.state; coverage = coverage_of b.start.partial }) b.aside b.start.known_entries [] [] b.others v). inl (record { left = x.left; count = x.count; machine = ap (λ (w : Machine). record w { output = [] }) x.machine }))
+    (λ (x : HasAll (setup_for version options b.start) (record { entries = b.state; coverage = coverage_of b.start.partial }) b.aside b.start.known_entries [] [] b.others v). inr (record { entries = x.entries; others = x.others; split = x.split; count = x.count; machine = ap (λ (w : Machine). record w { output = [] }) x.machine }))
+    b.waits)))
+
+comes_closed : (version : Version) (options : VMOptions) (fed : List Fed) (v : Machine) → is_running v.phase ≡ true → Comes version options fed v → Comes version options fed (record v { input_closed = true })
+comes_closed version options fed v runs =
+    ⊎_elim
+    (λ (x : (frames_fed fed ≡ []) × ((alloc : Global) × (v ≡ fresh alloc version options))). absurd (let z : false ≡ true = sym (ap (λ w. is_running w.phase) x.1.1) ∙ runs in cc))
+    (λ (b : Begun version options fed v). inr (with_aside version options fed v (record v { input_closed = true }) b (record b.aside { input_closed = true }) b.of_start
+    (⊎_elim
+    (λ (x : StillWaits (setup_for version options b.start) (record { entries = b.state; coverage = coverage_of b.start.partial }) b.aside b.start.known_entries [] [] b.others v). inl (record { left = x.left; count = x.count; machine = ap (λ (w : Machine). record w { input_closed = true }) x.machine }))
+    (λ (x : HasAll (setup_for version options b.start) (record { entries = b.state; coverage = coverage_of b.start.partial }) b.aside b.start.known_entries [] [] b.others v). inr (record { entries = x.entries; others = x.others; split = x.split; count = x.count; machine = ap (λ (w : Machine). record w { input_closed = true }) x.machine }))
+    b.waits)))
+
+agrees_emptied : (s : Setup) (given : StateMap) (written : List RawMessage) (v : Machine) (p : Point) → Agrees s given written v p → Agrees s given written (record v { output = [] }) p
+agrees_emptied s given written v p a = record { aside = record a.aside { output = [] }; machine = ap (λ (w : Machine). record w { output = [] }) a.machine; identity = a.identity }
+
+agrees_closed : (s : Setup) (given : StateMap) (written : List RawMessage) (v : Machine) (p : Point) → Agrees s given written v p → Agrees s given written (record v { input_closed = true }) p
+agrees_closed s given written v p a = record { aside = record a.aside { input_closed = true }; machine = ap (λ (w : Machine). record w { input_closed = true }) a.machine; identity = a.identity }
+
+before_takes : (version : Version) (options : VMOptions) (fed : List Fed) (answers : List Answer) (waiting : Option UnresolvedFuture) (taken : List (List ℕ)) (v : View) → BeforeInput version options fed answers waiting taken v → BeforeInput version options fed answers waiting (taken ++ concat v.machine.output ∷ []) (emptied v)
+before_takes version options fed answers waiting taken v b = record {
+  answers = b.answers;
+  waits_not = b.waits_not;
+  wrote = takes_wrote taken v.machine.output [] b.wrote;
+  comes = λ alive. comes_emptied version options fed v.machine (b.comes alive);
+  tail = b.tail;
+}
+
+runs_takes : (m : Meaning) (version : Version) (options : VMOptions) (fed : List Fed) (answers : List Answer) (waiting : Option UnresolvedFuture) (taken : List (List ℕ)) (v : View) → Runs m version options fed answers waiting taken v → Runs m version options fed answers waiting (taken ++ concat v.machine.output ∷ []) (emptied v)
+runs_takes m version options fed answers waiting taken v k = record {
+  journal = k.journal;
+  written = k.written;
+  wrote = takes_wrote taken v.machine.output k.written k.wrote;
+  at = k.at;
+  moves = k.moves;
+  run = k.run;
+  answers = k.answers;
+  awaits = k.awaits;
+  agrees = λ live. agrees_emptied (setup_for version options k.journal.start) (handed_out k.journal) k.written v.machine k.at (k.agrees (record { failure = live.failure; phase = live.phase }));
+  phase = k.phase;
+  tail = λ live. k.tail (record { failure = live.failure; phase = live.phase });
+}
+
+pub take_keeps : (m : Meaning) (version : Version) (options : VMOptions) (old : Record) (result : Result (List ℕ) AllocError) (new : Record) → IsKept m version options old → Takes old result new → IsKept m version options new
+take_keeps m version options old (Ok bytes) new k does =
+    subst (IsKept m version options) (sym does.1)
+    (⊎_elim
+    (λ (b : BeforeInput version options old.fed old.answers old.waiting old.taken old.vm). inl (before_takes version options old.fed old.answers old.waiting old.taken old.vm b))
+    (λ (b : Runs m version options old.fed old.answers old.waiting old.taken old.vm). inr (runs_takes m version options old.fed old.answers old.waiting old.taken old.vm b))
+    k)
+take_keeps m version options old (Err e) new k does = subst (IsKept m version options) (sym does) k
+
+-- ---- the input is closed
+
+before_closes : (version : Version) (options : VMOptions) (fed : List Fed) (answers : List Answer) (waiting : Option UnresolvedFuture) (taken : List (List ℕ)) (v : View) → BeforeInput version options fed answers waiting taken v → v.machine.failure ≡ None → is_running v.machine.phase ≡ true → BeforeInput version options fed answers waiting taken (record v { machine = record v.machine { input_closed = true } })
+before_closes version options fed answers waiting taken v b live runs = record {
+  answers = b.answers;
+  waits_not = b.waits_not;
+  wrote = record { messages = b.wrote.messages; output = b.wrote.output; commands = b.wrote.commands };
+  comes = λ alive. comes_closed version options fed v.machine runs (b.comes live);
+  tail = b.tail;
+}
+
+runs_closes : (m : Meaning) (version : Version) (options : VMOptions) (fed : List Fed) (answers : List Answer) (waiting : Option UnresolvedFuture) (taken : List (List ℕ)) (v : View) → Runs m version options fed answers waiting taken v → Runs m version options fed answers waiting taken (record v { machine = record v.machine { input_closed = true } })
+runs_closes m version options fed answers waiting taken v k = record {
+  journal = k.journal;
+  written = k.written;
+  wrote = record { messages = k.wrote.messages; output = k.wrote.output; commands = k.wrote.commands };
+  at = k.at;
+  moves = k.moves;
+  run = k.run;
+  answers = k.answers;
+  awaits = k.awaits;
+  agrees = λ live. agrees_closed (setup_for version options k.journal.start) (handed_out k.journal) k.written v.machine k.at (k.agrees (record { failure = live.failure; phase = live.phase }));
+  phase = k.phase;
+  tail = λ live. k.tail (record { failure = live.failure; phase = live.phase });
+}
+
+closing_dropped : (v : View) (e : Error) → v.machine.failure ≡ Some e → v ≡ after_closing v
+unfolding called
+closing_dropped v e is = λ i. record v { machine = left_by (called_at (sym is i) (close_step v.machine) v.machine) }
+
+closing_runs : (m : Meaning) (version : Version) (options : VMOptions) (r : Record) → IsKept m version options r → r.vm.machine.failure ≡ None → is_running r.vm.machine.phase ≡ true → IsKept m version options (with_vm (record r.vm { machine = record r.vm.machine { input_closed = true } }) r)
+closing_runs m version options r k live runs =
+    ⊎_elim
+    (λ (b : BeforeInput version options r.fed r.answers r.waiting r.taken r.vm). inl (before_closes version options r.fed r.answers r.waiting r.taken r.vm b live runs))
+    (λ (b : Runs m version options r.fed r.answers r.waiting r.taken r.vm). inr (runs_closes m version options r.fed r.answers r.waiting r.taken r.vm b))
+    k
+
+-- closing is noted where the handler runs or the VM is closed, and fails a VM that waits
+closing_notes : (v : View) → v.machine.failure ≡ None → (ph : Phase) → v.machine.phase ≡ ph → (left_by (settled (closed_at ph (record v.machine { input_closed = true })))) ≡ (after_closing v).machine
+unfolding called
+closing_notes v live ph at = λ i. left_by (called_at (sym live i) (closed_at (sym at i) (record v.machine { input_closed = true })) v.machine)
+
+closing_keeps : (m : Meaning) (version : Version) (options : VMOptions) (r : Record) → IsKept m version options r → (o : Option Error) → r.vm.machine.failure ≡ o → (ph : Phase) → r.vm.machine.phase ≡ ph → IsKept m version options (with_vm (after_closing r.vm) r)
+closing_keeps m version options r k (Some e) is ph at = subst (λ w. IsKept m version options (with_vm w r)) (closing_dropped r.vm e is) k
+closing_keeps m version options r k None is WaitingStart at = dead_same m version options r (after_closing r.vm) k (closing_quiet r.vm) (ap (λ w. is_some w.failure) (sym (closing_notes r.vm is WaitingStart at)))
+closing_keeps m version options r k None is WaitingReplayEntries at = dead_same m version options r (after_closing r.vm) k (closing_quiet r.vm) (ap (λ w. is_some w.failure) (sym (closing_notes r.vm is WaitingReplayEntries at)))
+closing_keeps m version options r k None is Replaying at = subst (λ w. IsKept m version options (with_vm (record r.vm { machine = w }) r)) (closing_notes r.vm is Replaying at) (closing_runs m version options r k is (ap is_running at))
+closing_keeps m version options r k None is Processing at = subst (λ w. IsKept m version options (with_vm (record r.vm { machine = w }) r)) (closing_notes r.vm is Processing at) (closing_runs m version options r k is (ap is_running at))
+closing_keeps m version options r k None is Closed at =
+    ⊎_elim
+    (λ (b : BeforeInput version options r.fed r.answers r.waiting r.taken r.vm). open_before version options r.fed r.vm.machine (b.comes is) at)
+    (λ (b : Runs m version options r.fed r.answers r.waiting r.taken r.vm). inr (runs_closed m version options r.fed r.answers r.waiting r.taken r.vm (after_closing r.vm) b (closing_quiet r.vm) (ap (λ w. w.phase) (sym (closing_notes r.vm is Closed at)) ∙ at)))
+    k
+
+closes_keep : (m : Meaning) (version : Version) (options : VMOptions) (old : Record) (result : Result Unit AllocError) (new : Record) → IsKept m version options old → Closes old result new → IsKept m version options new
+closes_keep m version options old (Ok t) new k does = subst (IsKept m version options) (sym does) (closing_keeps m version options old k old.vm.machine.failure refl old.vm.machine.phase refl)
+closes_keep m version options old (Err e) new k does =
+    subst (IsKept m version options) (sym does.2) (dead_same m version options old does.0 k (quiet_same old.vm.machine does.0.machine does.1.output) does.1.failed)
+
+pub close_keeps : (m : Meaning) (version : Version) (options : VMOptions) (old : Record) (result : Result Unit AllocError) (new : Record) → IsKept m version options old → CloseDoes old.starved old result new → IsKept m version options new
+close_keeps m version options old result new k does = by_test old.starved does
+  where
+    by_test : (b : Bool) → CloseDoes b old result new → IsKept m version options new
+    by_test true d = subst (IsKept m version options) (sym d.1) k
+    by_test false d = closes_keep m version options old result new k d

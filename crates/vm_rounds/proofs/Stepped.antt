@@ -1,0 +1,263 @@
+-- A step keeps what is kept of an attempt.
+use Rattle.std.proofs.Common.{◌≡◌, ◌≢◌, ◌⊎◌, ℕ, zero, suc, ◌+◌, Bool, true, false, cond, List, [], ◌∷◌, ◌++◌, map, Option, Some, None, Result, Ok, Err, refl, sym, ap, ◌∙◌, subst, inl, inr, ⊎_elim, append_assoc, append-nil}
+use Rattle.std.specs.Prelude.{if◌then◌else◌, is_some, nat_lt, IsSome}
+use Rattle.journal_protocol.specs.declared.error.Error.{Error}
+use Rattle.journal_protocol.specs.declared.faults.NamedFault.{NamedFault}
+use Rattle.journal_protocol.specs.declared.message.Message.{Message}
+use Rattle.journal_protocol.specs.declared.message.Message.TheVariants as message
+use Rattle.journal_protocol.specs.declared.message.RawMessage.{RawMessage}
+use Rattle.journal_protocol.specs.declared.notification.NotificationId.{NotificationId}
+use Rattle.journal_protocol.specs.declared.notification.NotificationResult.{NotificationResult}
+use Rattle.journal_protocol.specs.declared.version.Version.{Version}
+use Rattle.journal_protocol.specs.Errors.{error_message, no_memory}
+use Rattle.journal_protocol.specs.Message.{encoding, frame}
+use Rattle.vm_parts.specs.declared.options.VMOptions.{VMOptions}
+use Rattle.vm_parts.specs.declared.steps.Answer.{Answer}
+use Rattle.vm_parts.specs.declared.steps.Step.{Step}
+use Rattle.vm_parts.specs.declared.steps.Step.TheVariants as step
+use Rattle.vm_parts.specs.declared.types.NotificationHandle.{NotificationHandle}
+use Rattle.vm_parts.specs.declared.types.UnresolvedFuture.{UnresolvedFuture}
+use Rattle.vm_parts.specs.declared.values.NonEmptyValue.{NonEmptyValue}
+use Rattle.vm_parts.specs.declared.values.Value.{Value}
+use Rattle.vm_parts.specs.Counting.{missing, missing_signals}
+use Rattle.vm_parts.specs.Deliveries.{id_at, present_for}
+use Rattle.vm_parts.specs.Values.{value_message, value_of}
+use Rattle.vm_machine.specs.declared.machine.Machine.{Machine}
+use Rattle.vm_machine.specs.declared.phase.Phase.TheVariants.{Closed}
+use Rattle.vm_machine.specs.declared.request.Request.{Request}
+use Rattle.vm_machine.specs.declared.request.Request.TheVariants as request
+use Rattle.vm_machine.specs.Outcomes.{Does, IsStarved, Outcome, Done, Failed}
+use Rattle.vm_machine.specs.Phases.{is_from_v6, is_running}
+use Rattle.vm_machine.specs.Requests.{ids_of, message_of}
+use Rattle.invocation_vm.specs.Calls.{has_metadata, skips_replay}
+use Rattle.invocation_vm.specs.Frames.{Rest, frames_of as split}
+use Rattle.invocation_vm.specs.Views.{View}
+use Rattle.vm_model.specs.Calls.{Setup, Meaning, Derived, Demand, Move, awakeable_made, awaiting, call_of, commanded, demand_of, handing, is_awake, making_awakeable, name_in, numbered, ready_in, requested, result_taken, sleeping, value_taken}
+use Rattle.vm_model.specs.Calls.Move.{Answers, Needs, Awaits, Stops}
+use Rattle.vm_model.specs.Journal.{stored_form}
+use Rattle.vm_model.specs.Moves.{Point, longer, move_at, next, start, supplied, supply}
+use Rattle.vm_model.specs.Histories.{Made}
+use Rattle.vm_model.proofs.Runs.{made_add}
+use Rattle.vm_rounds.specs.declared.progress.Fed.{Fed}
+use Rattle.vm_rounds.specs.declared.progress.Progress.{Progress}
+use Rattle.vm_rounds.specs.declared.progress.Reply.{Reply}
+use Rattle.vm_rounds.specs.declared.progress.Reply.TheVariants as reply
+use Rattle.vm_rounds.specs.Agreement.{Agrees, Answered, CanBeWritten, Follows, HasEnded, IsRefused, IsSuspended, MovesOn, StillAgrees, frames_of}
+use Rattle.vm_rounds.specs.Journals.{is_command, setup_for}
+use Rattle.vm_rounds.specs.Record.{Record}
+use Rattle.vm_rounds.specs.Stepping.{Asks, asked, asked_from, future_in, progress_of, settled, with_vm}
+use Rattle.vm_rounds.specs.Steps.{Asked, performed}
+use Rattle.vm_rounds.specs.Told.{BeforeInput, CanWriteNext, arrivals, IsKept, IsLive, Quiet, Runs, StillAwaits, Wrote, bytes_fed, commands_of, handed_out}
+use Rattle.vm_rounds.proofs.Following.{agreeing_follows}
+use Rattle.vm_rounds.proofs.Kept.{dead_same, not_live}
+use Rattle.vm_rounds.proofs.Leading.{no_move}
+use Rattle.vm_rounds.proofs.Pieces.{agrees_running}
+use Rattle.vm_rounds.proofs.Quiet.{commands_append, map_append, quiet_same, wrote_more}
+
+-- ---- what a call needs is a command
+
+abbrev NeedsCommand : Move → Type 0
+NeedsCommand (Needs demand gives d) = is_command (stored_form demand.command) ≡ true
+NeedsCommand (Answers gives d) = Unit {0}
+NeedsCommand Awaits = Unit {0}
+NeedsCommand Stops = Unit {0}
+
+request_needs : (s : Setup) (r : Request) (d : Derived) → is_command (stored_form (message_of r d.counters.completion)) ≡ true
+request_needs s (request.Sleep wake_up_time name) d = refl
+request_needs s (request.Output value options) d = refl
+request_needs s (request.SetState key value name options) d = refl
+request_needs s (request.ClearState key name) d = refl
+request_needs s (request.ClearAllState name) d = refl
+request_needs s (request.CompleteAwakeable id value options) d = refl
+request_needs s (request.CompleteSignal target signal value) d = refl
+request_needs s (request.CancelInvocation target) d = refl
+
+numbered_needs : (s : Setup) (r : Request) (o : Option NamedFault) (d : Derived) → NeedsCommand (numbered s r o d)
+numbered_needs s r (Some fault) d = tt
+numbered_needs s r None d = request_needs s r d
+
+requested_needs : (s : Setup) (r : Request) (d : Derived) → NeedsCommand (requested s r d)
+requested_needs s r d = numbered_needs s r (missing (ids_of r) 0 (ids_of r) d.counters) d
+
+handing_needs : (s : Setup) (value : NonEmptyValue) (r : Request) (d : Derived) → NeedsCommand (handing s value r d)
+handing_needs s value r d = by_tests (has_metadata value) (is_from_v6 s.version)
+  where
+    by_tests : (a b : Bool) → NeedsCommand (cond a (cond b (requested s r d) Stops) (requested s r d))
+    by_tests true true = requested_needs s r d
+    by_tests true false = tt
+    by_tests false b = requested_needs s r d
+
+sleeping_needs : (s : Setup) (millis : ℕ) (name : List ℕ) (d : Derived) → NeedsCommand (sleeping s millis name d)
+sleeping_needs s millis name d = by_test (nat_lt millis 18446744073709551616)
+  where
+    by_test : (b : Bool) → NeedsCommand (cond b (requested s (request.Sleep millis name) d) Stops)
+    by_test true = requested_needs s (request.Sleep millis name) d
+    by_test false = tt
+
+awakeable_needs : (s : Setup) (o : Option NamedFault) (d : Derived) → NeedsCommand (awakeable_made s o d)
+awakeable_needs s (Some fault) d = tt
+awakeable_needs s None d = tt
+
+making_needs : (s : Setup) (b : Bool) (d : Derived) → NeedsCommand (making_awakeable s b d)
+making_needs s true d = tt
+making_needs s false d = awakeable_needs s (missing_signals 1 1 d.counters) d
+
+awaiting_needs : (b : Bool) (d : Derived) → NeedsCommand (awaiting b d)
+awaiting_needs true d = tt
+awaiting_needs false d = tt
+
+value_needs : (h : NotificationHandle) (id : NotificationId) (o : Option Value) (d : Derived) → NeedsCommand (value_taken h id o d)
+value_needs h id None d = tt
+value_needs h id (Some value) d = tt
+
+result_needs : (h : NotificationHandle) (id : Option NotificationId) (o : Option NotificationResult) (d : Derived) → NeedsCommand (result_taken h id o d)
+result_needs h (Some id) (Some result) d = value_needs h id (value_of result) d
+result_needs h (Some id) None d = tt
+result_needs h None o d = tt
+
+call_needs : (s : Setup) (st : Step) (d : Derived) → NeedsCommand (call_of s st d)
+call_needs s (step.Sleep name wake_up_time now) d = sleeping_needs s _ name d
+call_needs s (step.StateSet key value name options) d = requested_needs s (request.SetState key value (name_in name) options) d
+call_needs s (step.StateClear key name) d = requested_needs s (request.ClearState key (name_in name)) d
+call_needs s (step.StateClearAll name) d = requested_needs s (request.ClearAllState (name_in name)) d
+call_needs s step.Awakeable d = making_needs s (skips_replay s.options.journal_replay) d
+call_needs s (step.CompleteAwakeable id value options) d = handing_needs s value (request.CompleteAwakeable id (value_message value) options) d
+call_needs s (step.CompleteSignal target signal value) d = handing_needs s value (request.CompleteSignal target signal (value_message value)) d
+call_needs s (step.CancelInvocation target) d = requested_needs s (request.CancelInvocation target) d
+call_needs s (step.WriteOutput value options) d = handing_needs s value (request.Output (value_message value) options) d
+call_needs s (step.Await future) d = awaiting_needs (is_awake s future d) d
+call_needs s (step.Take handle) d = result_needs handle (id_at handle.0 d.handles) (present_for s.options.signal_delivery (id_at handle.0 d.handles) (ready_in s d)) d
+call_needs s (step.Completed handle) d = tt
+call_needs s step.End d = tt
+
+-- ---- what is made are commands
+
+-- these messages are the commands that were made
+record AreMade (ms : List Message) (made : List RawMessage) : Type 0 where
+  commands : commands_of ms ≡ made
+  frames : map encoding ms ≡ frames_of made
+
+supply_made : (mv : Move) (left : List RawMessage) → NeedsCommand mv → (ms : List Message) × AreMade ms (supply mv left)
+supply_made (Needs demand gives d) [] needs = (demand.command ∷ [], record { commands = ap (λ b. cond b (stored_form demand.command ∷ []) []) needs; frames = refl })
+supply_made (Needs demand gives d) (c ∷ left) needs = ([], record { commands = refl; frames = refl })
+supply_made (Answers gives d) left needs = ([], record { commands = refl; frames = refl })
+supply_made Awaits left needs = ([], record { commands = refl; frames = refl })
+supply_made Stops left needs = ([], record { commands = refl; frames = refl })
+
+frames_append : (cs ds : List RawMessage) → frames_of (cs ++ ds) ≡ frames_of cs ++ frames_of ds
+frames_append [] ds = refl
+frames_append (c ∷ cs) ds = ap (λ l. frame c.ty c.body ∷ l) (frames_append cs ds)
+
+made_made : (s : Setup) (m : Meaning) (n : ℕ) (p : Point) (made : List RawMessage) (q : Point) → Made s m n p made q → (ms : List Message) × AreMade ms made
+made_made s m zero p made q h = ([], record { commands = sym h.0; frames = ap frames_of (sym h.0) })
+made_made s m (suc n) p made q (r, rest, is, moves, further) =
+    let a = supply_made (move_at s m p) p.left (call_needs s (m p.answers) p.derived) in
+    let b = made_made s m n r rest q further in (
+      a.0 ++ b.0,
+      record {
+        commands = commands_append a.0 b.0 ∙ ap (λ l. l ++ commands_of b.0) a.1.commands ∙ ap (λ l. supplied s m p ++ l) b.1.commands ∙ sym is;
+        frames = map_append a.0 b.0 ∙ ap (λ l. l ++ map encoding b.0) a.1.frames ∙ ap (λ l. frames_of (supplied s m p) ++ l) b.1.frames ∙ sym (frames_append (supplied s m p) rest) ∙ ap frames_of (sym is);
+      },
+    )
+
+-- ---- a run that goes on
+
+runs_on : (m : Meaning) (version : Version) (options : VMOptions) (fed : List Fed) (answers : List Answer) (waiting to_wait : Option UnresolvedFuture) (taken : List (List ℕ)) (v w : View) (k : Runs m version options fed answers waiting taken v) → IsLive v.machine → w.undecoded ≡ v.undecoded
+    → (to : Point) (gives : List Answer) (made : List RawMessage) → MovesOn (setup_for version options k.journal.start) m k.at gives made to → (ms : List Message) → commands_of ms ≡ made → w.machine.output ≡ v.machine.output ++ map encoding ms
+    → StillAwaits m to to_wait → (IsLive w.machine → Agrees (setup_for version options k.journal.start) (handed_out k.journal) (k.written ++ made) w.machine to) → (w.machine.failure ≡ None → (is_running w.machine.phase ≡ true) ⊎ (w.machine.phase ≡ Closed))
+    → Runs m version options fed (answers ++ gives) to_wait taken w
+runs_on m version options fed answers waiting to_wait taken v w k live und to gives made mo ms commands output awaits agrees phase = record {
+  journal = k.journal;
+  written = k.written ++ made;
+  wrote = subst (Wrote taken w.machine.output) (ap (λ l. k.written ++ l) commands) (wrote_more taken v.machine.output w.machine.output ms k.written output k.wrote);
+  at = to;
+  moves = k.moves + mo.moves;
+  run = made_add (setup_for version options k.journal.start) m k.moves mo.moves (start (setup_for version options k.journal.start) k.journal.input (arrivals k.journal) k.journal.rest) k.written k.at made to k.run mo.run;
+  answers = mo.answers ∙ ap (λ l. l ++ gives) k.answers;
+  awaits = awaits;
+  agrees = agrees;
+  phase = phase;
+  tail = λ alive. k.tail live ∙ ap Rest (sym und);
+}
+
+-- the step that is asked is the handler's
+asks_next : (m : Meaning) (p : Point) (answers : List Answer) (waiting : Option UnresolvedFuture) → p.answers ≡ answers → StillAwaits m p waiting → asked_from waiting (m answers) ≡ m p.answers
+asks_next m p answers None is awaits = ap m (sym is)
+asks_next m p answers (Some future) is awaits = sym awaits
+
+-- the await that waits is the handler's
+future_awaits : (m : Meaning) (p q : Point) (st : Step) → m p.answers ≡ st → q.answers ≡ p.answers ++ [] → StillAwaits m q (future_in st)
+future_awaits m p q (step.Await future) is same = ap m (same ∙ append-nil p.answers) ∙ is
+future_awaits m p q (step.Sleep name wake_up_time now) is same = tt
+future_awaits m p q (step.StateSet key value name options) is same = tt
+future_awaits m p q (step.StateClear key name) is same = tt
+future_awaits m p q (step.StateClearAll name) is same = tt
+future_awaits m p q step.Awakeable is same = tt
+future_awaits m p q (step.CompleteAwakeable id value options) is same = tt
+future_awaits m p q (step.CompleteSignal target signal value) is same = tt
+future_awaits m p q (step.CancelInvocation target) is same = tt
+future_awaits m p q (step.WriteOutput value options) is same = tt
+future_awaits m p q (step.Take handle) is same = tt
+future_awaits m p q (step.Completed handle) is same = tt
+future_awaits m p q step.End is same = tt
+
+same_awaits : (m : Meaning) (p q : Point) (waiting : Option UnresolvedFuture) → q.answers ≡ p.answers ++ [] → StillAwaits m p waiting → StillAwaits m q waiting
+same_awaits m p q None same a = tt
+same_awaits m p q (Some future) same a = ap m (same ∙ append-nil p.answers) ∙ a
+
+-- ---- what the VM replies
+
+module _ (m : Meaning) (version : Version) (options : VMOptions) (r : Record) (k : Runs m version options r.fed r.answers r.waiting r.taken r.vm) (live : IsLive r.vm.machine) (w : View) (und : w.undecoded ≡ r.vm.undecoded) where
+  abbrev s : Setup
+  s = setup_for version options k.journal.start
+
+  answered_keeps : (a : Answer) → Answered s m (handed_out k.journal) k.written k.at r.vm.machine a w.machine → Runs m version options r.fed (r.answers ++ a ∷ []) None r.taken w
+  answered_keeps a f =
+      let made = made_made s m f.moves.moves k.at f.made f.at f.moves.run in
+      runs_on m version options r.fed r.answers r.waiting None r.taken r.vm w k live und f.at (a ∷ []) f.made f.moves made.0 made.1.commands (f.output ∙ ap (λ l. r.vm.machine.output ++ l) (sym made.1.frames)) tt (λ _. f.agrees) (λ _. inl (agrees_running s (handed_out k.journal) (k.written ++ f.made) w.machine f.at f.agrees))
+
+  no_answer : (waiting : Option UnresolvedFuture) → Runs m version options r.fed (r.answers ++ []) waiting r.taken w → Runs m version options r.fed r.answers waiting r.taken w
+  no_answer waiting = subst (λ l. Runs m version options r.fed l waiting r.taken w) (append-nil r.answers)
+
+  waits_keeps : (st : Step) → m k.at.answers ≡ st → StillAgrees s m (handed_out k.journal) k.written k.at r.vm.machine w.machine → Runs m version options r.fed r.answers (future_in st) r.taken w
+  waits_keeps st is f =
+      no_answer (future_in st)
+      (runs_on m version options r.fed r.answers r.waiting (future_in st) r.taken r.vm w k live und f.at [] [] f.waits.moves [] refl (f.output ∙ sym (append-nil r.vm.machine.output)) (future_awaits m k.at f.at st is f.waits.moves.answers)
+      (λ _. subst (λ l. Agrees s (handed_out k.journal) l w.machine f.at) (sym (append-nil k.written)) f.agrees)
+      (λ _. inl (agrees_running s (handed_out k.journal) k.written w.machine f.at f.agrees)))
+
+  suspended_keeps : IsSuspended s m k.at r.vm.machine w.machine → Runs m version options r.fed r.answers r.waiting r.taken w
+  suspended_keeps f =
+      no_answer r.waiting
+      (runs_on m version options r.fed r.answers r.waiting r.waiting r.taken r.vm w k live und f.at [] [] f.waits.moves (message.Suspension f.suspension ∷ []) refl f.output (same_awaits m k.at f.at r.waiting f.waits.moves.answers k.awaits)
+      (λ alive. not_live w.machine f.closed alive) (λ _. inr f.closed))
+
+  ended_keeps : HasEnded m k.at r.vm.machine w.machine → Runs m version options r.fed r.answers r.waiting r.taken w
+  ended_keeps f =
+      no_answer r.waiting
+      (runs_on m version options r.fed r.answers r.waiting r.waiting r.taken r.vm w k live und k.at [] [] (no_move s m k.at) (message.End ∷ []) refl f.output k.awaits (λ alive. not_live w.machine f.closed alive) (λ _. inr f.closed))
+
+  refused_keeps : (e : Error) → IsRefused s m k.at r.vm.machine e w.machine → IsKept m version options (with_vm w r)
+  refused_keeps e f = dead_same m version options r w (inr k) (record { messages = message.Error (error_message e) ∷ []; output = f.output; commands = refl }) (ap is_some f.failure)
+
+  replied_keeps : (st : Step) → m k.at.answers ≡ st → (x : Result Reply Error) → (o : Outcome Reply) → Follows s m (handed_out k.journal) k.written k.at r.vm.machine o → Does o x r.vm.machine w.machine → IsKept m version options (settled r (future_in st) x w)
+  replied_keeps st is (Ok (reply.Answer a)) o f does = inr (answered_keeps a (subst (Follows s m (handed_out k.journal) k.written k.at r.vm.machine) does f))
+  replied_keeps st is (Ok (reply.Waiting input run)) o f does = inr (waits_keeps st is (subst (Follows s m (handed_out k.journal) k.written k.at r.vm.machine) does f))
+  replied_keeps st is (Ok reply.Suspended) o f does = inr (suspended_keeps (subst (Follows s m (handed_out k.journal) k.written k.at r.vm.machine) does f))
+  replied_keeps st is (Ok reply.Ended) o f does = inr (ended_keeps (subst (Follows s m (handed_out k.journal) k.written k.at r.vm.machine) does f))
+  replied_keeps st is (Err e) o f does =
+      ⊎_elim
+      (λ (x : o ≡ Failed e w.machine). refused_keeps e (subst (Follows s m (handed_out k.journal) k.written k.at r.vm.machine) x f))
+      (λ (x : IsStarved e r.vm.machine w.machine). dead_same m version options r w (inr k) (quiet_same r.vm.machine w.machine x.output) x.failed)
+      does
+
+-- a step of a handler that runs
+pub asks_keep : (m : Meaning) (version : Version) (options : VMOptions) (old : Record) (result : Result Progress Error) (new : Record) (k : Runs m version options old.fed old.answers old.waiting old.taken old.vm) → IsLive old.vm.machine → CanWriteNext m version options old → Asks m old result new → IsKept m version options new
+asks_keep m version options old result new k live whole (x, w, does, is, progress) =
+    let s = setup_for version options k.journal.start in
+    let st = m k.at.answers in
+    let same : asked m old ≡ st = asks_next m k.at old.answers old.waiting k.answers k.awaits in
+    let follows = agreeing_follows s m (handed_out k.journal) k.written old.vm.machine k.at (k.agrees live) (whole k) in
+    subst (IsKept m version options) (sym is)
+    (subst (λ q. IsKept m version options (settled old (future_in q) x w)) (sym same)
+    (replied_keeps m version options old k live w does.1 st refl x (performed st old.vm.machine) follows (subst (λ q. Does (performed q old.vm.machine) x old.vm.machine w.machine) same does.0)))

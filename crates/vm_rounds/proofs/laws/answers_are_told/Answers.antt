@@ -1,0 +1,5 @@
+use Rattle.vm_rounds.proofs.Advanced.{kept_told}
+use Rattle.vm_rounds.proofs.laws.answers_are_told.Goals as goal
+
+pub returns : goal.returns
+returns c = kept_told

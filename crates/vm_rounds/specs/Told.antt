@@ -1,0 +1,157 @@
+-- What the record of an attempt tells of its handler's run.
+use Rattle.std.specs.Prelude.{◌≡◌, ◌≢◌, ◌⊎◌, ℕ, true, cond, length, List, [], ◌∷◌, ◌++◌, map, Option, Some, None, IsSome}
+use Rattle.std.specs.List.{concat, flat_map}
+use Rattle.journal_protocol.specs.declared.commands.InputCommand.{InputCommand}
+use Rattle.journal_protocol.specs.declared.message.Message.{Message}
+use Rattle.journal_protocol.specs.declared.message.RawMessage.{RawMessage}
+use Rattle.journal_protocol.specs.declared.notification.Notification.{Notification}
+use Rattle.journal_protocol.specs.declared.start.Start.{Start}
+use Rattle.journal_protocol.specs.declared.version.Version.{Version}
+use Rattle.journal_protocol.specs.Message.{encoding}
+use Rattle.journal_protocol.specs.Reading.{start_in}
+use Rattle.vm_parts.specs.declared.context.StateMap.{StateMap}
+use Rattle.vm_parts.specs.declared.options.VMOptions.{VMOptions}
+use Rattle.vm_parts.specs.declared.steps.Step.TheVariants as step
+use Rattle.vm_parts.specs.declared.types.UnresolvedFuture.{UnresolvedFuture}
+use Rattle.vm_machine.specs.declared.machine.Machine.{Machine}
+use Rattle.std.proofs.Common.{Global}
+use Rattle.vm_machine.specs.declared.phase.Phase.TheVariants.{Closed}
+use Rattle.vm_machine.specs.Inputs.{coverage_of, entries_in, info_of}
+use Rattle.vm_machine.specs.Making.{fresh}
+use Rattle.vm_machine.specs.Phases.{is_running}
+use Rattle.invocation_vm.specs.Frames.{Rest, frames_of}
+use Rattle.vm_model.specs.Calls.{Setup, Meaning}
+use Rattle.vm_model.specs.Journal.{input_read_from, stored_form}
+use Rattle.vm_model.specs.Moves.{Point, start}
+use Rattle.vm_model.specs.Histories.{Made, Told}
+use Rattle.vm_rounds.specs.declared.progress.Fed.{Fed}
+use Rattle.vm_rounds.specs.Agreement.{Agrees, Aside, CanBeWritten}
+use Rattle.vm_rounds.specs.Journals.{HasAll, StillWaits, commands_among, is_command, notifications_among, setup_for}
+use Rattle.vm_parts.specs.declared.steps.Answer.{Answer}
+use Rattle.invocation_vm.specs.Views.{View}
+use Rattle.vm_rounds.specs.Record.{Record}
+
+-- ---- what is read from the record
+
+-- the bytes of the pieces, one after another
+abbrev pub bytes_fed : List Fed → List ℕ
+bytes_fed [] = []
+bytes_fed (f ∷ fs) = f.piece ++ bytes_fed fs
+
+-- the frames that were fed
+abbrev pub frames_fed : List Fed → List RawMessage
+frames_fed fed = (frames_of (bytes_fed fed)).0
+
+-- the commands among some messages, as they are stored
+abbrev pub commands_of : List Message → List RawMessage
+commands_of [] = []
+commands_of (m ∷ ms) = cond (is_command (stored_form m)) (stored_form m ∷ commands_of ms) (commands_of ms)
+
+-- messages were written, none of them a command
+pub record Quiet (old new : Machine) : Type 0 where
+  pub messages : List Message
+  pub output : new.output ≡ old.output ++ map encoding messages
+  pub commands : commands_of messages ≡ []
+
+-- What was taken and what waits are the frames of some messages, and these are the commands among them.
+pub record Wrote (taken waits : List (List ℕ)) (written : List RawMessage) : Type 0 where
+  pub messages : List Message
+  pub output : concat taken ++ concat waits ≡ flat_map encoding messages
+  pub commands : commands_of messages ≡ written
+
+-- The journal of an attempt: behind Start as many frames as it tells are the known entries, the first command among them
+-- is the input, and all notifications that came are arrivals.
+pub record Journal (fed : List Fed) : Type 0 where
+  pub first_frame : RawMessage
+  pub entries : List RawMessage
+  pub others : List RawMessage
+  pub frames : frames_fed fed ≡ first_frame ∷ (entries ++ others)
+  pub start : Start
+  pub reads_start : start_in first_frame.body ≡ Some start
+  pub count : length entries ≡ start.known_entries
+  pub state : List (List ℕ × Option (List ℕ))
+  pub reads_state : entries_in start.state ≡ Some state
+  pub first : RawMessage
+  pub rest : List RawMessage
+  pub commands : commands_among entries ≡ first ∷ rest
+  pub input : InputCommand
+  pub reads_input : input_read_from first ≡ Some input
+
+abbrev pub arrivals : {fed : List Fed} → Journal fed → List Notification
+arrivals j = notifications_among (j.entries ++ j.others)
+
+-- the state that Start handed out
+abbrev pub handed_out : {fed : List Fed} → Journal fed → StateMap
+handed_out j = record { entries = j.state; coverage = coverage_of j.start.partial }
+
+-- ---- the answers
+
+-- The answers of an attempt are those of a point that its journal tells, followed by what it wrote, with the arrivals that
+-- it was fed; and while recorded commands are left, it has written none.
+pub record AnswersAreTold (m : Meaning) (version : Version) (options : VMOptions) (r : Record) : Type 0 where
+  pub journal : Journal r.fed
+  pub written : List RawMessage
+  pub wrote : Wrote r.taken r.vm.machine.output written
+  pub at : Point
+  pub told : Told (setup_for version options journal.start) m journal.input (arrivals journal) (journal.rest ++ written) at
+  pub answers : at.answers ≡ r.answers
+  pub in_order : (written ≡ []) ⊎ (at.left ≡ [])
+
+-- the VM can make calls: it has neither failed nor ended, nor is the invocation suspended
+pub record IsLive (v : Machine) : Type 0 where
+  pub failure : v.failure ≡ None
+  pub phase : is_running v.phase ≡ true
+
+-- the handler still makes the await that waits
+abbrev pub StillAwaits : Meaning → Point → Option UnresolvedFuture → Type 0
+StillAwaits m p None = Unit {0}
+StillAwaits m p (Some future) = m p.answers ≡ step.Await future
+
+-- The handler runs: so many moves lead from the point after the input to one with the attempt's answers, and made what was
+-- written; and as long as the VM can make calls it agrees with that point.
+pub record Runs (m : Meaning) (version : Version) (options : VMOptions) (fed : List Fed) (answers_so_far : List Answer) (waiting : Option UnresolvedFuture) (taken : List (List ℕ)) (vm : View) : Type 0 where
+  pub journal : Journal fed
+  pub written : List RawMessage
+  pub wrote : Wrote taken vm.machine.output written
+  pub at : Point
+  pub moves : ℕ
+  pub run : Made (setup_for version options journal.start) m moves (start (setup_for version options journal.start) journal.input (arrivals journal) journal.rest) written at
+  pub answers : at.answers ≡ answers_so_far
+  pub awaits : StillAwaits m at waiting
+  pub agrees : IsLive vm.machine → Agrees (setup_for version options journal.start) (handed_out journal) written vm.machine at
+  pub phase : vm.machine.failure ≡ None → (is_running vm.machine.phase ≡ true) ⊎ (vm.machine.phase ≡ Closed)
+  pub tail : IsLive vm.machine → (frames_of (bytes_fed fed)).1 ≡ Rest vm.undecoded
+
+-- The first frame was a Start: the VM waits for known entries, or has them all.
+pub record Begun (version : Version) (options : VMOptions) (fed : List Fed) (machine : Machine) : Type 0 where
+  pub first_frame : RawMessage
+  pub others : List RawMessage
+  pub frames : frames_fed fed ≡ first_frame ∷ others
+  pub start : Start
+  pub reads_start : start_in first_frame.body ≡ Some start
+  pub state : List (List ℕ × Option (List ℕ))
+  pub reads_state : entries_in start.state ≡ Some state
+  pub aside : Aside
+  pub of_start : aside.start ≡ info_of version options.fallback_random_seed start
+  pub waits : StillWaits (setup_for version options start) (record { entries = state; coverage = coverage_of start.partial }) aside start.known_entries [] [] others machine
+      ⊎ HasAll (setup_for version options start) (record { entries = state; coverage = coverage_of start.partial }) aside start.known_entries [] [] others machine
+
+-- no frame came, or the first was a Start
+abbrev pub Comes : Version → VMOptions → List Fed → Machine → Type 0
+Comes version options fed machine = ((frames_fed fed ≡ []) × ((alloc : Global) × (machine ≡ fresh alloc version options))) ⊎ Begun version options fed machine
+
+-- The handler hasn't read its input: nothing was answered, and no command was written.
+pub record BeforeInput (version : Version) (options : VMOptions) (fed : List Fed) (answers_so_far : List Answer) (waiting : Option UnresolvedFuture) (taken : List (List ℕ)) (vm : View) : Type 0 where
+  pub answers : answers_so_far ≡ []
+  pub waits_not : waiting ≡ None
+  pub wrote : Wrote taken vm.machine.output []
+  pub comes : vm.machine.failure ≡ None → Comes version options fed vm.machine
+  pub tail : vm.machine.failure ≡ None → (frames_of (bytes_fed fed)).1 ≡ Rest vm.undecoded
+
+-- what each call of an attempt keeps
+abbrev pub IsKept : Meaning → Version → VMOptions → Record → Type 0
+IsKept m version options r = BeforeInput version options r.fed r.answers r.waiting r.taken r.vm ⊎ Runs m version options r.fed r.answers r.waiting r.taken r.vm
+
+-- the command that the handler's next call needs, if it needs one, can be encoded
+abbrev pub CanWriteNext : Meaning → Version → VMOptions → Record → Type 0
+CanWriteNext m version options r = (k : Runs m version options r.fed r.answers r.waiting r.taken r.vm) → CanBeWritten (setup_for version options k.journal.start) m k.at
