@@ -23,6 +23,7 @@ supported V6 = Ok V6
 supported V7 = Ok V7
 supported V8 = Ok V8
 
+-- a version that is read has to be supported
 abbrev pub known : Option Version → Result Version Error
 known None = Err (named_error fault.BadContentType None)
 known (Some version) = supported version
@@ -33,6 +34,7 @@ version_in None = Err (named_error fault.BadRequest None)
 version_in (Some None) = Err (named_error fault.MissingContentType None)
 version_in (Some (Some text)) = known (version_of text)
 
+-- a VM before any input
 abbrev pub made : Global → VMOptions → Version → View
 made alloc options version = record { undecoded = []; machine = fresh alloc version options }
 

@@ -17,6 +17,7 @@ pub record View : Type 0 where
   pub undecoded : List ℕ
   pub machine : Machine
 
+-- there is a first error
 abbrev pub has_failed : Machine → Bool
 has_failed m = is_some m.failure
 

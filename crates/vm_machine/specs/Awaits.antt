@@ -32,6 +32,7 @@ abbrev pub awaited : List ℕ → List ℕ → List (List ℕ) → Future
 awaited completions signals names =
     record { kind = FirstCompleted; waiting_completions = completions; waiting_signals = signals; waiting_named_signals = names; nested = 0 } ∷ []
 
+-- what a suspension on this id waits for
 abbrev pub future_of : Option NotificationId → Future
 future_of None = awaited [] [] []
 future_of (Some (CompletionId id)) = awaited (id ∷ []) [] []
@@ -50,6 +51,7 @@ pending handle v =
     else if v.input_closed then Done (Err (named_error fault.Suspended None)) (suspended (future_of (id_at handle v.results.handles)) v)
     else Done (Ok (WaitingExternalProgress true false)) v
 
+-- an await, once the notifications that it needs are used
 abbrev pub tried : ℕ → Machine → Outcome (Result AwaitResponse Error)
 tried handle v =
     if has_result_for (id_at handle v.results.handles) v.results.ready then Done (Ok AnyCompleted) v
@@ -63,14 +65,17 @@ await_step handle v =
 
 -- ---- takes
 
+-- a taken value; none, where a state key is no text
 abbrev pub value_taken : Option Value → Machine → Outcome (Option Value)
 value_taken None v = refused fault.StateKeyIsNotUtf8 v
 value_taken (Some value) v = Done (Some value) v
 
+-- a taken result, as the handler sees it
 abbrev pub result_taken : Option NotificationResult → Machine → Outcome (Option Value)
 result_taken None v = Done None v
 result_taken (Some result) v = value_taken (value_of result) v
 
+-- a take of the handle that stands for this id
 abbrev pub taken_at : ℕ → Option NotificationId → Machine → Outcome (Option Value)
 taken_at handle id v =
     let found = present_for v.options.signal_delivery id v.results.ready in
@@ -84,12 +89,14 @@ take_step handle v =
 
 -- ---- what can be asked at any time
 
+-- whether a handle has a ready result, as long as the handler runs
 abbrev pub is_completed : ℕ → Machine → Bool
 is_completed handle v =
     if is_some v.failure then false
     else if is_running v.phase then has_result_for (id_at handle v.results.handles) v.results.ready
     else false
 
+-- whether a handler may run in this phase
 abbrev pub ready_at : Phase → Result Bool Error
 ready_at WaitingStart = Ok false
 ready_at WaitingReplayEntries = Ok false
@@ -102,6 +109,7 @@ abbrev pub IsReadyAt : Option Error → Phase → Result Bool Error → Type 0
 IsReadyAt None phase r = r ≡ ready_at phase
 IsReadyAt (Some e) phase r = (r ≡ Err e) ⊎ (r ≡ Err no_memory)
 
+-- the state as it is shown: a failed machine is closed
 abbrev pub state_of : Machine → State
 state_of v = if is_some v.failure then state.Closed else shown v.phase
 

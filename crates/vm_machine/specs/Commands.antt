@@ -43,6 +43,7 @@ about_next name ty command v = named_error name (Some (record { index = next_ind
 abbrev pub written : Message → Machine → Machine
 written m v = record v { wrote_command = true; output = v.output ++ encoding m ∷ [] }
 
+-- the options leave payloads out of the comparison
 abbrev pub checks_are_off : NonDeterministicChecksOption → Bool
 checks_are_off checks.PayloadChecksDisabled = true
 checks_are_off checks.Enabled = false
@@ -56,11 +57,13 @@ abbrev pub phase_after : List RawMessage → Phase
 phase_after [] = Processing
 phase_after (raw ∷ rest) = Replaying
 
+-- the popped command has to be of this type
 abbrev pub typed : RawMessage → MessageType → Machine → Outcome RawMessage
 typed raw ty v =
     if type_number raw.ty == type_number ty then Done raw v
     else Failed (about_last fault.CommandTypeMismatch v) v
 
+-- the first of these commands is popped
 abbrev pub popped_from : List RawMessage → MessageType → Machine → Outcome RawMessage
 popped_from [] ty v = Failed (about_last fault.UnavailableEntry v) v
 popped_from (raw ∷ rest) ty v = typed raw ty (record v { commands = rest; phase = phase_after rest })

@@ -52,6 +52,7 @@ info_of version seed s = record {
   idempotency_key = from_version (is_from_v7 version) s.idempotency_key;
 }
 
+-- what is known of the keys that were not handed out
 abbrev pub coverage_of : Bool → StateCoverage
 coverage_of true = Partial
 coverage_of false = Complete
@@ -60,6 +61,7 @@ coverage_of false = Complete
 abbrev pub entries_in : List (List ℕ × List ℕ) → Option (List (List ℕ × Option (List ℕ)))
 entries_in pairs = if list_all (λ p. is_utf8 p.0) pairs then Some (map (λ p. (p.0, Some p.1)) pairs) else None
 
+-- Start is kept, where its state keys are texts and it tells of at least one entry
 abbrev pub started_with : Start → Option (List (List ℕ × Option (List ℕ))) → Machine → Outcome Unit
 started_with s None v = refused fault.BadEagerStateKey v
 started_with s (Some entries) v =
@@ -71,10 +73,12 @@ started_with s (Some entries) v =
       phase = WaitingReplayEntries;
     })
 
+-- a Start that was read
 abbrev pub started : Option Start → Machine → Outcome Unit
 started None v = refused fault.BadMessage v
 started (Some s) v = started_with s (entries_in s.state) v
 
+-- Start comes, once and first
 abbrev pub start_step : RawMessage → Phase → Machine → Outcome Unit
 start_step raw WaitingStart v = started (start_in raw.body) v
 start_step raw _ v = refused fault.UnexpectedInputMessage v
@@ -89,19 +93,23 @@ counted_entry v =
       phase = if nat_le v.entries_missing 1 then Replaying else WaitingReplayEntries;
     }
 
+-- a command comes, as long as known entries are missing
 abbrev pub entry_step : RawMessage → Phase → Machine → Outcome Unit
 entry_step raw WaitingReplayEntries v = Done tt (counted_entry (record v { commands = v.commands ++ raw ∷ [] }))
 entry_step raw _ v = refused fault.UnexpectedEntryMessage v
 
 -- ---- notifications
 
+-- a notification waits behind the others
 abbrev pub enqueued : Notification → Machine → Machine
 enqueued n v = record v { results = record v.results { queued = v.results.queued ++ n ∷ [] } }
 
+-- a notification that was read waits, and then comes what else it does
 abbrev pub queued : Option Notification → (Machine → Machine) → Machine → Outcome Unit
 queued None after v = refused fault.BadMessage v
 queued (Some n) after v = Done tt (after (enqueued n v))
 
+-- a notification comes
 abbrev pub notification_step : RawMessage → Phase → Machine → Outcome Unit
 notification_step raw WaitingStart v = refused fault.UnexpectedState v
 notification_step raw WaitingReplayEntries v = queued (notification_in raw.body) counted_entry v
@@ -125,16 +133,19 @@ malformed_step v = refused fault.BadMessage v
 
 -- ---- the end of the input
 
+-- closing, in this phase
 abbrev pub closed_at : Phase → Machine → Outcome Unit
 closed_at WaitingStart v = refused fault.InputClosedWhileWaitingEntries v
 closed_at WaitingReplayEntries v = refused fault.InputClosedWhileWaitingEntries v
 closed_at _ v = Done tt v
 
+-- no more input comes
 abbrev pub close_step : Machine → Outcome Unit
 close_step v = let w = record v { input_closed = true } in closed_at v.phase w
 
 -- ---- the handler reads its input
 
+-- what the handler is told with its input
 abbrev pub input_of : StartInfo → InputCommand → Input
 input_of s c = record {
   invocation_id = s.debug_id;
@@ -147,32 +158,39 @@ input_of s c = record {
   idempotency_key = s.idempotency_key;
 }
 
+-- the first command was read as an input
 abbrev pub input_read : Option InputCommand → Machine → Outcome Input
 input_read None v = Failed (about_last fault.BadMessage v) v
 input_read (Some c) v = Done (input_of v.start c) v
 
+-- the input is popped, where its command index is left
 abbrev pub input_counted : Option NamedFault → Machine → Outcome Input
 input_counted (Some name) v = Failed (about_next name type.InputCommand [] v) v
 input_counted None v =
     popped type.InputCommand (entered type.InputCommand [] v) >>= λ raw w. input_read (input_in raw.body) w
 
+-- the handler reads its input in this phase
 abbrev pub input_at : Phase → Machine → Outcome Input
 input_at Replaying v = input_counted (missing 0 0 0 v.counters) v
 input_at phase v = let w = entered type.InputCommand [] v in Failed (about_last (state_fault phase) w) w
 
+-- The handler reads its input: it pops the first recorded command.
 unfoldable pub input_step : Machine → Outcome Input
 input_step v = input_at v.phase v
 
 -- ---- the handler ends
 
+-- one End is written, and the machine is closed
 abbrev pub ended : Machine → Machine
 ended v = record v { output = v.output ++ encoding message.End ∷ []; output_ended = true; phase = Closed }
 
+-- the end, in this phase
 abbrev pub end_at : Phase → Machine → Outcome Unit
 end_at Processing v = Done tt (ended v)
 end_at Closed v = Done tt v
 end_at phase v = refused (state_fault phase) v
 
+-- the handler ends
 abbrev pub end_step : Machine → Outcome Unit
 end_step v = end_at v.phase v
 

@@ -26,6 +26,7 @@ nothing_started = record {
   idempotency_key = None;
 }
 
+-- it waits for Start, and has neither journal nor state nor output
 abbrev pub fresh : Global → Version → VMOptions → Machine
 fresh alloc version options = record {
   alloc = alloc;

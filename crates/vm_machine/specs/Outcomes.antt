@@ -45,6 +45,7 @@ last_related v = record { index = unwrap_or v.counters.command 0; ty = v.last_co
 abbrev pub about_last : NamedFault → Machine → Error
 about_last name v = named_error name (Some (last_related v))
 
+-- what the option makes of a mismatch
 abbrev pub mismatch_behavior : JournalMismatchRetryBehavior → ErrorBehavior
 mismatch_behavior mismatch.Pause = Pause
 mismatch_behavior mismatch.FailTerminally = Fail
@@ -74,6 +75,7 @@ abbrev pub settled : {A : Type 0} → Outcome A → Outcome A
 settled (Done a v) = Done a v
 settled (Failed e v) = Failed (ruled v e) (failed (ruled v e) v)
 
+-- by whether the machine has failed before
 abbrev pub called_at : {A : Type 0} → Option Error → Outcome A → Machine → Outcome A
 called_at None o v = settled o
 called_at (Some e) o v = Failed e v
@@ -111,6 +113,7 @@ flat (Done (Ok a) v) = Done a v
 flat (Done (Err e) v) = Failed e v
 flat (Failed e v) = Failed e v
 
+-- an answer that is an error, as an error
 abbrev pub flattened : {A : Type 0} → Result (Result A Error) Error → Result A Error
 flattened (Ok r) = r
 flattened (Err e) = Err e

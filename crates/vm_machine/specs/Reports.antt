@@ -19,10 +19,12 @@ related_by Last v = last_related v
 related_by (Next ty name) v = record { index = next_index v.counters.command; ty = message_type ty; name = unwrap_or name [] }
 related_by (Specific index ty name) v = record { index = index; ty = message_type ty; name = unwrap_or name [] }
 
+-- the command that a reported error relates to
 abbrev pub related_to : Option CommandRelationship → Error → Machine → Error
 related_to None e v = e
 related_to (Some relationship) e v = record e { related_command = Some (related_by relationship v) }
 
+-- the error is one to be retried
 abbrev pub is_retry : ErrorBehavior → Bool
 is_retry Retry = true
 is_retry Pause = false

@@ -12,6 +12,7 @@ use Rattle.vm_parts.specs.declared.command_type.CommandType.TheVariants as comma
 use Rattle.vm_machine.specs.declared.request.Request.{Request}
 use Rattle.vm_machine.specs.declared.request.Request.TheVariants.{Sleep, Output, SetState, ClearState, ClearAllState, CompleteAwakeable, CompleteSignal, CancelInvocation}
 
+-- the command's type
 abbrev pub command_of : Request → CommandType
 command_of (Sleep wake_up_time name) = command.Sleep
 command_of (Output value options) = command.Output

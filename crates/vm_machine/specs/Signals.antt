@@ -24,6 +24,7 @@ signal_handed_out v =
       counters = record v.counters { signal = v.counters.signal + 1; handle = v.counters.handle + 1 };
     }
 
+-- an awakeable, where its numbers are left
 abbrev pub awakeable_counted : Option NamedFault → Machine → Outcome AwakeableHandle
 awakeable_counted (Some name) v = refused name v
 awakeable_counted None v =

@@ -45,6 +45,7 @@ pub record Identity : Type 0 where
   pub limit_key : Option (List ℕ)
   pub idempotency_key : Option (List ℕ)
 
+-- the part of Start that stays the same
 abbrev pub identity_of : StartInfo → Identity
 identity_of s = record { id = s.id; debug_id = s.debug_id; key = s.key; random_seed = s.random_seed; scope = s.scope; limit_key = s.limit_key; idempotency_key = s.idempotency_key }
 
@@ -79,6 +80,7 @@ ready_after delivery [] = []
 ready_after delivery (Used n ∷ us) = ready_after delivery us ++ n ∷ []
 ready_after delivery (Taken id ∷ us) = left_ready delivery id (ready_after delivery us)
 
+-- the notifications that are ready at this point
 abbrev pub ready_in : Setup → Derived → List Notification
 ready_in s d = ready_after s.options.signal_delivery d.usage
 
@@ -124,6 +126,7 @@ commanded r d =
       last = record { ty = message_type (command_of r); name = name_of r };
     })
 
+-- the command of a call, by the next numbers
 abbrev pub demand_of : Setup → Request → Derived → Demand
 demand_of s r d = record { command = message_of r d.counters.completion; ignores_payload = checks_are_off s.options.non_determinism_checks || is_unstable r }
 
@@ -138,6 +141,7 @@ answer_of (request.CompleteAwakeable id value options) d = answer.Unit
 answer_of (request.CompleteSignal target signal value) d = answer.Unit
 answer_of (request.CancelInvocation target) d = answer.Unit
 
+-- a call with a command, by the first kind of number that is missing
 abbrev pub numbered : Setup → Request → Option NamedFault → Derived → Move
 numbered s r (Some fault) d = Stops
 numbered s r None d = Needs (demand_of s r d) (answer_of r d ∷ []) (commanded r d)
@@ -161,6 +165,7 @@ handing s value r d = cond (has_metadata value) (cond (is_from_v6 s.version) (re
 
 -- ---- calls without a command
 
+-- the next handle stands for the next signal id
 abbrev pub awakeable_made : Setup → Option NamedFault → Derived → Move
 awakeable_made s (Some fault) d = Stops
 awakeable_made s None d =
@@ -188,16 +193,19 @@ value_taken handle id (Some value) d =
       usage = Taken id ∷ d.usage;
     })
 
+-- a take, by the id of its handle and its present result
 abbrev pub result_taken : NotificationHandle → Option NotificationId → Option NotificationResult → Derived → Move
 result_taken handle (Some id) (Some result) d = value_taken handle id (value_of result) d
 result_taken handle (Some id) None d = Answers (answer.Taken None ∷ []) d
 result_taken handle None result d = Answers (answer.Taken None ∷ []) d
 
+-- a take of a handle
 abbrev pub taking : Setup → NotificationHandle → Option NotificationId → Derived → Move
 taking s handle id d = result_taken handle id (present_for s.options.signal_delivery id (ready_in s d)) d
 
 -- ---- the table
 
+-- what a step asks for
 abbrev pub call_of : Setup → Step → Derived → Move
 call_of s (step.Sleep name wake_up_time now) d = sleeping s (as_nanos wake_up_time / 1000000) name d
 call_of s (step.StateSet key value name options) d = requested s (request.SetState key value (name_in name) options) d

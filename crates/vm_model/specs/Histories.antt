@@ -43,6 +43,7 @@ Undisturbed s m input ns cs = (n : ℕ) × (q : Point) × Made s m n (start s in
 abbrev pub IsStuck : Setup → Meaning → Point → Type 0
 IsStuck s m p = next s m (longer (supplied s m p) p) ≡ None
 
+-- the second list begins with the first
 abbrev pub IsPrefix : {A : Type 0} → List A → List A → Type 0
 IsPrefix {A} xs ys = (rest : List A) × (ys ≡ xs ++ rest)
 
@@ -83,28 +84,34 @@ pub record Now : Type 0 where
   pub unstored : List RawMessage
   pub waiting : List Notification
 
+-- the first of what waits is fed
 abbrev pub fed : List Notification → Now → Now
 fed [] now = now
 fed (n ∷ ns) now = record now { point = later (n ∷ []) now.point; waiting = ns }
 
+-- the attempt has moved, if there was a move
 abbrev pub acted : Option Point → List RawMessage → Now → Now
 acted None made now = now
 acted (Some p) made now = record now { point = p; unstored = now.unstored ++ made }
 
+-- the first command that waits is stored
 abbrev pub stored : List RawMessage → Now → Now
 stored [] now = now
 stored (c ∷ cs) now = record now { journal = now.journal ++ Recorded c ∷ []; unstored = cs }
 
+-- one event
 abbrev pub happens : Setup → Meaning → Event → Now → Now
 happens s m (Arrive n) now = record now { journal = now.journal ++ Notified n ∷ []; waiting = now.waiting ++ n ∷ [] }
 happens s m Feed now = fed now.waiting now
 happens s m Act now = acted (next s m (longer (supplied s m now.point) now.point)) (supplied s m now.point) now
 happens s m Store now = stored now.unstored now
 
+-- events, one after another
 abbrev pub happen : Setup → Meaning → List Event → Now → Now
 happen s m [] now = now
 happen s m (e ∷ es) now = happen s m es (happens s m e now)
 
+-- all but the first
 abbrev pub behind : {A : Type 0} → List A → List A
 behind [] = []
 behind (x ∷ xs) = xs
@@ -117,9 +124,11 @@ begin s input journal = record { journal = journal; point = start s input (notif
 abbrev pub ended : Setup → Meaning → InputCommand → List Event → List Entry → Now
 ended s m input events journal = happen s m events (begin s input journal)
 
+-- the journal that a round leaves
 abbrev pub round : Setup → Meaning → InputCommand → List Event → List Entry → List Entry
 round s m input events journal = (ended s m input events journal).journal
 
+-- the journal that rounds leave
 abbrev pub rounds : Setup → Meaning → InputCommand → List (List Event) → List Entry → List Entry
 rounds s m input [] journal = journal
 rounds s m input (r ∷ rs) journal = rounds s m input rs (round s m input r journal)
@@ -129,9 +138,11 @@ pub record Report : Type 0 where
   pub answers : List Answer
   pub entries : ℕ
 
+-- what is told of a round
 abbrev pub report : Setup → Meaning → InputCommand → List Event → List Entry → Report
 report s m input r journal = record { answers = (ended s m input r journal).point.answers; entries = length (round s m input r journal) }
 
+-- what is told of each round
 abbrev pub reports : Setup → Meaning → InputCommand → List (List Event) → List Entry → List Report
 reports s m input [] journal = []
 reports s m input (r ∷ rs) journal = report s m input r journal ∷ reports s m input rs (round s m input r journal)

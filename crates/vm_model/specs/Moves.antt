@@ -34,6 +34,7 @@ pub record Point : Type 0 where
 
 -- ---- a recorded command
 
+-- a recorded command that was read is header-equal to this one
 abbrev pub reads_as : Bool → Message → Option Message → Bool
 reads_as ignore own None = false
 reads_as ignore own (Some recorded) = header_equal recorded own ignore
@@ -48,6 +49,7 @@ stands_for d raw = if type_number raw.ty == type_number (type_of d.command) then
 abbrev pub arrival_used : Notification → Derived → Derived
 arrival_used n d = record d { usage = Used n ∷ d.usage }
 
+-- the call is answered, where the recorded command stands for its own
 abbrev pub command_used : Bool → Demand → List Answer → Derived → List RawMessage → Point → Option Point
 command_used b demand gives d left p =
     cond b (Some (record { answers = p.answers ++ gives; derived = d; said = p.said ++ demand.command ∷ []; queue = p.queue; left = left })) None
@@ -62,6 +64,7 @@ abbrev pub uses_arrival : List Notification → Point → Option Point
 uses_arrival [] p = None
 uses_arrival (n ∷ queue) p = Some (record p { derived = arrival_used n p.derived; queue = queue })
 
+-- the point that a move leads to
 abbrev pub moved : Move → Point → Option Point
 moved (Answers gives d) p = Some (record p { answers = p.answers ++ gives; derived = d })
 moved (Needs demand gives d) p = uses_command demand gives d p.left p
@@ -76,6 +79,7 @@ move_at s m p = call_of s (m p.answers) p.derived
 abbrev pub next : Setup → Meaning → Point → Option Point
 next s m p = moved (move_at s m p) p
 
+-- what follows, if there is a point
 abbrev pub and_then : {A B : Type 0} → Option A → (A → Option B) → Option B
 and_then None f = None
 and_then (Some x) f = f x
@@ -122,12 +126,14 @@ changed (message.ClearState c) state = state_cleared c.key state
 changed (message.ClearAllState c) state = all_cleared state
 changed _ state = state
 
+-- the state after commands
 abbrev pub changed_by : List Message → StateMap → StateMap
 changed_by [] state = state
 changed_by (c ∷ cs) state = changed_by cs (changed c state)
 
 -- ---- what a call brings itself
 
+-- the call's own command, where one is needed and none is recorded
 abbrev pub supply : Move → List RawMessage → List RawMessage
 supply (Needs demand gives d) [] = stored_form demand.command ∷ []
 supply (Needs demand gives d) (c ∷ left) = []

@@ -51,6 +51,7 @@ abbrev pub calls_for : Meaning → List Answer → List Step
 calls_for m [] = []
 calls_for m (input ∷ answers) = calls_after m (input ∷ []) answers
 
+-- the sum over some calls
 abbrev pub total : (Step → ℕ) → List Step → ℕ
 total f [] = 0
 total f (s ∷ steps) = f s + total f steps

@@ -3,6 +3,7 @@ use Rattle.std.specs.Prelude.{List}
 use Rattle.journal_protocol.specs.declared.notification.Notification.{Notification}
 use Rattle.vm_parts.specs.declared.async_results.Mapping.{Mapping}
 
+-- the notifications that came, and the ids that handles stand for
 pub record Arrived : Type 0 where
   -- no await has used it yet
   pub queued : List Notification

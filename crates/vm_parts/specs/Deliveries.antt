@@ -11,6 +11,7 @@ use Rattle.vm_parts.specs.declared.options.SignalDelivery.{SignalDelivery}
 use Rattle.vm_parts.specs.declared.options.SignalDelivery.TheVariants.{Queued, Overwrite}
 use Rattle.vm_parts.specs.Arrived.{Arrived}
 
+-- whether two ids are one
 abbrev pub same_id : NotificationId → NotificationId → Bool
 same_id (CompletionId a) (CompletionId b) = a == b
 same_id (SignalId a) (SignalId b) = a == b
@@ -36,6 +37,7 @@ abbrev pub results_of : NotificationId → List Notification → List Notificati
 results_of id [] = []
 results_of id (n ∷ ns) = cond (same_id n.id id) (n.result ∷ results_of id ns) (results_of id ns)
 
+-- whether there is a result of an id
 abbrev pub has_result : NotificationId → List Notification → Bool
 has_result id [] = false
 has_result id (n ∷ ns) = same_id n.id id || has_result id ns
@@ -45,14 +47,17 @@ abbrev pub has_result_for : Option NotificationId → List Notification → Bool
 has_result_for None ns = false
 has_result_for (Some id) ns = has_result id ns
 
+-- the first item, if there is one
 abbrev pub first : {X : Type 0} → List X → Option X
 first [] = None
 first (x ∷ xs) = Some x
 
+-- the last item, or what was found before
 abbrev pub newest_after : {X : Type 0} → Option X → List X → Option X
 newest_after found [] = found
 newest_after found (x ∷ xs) = newest_after (Some x) xs
 
+-- the last item, if there is one
 abbrev pub newest : {X : Type 0} → List X → Option X
 newest = newest_after None
 
@@ -87,9 +92,11 @@ abbrev pub used_until : Option NotificationId → List Notification → List Not
 used_until id ready [] = (ready, [])
 used_until id ready (n ∷ ns) = cond (has_result_for id ready) (ready, n ∷ ns) (used_until id (ready ++ n ∷ []) ns)
 
+-- so many are used
 abbrev pub with_used : List Notification × List Notification → Arrived → Arrived
 with_used used v = record v { ready = used.0; queued = used.1 }
 
+-- notifications are used until the handle has a result
 abbrev pub used_for : ℕ → Arrived → Arrived
 used_for handle v = with_used (used_until (id_at handle v.handles) v.ready v.queued) v
 
@@ -103,6 +110,7 @@ abbrev pub present_for : SignalDelivery → Option NotificationId → List Notif
 present_for delivery None ns = None
 present_for delivery (Some id) ns = present delivery id ns
 
+-- what a take leaves, where there was a result
 abbrev pub taken_by : SignalDelivery → ℕ → Option NotificationId → Option NotificationResult → Arrived → Arrived
 taken_by delivery handle (Some id) (Some result) v = taken_from delivery handle id v
 taken_by delivery handle _ _ v = v

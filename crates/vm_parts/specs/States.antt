@@ -23,6 +23,7 @@ pub data Known : Type 0 where
   Empty : Known
   Is : List ℕ → Known
 
+-- what an entry says
 abbrev pub known_value : Option (List ℕ) → Known
 known_value None = Empty
 known_value (Some value) = Is value
@@ -37,5 +38,6 @@ abbrev pub known_among : List ℕ → Known → List (List ℕ × Option (List �
 known_among key before [] = before
 known_among key before (e ∷ es) = known_among key (cond (pointwise nat_eq e.0 key) (known_value e.1) before) es
 
+-- what is known of a key
 abbrev pub known : List ℕ → StateMap → Known
 known key s = known_among key (otherwise s.coverage) s.entries

@@ -17,13 +17,16 @@ use Rattle.vm_parts.specs.declared.values.Value.TheVariants.{Void, Success, Fail
 abbrev pub terminal_failure : Failure → TerminalFailure
 terminal_failure f = record { code = f.code % 65536; message = f.message; metadata = f.metadata }
 
+-- a failure, as a message has it
 abbrev pub failure_message : TerminalFailure → Failure
 failure_message f = record { code = f.code; message = f.message; metadata = f.metadata }
 
+-- a value, as a message has it
 abbrev pub value_message : NonEmptyValue → ValueOrFailure
 value_message (given.Success bytes) = message.Value bytes
 value_message (given.Failure f) = message.Failure (failure_message f)
 
+-- a value that is not void
 abbrev pub as_value : NonEmptyValue → Value
 as_value (given.Success bytes) = Success bytes
 as_value (given.Failure f) = Failed f
@@ -32,6 +35,7 @@ as_value (given.Failure f) = Failed f
 abbrev pub texts_in : List (List ℕ) → Option (List (List ℕ))
 texts_in keys = if list_all is_utf8 keys then Some keys else None
 
+-- the keys of a state, where each is a text
 abbrev pub keys_value : Option (List (List ℕ)) → Option Value
 keys_value None = None
 keys_value (Some keys) = Some (StateKeys keys)

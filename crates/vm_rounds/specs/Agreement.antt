@@ -31,6 +31,7 @@ pub record Aside : Type 0 where
   pub entries_missing : ℕ
   pub output : List (List ℕ)
 
+-- there is one
 abbrev pub is_some_command : List RawMessage → Bool
 is_some_command [] = false
 is_some_command (c ∷ cs) = true

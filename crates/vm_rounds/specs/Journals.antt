@@ -23,9 +23,11 @@ use Rattle.vm_model.specs.Calls.{Setup, identity_of}
 use Rattle.vm_model.specs.Moves.{start, told_input}
 use Rattle.vm_rounds.specs.Agreement.{Agrees, Aside}
 
+-- the frame is one of a command
 abbrev pub is_command : RawMessage → Bool
 is_command raw = nat_le 10 (type_number raw.ty) && nat_lt (type_number raw.ty) 30
 
+-- the frame is one of a notification
 abbrev pub is_notification : RawMessage → Bool
 is_notification raw = type_number raw.ty == 30
 
@@ -34,6 +36,7 @@ abbrev pub commands_among : List RawMessage → List RawMessage
 commands_among [] = []
 commands_among (raw ∷ raws) = cond (is_command raw) (raw ∷ commands_among raws) (commands_among raws)
 
+-- with the notification that was read, if there was one
 abbrev pub notified_by : Option Notification → List Notification → List Notification
 notified_by None ns = ns
 notified_by (Some n) ns = n ∷ ns
@@ -87,6 +90,7 @@ abbrev pub phase_missing : ℕ → Phase
 phase_missing zero = Replaying
 phase_missing (suc k) = WaitingReplayEntries
 
+-- a machine to which so many entries are missing
 abbrev pub waiting : Setup → StateMap → Aside → ℕ → List RawMessage → List Notification → Machine
 waiting s given aside k cs ns = machine_fed s given (missing k aside) cs ns (phase_missing k)
 
@@ -97,6 +101,7 @@ pub record StillWaits (s : Setup) (given : StateMap) (aside : Aside) (k : ℕ) (
   pub count : k ≡ length raws + suc left
   pub machine : m ≡ waiting s given aside (suc left) (cs ++ commands_among raws) (ns ++ notifications_among raws)
 
+-- the known entries have all come
 pub record HasAll (s : Setup) (given : StateMap) (aside : Aside) (k : ℕ) (cs : List RawMessage) (ns : List Notification) (raws : List RawMessage) (m : Machine) : Type 0 where
   pub entries : List RawMessage
   pub others : List RawMessage
@@ -104,6 +109,7 @@ pub record HasAll (s : Setup) (given : StateMap) (aside : Aside) (k : ℕ) (cs :
   pub count : length entries ≡ k
   pub machine : m ≡ waiting s given aside 0 (cs ++ commands_among entries) (ns ++ notifications_among raws)
 
+-- what frames make of a machine that waits
 abbrev pub Fed : Setup → StateMap → Aside → ℕ → List RawMessage → List Notification → List RawMessage → Machine → Type 0
 Fed s given aside k cs ns raws m = IsSome m.failure ⊎ (StillWaits s given aside k cs ns raws m ⊎ HasAll s given aside k cs ns raws m)
 
@@ -113,6 +119,7 @@ Fed s given aside k cs ns raws m = IsSome m.failure ⊎ (StillWaits s given asid
 abbrev pub setup_for : Version → VMOptions → Start → Setup
 setup_for version options st = record { version = version; options = options; identity = identity_of (info_of version options.fallback_random_seed st) }
 
+-- what stands aside in an attempt with this Start
 abbrev pub aside_for : Global → Version → VMOptions → Start → Aside
 aside_for alloc version options st = record { alloc = alloc; start = info_of version options.fallback_random_seed st; input_closed = false; entries_missing = 0; output = [] }
 
@@ -124,6 +131,7 @@ pub record HasStarted (alloc : Global) (version : Version) (options : VMOptions)
   pub keys : entries_in start.state ≡ Some entries
   pub machine : m ≡ waiting (setup_for version options start) (record { entries = entries; coverage = coverage_of start.partial }) (aside_for alloc version options start) start.known_entries [] []
 
+-- the first frame came
 abbrev pub StartCame : Global → Version → VMOptions → RawMessage → Machine → Type 0
 StartCame alloc version options raw m = IsSome m.failure ⊎ HasStarted alloc version options raw m
 
@@ -135,5 +143,6 @@ pub record StartedWith (alloc : Global) (version : Version) (options : VMOptions
   pub keys : entries_in start.state ≡ Some entries
   pub fed : Fed (setup_for version options start) (record { entries = entries; coverage = coverage_of start.partial }) (aside_for alloc version options start) start.known_entries [] [] raws m
 
+-- what frames make of a new machine
 abbrev pub Started : Global → Version → VMOptions → RawMessage → List RawMessage → Machine → Type 0
 Started alloc version options first raws m = IsSome m.failure ⊎ StartedWith alloc version options first raws m

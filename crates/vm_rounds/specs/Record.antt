@@ -6,6 +6,7 @@ use Rattle.invocation_vm.specs.Views.{View}
 use Rattle.vm_rounds.specs.declared.progress.Fed.{Fed}
 use Rattle.vm_rounds.specs.declared.progress.Progress.{Progress}
 
+-- what an attempt keeps of itself
 pub record Record : Type 0 where
   -- the pieces that came until the VM failed or closed
   pub fed : List Fed

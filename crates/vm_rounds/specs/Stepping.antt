@@ -66,9 +66,11 @@ abbrev pub asked_from : Option UnresolvedFuture → Step → Step
 asked_from (Some future) s = step.Await future
 asked_from None s = s
 
+-- the step that is made next
 abbrev pub asked : Meaning → Record → Step
 asked meaning r = asked_from r.waiting (meaning r.answers)
 
+-- the progress that a reply is
 abbrev pub progress_of : Result Reply Error → Result Progress Error
 progress_of (Ok (reply.Answer a)) = Ok progress.Stepped
 progress_of (Ok (reply.Waiting input run)) = Ok (progress.Waiting input run)
@@ -100,10 +102,12 @@ Asks meaning old result new =
     (r : Result Reply Error) × (w : View) × Asked (performed (asked meaning old)) r old.vm w
     × (new ≡ settled old (future_in (asked meaning old)) r w) × (result ≡ progress_of r)
 
+-- the handler runs: memory is lacking, or the input is read, or the step is made
 abbrev pub Advances : Meaning → Record → Result Progress Error → Record → Type 0
 Advances meaning old result new =
     LacksMemory old result new ⊎ (((old.answers ≡ []) × Reads old result new) ⊎ ((old.answers ≢ []) × Asks meaning old result new))
 
+-- a step in this phase
 abbrev pub StepAt : Phase → Meaning → Record → Result Progress Error → Record → Type 0
 StepAt WaitingStart meaning old result new = (result ≡ Ok progress.NotReady) × (new ≡ old)
 StepAt WaitingReplayEntries meaning old result new = (result ≡ Ok progress.NotReady) × (new ≡ old)
@@ -111,6 +115,7 @@ StepAt Closed meaning old result new = (result ≡ Err (named_error fault.Closed
 StepAt Replaying meaning old result new = Advances meaning old result new
 StepAt Processing meaning old result new = Advances meaning old result new
 
+-- a step, unless the VM has failed or the attempt is over
 abbrev pub StepUnless : Option Error → Option Progress → Meaning → Record → Result Progress Error → Record → Type 0
 StepUnless (Some e) over meaning old result new = ((result ≡ Err e) ⊎ (result ≡ Err no_memory)) × (new ≡ old)
 StepUnless None (Some made) meaning old result new = (result ≡ Ok made) × (new ≡ old)
@@ -122,6 +127,7 @@ abbrev pub StepFrom : Bool → Meaning → Record → Result Progress Error → 
 StepFrom true meaning old result new = (result ≡ Err no_memory) × (new ≡ old)
 StepFrom false meaning old result new = StepUnless old.vm.machine.failure old.over meaning old result new
 
+-- a step, unless the attempt's own memory was lacking
 abbrev pub StepDoes : Meaning → Record → Result Progress Error → Record → Type 0
 StepDoes meaning old result new = StepFrom old.starved meaning old result new
 
@@ -137,9 +143,11 @@ kept_at (Some e) phase piece r = r
 kept_at None Closed piece r = r
 kept_at None _ piece r = record r { fed = r.fed ++ record { piece = piece; answers = length r.answers; output = output_len r } ∷ [] }
 
+-- a piece is kept as long as the VM takes it
 abbrev pub kept : List ℕ → Record → Record
 kept piece r = kept_at r.vm.machine.failure r.vm.machine.phase piece r
 
+-- the record with another view of its VM
 abbrev pub with_vm : View → Record → Record
 with_vm w r = record r { vm = w }
 
@@ -154,6 +162,7 @@ abbrev pub FeedDoes : Bool → List ℕ → Record → Result Unit AllocError �
 FeedDoes true piece old result new = (result ≡ Ok tt) × (new ≡ old)
 FeedDoes false piece old result new = Feeds piece old result new
 
+-- the input is closed, or the VM finds no memory
 abbrev pub Closes : Record → Result Unit AllocError → Record → Type 0
 Closes old (Ok t) new = new ≡ record old { closed = true; vm = after_closing old.vm }
 Closes old (Err e) new = (w : View) × IsStarved no_memory old.vm.machine w.machine × (new ≡ record old { closed = true; vm = w })
@@ -165,6 +174,7 @@ CloseDoes false old result new = Closes old result new
 
 -- ---- output
 
+-- the output is taken
 abbrev pub emptied : View → View
 emptied v = record v { machine = record v.machine { output = [] } }
 
@@ -172,6 +182,7 @@ emptied v = record v { machine = record v.machine { output = [] } }
 abbrev pub taken_from : Record → Record
 taken_from r = record r { taken = r.taken ++ concat r.vm.machine.output ∷ []; taken_len = output_len r; vm = emptied r.vm }
 
+-- the bytes that wait are taken, or nothing is changed
 abbrev pub Takes : Record → Result (List ℕ) AllocError → Record → Type 0
 Takes old (Ok bytes) new = (bytes ≡ concat old.vm.machine.output) × (new ≡ taken_from old)
 Takes old (Err e) new = new ≡ old
