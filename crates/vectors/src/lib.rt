@@ -1,9 +1,6 @@
 //! The test bench: rows of bytes, written out by hand, that the crates below are held against.
 #![tactic(auto)]
 
-pub mod asker;
-#[cfg(test)]
-mod attempts;
 #[cfg(test)]
 mod awakeables;
 #[cfg(test)]
@@ -18,7 +15,6 @@ pub mod frames;
 pub mod headers;
 #[cfg(test)]
 mod making;
-pub mod napper;
 #[cfg(test)]
 mod parts;
 #[cfg(test)]

@@ -1,19 +1,18 @@
 // One attempt of a handler, from the bytes of its journal to the bytes of its commands.
+// Rows tell what happens to it in turn.
 use crate::asker::Asker;
-use crate::bench::{V7, assert_is};
-use crate::frames::{
+use crate::bench::{Told, assert_answers, assert_fails, assert_sends, attempt_of};
+use crate::napper::Napper;
+use bytes::Bytes;
+use std::alloc::Global;
+use std::process::Abort;
+use std::test::Fail;
+use vectors::frames::{
     COMPLETION_1, END, ERROR_INPUT_CLOSED, ERROR_KNOWN_ENTRIES, INPUT_TILL, OUTPUT_EMPTY,
     SIGNAL_17, SLEEP_TO_1000, SLEEP_TO_2024, START_0, START_1, START_2, START_3, SUSPENSION_ON_1,
     TYPE_MISMATCH, UNCOMPLETED,
 };
-use crate::headers::Headers;
-use crate::napper::Napper;
-use bytes::Bytes;
-use invocation_vm::{NotificationHandle, VMOptions, Value};
-use std::alloc::Global;
-use std::process::Abort;
-use std::test::Fail;
-use vm_rounds::{Answer, Attempt, Handler, Progress};
+use vm_rounds::{Attempt, Handler, Progress};
 
 /// One thing that happens to an attempt, and its answer.
 #[derive(Clone, Copy, Debug)]
@@ -28,10 +27,8 @@ enum Act {
     Step(usize, Progress),
     /// A step is answered with an error of this code and text.
     Fails(u16, &'static str),
-    /// The handler's answers are those of a sleep that is over.
-    Slept,
-    /// The handler's answers are those of an awakeable that was completed.
-    Asked,
+    /// The handler's answers so far are these.
+    Answers(&'static [Told]),
     /// These frames are sent, and nothing more.
     Sends(&'static [&'static [u8]]),
 }
@@ -51,41 +48,6 @@ fn trickle<H: Handler>(
         assert_eq!(rt; attempt.step()?, Progress::NotReady);
         attempt.feed(Bytes::copy_from_slice(alloc, &[*byte])?)?;
     }
-    Ok(())
-}
-
-fn assert_sends<H: Handler>(
-    rt: &impl Abort,
-    alloc: Global,
-    attempt: &mut Attempt<H>,
-    frames: &[&[u8]],
-) -> Result<(), Fail> {
-    let output = attempt.take_output()?;
-    let wanted = frames.concat(alloc)?;
-    assert_eq!(rt; output.as_slice(), wanted.as_slice());
-    assert!(rt; attempt.take_output()?.is_empty());
-    Ok(())
-}
-
-fn assert_slept(rt: &impl Abort, answers: &[Answer]) {
-    assert_eq!(rt; answers.len(), 6);
-    assert!(rt; matches!(answers.get(0), Some(Answer::Input(_))));
-    assert!(rt; matches!(answers.get(1), Some(Answer::Handle(NotificationHandle(17)))));
-    assert!(rt; matches!(answers.get(2), Some(Answer::Awake)));
-    assert!(rt; matches!(answers.get(3), Some(Answer::Completed(true))));
-    assert!(rt; matches!(answers.get(4), Some(Answer::Taken(Some(Value::Void)))));
-    assert!(rt; matches!(answers.get(5), Some(Answer::Unit)));
-}
-
-fn assert_asked(rt: &impl Abort, answers: &[Answer]) -> Result<(), Fail> {
-    assert_eq!(rt; answers.len(), 4);
-    let Some(Answer::Awakeable(made)) = answers.get(1) else {
-        return Err("no awakeable".into());
-    };
-    assert_eq!(rt; made.id.as_str(), "sign_1YWJjAAAAEQ");
-    assert_eq!(rt; made.handle.0, 17);
-    assert!(rt; matches!(answers.get(2), Some(Answer::Awake)));
-    assert!(rt; matches!(answers.get(3), Some(Answer::Taken(Some(Value::Void)))));
     Ok(())
 }
 
@@ -112,9 +74,8 @@ fn play<H: Handler>(
         Act::Trickle(bytes) => trickle(rt, alloc, attempt, bytes)?,
         Act::Close => attempt.close()?,
         Act::Step(count, progress) => assert_steps(rt, attempt, count, progress)?,
-        Act::Fails(code, text) => assert_is(rt, attempt.step().err(), code, text)?,
-        Act::Slept => assert_slept(rt, attempt.answers()),
-        Act::Asked => assert_asked(rt, attempt.answers())?,
+        Act::Fails(code, text) => assert_fails(rt, attempt, code, text)?,
+        Act::Answers(answers) => assert_answers(rt, attempt.answers(), answers),
         Act::Sends(frames) => assert_sends(rt, alloc, attempt, frames)?,
     }
     Ok(())
@@ -127,17 +88,22 @@ fn assert_row<H: Handler + Drop>(
     handler: H,
     acts: &[Act],
 ) -> Result<(), Fail> {
-    let mut attempt = Attempt::new(
-        alloc,
-        Headers::ContentType(V7),
-        VMOptions::default(),
-        handler,
-    )?;
+    let mut attempt = attempt_of(alloc, handler)?;
     for act in acts {
         play(rt, alloc, &mut attempt, *act)?;
     }
     Ok(())
 }
+
+/// The answers of a sleep that is over.
+const SLEPT: &[Told] = &[
+    Told::Input,
+    Told::Handle(17),
+    Told::Awake,
+    Told::Completed(true),
+    Told::Void,
+    Told::Unit,
+];
 
 const FIRST: &[Act] = &[
     Act::Step(1, Progress::NotReady),
@@ -168,7 +134,7 @@ const COMPLETED_LATE: &[Act] = &[
     Act::Sends(&[SLEEP_TO_1000]),
     Act::Feed(COMPLETION_1),
     Act::Step(4, Progress::Stepped),
-    Act::Slept,
+    Act::Answers(SLEPT),
     Act::Step(2, Progress::Ended),
     Act::Sends(&[OUTPUT_EMPTY, END]),
 ];
@@ -180,7 +146,7 @@ const REPLAYED: &[Act] = &[
     Act::Feed(COMPLETION_1),
     Act::Close,
     Act::Step(6, Progress::Stepped),
-    Act::Slept,
+    Act::Answers(SLEPT),
     Act::Step(2, Progress::Ended),
     Act::Sends(&[OUTPUT_EMPTY, END]),
 ];
@@ -193,7 +159,7 @@ const TRICKLED: &[Act] = &[
     Act::Trickle(COMPLETION_1),
     Act::Close,
     Act::Step(6, Progress::Stepped),
-    Act::Slept,
+    Act::Answers(SLEPT),
     Act::Step(1, Progress::Ended),
     Act::Sends(&[OUTPUT_EMPTY, END]),
 ];
@@ -247,7 +213,12 @@ const ASKED: &[Act] = &[
     Act::Step(1, WAITING),
     Act::Feed(SIGNAL_17),
     Act::Step(2, Progress::Stepped),
-    Act::Asked,
+    Act::Answers(&[
+        Told::Input,
+        Told::Awakeable("sign_1YWJjAAAAEQ", 17),
+        Told::Awake,
+        Told::Void,
+    ]),
     Act::Step(1, Progress::Ended),
     Act::Sends(&[END]),
 ];

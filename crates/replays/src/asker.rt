@@ -1,4 +1,5 @@
 //! A handler that makes an awakeable and waits for it.
+//! It ends without an output.
 
 use std::alloc::AllocError;
 use vm_parts::{Answer, NotificationHandle, Step, UnresolvedFuture};
@@ -9,7 +10,7 @@ use vm_rounds::Handler;
 pub struct Asker;
 
 impl Handler for Asker {
-    ghost use Rattle.vectors.specs.Asking.{ask_step};
+    ghost use Rattle.replays.specs.Asking.{ask_step};
 
     ghost meaning = { λ h. ask_step };
 

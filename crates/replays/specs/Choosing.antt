@@ -1,0 +1,59 @@
+-- A handler that completes an awakeable of another, waits for one of its own, and goes on by what it takes.
+use Rattle.std.specs.Prelude.{◌==◌, ℕ, Bool, true, false, if◌then◌else◌, List, [], length, slice_get, codes, Option, Some, None}
+use Rattle.vm_parts.specs.declared.steps.Answer.{Answer}
+use Rattle.vm_parts.specs.declared.steps.Answer.TheVariants as answer
+use Rattle.vm_parts.specs.declared.steps.Step.{Step}
+use Rattle.vm_parts.specs.declared.steps.Step.TheVariants as step
+use Rattle.vm_parts.specs.declared.types.NotificationHandle.{NotificationHandle}
+use Rattle.vm_parts.specs.declared.types.UnresolvedFuture.TheVariants.{Single}
+use Rattle.vm_parts.specs.declared.values.NonEmptyValue.TheVariants.{Success}
+use Rattle.vm_parts.specs.declared.values.Value.{Value}
+use Rattle.vm_parts.specs.declared.values.Value.TheVariants as value
+use Rattle.replays.specs.Steps.{first_handle, sleep_step, output_step}
+
+-- the second handle that an attempt hands out
+abbrev pub second_handle : NotificationHandle
+second_handle = record { 0 = 18 }
+
+-- the bytes of a success
+abbrev pub bytes_of : Value → Option (List ℕ)
+bytes_of (value.Success bytes) = Some bytes
+bytes_of value.Void = None
+bytes_of (value.Failure failure) = None
+bytes_of (value.StateKeys keys) = None
+bytes_of (value.InvocationId id) = None
+
+-- the bytes of a success that was taken
+abbrev pub bytes_taken : Option Answer → Option (List ℕ)
+bytes_taken (Some (answer.Taken (Some value))) = bytes_of value
+bytes_taken (Some (answer.Taken None)) = None
+bytes_taken (Some (answer.Input input)) = None
+bytes_taken (Some (answer.Handle handle)) = None
+bytes_taken (Some (answer.Awakeable awakeable)) = None
+bytes_taken (Some answer.Unit) = None
+bytes_taken (Some answer.Awake) = None
+bytes_taken (Some answer.Cancelled) = None
+bytes_taken (Some (answer.Completed is)) = None
+bytes_taken None = None
+
+-- the step behind the take: what was taken is the output, or else there is a sleep
+abbrev pub chosen_step : Option (List ℕ) → Step
+chosen_step (Some bytes) = output_step bytes
+chosen_step None = sleep_step
+
+abbrev pub is_chosen : Option (List ℕ) → Bool
+is_chosen (Some bytes) = true
+is_chosen None = false
+
+-- the step after so many answers
+abbrev pub choose_step : List Answer → Step
+choose_step answers =
+    if length answers == 1 then step.CompleteAwakeable (codes "prom_1") (Success (codes "v")) (record { unstable_serialization = false })
+    else if length answers == 2 then step.Awakeable
+    else if length answers == 3 then step.Await (Single first_handle)
+    else if length answers == 4 then step.Take first_handle
+    else if length answers == 5 then chosen_step (bytes_taken (slice_get answers 4))
+    else if length answers == 6 then
+    (if is_chosen (bytes_taken (slice_get answers 4)) then step.End else step.Await (Single second_handle))
+    else if length answers == 7 then output_step []
+    else step.End

@@ -1,0 +1,66 @@
+//! A handler that goes on by what it took.
+//! It completes the awakeable of another, and waits for one of its own.
+ghost use Rattle.std.specs.Prelude.{◌≡◌, slice_get, IfOk};
+ghost use Rattle.replays.specs.Choosing.{bytes_taken, chosen_step, is_chosen};
+
+use crate::steps::{output, sleep};
+use bytes::Bytes;
+use std::alloc::{AllocError, Global};
+use vm_parts::{
+    Answer, NonEmptyValue, NotificationHandle, PayloadOptions, Step, UnresolvedFuture, Value,
+};
+use vm_rounds::Handler;
+use wire::Text;
+
+/// Completes the awakeable "prom_1" with "v", makes an awakeable, awaits it and takes its result. Where that is a
+/// success it writes the same bytes as its output; else it sleeps to 1000 ms, awaits the sleep and writes an empty
+/// output. Then it ends.
+#[derive(Debug, Drop)]
+pub struct Chooser {
+    pub alloc: Global,
+}
+
+/// The step behind the take.
+fn chosen(alloc: Global, answers: &[Answer]) -> Result<Step, AllocError>
+    ensures { IfOk result (λ step. step ≡ chosen_step (bytes_taken (slice_get answers.now 4))) }
+{
+    match answers.get(4) {
+        Some(Answer::Taken(Some(Value::Success(bytes)))) => Ok(output(bytes.clone()?)),
+        _ => Ok(sleep(alloc)),
+    }
+}
+
+/// Whether a success was taken.
+fn took_success(answers: &[Answer]) -> bool
+    ensures { result ≡ is_chosen (bytes_taken (slice_get answers.now 4)) }
+{
+    matches!(answers.get(4), Some(Answer::Taken(Some(Value::Success(_)))))
+}
+
+impl Handler for Chooser {
+    ghost use Rattle.replays.specs.Choosing.{choose_step};
+
+    ghost meaning = { λ h. choose_step };
+
+    fn next(&self, answers: &[Answer]) -> Result<Step, AllocError> {
+        match answers.len() {
+            1 => Ok(Step::CompleteAwakeable {
+                id: Text::from_str(self.alloc, "prom_1")?,
+                value: NonEmptyValue::Success(Bytes::from_static(b"v")),
+                options: PayloadOptions::stable_serialization(),
+            }),
+            2 => Ok(Step::Awakeable),
+            3 => Ok(Step::Await(UnresolvedFuture::Single(NotificationHandle(17)))),
+            4 => Ok(Step::Take(NotificationHandle(17))),
+            5 => chosen(self.alloc, answers),
+            6 => {
+                if took_success(answers) {
+                    return Ok(Step::End);
+                }
+                Ok(Step::Await(UnresolvedFuture::Single(NotificationHandle(18))))
+            }
+            7 => Ok(output(Bytes::new())),
+            _ => Ok(Step::End),
+        }
+    }
+}

@@ -1,0 +1,105 @@
+// Journals of whole runs, cut at each byte, and one byte at a time.
+// However a journal is cut, an attempt is ready when the known entries are there, and makes the same run.
+use crate::bench::{assert_answers, assert_fails, assert_sends, attempt_of, drive};
+use crate::runs::{Ending, Replay, Run};
+use bytes::Bytes;
+use std::alloc::Global;
+use std::process::Abort;
+use std::test::Fail;
+use vm_rounds::{Attempt, Handler, Progress};
+
+/// Feeds these pieces, and drives the attempt behind each. It is ready as soon as the known entries are there.
+fn feed_pieces<H: Handler>(
+    rt: &impl Abort,
+    alloc: Global,
+    attempt: &mut Attempt<H>,
+    pieces: &[&[u8]],
+    recorded: usize,
+) -> Result<(), Fail> {
+    let mut fed = 0usize;
+    for piece in pieces {
+        attempt.feed(Bytes::copy_from_slice(alloc, piece)?)?;
+        fed = fed.saturating_add(piece.len());
+        let is_waiting = matches!(drive(attempt), Ok(Progress::NotReady));
+        assert_eq!(rt; is_waiting, fed < recorded);
+    }
+    Ok(())
+}
+
+/// The run is over in this way.
+fn assert_over<H: Handler>(
+    rt: &impl Abort,
+    attempt: &mut Attempt<H>,
+    ending: Ending,
+) -> Result<(), Fail> {
+    match ending {
+        Ending::Ended => assert_eq!(rt; drive(attempt)?, Progress::Ended),
+        Ending::Suspended(_) => assert_eq!(rt; drive(attempt)?, Progress::Suspended),
+        Ending::Refused(code, text, _) => {
+            assert_fails(rt, attempt, code, text)?;
+            assert_fails(rt, attempt, code, text)?;
+        }
+    }
+    Ok(())
+}
+
+/// An attempt that is fed these pieces of the journal makes the run.
+fn assert_makes<H: Handler>(
+    rt: &impl Abort,
+    alloc: Global,
+    handler: &H,
+    run: &Run,
+    replay: &Replay,
+    pieces: &[&[u8]],
+) -> Result<(), Fail> {
+    let mut attempt = attempt_of(alloc, handler)?;
+    feed_pieces(rt, alloc, &mut attempt, pieces, replay.recorded.len())?;
+    attempt.close()?;
+    assert_over(rt, &mut attempt, run.ending)?;
+    assert_answers(rt, attempt.answers(), run.answers);
+    assert_sends(rt, alloc, &mut attempt, &[replay.written.as_slice()])
+}
+
+/// The journal of which so many entries are known makes the run, cut at each byte, and one byte at a time.
+fn assert_each_cut<H: Handler>(
+    rt: &impl Abort,
+    alloc: Global,
+    handler: &H,
+    run: &Run,
+    known: u32,
+) -> Result<(), Fail> {
+    let replay = run.replay(alloc, known)?;
+    let journal = [replay.recorded.as_slice(), replay.arrivals.as_slice()].concat(alloc)?;
+    let mut single = Vec::new(alloc);
+    for (place, byte) in journal.as_slice().chunks(1).enumerate() {
+        single.push(byte)?;
+        let (front, back) = journal.as_slice().split_at(place);
+        assert_makes(rt, alloc, handler, run, &replay, &[front, back])?;
+    }
+    assert_makes(rt, alloc, handler, run, &replay, &[journal.as_slice()])?;
+    assert_makes(rt, alloc, handler, run, &replay, single.as_slice())
+}
+
+/// The journal of which all entries are known makes the run, however it is cut.
+pub fn assert_recorded<H: Handler>(
+    rt: &impl Abort,
+    alloc: Global,
+    handler: &H,
+    run: &Run,
+) -> Result<(), Fail> {
+    let known = u32::try_from(run.entries.len())?;
+    assert_each_cut(rt, alloc, handler, run, known)
+}
+
+/// So does each journal of which a beginning of the entries is known.
+pub fn assert_replays<H: Handler>(
+    rt: &impl Abort,
+    alloc: Global,
+    handler: &H,
+    run: &Run,
+) -> Result<(), Fail> {
+    for (known, _) in (1..).zip(run.entries) {
+        assert_each_cut(rt, alloc, handler, run, known)?;
+    }
+    Ok(())
+}

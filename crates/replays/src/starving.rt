@@ -1,0 +1,24 @@
+//! A handler that finds no memory.
+//! Its meaning is that of another, which it asks as long as it finds some.
+
+use std::alloc::AllocError;
+use vm_parts::{Answer, Step};
+use vm_rounds::Handler;
+
+/// The other handler, which finds no memory for the step after so many answers.
+#[derive(Debug, Drop)]
+pub struct Starving<H> {
+    pub handler: H,
+    pub answers: usize,
+}
+
+impl<H: Handler> Handler for Starving<H> {
+    ghost meaning = { λ h. H.meaning h.handler };
+
+    fn next(&self, answers: &[Answer]) -> Result<Step, AllocError> {
+        if answers.len() == self.answers {
+            return Err(AllocError);
+        }
+        self.handler.next(answers)
+    }
+}
