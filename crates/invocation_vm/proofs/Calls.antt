@@ -1,10 +1,13 @@
 -- What a call does, from what its event gave and what the error rule made of it.
 use Rattle.std.proofs.Common.{◌≡◌, ◌⊎◌, inl, inr, ⊎_elim, ◌∙◌, sym, ap, refl, subst, Option, Some, None, Result, Ok, Err, rules, arith}
+use Rattle.std.specs.Prelude.{OnOk}
 use Rattle.journal_protocol.specs.declared.error.Error.{Error}
 use Rattle.journal_protocol.specs.Errors.{no_memory}
 use Rattle.vm_machine.specs.declared.fault.Fault.{Fault}
 use Rattle.vm_machine.specs.declared.fault.Fault.TheVariants as fault
 use Rattle.vm_machine.specs.declared.machine.Machine.{Machine}
+use Rattle.vm_machine.specs.declared.request.Request.{Request}
+use Rattle.vm_machine.specs.Commands.{CanBeRead}
 use Rattle.vm_machine.specs.Outcomes.{Outcome, Done, Failed, Gives, Does, Lives, Settles, settled, called, called_at, IsStarved, starved, ruled, failed, flat, flattened}
 
 -- the case of want of memory
@@ -52,3 +55,10 @@ flattens {A = A} o (Err e) old new h = elim h as (λ _. Does {A = A} (flat o) (E
 -- a call whose answer may be an error, from the call that keeps it as an answer
 pub flattens_call : {A : Type 0} (o : Outcome (Result A Error)) (r : Result (Result A Error) Error) (s : Result A Error) (old new : Machine) → Does (called o old) r old new → s ≡ flattened r → Does (flat (called o old)) s old new
 flattens_call {A = A} o r s old new d e = subst (λ (x : Result A Error). Does (flat (called o old)) x old new) (sym e) (flattens (called o old) r old new d)
+
+-- where a call is answered, its event was
+pub settles_sent : {A : Type 0} (q : Request) (v : Machine) (given : Result A Fault) (r : Result A Error) (mid new : Machine) → Settles given r mid new → OnOk given (CanBeRead q v) → OnOk r (CanBeRead q v)
+settles_sent q v (Ok a) r mid new s h = rw s.0 h
+settles_sent q v (Err fault.Memory) r mid new s h = rw s.0 tt
+settles_sent q v (Err (fault.Refused e)) r mid new s h =
+    elim s as (λ _. OnOk r (CanBeRead q v)) [ inl x ↦ rw x.0 tt | inr x ↦ rw x.0 tt ]

@@ -1,9 +1,12 @@
 //! The arguments of the calls that have a command: what is checked, and the request that they are; and what is checked
 //! of the call that makes an awakeable.
-ghost use Rattle.std.specs.Prelude.{◌≡◌, ◌/◌, None, string_bytes};
+ghost use Rattle.std.specs.Prelude.{◌≡◌, ◌/◌, None, OnOk, string_bytes};
 ghost use Rattle.std.specs.Duration.{as_nanos};
 ghost use Rattle.journal_protocol.specs.Errors.{named_error};
 ghost use Rattle.vm_machine.specs.declared.fault.Fault.TheVariants.{Refused};
+ghost use Rattle.vm_parts.specs.Values.{value_message};
+ghost use Rattle.vm_machine.specs.declared.request.Request.TheVariants as request;
+ghost use Rattle.vm_machine.specs.Commands.{CanBeRead};
 ghost use Rattle.vm_machine.specs.Outcomes.{Gives};
 ghost use Rattle.invocation_vm.specs.Calls.{cancel_invocation_step, complete_awakeable_step, complete_signal_step, has_metadata, name_or_empty, needs_v6, new_awakeable_step, output_step, skips_replay, sleep_step, state_clear_all_step, state_clear_step, state_set_step};
 
@@ -55,7 +58,8 @@ pub(crate) fn sleep(
     name: String,
     wake_up_time: Duration,
 ) -> Result<NotificationHandle, Fault>
-    ensures { Gives (sleep_step (as_nanos wake_up_time / 1_000_000) (string_bytes name) machine.old) result machine.old machine.new }
+    ensures does { Gives (sleep_step (as_nanos wake_up_time / 1_000_000) (string_bytes name) machine.old) result machine.old machine.new }
+    ensures sent { OnOk result (CanBeRead (request.Sleep (as_nanos wake_up_time / 1_000_000) (string_bytes name)) machine.old) }
 {
     let millis = wake_up_time.as_millis();
     if millis > u64::MAX as u128 {
@@ -72,7 +76,8 @@ pub(crate) fn write_output(
     value: NonEmptyValue,
     options: PayloadOptions,
 ) -> Result<(), Fault>
-    ensures { Gives (output_step value options machine.old) result machine.old machine.new }
+    ensures does { Gives (output_step value options machine.old) result machine.old machine.new }
+    ensures sent { OnOk result (CanBeRead (request.Output (value_message value) options) machine.old) }
 {
     if needs_v6(machine, &value) {
         return Err(refuse(NamedFault::UnsupportedFeatureForNegotiatedVersion));
@@ -91,7 +96,8 @@ pub(crate) fn set_state(
     name: Option<String>,
     options: PayloadOptions,
 ) -> Result<(), Fault>
-    ensures { Gives (state_set_step (string_bytes key) value (name_or_empty name) options machine.old) result machine.old machine.new }
+    ensures does { Gives (state_set_step (string_bytes key) value (name_or_empty name) options machine.old) result machine.old machine.new }
+    ensures sent { OnOk result (CanBeRead (request.SetState (string_bytes key) value (name_or_empty name) options) machine.old) }
 {
     machine.issue(&Request::SetState {
         key: Text::from_string(key),
@@ -107,7 +113,8 @@ pub(crate) fn clear_state(
     key: String,
     name: Option<String>,
 ) -> Result<(), Fault>
-    ensures { Gives (state_clear_step (string_bytes key) (name_or_empty name) machine.old) result machine.old machine.new }
+    ensures does { Gives (state_clear_step (string_bytes key) (name_or_empty name) machine.old) result machine.old machine.new }
+    ensures sent { OnOk result (CanBeRead (request.ClearState (string_bytes key) (name_or_empty name)) machine.old) }
 {
     machine.issue(&Request::ClearState {
         key: Text::from_string(key),
@@ -117,7 +124,8 @@ pub(crate) fn clear_state(
 }
 
 pub(crate) fn clear_all_state(machine: &mut Machine, name: Option<String>) -> Result<(), Fault>
-    ensures { Gives (state_clear_all_step (name_or_empty name) machine.old) result machine.old machine.new }
+    ensures does { Gives (state_clear_all_step (name_or_empty name) machine.old) result machine.old machine.new }
+    ensures sent { OnOk result (CanBeRead (request.ClearAllState (name_or_empty name)) machine.old) }
 {
     machine.issue(&Request::ClearAllState {
         name: name_text(machine.alloc, name),
@@ -146,7 +154,8 @@ pub(crate) fn complete_awakeable(
     value: NonEmptyValue,
     options: PayloadOptions,
 ) -> Result<(), Fault>
-    ensures { Gives (complete_awakeable_step (string_bytes id) value options machine.old) result machine.old machine.new }
+    ensures does { Gives (complete_awakeable_step (string_bytes id) value options machine.old) result machine.old machine.new }
+    ensures sent { OnOk result (CanBeRead (request.CompleteAwakeable (string_bytes id) (value_message value) options) machine.old) }
 {
     if needs_v6(machine, &value) {
         return Err(refuse(NamedFault::UnsupportedFeatureForNegotiatedVersion));
@@ -165,7 +174,8 @@ pub(crate) fn complete_signal(
     signal: String,
     value: NonEmptyValue,
 ) -> Result<(), Fault>
-    ensures { Gives (complete_signal_step (string_bytes target) (string_bytes signal) value machine.old) result machine.old machine.new }
+    ensures does { Gives (complete_signal_step (string_bytes target) (string_bytes signal) value machine.old) result machine.old machine.new }
+    ensures sent { OnOk result (CanBeRead (request.CompleteSignal (string_bytes target) (string_bytes signal) (value_message value)) machine.old) }
 {
     if needs_v6(machine, &value) {
         return Err(refuse(NamedFault::UnsupportedFeatureForNegotiatedVersion));
@@ -179,7 +189,8 @@ pub(crate) fn complete_signal(
 }
 
 pub(crate) fn cancel_invocation(machine: &mut Machine, target: String) -> Result<(), Fault>
-    ensures { Gives (cancel_invocation_step (string_bytes target) machine.old) result machine.old machine.new }
+    ensures does { Gives (cancel_invocation_step (string_bytes target) machine.old) result machine.old machine.new }
+    ensures sent { OnOk result (CanBeRead (request.CancelInvocation (string_bytes target)) machine.old) }
 {
     machine.issue(&Request::CancelInvocation {
         target: Text::from_string(target),

@@ -86,7 +86,7 @@ impl CoreVM {
     }
 }
 
-#[tactic(auto, using(crate::proofs::Calls::flattens_call, crate::proofs::Calls::does_called, crate::proofs::Calls::does_failed, crate::proofs::Feeds::leaves_called, crate::proofs::Feeds::stays_called))]
+#[tactic(auto, using(crate::proofs::Calls::flattens_call, crate::proofs::Calls::does_called, crate::proofs::Calls::does_failed, crate::proofs::Feeds::leaves_called, crate::proofs::Feeds::stays_called, crate::proofs::Calls::settles_sent))]
 impl VM for CoreVM {
     ghost view = { λ s. record { undecoded = s.decoder; machine = s.machine } };
 

@@ -1,5 +1,5 @@
 -- What a call with a command does: in Processing its command is written, in replay the recorded one is popped.
-use Rattle.std.specs.Prelude.{ℕ, ◌+◌, Bool, true, false, ◌||◌, ◌==◌, if◌then◌else◌, List, [], ◌∷◌, ◌++◌, Option, Some, None}
+use Rattle.std.specs.Prelude.{◌≡◌, ℕ, ◌+◌, Bool, true, false, ◌||◌, ◌==◌, if◌then◌else◌, List, [], ◌∷◌, ◌++◌, Option, Some, None}
 use Rattle.journal_protocol.specs.declared.error.Error.{Error}
 use Rattle.journal_protocol.specs.declared.faults.NamedFault.{NamedFault}
 use Rattle.journal_protocol.specs.declared.faults.NamedFault.TheVariants as fault
@@ -10,6 +10,7 @@ use Rattle.journal_protocol.specs.declared.notification.NotificationId.TheVarian
 use Rattle.journal_protocol.specs.Errors.{named_error}
 use Rattle.journal_protocol.specs.Message.{encoding, type_of}
 use Rattle.journal_protocol.specs.Reading.{message_in}
+use Rattle.journal_protocol.specs.Runs.{IsWhole}
 use Rattle.journal_protocol.specs.HeaderEqual.{header_equal}
 use Rattle.journal_protocol.specs.Types.{type_number}
 use Rattle.vm_parts.specs.declared.options.NonDeterministicChecksOption.{NonDeterministicChecksOption}
@@ -119,6 +120,10 @@ unfoldable pub issued : Request → Machine → Outcome NotificationHandle
 issued r v =
     if is_running v.phase then counted (missing (ids_of r) 0 (ids_of r) v.counters) r v
     else (let w = entered (message_type (command_of r)) (name_of r) v in Failed (about_last (state_fault v.phase) w) w)
+
+-- Where a call's command is written, its frame can be read back: each field and the length fit their places.
+abbrev pub CanBeRead : Request → Machine → Type 0
+CanBeRead r v = is_processing v.phase ≡ true → IsWhole (message_of r v.counters.completion)
 
 -- a call that answers nothing
 abbrev pub unit_of : {A : Type 0} → Outcome A → Outcome Unit

@@ -1,8 +1,10 @@
 //! The event of all calls that have a command: the command is written, or in replay the recorded one is popped.
-ghost use Rattle.std.specs.Prelude.{◌≡◌, ◌<◌, ◌+◌, ◌^◌, Some, IfOk, OnOk, OnErr};
+ghost use Rattle.std.specs.Prelude.{◌≡◌, ◌<◌, ◌+◌, ◌^◌, true, Some, IfOk, OnOk, OnErr};
 ghost use Rattle.journal_protocol.specs.Errors.{named_error};
+ghost use Rattle.journal_protocol.specs.Runs.{IsWhole};
 ghost use Rattle.vm_machine.specs.Outcomes.{Gives, about_last, last_related};
-ghost use Rattle.vm_machine.specs.Commands.{entered, written, popped, replayed, carried_out, handed_out, ignores_payloads, prepared, issued, checks_are_off};
+ghost use Rattle.vm_machine.specs.Commands.{entered, written, popped, replayed, carried_out, handed_out, ignores_payloads, prepared, issued, checks_are_off, CanBeRead};
+ghost use Rattle.vm_machine.specs.Phases.{is_processing};
 ghost use Rattle.vm_machine.specs.Requests.{ids_of};
 
 use crate::fault::Fault;
@@ -97,6 +99,7 @@ impl Machine {
 
     fn write(&mut self, message: &Message) -> Result<(), AllocError>
         ensures ok { OnOk result (self.new ≡ written message.now self.old) }
+        ensures whole { OnOk result (IsWhole message.now) }
         ensures err { OnErr result (self.new.output ≡ self.old.output) }
     {
         let frame = Encoder::new(self.alloc).encode(message)?;
@@ -107,7 +110,8 @@ impl Machine {
 
     #[tactic(auto, unfolding(crate::specs::Commands::carried_out))]
     fn carry_out(&mut self, message: &Message, ignore_payloads: bool) -> Result<(), Fault>
-        ensures { Gives (carried_out message.now ignore_payloads self.old) result self.old self.new }
+        ensures does { Gives (carried_out message.now ignore_payloads self.old) result self.old self.new }
+        ensures whole { OnOk result (is_processing self.old.phase ≡ true → IsWhole message.now) }
     {
         if self.phase.is_processing() {
             self.write(message)?;
@@ -156,9 +160,10 @@ impl Machine {
     }
 
     /// A call that has a command.
-    #[tactic(auto, using(crate::proofs::Preparing::prepared_quiet), unfolding(crate::specs::Commands::issued))]
+    #[tactic(auto, using(crate::proofs::Preparing::prepared_quiet, crate::proofs::Preparing::prepared_reads), unfolding(crate::specs::Commands::issued))]
     pub fn issue(&mut self, request: &Request) -> Result<NotificationHandle, Fault>
-        ensures { Gives (issued request.now self.old) result self.old self.new }
+        ensures does { Gives (issued request.now self.old) result self.old self.new }
+        ensures sent { OnOk result (CanBeRead request.now self.old) }
     {
         let ty = request.ty().message_type();
         let name = request.name(self.alloc)?;

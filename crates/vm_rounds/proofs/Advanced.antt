@@ -40,7 +40,7 @@ use Rattle.vm_rounds.specs.Agreement.{Agrees, Aside}
 use Rattle.vm_rounds.specs.Journals.{BeginsOrFails, HasAll, StillWaits, commands_among, machine_fed, missing, notifications_among, setup_for, waiting}
 use Rattle.vm_rounds.specs.Record.{Record}
 use Rattle.vm_rounds.specs.Stepping.{Advances, Asks, LacksMemory, Reads, StepAt, StepDoes, StepFrom, StepUnless, fresh_record, with_vm}
-use Rattle.vm_rounds.specs.Told.{AnswersAreTold, BeforeInput, Begun, CanWriteNext, Comes, IsKept, IsLive, Quiet, Runs, StillAwaits, Wrote, arrivals, bytes_fed, frames_fed}
+use Rattle.vm_rounds.specs.Told.{AnswersAreTold, BeforeInput, Begun, Comes, IsKept, IsLive, Quiet, Runs, StillAwaits, Wrote, arrivals, bytes_fed, frames_fed}
 use Rattle.vm_rounds.proofs.Beginning.{input_begins}
 use Rattle.vm_rounds.proofs.Kept.{dead_same}
 use Rattle.vm_rounds.proofs.Pieces.{agrees_running}
@@ -204,8 +204,8 @@ runs_answered m version options fed answers before taken v k none =
     let z : [] ≡ answer.Input (told_input s.identity k.journal.input) ∷ a.0 = sym none ∙ sym k.answers ∙ a.1 in
     cc
 
-advances_keep : (m : Meaning) (version : Version) (options : VMOptions) (old : Record) (result : Result Progress Error) (new : Record) → IsKept m version options old → IsLive old.vm.machine → CanWriteNext m version options old → Advances m old result new → IsKept m version options new
-advances_keep m version options old result new k live whole =
+advances_keep : (m : Meaning) (version : Version) (options : VMOptions) (old : Record) (result : Result Progress Error) (new : Record) → IsKept m version options old → IsLive old.vm.machine → Advances m old result new → IsKept m version options new
+advances_keep m version options old result new k live =
     ⊎_elim
     (λ (x : LacksMemory old result new). subst (IsKept m version options) (sym x.1) k)
     (λ (o : ((old.answers ≡ []) × Reads old result new) ⊎ ((old.answers ≢ []) × Asks m old result new)).
@@ -218,28 +218,28 @@ advances_keep m version options old result new k live whole =
     (λ (x : (old.answers ≢ []) × Asks m old result new).
     ⊎_elim
     (λ (b : BeforeInput version options old.fed old.answers old.waiting old.taken old.vm). absurd (x.0 b.answers))
-    (λ (b : Runs m version options old.fed old.answers old.waiting old.taken old.vm). asks_keep m version options old result new b live whole x.1)
+    (λ (b : Runs m version options old.fed old.answers old.waiting old.taken old.vm). asks_keep m version options old result new b live x.1)
     k)
     o)
 
-step_at : (m : Meaning) (version : Version) (options : VMOptions) (old : Record) (result : Result Progress Error) (new : Record) → IsKept m version options old → CanWriteNext m version options old → old.vm.machine.failure ≡ None → (ph : Phase) → old.vm.machine.phase ≡ ph → StepAt ph m old result new → IsKept m version options new
-step_at m version options old result new k whole live WaitingStart at d = subst (IsKept m version options) (sym d.1) k
-step_at m version options old result new k whole live WaitingReplayEntries at d = subst (IsKept m version options) (sym d.1) k
-step_at m version options old result new k whole live Closed at d = subst (IsKept m version options) (sym d.1) k
-step_at m version options old result new k whole live Replaying at d = advances_keep m version options old result new k (record { failure = live; phase = ap is_running at }) whole d
-step_at m version options old result new k whole live Processing at d = advances_keep m version options old result new k (record { failure = live; phase = ap is_running at }) whole d
+step_at : (m : Meaning) (version : Version) (options : VMOptions) (old : Record) (result : Result Progress Error) (new : Record) → IsKept m version options old → old.vm.machine.failure ≡ None → (ph : Phase) → old.vm.machine.phase ≡ ph → StepAt ph m old result new → IsKept m version options new
+step_at m version options old result new k live WaitingStart at d = subst (IsKept m version options) (sym d.1) k
+step_at m version options old result new k live WaitingReplayEntries at d = subst (IsKept m version options) (sym d.1) k
+step_at m version options old result new k live Closed at d = subst (IsKept m version options) (sym d.1) k
+step_at m version options old result new k live Replaying at d = advances_keep m version options old result new k (record { failure = live; phase = ap is_running at }) d
+step_at m version options old result new k live Processing at d = advances_keep m version options old result new k (record { failure = live; phase = ap is_running at }) d
 
-step_unless : (m : Meaning) (version : Version) (options : VMOptions) (old : Record) (result : Result Progress Error) (new : Record) → IsKept m version options old → CanWriteNext m version options old → (f : Option Error) → old.vm.machine.failure ≡ f → (over : Option Progress) → StepUnless f over m old result new → IsKept m version options new
-step_unless m version options old result new k whole (Some e) is over d = subst (IsKept m version options) (sym d.1) k
-step_unless m version options old result new k whole None is (Some made) d = subst (IsKept m version options) (sym d.1) k
-step_unless m version options old result new k whole None is None d = step_at m version options old result new k whole is old.vm.machine.phase refl d
+step_unless : (m : Meaning) (version : Version) (options : VMOptions) (old : Record) (result : Result Progress Error) (new : Record) → IsKept m version options old → (f : Option Error) → old.vm.machine.failure ≡ f → (over : Option Progress) → StepUnless f over m old result new → IsKept m version options new
+step_unless m version options old result new k (Some e) is over d = subst (IsKept m version options) (sym d.1) k
+step_unless m version options old result new k None is (Some made) d = subst (IsKept m version options) (sym d.1) k
+step_unless m version options old result new k None is None d = step_at m version options old result new k is old.vm.machine.phase refl d
 
-pub step_keeps : (m : Meaning) (version : Version) (options : VMOptions) (old : Record) (result : Result Progress Error) (new : Record) → IsKept m version options old → CanWriteNext m version options old → StepDoes m old result new → IsKept m version options new
-step_keeps m version options old result new k whole does = by_test old.starved does
+pub step_keeps : (m : Meaning) (version : Version) (options : VMOptions) (old : Record) (result : Result Progress Error) (new : Record) → IsKept m version options old → StepDoes m old result new → IsKept m version options new
+step_keeps m version options old result new k does = by_test old.starved does
   where
     by_test : (b : Bool) → StepFrom b m old result new → IsKept m version options new
     by_test true d = subst (IsKept m version options) (sym d.1) k
-    by_test false d = step_unless m version options old result new k whole old.vm.machine.failure refl old.over d
+    by_test false d = step_unless m version options old result new k old.vm.machine.failure refl old.over d
 
 -- ---- a new attempt, and what is told
 

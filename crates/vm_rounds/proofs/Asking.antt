@@ -9,7 +9,7 @@ use Rattle.vm_rounds.specs.declared.progress.Progress.{Progress}
 use Rattle.vm_rounds.specs.declared.progress.Reply.{Reply}
 use Rattle.vm_rounds.specs.declared.progress.Reply.TheVariants as reply
 use Rattle.vm_rounds.specs.Record.{Record}
-use Rattle.vm_rounds.specs.Steps.{performed, Asked}
+use Rattle.vm_rounds.specs.Steps.{Made}
 use Rattle.vm_rounds.specs.Stepping.{Meaning, asked, asked_from, future_in, settled, progress_of, Advances}
 
 -- the VM's view before doesn't matter to the record after
@@ -22,7 +22,7 @@ settled_vm r answers mid future (Ok reply.Ended) w = refl
 settled_vm r answers mid future (Err e) w = refl
 
 pub asks_made : (meaning : Meaning) (old : Record) (answers : List Answer) (mid w : View) (step : Step) (future : Option UnresolvedFuture) (given : Result Reply Error) (result : Result Progress Error) (new : Record)
-    → answers ≡ old.answers → step ≡ asked_from old.waiting (meaning answers) → future ≡ future_in step → Asked (performed step) given old.vm w
+    → answers ≡ old.answers → step ≡ asked_from old.waiting (meaning answers) → future ≡ future_in step → Made step given old.vm w
     → new ≡ settled (record old { answers = answers; vm = mid }) future given w → (answers ≡ [] → ⊥) → result ≡ progress_of given → Advances meaning old result new
 asks_made meaning old answers mid w step future given result new same is kept done left some made =
     let next : step ≡ asked meaning old = is ∙ ap (λ xs. asked_from old.waiting (meaning xs)) same in
@@ -31,7 +31,7 @@ asks_made meaning old answers mid w step future given result new same is kept do
       (
         given,
         w,
-        subst (λ s. Asked (performed s) given old.vm w) next done,
+        subst (λ s. Made s given old.vm w) next done,
         left ∙ settled_vm old answers mid future given w ∙ ap (λ xs. settled (record old { answers = xs }) future given w) same
             ∙ ap (λ f. settled old f given w) (kept ∙ ap future_in next),
         made,

@@ -9,7 +9,6 @@ use Rattle.journal_protocol.specs.declared.message.RawMessage.{RawMessage}
 use Rattle.journal_protocol.specs.declared.notification.NotificationId.{NotificationId}
 use Rattle.journal_protocol.specs.declared.notification.NotificationResult.{NotificationResult}
 use Rattle.journal_protocol.specs.Errors.{named_error}
-use Rattle.journal_protocol.specs.Runs.{IsWhole}
 use Rattle.vm_parts.specs.declared.context.StateMap.{StateMap}
 use Rattle.vm_parts.specs.declared.steps.Answer.{Answer}
 use Rattle.vm_parts.specs.declared.steps.Answer.TheVariants as answer
@@ -27,10 +26,10 @@ use Rattle.vm_machine.specs.declared.request.Request.{Request}
 use Rattle.vm_machine.specs.declared.request.Request.TheVariants as request
 use Rattle.vm_machine.specs.Awaits.{take_step}
 use Rattle.vm_machine.specs.Awaits as awaits
-use Rattle.vm_machine.specs.Commands.{issued, phase_after, unit_of}
+use Rattle.vm_machine.specs.Commands.{CanBeRead, issued, phase_after, unit_of}
 use Rattle.vm_machine.specs.Inputs.{end_at, end_step}
 use Rattle.vm_machine.specs.Outcomes.{Outcome, Done, Failed, called, refused, ruled}
-use Rattle.vm_machine.specs.Phases.{is_closed, is_from_v6, is_running, state_fault}
+use Rattle.vm_machine.specs.Phases.{is_closed, is_from_v6, is_processing, is_running, state_fault}
 use Rattle.vm_machine.specs.Requests.{ids_of, message_of}
 use Rattle.vm_machine.specs.Signals.{awakeable_counted, awakeable_id, awakeable_step}
 use Rattle.invocation_vm.specs.Calls.{handing, has_metadata, new_awakeable_step, skips_replay, sleep_step}
@@ -41,8 +40,8 @@ use Rattle.vm_model.specs.Moves.{Point, longer, move_at, moved, supply}
 use Rattle.vm_model.proofs.Runs.{longer_nothing}
 use Rattle.vm_rounds.specs.declared.progress.Reply.{Reply}
 use Rattle.vm_rounds.specs.declared.progress.Reply.TheVariants as reply
-use Rattle.vm_rounds.specs.Agreement.{Agrees, Aside, CanBeWritten, Follows, HasEnded, IsRefused, machine_at}
-use Rattle.vm_rounds.specs.Steps.{awakeable_made as made_awakeable, done, ended, mapped, performed, slept, taken}
+use Rattle.vm_rounds.specs.Agreement.{Agrees, Aside, Follows, HasEnded, IsRefused, machine_at}
+use Rattle.vm_rounds.specs.Steps.{IfDone, IsReadable, awakeable_made as made_awakeable, done, ended, mapped, performed, request_of, slept, taken}
 use Rattle.vm_rounds.proofs.Leading.{Leads, error_written, follows_from, no_move, open_after, with_frames}
 use Rattle.vm_rounds.proofs.Own.{stands_for_itself}
 use Rattle.vm_rounds.proofs.Requesting.{issues, runs_at}
@@ -102,15 +101,22 @@ makes_awakeable s given written aside p identity false = counts_awakeable s give
 
 -- ---- calls with a command
 
--- what the table needs of a request's command, where its numbers are left
-abbrev Own : Setup → Request → Point → Type 0
-Own s r p = missing (ids_of r) 0 (ids_of r) p.derived.counters ≡ None → IsWhole (message_of r p.derived.counters.completion)
+-- what holds where an event is done, holds where its call is
+event_done : {A B : Type 0} (P : Type 0) (f : A → B) (s : Setup) (given : StateMap) (written : List RawMessage) (aside : Aside) (p : Point) (o : Outcome A) → IfDone (mapped f (called o (machine_at s given written aside p))) P → IfDone o P
+unfolding called
+event_done P f s given written aside p (Done a w) h = h
+event_done P f s given written aside p (Failed e w) h = tt
 
-own_of : (s : Setup) (m : Meaning) (p : Point) (r : Request) → CanBeWritten s m p → move_at s m p ≡ requested s r p.derived → Own s r p
-own_of s m p r whole is none = whole (demand_of s r p.derived) (answer_of r p.derived ∷ []) (commanded r p.derived) (is ∙ ap (λ o. numbered s r o p.derived) none)
+unit_done : (P : Type 0) (o : Outcome NotificationHandle) → IfDone (unit_of o) P → IfDone o P
+unit_done P (Done a w) h = h
+unit_done P (Failed e w) h = tt
 
-requests : (s : Setup) (given : StateMap) (written : List RawMessage) (aside : Aside) (p : Point) (r : Request) (gives : NotificationHandle → Answer) → gives (record { 0 = p.derived.counters.handle }) ≡ answer_of r p.derived → Own s r p → LeadsOn s given written aside p gives (requested s r p.derived) (issued r (machine_at s given written aside p))
-requests s given written aside p r gives is own = issues s given written aside r p (λ h. gives h ∷ []) (ap (λ a. a ∷ []) is) (λ none. stands_for_itself s r p.derived (own none))
+-- a request, where what it writes can be read back
+abbrev Reads : Setup → StateMap → List RawMessage → Aside → Request → Point → Type 0
+Reads s given written aside r p = CanBeRead r (machine_at s given written aside p)
+
+requests : (s : Setup) (given : StateMap) (written : List RawMessage) (aside : Aside) (p : Point) (r : Request) (gives : NotificationHandle → Answer) → gives (record { 0 = p.derived.counters.handle }) ≡ answer_of r p.derived → IfDone (issued r (machine_at s given written aside p)) (Reads s given written aside r p) → LeadsOn s given written aside p gives (requested s r p.derived) (issued r (machine_at s given written aside p))
+requests s given written aside p r gives is own = issues s given written aside r p (λ h. gives h ∷ []) (ap (λ a. a ∷ []) is) (Reads s given written aside r p) (λ (whole : Reads s given written aside r p) spent. stands_for_itself s r p.derived (whole (ap (λ l. is_processing (phase_after l)) spent))) own
 
 -- an outcome whose answer is dropped
 drops : (s : Setup) (given : StateMap) (written : List RawMessage) (aside : Aside) (p : Point) (mv : Move) (to : Option Point) (o : Outcome NotificationHandle) → Leads s given written aside p (supply mv p.left) (λ _. answer.Unit ∷ []) to o → Leads s given written aside p (supply mv p.left) (λ _. answer.Unit ∷ []) to (unit_of o)
@@ -120,23 +126,23 @@ drops s given written aside p mv (Some q) (Failed e w) g = absurd g
 drops s given written aside p mv None (Done a w) g = absurd g
 
 -- a request whose call answers nothing
-unit_request : (s : Setup) (given : StateMap) (written : List RawMessage) (aside : Aside) (p : Point) (r : Request) → answer.Unit ≡ answer_of r p.derived → Own s r p → LeadsOn s given written aside p (λ _. answer.Unit) (requested s r p.derived) (unit_of (issued r (machine_at s given written aside p)))
+unit_request : (s : Setup) (given : StateMap) (written : List RawMessage) (aside : Aside) (p : Point) (r : Request) → answer.Unit ≡ answer_of r p.derived → IfDone (unit_of (issued r (machine_at s given written aside p))) (Reads s given written aside r p) → LeadsOn s given written aside p (λ _. answer.Unit) (requested s r p.derived) (unit_of (issued r (machine_at s given written aside p)))
 unit_request s given written aside p r is own =
     let mv = requested s r p.derived in
-    drops s given written aside p mv (moved mv (longer (supply mv p.left) p)) (issued r (machine_at s given written aside p)) (requests s given written aside p r (λ _. answer.Unit) is own)
+    drops s given written aside p mv (moved mv (longer (supply mv p.left) p)) (issued r (machine_at s given written aside p)) (requests s given written aside p r (λ _. answer.Unit) is (unit_done (Reads s given written aside r p) (issued r (machine_at s given written aside p)) own))
 
 -- a request that hands a value on
-hands : (s : Setup) (given : StateMap) (written : List RawMessage) (aside : Aside) (p : Point) (r : Request) → answer.Unit ≡ answer_of r p.derived → (a b : Bool) → (cond a (cond b (requested s r p.derived) Stops) (requested s r p.derived) ≡ requested s r p.derived → Own s r p)
+hands : (s : Setup) (given : StateMap) (written : List RawMessage) (aside : Aside) (p : Point) (r : Request) → answer.Unit ≡ answer_of r p.derived → (a b : Bool) → IfDone (if a && not b then refused fault.UnsupportedFeatureForNegotiatedVersion (machine_at s given written aside p) else unit_of (issued r (machine_at s given written aside p))) (Reads s given written aside r p)
     → LeadsOn s given written aside p (λ _. answer.Unit) (cond a (cond b (requested s r p.derived) Stops) (requested s r p.derived))
     (if a && not b then refused fault.UnsupportedFeatureForNegotiatedVersion (machine_at s given written aside p) else unit_of (issued r (machine_at s given written aside p)))
-hands s given written aside p r is true true own = unit_request s given written aside p r is (own refl)
+hands s given written aside p r is true true own = unit_request s given written aside p r is own
 hands s given written aside p r is true false own = (refl, open_after p.left)
-hands s given written aside p r is false b own = unit_request s given written aside p r is (own refl)
+hands s given written aside p r is false b own = unit_request s given written aside p r is own
 
 -- a sleep, where its time fits
-sleeps : (s : Setup) (given : StateMap) (written : List RawMessage) (aside : Aside) (p : Point) (millis : ℕ) (name : List ℕ) (b : Bool) → (cond b (requested s (request.Sleep millis name) p.derived) Stops ≡ requested s (request.Sleep millis name) p.derived → Own s (request.Sleep millis name) p)
+sleeps : (s : Setup) (given : StateMap) (written : List RawMessage) (aside : Aside) (p : Point) (millis : ℕ) (name : List ℕ) (b : Bool) → IfDone (cond b (issued (request.Sleep millis name) (machine_at s given written aside p)) (refused fault.OutOfBoundsDuration (machine_at s given written aside p))) (Reads s given written aside (request.Sleep millis name) p)
     → LeadsOn s given written aside p answer.Handle (cond b (requested s (request.Sleep millis name) p.derived) Stops) (cond b (issued (request.Sleep millis name) (machine_at s given written aside p)) (refused fault.OutOfBoundsDuration (machine_at s given written aside p)))
-sleeps s given written aside p millis name true own = requests s given written aside p (request.Sleep millis name) answer.Handle refl (own refl)
+sleeps s given written aside p millis name true own = requests s given written aside p (request.Sleep millis name) answer.Handle refl own
 sleeps s given written aside p millis name false own = (refl, open_after p.left)
 
 -- ---- the end
@@ -163,46 +169,32 @@ completes s m given written aside p h identity is =
     rw (runs_at p.left) (follows_from s m given written aside p answer.Completed (call_of s (step.Completed h) p.derived) (Done (has_result_in s h p.derived) (machine_at s given written aside p)) identity (ap (λ st. call_of s st p.derived) is) (answers s given written aside p answer.Completed (has_result_in s h p.derived) p.derived))
 
 -- In a machine that agrees with a point, the handler's call does what the moves from there lead to.
-pub call_follows : (s : Setup) (m : Meaning) (given : StateMap) (written : List RawMessage) (aside : Aside) (p : Point) → s.identity ≡ identity_of aside.start → CanBeWritten s m p → (st : Step) → m p.answers ≡ st → Follows s m given written p (machine_at s given written aside p) (performed st (machine_at s given written aside p))
-call_follows s m given written aside p identity whole (step.Sleep name until now) is =
+pub call_follows : (s : Setup) (m : Meaning) (given : StateMap) (written : List RawMessage) (aside : Aside) (p : Point) → s.identity ≡ identity_of aside.start → (st : Step) → IfDone (performed st (machine_at s given written aside p)) (IsReadable (request_of st) (machine_at s given written aside p)) → m p.answers ≡ st → Follows s m given written p (machine_at s given written aside p) (performed st (machine_at s given written aside p))
+call_follows s m given written aside p identity (step.Sleep name until now) whole is =
     let millis = as_nanos until / 1000000 in
-    let r = request.Sleep millis name in
-    follows_from s m given written aside p answer.Handle _ _ identity (ap (λ st. call_of s st p.derived) is) (sleeps s given written aside p millis name (nat_lt millis 18446744073709551616) (λ e. own_of s m p r whole (ap (λ st. call_of s st p.derived) is ∙ e)))
-call_follows s m given written aside p identity whole (step.StateSet key value name options) is =
-    let r = request.SetState key value (name_in name) options in
-    let at = ap (λ st. call_of s st p.derived) is in
-    follows_from s m given written aside p (λ _. answer.Unit) _ _ identity at (unit_request s given written aside p r refl (own_of s m p r whole at))
-call_follows s m given written aside p identity whole (step.StateClear key name) is =
-    let r = request.ClearState key (name_in name) in
-    let at = ap (λ st. call_of s st p.derived) is in
-    follows_from s m given written aside p (λ _. answer.Unit) _ _ identity at (unit_request s given written aside p r refl (own_of s m p r whole at))
-call_follows s m given written aside p identity whole (step.StateClearAll name) is =
-    let r = request.ClearAllState (name_in name) in
-    let at = ap (λ st. call_of s st p.derived) is in
-    follows_from s m given written aside p (λ _. answer.Unit) _ _ identity at (unit_request s given written aside p r refl (own_of s m p r whole at))
-call_follows s m given written aside p identity whole step.Awakeable is =
+    follows_from s m given written aside p answer.Handle _ _ identity (ap (λ st. call_of s st p.derived) is) (sleeps s given written aside p millis name (nat_lt millis 18446744073709551616) (event_done _ _ s given written aside p _ whole))
+call_follows s m given written aside p identity (step.StateSet key value name options) whole is =
+    follows_from s m given written aside p (λ _. answer.Unit) _ _ identity (ap (λ st. call_of s st p.derived) is) (unit_request s given written aside p (request.SetState key value (name_in name) options) refl (event_done _ _ s given written aside p _ whole))
+call_follows s m given written aside p identity (step.StateClear key name) whole is =
+    follows_from s m given written aside p (λ _. answer.Unit) _ _ identity (ap (λ st. call_of s st p.derived) is) (unit_request s given written aside p (request.ClearState key (name_in name)) refl (event_done _ _ s given written aside p _ whole))
+call_follows s m given written aside p identity (step.StateClearAll name) whole is =
+    follows_from s m given written aside p (λ _. answer.Unit) _ _ identity (ap (λ st. call_of s st p.derived) is) (unit_request s given written aside p (request.ClearAllState (name_in name)) refl (event_done _ _ s given written aside p _ whole))
+call_follows s m given written aside p identity step.Awakeable whole is =
     follows_from s m given written aside p answer.Awakeable _ _ identity (ap (λ st. call_of s st p.derived) is) (makes_awakeable s given written aside p identity (skips_replay s.options.journal_replay))
-call_follows s m given written aside p identity whole (step.CompleteAwakeable id value options) is =
-    let r = request.CompleteAwakeable id (value_message value) options in
-    let at = ap (λ st. call_of s st p.derived) is in
-    follows_from s m given written aside p (λ _. answer.Unit) _ _ identity at (hands s given written aside p r refl (has_metadata value) (is_from_v6 s.version) (λ e. own_of s m p r whole (at ∙ e)))
-call_follows s m given written aside p identity whole (step.CompleteSignal target signal value) is =
-    let r = request.CompleteSignal target signal (value_message value) in
-    let at = ap (λ st. call_of s st p.derived) is in
-    follows_from s m given written aside p (λ _. answer.Unit) _ _ identity at (hands s given written aside p r refl (has_metadata value) (is_from_v6 s.version) (λ e. own_of s m p r whole (at ∙ e)))
-call_follows s m given written aside p identity whole (step.CancelInvocation target) is =
-    let r = request.CancelInvocation target in
-    let at = ap (λ st. call_of s st p.derived) is in
-    follows_from s m given written aside p (λ _. answer.Unit) _ _ identity at (unit_request s given written aside p r refl (own_of s m p r whole at))
-call_follows s m given written aside p identity whole (step.WriteOutput value options) is =
-    let r = request.Output (value_message value) options in
-    let at = ap (λ st. call_of s st p.derived) is in
-    follows_from s m given written aside p (λ _. answer.Unit) _ _ identity at (hands s given written aside p r refl (has_metadata value) (is_from_v6 s.version) (λ e. own_of s m p r whole (at ∙ e)))
-call_follows s m given written aside p identity whole (step.Await future) is = awaits_follow s m given written aside p future identity is
-call_follows s m given written aside p identity whole (step.Take h) is =
+call_follows s m given written aside p identity (step.CompleteAwakeable id value options) whole is =
+    follows_from s m given written aside p (λ _. answer.Unit) _ _ identity (ap (λ st. call_of s st p.derived) is) (hands s given written aside p (request.CompleteAwakeable id (value_message value) options) refl (has_metadata value) (is_from_v6 s.version) (event_done _ _ s given written aside p _ whole))
+call_follows s m given written aside p identity (step.CompleteSignal target signal value) whole is =
+    follows_from s m given written aside p (λ _. answer.Unit) _ _ identity (ap (λ st. call_of s st p.derived) is) (hands s given written aside p (request.CompleteSignal target signal (value_message value)) refl (has_metadata value) (is_from_v6 s.version) (event_done _ _ s given written aside p _ whole))
+call_follows s m given written aside p identity (step.CancelInvocation target) whole is =
+    follows_from s m given written aside p (λ _. answer.Unit) _ _ identity (ap (λ st. call_of s st p.derived) is) (unit_request s given written aside p (request.CancelInvocation target) refl (event_done _ _ s given written aside p _ whole))
+call_follows s m given written aside p identity (step.WriteOutput value options) whole is =
+    follows_from s m given written aside p (λ _. answer.Unit) _ _ identity (ap (λ st. call_of s st p.derived) is) (hands s given written aside p (request.Output (value_message value) options) refl (has_metadata value) (is_from_v6 s.version) (event_done _ _ s given written aside p _ whole))
+call_follows s m given written aside p identity (step.Await future) whole is = awaits_follow s m given written aside p future identity is
+call_follows s m given written aside p identity (step.Take h) whole is =
     follows_from s m given written aside p answer.Taken _ _ identity (ap (λ st. call_of s st p.derived) is) (takes_follow s given written aside p h)
-call_follows s m given written aside p identity whole (step.Completed h) is = completes s m given written aside p h identity is
-call_follows s m given written aside p identity whole step.End is = ends s m given written aside p is p.left refl
+call_follows s m given written aside p identity (step.Completed h) whole is = completes s m given written aside p h identity is
+call_follows s m given written aside p identity step.End whole is = ends s m given written aside p is p.left refl
 
-pub agreeing_follows : (s : Setup) (m : Meaning) (given : StateMap) (written : List RawMessage) (v : Machine) (p : Point) → Agrees s given written v p → CanBeWritten s m p → Follows s m given written p v (performed (m p.answers) v)
-agreeing_follows s m given written v p a whole = rw a.machine (call_follows s m given written a.aside p a.identity whole (m p.answers) refl)
+pub agreeing_follows : (s : Setup) (m : Meaning) (given : StateMap) (written : List RawMessage) (v : Machine) (p : Point) → Agrees s given written v p → IfDone (performed (m p.answers) v) (IsReadable (request_of (m p.answers)) v) → Follows s m given written p v (performed (m p.answers) v)
+agreeing_follows s m given written v p a whole =
+    rw a.machine (call_follows s m given written a.aside p a.identity (m p.answers) (subst (λ x. IfDone (performed (m p.answers) x) (IsReadable (request_of (m p.answers)) x)) a.machine whole) refl)

@@ -19,7 +19,7 @@ use Rattle.vm_machine.specs.declared.request.Request.{Request}
 use Rattle.vm_machine.specs.declared.request.Request.TheVariants as request
 use Rattle.vm_machine.specs.declared.phase.Phase.TheVariants.{Replaying, Processing}
 use Rattle.vm_machine.specs.Commands.{carried_out, compared, counted, entered, ignores_payloads, issued, phase_after, popped, popped_from, prepared, replayed, typed, written as wrote}
-use Rattle.vm_machine.specs.Phases.{is_processing, is_running}
+use Rattle.vm_machine.specs.Phases.{is_processing, is_running, state_fault}
 use Rattle.vm_machine.specs.Outcomes.{Outcome, Done, Failed, ◌>>=◌, about_last}
 use Rattle.vm_machine.specs.Requests.{command_of, ids_of, message_of, name_of}
 use Rattle.vm_model.specs.Calls.{Setup, Derived, Demand, Move, answer_of, commanded, demand_of, numbered, requested}
@@ -28,6 +28,7 @@ use Rattle.vm_model.specs.Journal.{stored_form}
 use Rattle.vm_model.specs.Moves.{Point, changed, changed_by, command_used, longer, moved, reads_as, stands_for, supply, uses_command}
 use Rattle.vm_model.proofs.Runs.{longer_nothing}
 use Rattle.vm_rounds.specs.Agreement.{Aside, frames_of, is_some_command, machine_at}
+use Rattle.vm_rounds.specs.Steps.{IfDone}
 use Rattle.vm_rounds.proofs.Leading.{Leads, open_after, with_frames}
 
 -- ---- the event, by what is left
@@ -130,18 +131,20 @@ replays s given written aside r p c left gives answer = by_test (type_number c.t
 
 -- the counters suffice: the command is written or popped
 carries : (s : Setup) (given : StateMap) (written : List RawMessage) (aside : Aside) (r : Request) (p : Point) (gives : NotificationHandle → List Answer) → gives (record { 0 = p.derived.counters.handle }) ≡ answer_of r p.derived ∷ []
-    → stands_for (demand_of s r p.derived) (stored_form (message_of r p.derived.counters.completion)) ≡ true
+    → (P : Type 0) → (P → p.left ≡ [] → stands_for (demand_of s r p.derived) (stored_form (message_of r p.derived.counters.completion)) ≡ true)
+    → IfDone (handed p (carried_out (message_of r p.derived.counters.completion) (demand_of s r p.derived).ignores_payload (machine_at s given written aside (said_by r p)))) P
     → (left : List RawMessage) → p.left ≡ left
     → Leads s given written aside p (supply (Needs (demand_of s r p.derived) (answer_of r p.derived ∷ []) (commanded r p.derived)) left) gives
     (moved (Needs (demand_of s r p.derived) (answer_of r p.derived ∷ []) (commanded r p.derived)) (longer (supply (Needs (demand_of s r p.derived) (answer_of r p.derived ∷ []) (commanded r p.derived)) left) p))
     (handed p (carried_out (message_of r p.derived.counters.completion) (demand_of s r p.derived).ignores_payload (machine_at s given written aside (said_by r p))))
-carries s given written aside r p gives answer own [] is =
+carries s given written aside r p gives answer P own whole [] is =
     let m = message_of r p.derived.counters.completion in
     let e = demand_of s r p.derived in
     let w = machine_at s given written aside (said_by r p) in
     let next : moved (Needs e (answer_of r p.derived ∷ []) (commanded r p.derived)) (longer (stored_form m ∷ []) p) ≡ command_used (stands_for e (stored_form m)) e (answer_of r p.derived ∷ []) (commanded r p.derived) [] p = ap (λ l. uses_command e (answer_of r p.derived ∷ []) (commanded r p.derived) (l ++ stored_form m ∷ []) (record p { left = l ++ stored_form m ∷ [] })) is in
-    rw (next, carries_spent m e.ignores_payload w (ap phase_after is)) (writes s given written aside r p gives answer is own (stands_for e (stored_form m)) refl)
-carries s given written aside r p gives answer own (c ∷ left) is =
+    let spent = carries_spent m e.ignores_payload w (ap phase_after is) in
+    rw (next, spent) (writes s given written aside r p gives answer is (own (subst (λ o. IfDone (handed p o) P) spent whole) is) (stands_for e (stored_form m)) refl)
+carries s given written aside r p gives answer P own whole (c ∷ left) is =
     let m = message_of r p.derived.counters.completion in
     let e = demand_of s r p.derived in
     let w = machine_at s given written aside (said_by r p) in
@@ -149,11 +152,14 @@ carries s given written aside r p gives answer own (c ∷ left) is =
     rw (next, carries_recorded m e.ignores_payload w (ap phase_after is), replays_next m e.ignores_payload c left w is) (replays s given written aside r p c left gives answer)
 
 counts : (s : Setup) (given : StateMap) (written : List RawMessage) (aside : Aside) (r : Request) (p : Point) (gives : NotificationHandle → List Answer) → gives (record { 0 = p.derived.counters.handle }) ≡ answer_of r p.derived ∷ []
-    → (o : Option NamedFault) → (o ≡ None → stands_for (demand_of s r p.derived) (stored_form (message_of r p.derived.counters.completion)) ≡ true)
+    → (P : Type 0) → (P → p.left ≡ [] → stands_for (demand_of s r p.derived) (stored_form (message_of r p.derived.counters.completion)) ≡ true)
+    → (o : Option NamedFault) → IfDone (counted o r (machine_at s given written aside p)) P
     → Leads s given written aside p (supply (numbered s r o p.derived) p.left) gives (moved (numbered s r o p.derived) (longer (supply (numbered s r o p.derived) p.left) p)) (counted o r (machine_at s given written aside p))
-counts s given written aside r p gives answer (Some name) own = (refl, open_after p.left)
-counts s given written aside r p gives answer None own =
-    rw (prepares s given written aside r p) (carries s given written aside r p gives answer (own refl) p.left refl)
+counts s given written aside r p gives answer P own (Some name) whole = (refl, open_after p.left)
+counts s given written aside r p gives answer P own None whole =
+    let m = message_of r p.derived.counters.completion in
+    let ready = prepares s given written aside r p in
+    rw ready (carries s given written aside r p gives answer P own (subst (λ w. IfDone (handed p (carried_out m (demand_of s r p.derived).ignores_payload w)) P) ready whole) p.left refl)
 
 pub runs_at : (left : List RawMessage) → is_running (phase_after left) ≡ true
 runs_at [] = refl
@@ -161,8 +167,12 @@ runs_at (c ∷ left) = refl
 
 -- a call with a command does what its move leads to
 pub issues : (s : Setup) (given : StateMap) (written : List RawMessage) (aside : Aside) (r : Request) (p : Point) (gives : NotificationHandle → List Answer) → gives (record { 0 = p.derived.counters.handle }) ≡ answer_of r p.derived ∷ []
-    → (missing (ids_of r) 0 (ids_of r) p.derived.counters ≡ None → stands_for (demand_of s r p.derived) (stored_form (message_of r p.derived.counters.completion)) ≡ true)
+    → (P : Type 0) → (P → p.left ≡ [] → stands_for (demand_of s r p.derived) (stored_form (message_of r p.derived.counters.completion)) ≡ true)
+    → IfDone (issued r (machine_at s given written aside p)) P
     → Leads s given written aside p (supply (requested s r p.derived) p.left) gives (moved (requested s r p.derived) (longer (supply (requested s r p.derived) p.left) p)) (issued r (machine_at s given written aside p))
 unfolding issued
-issues s given written aside r p gives answer own =
-    rw (runs_at p.left) (counts s given written aside r p gives answer (missing (ids_of r) 0 (ids_of r) p.derived.counters) own)
+issues s given written aside r p gives answer P own whole =
+    let v = machine_at s given written aside p in
+    let found = missing (ids_of r) 0 (ids_of r) p.derived.counters in
+    let runs = runs_at p.left in
+    rw runs (counts s given written aside r p gives answer P own found (subst (λ b. IfDone (if b then counted found r v else (let w = entered (message_type (command_of r)) (name_of r) v in Failed (about_last (state_fault v.phase) w) w)) P) runs whole))

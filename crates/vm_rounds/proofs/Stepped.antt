@@ -1,6 +1,6 @@
 -- A step keeps what is kept of an attempt.
 use Rattle.std.proofs.Common.{◌≡◌, ◌≢◌, ◌⊎◌, ℕ, zero, suc, ◌+◌, Bool, true, false, cond, List, [], ◌∷◌, ◌++◌, map, Option, Some, None, Result, Ok, Err, refl, sym, ap, ◌∙◌, subst, inl, inr, ⊎_elim, append_assoc, append-nil}
-use Rattle.std.specs.Prelude.{if◌then◌else◌, is_some, nat_lt, IsSome}
+use Rattle.std.specs.Prelude.{if◌then◌else◌, is_some, nat_lt, IsSome, OnOk}
 use Rattle.journal_protocol.specs.declared.error.Error.{Error}
 use Rattle.journal_protocol.specs.declared.faults.NamedFault.{NamedFault}
 use Rattle.journal_protocol.specs.declared.message.Message.{Message}
@@ -42,12 +42,12 @@ use Rattle.vm_rounds.specs.declared.progress.Fed.{Fed}
 use Rattle.vm_rounds.specs.declared.progress.Progress.{Progress}
 use Rattle.vm_rounds.specs.declared.progress.Reply.{Reply}
 use Rattle.vm_rounds.specs.declared.progress.Reply.TheVariants as reply
-use Rattle.vm_rounds.specs.Agreement.{Agrees, Answered, CanBeWritten, Follows, HasEnded, IsRefused, IsSuspended, MovesOn, StillAgrees, frames_of}
+use Rattle.vm_rounds.specs.Agreement.{Agrees, Answered, Follows, HasEnded, IsRefused, IsSuspended, MovesOn, StillAgrees, frames_of}
 use Rattle.vm_rounds.specs.Journals.{is_command, setup_for}
 use Rattle.vm_rounds.specs.Record.{Record}
 use Rattle.vm_rounds.specs.Stepping.{Asks, asked, asked_from, future_in, progress_of, settled, with_vm}
-use Rattle.vm_rounds.specs.Steps.{Asked, performed}
-use Rattle.vm_rounds.specs.Told.{BeforeInput, CanWriteNext, arrivals, IsKept, IsLive, Quiet, Runs, StillAwaits, Wrote, bytes_fed, commands_of, handed_out}
+use Rattle.vm_rounds.specs.Steps.{Asked, IfDone, IsReadable, Made as IsMade, performed, request_of}
+use Rattle.vm_rounds.specs.Told.{BeforeInput, arrivals, IsKept, IsLive, Quiet, Runs, StillAwaits, Wrote, bytes_fed, commands_of, handed_out}
 use Rattle.vm_rounds.proofs.Following.{agreeing_follows}
 use Rattle.vm_rounds.proofs.Kept.{dead_same, not_live}
 use Rattle.vm_rounds.proofs.Leading.{no_move}
@@ -240,24 +240,34 @@ module _ (m : Meaning) (version : Version) (options : VMOptions) (r : Record) (k
   refused_keeps : (e : Error) → IsRefused s m k.at r.vm.machine e w.machine → IsKept m version options (with_vm w r)
   refused_keeps e f = dead_same m version options r w (inr k) (record { messages = message.Error (error_message e) ∷ []; output = f.output; commands = refl }) (ap is_some f.failure)
 
-  replied_keeps : (st : Step) → m k.at.answers ≡ st → (x : Result Reply Error) → (o : Outcome Reply) → Follows s m (handed_out k.journal) k.written k.at r.vm.machine o → Does o x r.vm.machine w.machine → IsKept m version options (settled r (future_in st) x w)
-  replied_keeps st is (Ok (reply.Answer a)) o f does = inr (answered_keeps a (subst (Follows s m (handed_out k.journal) k.written k.at r.vm.machine) does f))
-  replied_keeps st is (Ok (reply.Waiting input run)) o f does = inr (waits_keeps st is (subst (Follows s m (handed_out k.journal) k.written k.at r.vm.machine) does f))
-  replied_keeps st is (Ok reply.Suspended) o f does = inr (suspended_keeps (subst (Follows s m (handed_out k.journal) k.written k.at r.vm.machine) does f))
-  replied_keeps st is (Ok reply.Ended) o f does = inr (ended_keeps (subst (Follows s m (handed_out k.journal) k.written k.at r.vm.machine) does f))
-  replied_keeps st is (Err e) o f does =
+  abbrev Following : Outcome Reply → Type 0
+  Following = Follows s m (handed_out k.journal) k.written k.at r.vm.machine
+
+  -- the call does what the moves lead to, where it is done as it was answered
+  done_follows : (P : Type 0) (o : Outcome Reply) (a : Reply) → (IfDone o P → Following o) → o ≡ Done a w.machine → P → Following (Done a w.machine)
+  done_follows P o a follows is h = subst Following is (follows (subst (λ q. IfDone q P) (sym is) h))
+
+  failed_follows : (P : Type 0) (o : Outcome Reply) (e : Error) → (IfDone o P → Following o) → o ≡ Failed e w.machine → Following (Failed e w.machine)
+  failed_follows P o e follows is = subst Following is (follows (subst (λ q. IfDone q P) (sym is) tt))
+
+  replied_keeps : (P : Type 0) (st : Step) → m k.at.answers ≡ st → (x : Result Reply Error) → (o : Outcome Reply) → (IfDone o P → Following o) → Does o x r.vm.machine w.machine → OnOk x P → IsKept m version options (settled r (future_in st) x w)
+  replied_keeps P st is (Ok (reply.Answer a)) o f does h = inr (answered_keeps a (done_follows P o (reply.Answer a) f does h))
+  replied_keeps P st is (Ok (reply.Waiting input run)) o f does h = inr (waits_keeps st is (done_follows P o (reply.Waiting input run) f does h))
+  replied_keeps P st is (Ok reply.Suspended) o f does h = inr (suspended_keeps (done_follows P o reply.Suspended f does h))
+  replied_keeps P st is (Ok reply.Ended) o f does h = inr (ended_keeps (done_follows P o reply.Ended f does h))
+  replied_keeps P st is (Err e) o f does h =
       ⊎_elim
-      (λ (x : o ≡ Failed e w.machine). refused_keeps e (subst (Follows s m (handed_out k.journal) k.written k.at r.vm.machine) x f))
+      (λ (x : o ≡ Failed e w.machine). refused_keeps e (failed_follows P o e f x))
       (λ (x : IsStarved e r.vm.machine w.machine). dead_same m version options r w (inr k) (quiet_same r.vm.machine w.machine x.output) x.failed)
       does
 
 -- a step of a handler that runs
-pub asks_keep : (m : Meaning) (version : Version) (options : VMOptions) (old : Record) (result : Result Progress Error) (new : Record) (k : Runs m version options old.fed old.answers old.waiting old.taken old.vm) → IsLive old.vm.machine → CanWriteNext m version options old → Asks m old result new → IsKept m version options new
-asks_keep m version options old result new k live whole (x, w, does, is, progress) =
+pub asks_keep : (m : Meaning) (version : Version) (options : VMOptions) (old : Record) (result : Result Progress Error) (new : Record) (k : Runs m version options old.fed old.answers old.waiting old.taken old.vm) → IsLive old.vm.machine → Asks m old result new → IsKept m version options new
+asks_keep m version options old result new k live (x, w, does, is, progress) =
     let s = setup_for version options k.journal.start in
     let st = m k.at.answers in
     let same : asked m old ≡ st = asks_next m k.at old.answers old.waiting k.answers k.awaits in
-    let follows = agreeing_follows s m (handed_out k.journal) k.written old.vm.machine k.at (k.agrees live) (whole k) in
+    let made : IsMade st x old.vm w = subst (λ q. IsMade q x old.vm w) same does in
     subst (IsKept m version options) (sym is)
     (subst (λ q. IsKept m version options (settled old (future_in q) x w)) (sym same)
-    (replied_keeps m version options old k live w does.1 st refl x (performed st old.vm.machine) follows (subst (λ q. Does (performed q old.vm.machine) x old.vm.machine w.machine) same does.0)))
+    (replied_keeps m version options old k live w made.0.1 (IsReadable (request_of st) old.vm.machine) st refl x (performed st old.vm.machine) (agreeing_follows s m (handed_out k.journal) k.written old.vm.machine k.at (k.agrees live)) made.0.0 made.1))

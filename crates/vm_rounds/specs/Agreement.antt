@@ -7,7 +7,6 @@ use Rattle.journal_protocol.specs.declared.message.Message.TheVariants as messag
 use Rattle.journal_protocol.specs.declared.message.RawMessage.{RawMessage}
 use Rattle.journal_protocol.specs.Errors.{error_message}
 use Rattle.journal_protocol.specs.Message.{encoding, frame}
-use Rattle.journal_protocol.specs.Runs.{IsWhole}
 use Rattle.vm_parts.specs.declared.context.StartInfo.{StartInfo}
 use Rattle.vm_parts.specs.declared.context.StateMap.{StateMap}
 use Rattle.vm_parts.specs.declared.steps.Answer.{Answer}
@@ -16,8 +15,8 @@ use Rattle.vm_machine.specs.declared.machine.Machine.{Machine}
 use Rattle.vm_machine.specs.declared.phase.Phase.TheVariants.{Closed}
 use Rattle.vm_machine.specs.Commands.{phase_after}
 use Rattle.vm_machine.specs.Outcomes.{Outcome, Done, Failed}
-use Rattle.vm_model.specs.Calls.{Setup, Meaning, Derived, Demand, identity_of, ready_in}
-use Rattle.vm_model.specs.Calls.Move.{Awaits, Needs}
+use Rattle.vm_model.specs.Calls.{Setup, Meaning, identity_of, ready_in}
+use Rattle.vm_model.specs.Calls.Move.{Awaits}
 use Rattle.vm_model.specs.Moves.{Point, changed_by, move_at}
 use Rattle.vm_model.specs.Histories.{IsStuck, Made}
 use Rattle.vm_rounds.specs.declared.progress.Reply.{Reply}
@@ -131,6 +130,3 @@ Follows s m given written p v (Done reply.Suspended w) = IsSuspended s m p v w
 Follows s m given written p v (Done reply.Ended w) = HasEnded m p v w
 Follows s m given written p v (Failed e w) = IsRefused s m p v e w
 
--- the command that the handler's call needs, if it needs one, can be encoded
-abbrev pub CanBeWritten : Setup → Meaning → Point → Type 0
-CanBeWritten s m p = (demand : Demand) (gives : List Answer) (d : Derived) → move_at s m p ≡ Needs demand gives d → IsWhole demand.command

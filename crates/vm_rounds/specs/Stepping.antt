@@ -26,7 +26,7 @@ use Rattle.journal_protocol.specs.declared.version.Version.{Version}
 use Rattle.vm_parts.specs.declared.options.VMOptions.{VMOptions}
 use Rattle.invocation_vm.specs.Making.{made}
 use Rattle.vm_rounds.specs.Record.{AttemptView, Record}
-use Rattle.vm_rounds.specs.Steps.{performed, Asked}
+use Rattle.vm_rounds.specs.Steps.{Made}
 
 -- a handler's step after these answers
 abbrev pub Meaning : Type 0
@@ -99,7 +99,7 @@ Reads old (Err e) new = (w : View) × Calls input_step (Err e) old.vm w × (new 
 -- the step is made
 abbrev pub Asks : Meaning → Record → Result Progress Error → Record → Type 0
 Asks meaning old result new =
-    (r : Result Reply Error) × (w : View) × Asked (performed (asked meaning old)) r old.vm w
+    (r : Result Reply Error) × (w : View) × Made (asked meaning old) r old.vm w
     × (new ≡ settled old (future_in (asked meaning old)) r w) × (result ≡ progress_of r)
 
 -- the handler runs: memory is lacking, or the input is read, or the step is made

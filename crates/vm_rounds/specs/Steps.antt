@@ -1,5 +1,5 @@
 -- The call that a step of a handler is, and what its answer is to the handler: one row a kind of step.
-use Rattle.std.specs.Prelude.{◌≡◌, ◌/◌, ◌⊎◌, ℕ, List, [], Option, Some, None, Result, Ok, Err}
+use Rattle.std.specs.Prelude.{◌≡◌, ◌/◌, ◌⊎◌, ℕ, List, [], Option, Some, None, Result, Ok, Err, OnOk}
 use Rattle.std.specs.Duration.{as_nanos}
 use Rattle.std.specs.declared.time.Duration.{Duration}
 use Rattle.journal_protocol.specs.declared.error.Error.{Error}
@@ -12,10 +12,14 @@ use Rattle.vm_parts.specs.declared.types.AwaitResponse.TheVariants.{AnyCompleted
 use Rattle.vm_parts.specs.declared.types.NotificationHandle.{NotificationHandle}
 use Rattle.vm_parts.specs.declared.types.UnresolvedFuture.{UnresolvedFuture}
 use Rattle.vm_machine.specs.declared.machine.Machine.{Machine}
+use Rattle.vm_machine.specs.declared.request.Request.{Request}
+use Rattle.vm_machine.specs.declared.request.Request.TheVariants as request
 use Rattle.vm_machine.specs.Awaits.{is_completed, take_step}
+use Rattle.vm_machine.specs.Commands.{CanBeRead}
 use Rattle.vm_machine.specs.Inputs.{end_step}
 use Rattle.vm_machine.specs.Outcomes.{Outcome, Done, Failed, called, Does}
 use Rattle.invocation_vm.specs.Calls.{cancel_invocation_step, complete_awakeable_step, complete_signal_step, future_step, new_awakeable_step, output_step, sleep_step, state_clear_all_step, state_clear_step, state_set_step}
+use Rattle.vm_parts.specs.Values.{value_message}
 use Rattle.invocation_vm.specs.Views.{View}
 use Rattle.vm_model.specs.Calls.{name_in}
 use Rattle.vm_rounds.specs.declared.progress.Reply.{Reply}
@@ -77,6 +81,36 @@ performed (step.Take handle) v = taken handle v
 performed (step.Completed handle) v = Done (reply.Answer (answer.Completed (is_completed handle.0 v))) v
 performed step.End v = ended v
 
--- a step was made
+-- the command that a step asks for, if it asks for one
+abbrev pub request_of : Step → Option Request
+request_of (step.Sleep name wake_up_time now) = Some (request.Sleep (as_nanos wake_up_time / 1000000) name)
+request_of (step.StateSet key value name options) = Some (request.SetState key value (name_in name) options)
+request_of (step.StateClear key name) = Some (request.ClearState key (name_in name))
+request_of (step.StateClearAll name) = Some (request.ClearAllState (name_in name))
+request_of step.Awakeable = None
+request_of (step.CompleteAwakeable id value options) = Some (request.CompleteAwakeable id (value_message value) options)
+request_of (step.CompleteSignal target signal value) = Some (request.CompleteSignal target signal (value_message value))
+request_of (step.CancelInvocation target) = Some (request.CancelInvocation target)
+request_of (step.WriteOutput value options) = Some (request.Output (value_message value) options)
+request_of (step.Await future) = None
+request_of (step.Take handle) = None
+request_of (step.Completed handle) = None
+request_of step.End = None
+
+-- where a request is written, it can be read back
+abbrev pub IsReadable : Option Request → Machine → Type 0
+IsReadable None v = Unit {0}
+IsReadable (Some r) v = CanBeRead r v
+
+-- where an event is done
+abbrev pub IfDone : {A : Type 0} → Outcome A → Type 0 → Type 0
+IfDone (Done a w) P = P
+IfDone (Failed e w) P = Unit {0}
+
+-- a call was made
 abbrev pub Asked : (Machine → Outcome Reply) → Result Reply Error → View → View → Type 0
 Asked step r old new = Does (step old.machine) r old.machine new.machine × (new.undecoded ≡ old.undecoded)
+
+-- a step was made: its call, and where that was answered, the command that it wrote can be read back
+abbrev pub Made : Step → Result Reply Error → View → View → Type 0
+Made s r old new = Asked (performed s) r old new × OnOk r (IsReadable (request_of s) old.machine)

@@ -25,7 +25,7 @@ use Rattle.vm_model.specs.Journal.{input_read_from, stored_form}
 use Rattle.vm_model.specs.Moves.{Point, start}
 use Rattle.vm_model.specs.Histories.{Made, Told}
 use Rattle.vm_rounds.specs.declared.progress.Fed.{Fed}
-use Rattle.vm_rounds.specs.Agreement.{Agrees, Aside, CanBeWritten}
+use Rattle.vm_rounds.specs.Agreement.{Agrees, Aside}
 use Rattle.vm_rounds.specs.Journals.{HasAll, StillWaits, commands_among, is_command, notifications_among, setup_for}
 use Rattle.vm_parts.specs.declared.steps.Answer.{Answer}
 use Rattle.invocation_vm.specs.Views.{View}
@@ -152,6 +152,3 @@ pub record BeforeInput (version : Version) (options : VMOptions) (fed : List Fed
 abbrev pub IsKept : Meaning → Version → VMOptions → Record → Type 0
 IsKept m version options r = BeforeInput version options r.fed r.answers r.waiting r.taken r.vm ⊎ Runs m version options r.fed r.answers r.waiting r.taken r.vm
 
--- the command that the handler's next call needs, if it needs one, can be encoded
-abbrev pub CanWriteNext : Meaning → Version → VMOptions → Record → Type 0
-CanWriteNext m version options r = (k : Runs m version options r.fed r.answers r.waiting r.taken r.vm) → CanBeWritten (setup_for version options k.journal.start) m k.at

@@ -15,10 +15,10 @@ ghost use Rattle.vm_model.specs.Calls.{Setup, Meaning, identity_of};
 ghost use Rattle.vm_model.specs.Journal.{input_read_from};
 ghost use Rattle.vm_model.specs.Moves.{Point, later};
 ghost use Rattle.vm_parts.specs.declared.context.StateMap.{StateMap};
-ghost use Rattle.vm_rounds.specs.Agreement.{Agrees, Aside, CanBeWritten, Follows};
+ghost use Rattle.vm_rounds.specs.Agreement.{Agrees, Aside, Follows};
 ghost use Rattle.vm_rounds.specs.Journals.{BeginsOrFails, Started, machine_fed, notifications_among};
-ghost use Rattle.vm_rounds.specs.Steps.{performed};
-ghost use Rattle.vm_rounds.specs.Told.{AnswersAreTold, CanWriteNext, IsKept};
+ghost use Rattle.vm_rounds.specs.Steps.{performed, request_of, IfDone, IsReadable};
+ghost use Rattle.vm_rounds.specs.Told.{AnswersAreTold, IsKept};
 ghost use Rattle.vm_rounds.specs.declared.progress.Progress.{Progress};
 ghost use Rattle.std.specs.Prelude.{Result};
 ghost use Rattle.journal_protocol.specs.declared.error.Error.{Error};
@@ -34,9 +34,10 @@ ghost use Rattle.vm_parts.specs.declared.types.UnresolvedFuture.{UnresolvedFutur
 /// In a machine that agrees with a point of the handler's run, the handler's call does what the moves from there lead to:
 /// it is answered as they are, writes the commands that they make and no others, and agrees with the point where they lead;
 /// or an await waits, where no arrival and no recorded command is left, and wakes by none of the arrivals; or the handler
-/// ends, where no recorded command is left; or the call is refused, where no move leads on.
+/// ends, where no recorded command is left; or the call is refused, where no move leads on. (That a command which was written can
+/// be read back is in the contract of each call.)
 pub fn calls_follow()
-    ensures { (s : Setup) (m : Meaning) (given : StateMap) (written : List RawMessage) (v : Machine) (p : Point) → Agrees s given written v p → CanBeWritten s m p → Follows s m given written p v (performed (m p.answers) v) }
+    ensures { (s : Setup) (m : Meaning) (given : StateMap) (written : List RawMessage) (v : Machine) (p : Point) → Agrees s given written v p → IfDone (performed (m p.answers) v) (IsReadable (request_of (m p.answers)) v) → Follows s m given written p v (performed (m p.answers) v) }
 {}
 
 /// Frames that come to a machine that agrees with a point are arrivals: the machine then agrees with that point and these
@@ -59,13 +60,13 @@ pub fn journals_come()
 
 /// What each call of an attempt keeps: before the input, that nothing was answered and no command written; then, that so many
 /// moves of the handler's run lead to its answers and made what was written, and that the machine agrees with that point as
-/// long as it can make calls. A step keeps it where the command that the handler's next call needs can be encoded.
+/// long as it can make calls.
 pub fn attempts_keep()
     ensures made { (m : Meaning) (alloc : Global) (version : Version) (options : VMOptions) → IsKept m version options (fresh_record (made alloc options version)) }
     ensures fed { (m : Meaning) (version : Version) (options : VMOptions) (piece : List ℕ) (old : Record) (result : Result Unit AllocError) (new : Record) → IsKept m version options old → FeedDoes old.starved piece old result new → IsKept m version options new }
     ensures closed { (m : Meaning) (version : Version) (options : VMOptions) (old : Record) (result : Result Unit AllocError) (new : Record) → IsKept m version options old → CloseDoes old.starved old result new → IsKept m version options new }
     ensures taken { (m : Meaning) (version : Version) (options : VMOptions) (old : Record) (result : Result (List ℕ) AllocError) (new : Record) → IsKept m version options old → Takes old result new → IsKept m version options new }
-    ensures stepped { (m : Meaning) (version : Version) (options : VMOptions) (old : Record) (result : Result Progress Error) (new : Record) → IsKept m version options old → CanWriteNext m version options old → StepDoes m old result new → IsKept m version options new }
+    ensures stepped { (m : Meaning) (version : Version) (options : VMOptions) (old : Record) (result : Result Progress Error) (new : Record) → IsKept m version options old → StepDoes m old result new → IsKept m version options new }
 {}
 
 /// The answers of an attempt are those of a point that its journal tells, followed by what it wrote, with the arrivals that it

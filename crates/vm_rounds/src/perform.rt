@@ -1,11 +1,14 @@
 //! The calls of the VM that the steps of a handler are: one function a kind of step.
-ghost use Rattle.std.specs.Prelude.{◌≡◌};
+ghost use Rattle.std.specs.Prelude.{◌≡◌, ◌/◌, OnOk};
+ghost use Rattle.std.specs.Duration.{as_nanos};
+ghost use Rattle.vm_machine.specs.declared.request.Request.TheVariants as request;
+ghost use Rattle.vm_machine.specs.Commands.{CanBeRead};
 ghost use Rattle.invocation_vm.specs.Calls.{name_or_empty};
 ghost use Rattle.invocation_vm.specs.Seen.{seen};
 ghost use Rattle.vm_parts.specs.declared.steps.Answer.TheVariants as answer;
 ghost use Rattle.vm_model.specs.Calls.{name_in};
 ghost use Rattle.vm_rounds.specs.declared.progress.Reply.TheVariants as reply;
-ghost use Rattle.vm_rounds.specs.Steps.{performed, ended, awaited, await_reply, awakeable_made, result_mapped, taken, slept, Asked};
+ghost use Rattle.vm_rounds.specs.Steps.{ended, awaited, await_reply, awakeable_made, result_mapped, taken, slept, Asked, Made};
 
 use crate::progress::Reply;
 use invocation_vm::{AwaitResponse, CoreVM, NotificationHandle, UnresolvedFuture, VM, VMResult};
@@ -13,14 +16,15 @@ use std::time::Duration;
 use vm_parts::{Answer, Step};
 use wire::Text;
 
-#[tactic(auto, using(crate::proofs::Replies::replies))]
+#[tactic(auto, using(crate::proofs::Replies::replies, crate::proofs::Replies::replies_sent))]
 fn sleep(
     vm: &mut CoreVM,
     name: Text,
     wake_up_time: Duration,
     now: Option<Duration>,
 ) -> VMResult<Reply>
-    ensures { Asked (slept name wake_up_time) result (seen vm.old) (seen vm.new) }
+    ensures does { Asked (slept name wake_up_time) result (seen vm.old) (seen vm.new) }
+    ensures sent { OnOk result (CanBeRead (request.Sleep (as_nanos wake_up_time / 1_000_000) name) (seen vm.old).machine) }
 {
     match vm.sys_sleep(name.into_string(), wake_up_time, now) {
         Ok(handle) => Ok(Reply::Answer(Answer::Handle(handle))),
@@ -103,9 +107,9 @@ fn wait(vm: &mut CoreVM, future: UnresolvedFuture) -> VMResult<Reply>
 }
 
 /// Makes the call that a step is.
-#[tactic(auto, using(crate::proofs::Replies::replies))]
+#[tactic(auto, using(crate::proofs::Replies::replies, crate::proofs::Replies::replies_sent))]
 pub fn perform(vm: &mut CoreVM, step: Step) -> VMResult<Reply>
-    ensures { Asked (performed step) result (seen vm.old) (seen vm.new) }
+    ensures { Made step result (seen vm.old) (seen vm.new) }
 {
     match step {
         Step::Sleep {
