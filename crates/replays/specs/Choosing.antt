@@ -1,5 +1,5 @@
 -- A handler that completes an awakeable of another, waits for one of its own, and goes on by what it takes.
-use Rattle.std.specs.Prelude.{◌==◌, ℕ, Bool, true, false, if◌then◌else◌, List, [], length, slice_get, codes, Option, Some, None}
+use Rattle.std.specs.Prelude.{◌==◌, ℕ, false, if◌then◌else◌, List, [], length, slice_get, codes, Option, Some, None}
 use Rattle.vm_parts.specs.declared.steps.Answer.{Answer}
 use Rattle.vm_parts.specs.declared.steps.Answer.TheVariants as answer
 use Rattle.vm_parts.specs.declared.steps.Step.{Step}
@@ -41,9 +41,10 @@ abbrev pub chosen_step : Option (List ℕ) → Step
 chosen_step (Some bytes) = output_step bytes
 chosen_step None = sleep_step
 
-abbrev pub is_chosen : Option (List ℕ) → Bool
-is_chosen (Some bytes) = true
-is_chosen None = false
+-- the step behind that: the end, or an await of the sleep
+abbrev pub later_step : Option (List ℕ) → Step
+later_step (Some bytes) = step.End
+later_step None = step.Await (Single second_handle)
 
 -- the step after so many answers
 abbrev pub choose_step : List Answer → Step
@@ -53,7 +54,6 @@ choose_step answers =
     else if length answers == 3 then step.Await (Single first_handle)
     else if length answers == 4 then step.Take first_handle
     else if length answers == 5 then chosen_step (bytes_taken (slice_get answers 4))
-    else if length answers == 6 then
-    (if is_chosen (bytes_taken (slice_get answers 4)) then step.End else step.Await (Single second_handle))
+    else if length answers == 6 then later_step (bytes_taken (slice_get answers 4))
     else if length answers == 7 then output_step []
     else step.End

@@ -1,5 +1,5 @@
 -- A handler that changes its state before it sleeps.
-use Rattle.std.specs.Prelude.{◌==◌, if◌then◌else◌, List, [], length, codes, None}
+use Rattle.std.specs.Prelude.{◌==◌, false, if◌then◌else◌, List, [], length, codes, None}
 use Rattle.vm_parts.specs.declared.steps.Answer.{Answer}
 use Rattle.vm_parts.specs.declared.steps.Step.{Step}
 use Rattle.vm_parts.specs.declared.steps.Step.TheVariants as step

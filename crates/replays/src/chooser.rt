@@ -1,7 +1,8 @@
 //! A handler that goes on by what it took.
 //! It completes the awakeable of another, and waits for one of its own.
-ghost use Rattle.std.specs.Prelude.{◌≡◌, slice_get, IfOk};
-ghost use Rattle.replays.specs.Choosing.{bytes_taken, chosen_step, is_chosen};
+ghost use Rattle.std.specs.Prelude.{◌≡◌, slice_get};
+ghost use Rattle.std.specs.Option.{option_copied};
+ghost use Rattle.replays.specs.Choosing.{bytes_of, bytes_taken};
 
 use crate::steps::{output, sleep};
 use bytes::Bytes;
@@ -20,21 +21,24 @@ pub struct Chooser {
     pub alloc: Global,
 }
 
-/// The step behind the take.
-fn chosen(alloc: Global, answers: &[Answer]) -> Result<Step, AllocError>
-    ensures { IfOk result (λ step. step ≡ chosen_step (bytes_taken (slice_get answers.now 4))) }
+/// The bytes of a success.
+fn success(value: &Value) -> Option<&Bytes>
+    ensures { option_copied result ≡ bytes_of value.now }
 {
-    match answers.get(4) {
-        Some(Answer::Taken(Some(Value::Success(bytes)))) => Ok(output(bytes.clone()?)),
-        _ => Ok(sleep(alloc)),
+    match value {
+        Value::Success(bytes) => Some(bytes),
+        _ => None,
     }
 }
 
-/// Whether a success was taken.
-fn took_success(answers: &[Answer]) -> bool
-    ensures { result ≡ is_chosen (bytes_taken (slice_get answers.now 4)) }
+/// The bytes of a success that was taken.
+fn taken(answers: &[Answer]) -> Option<&Bytes>
+    ensures { option_copied result ≡ bytes_taken (slice_get answers.now 4) }
 {
-    matches!(answers.get(4), Some(Answer::Taken(Some(Value::Success(_)))))
+    match answers.get(4) {
+        Some(Answer::Taken(Some(value))) => success(value),
+        _ => None,
+    }
 }
 
 impl Handler for Chooser {
@@ -52,13 +56,14 @@ impl Handler for Chooser {
             2 => Ok(Step::Awakeable),
             3 => Ok(Step::Await(UnresolvedFuture::Single(NotificationHandle(17)))),
             4 => Ok(Step::Take(NotificationHandle(17))),
-            5 => chosen(self.alloc, answers),
-            6 => {
-                if took_success(answers) {
-                    return Ok(Step::End);
-                }
-                Ok(Step::Await(UnresolvedFuture::Single(NotificationHandle(18))))
-            }
+            5 => match taken(answers) {
+                Some(bytes) => Ok(output(bytes.clone()?)),
+                None => Ok(sleep(self.alloc)),
+            },
+            6 => match taken(answers) {
+                Some(_) => Ok(Step::End),
+                None => Ok(Step::Await(UnresolvedFuture::Single(NotificationHandle(18)))),
+            },
             7 => Ok(output(Bytes::new())),
             _ => Ok(Step::End),
         }
