@@ -3,7 +3,7 @@
 use crate::bench::{assert_answers, assert_fails, assert_sends, attempt_of, drive};
 use crate::runs::{Ending, Replay, Run};
 use bytes::Bytes;
-use std::alloc::Global;
+use std::alloc::{AllocError, Global};
 use std::process::Abort;
 use std::test::Fail;
 use vm_rounds::{Attempt, Handler, Progress};
@@ -60,23 +60,30 @@ fn assert_makes<H: Handler>(
     assert_sends(rt, alloc, &mut attempt, &[replay.written.as_slice()])
 }
 
+/// Each byte on its own.
+fn single_bytes(alloc: Global, bytes: &[u8]) -> Result<Vec<&[u8]>, AllocError> {
+    let mut single = Vec::new(alloc);
+    for byte in bytes.chunks(1) {
+        single.push(byte)?;
+    }
+    Ok(single)
+}
+
 /// The journal of which so many entries are known makes the run, cut at each byte, and one byte at a time.
 fn assert_each_cut<H: Handler>(
     rt: &impl Abort,
     alloc: Global,
     handler: &H,
     run: &Run,
-    known: u32,
+    known: usize,
 ) -> Result<(), Fail> {
     let replay = run.replay(alloc, known)?;
-    let journal = [replay.recorded.as_slice(), replay.arrivals.as_slice()].concat(alloc)?;
-    let mut single = Vec::new(alloc);
-    for (place, byte) in journal.as_slice().chunks(1).enumerate() {
-        single.push(byte)?;
+    let journal = run.journal(alloc, known)?;
+    for place in 0..=journal.len() {
         let (front, back) = journal.as_slice().split_at(place);
         assert_makes(rt, alloc, handler, run, &replay, &[front, back])?;
     }
-    assert_makes(rt, alloc, handler, run, &replay, &[journal.as_slice()])?;
+    let single = single_bytes(alloc, journal.as_slice())?;
     assert_makes(rt, alloc, handler, run, &replay, single.as_slice())
 }
 
@@ -87,8 +94,7 @@ pub fn assert_recorded<H: Handler>(
     handler: &H,
     run: &Run,
 ) -> Result<(), Fail> {
-    let known = u32::try_from(run.entries.len())?;
-    assert_each_cut(rt, alloc, handler, run, known)
+    assert_each_cut(rt, alloc, handler, run, run.entries.len())
 }
 
 /// So does each journal of which a beginning of the entries is known.
@@ -98,7 +104,7 @@ pub fn assert_replays<H: Handler>(
     handler: &H,
     run: &Run,
 ) -> Result<(), Fail> {
-    for (known, _) in (1..).zip(run.entries) {
+    for known in 1..=run.entries.len() {
         assert_each_cut(rt, alloc, handler, run, known)?;
     }
     Ok(())

@@ -3,6 +3,7 @@
 use crate::bench::Told;
 use crate::frames::{START_BACK, START_FRONT};
 use std::alloc::{AllocError, Global};
+use std::test::Fail;
 use vectors::frames::END;
 
 /// An entry of a journal.
@@ -50,31 +51,64 @@ impl Ending {
     }
 }
 
-/// A Start that tells so many known entries.
-fn start(alloc: Global, known: u32) -> Result<Vec<u8>, AllocError> {
-    [START_FRONT, known.to_be_bytes().as_slice(), START_BACK].concat(alloc)
+/// Adds a Start that tells so many known entries.
+fn put_start(bytes: &mut Vec<u8>, known: u32) -> Result<(), AllocError> {
+    bytes.extend_from_slice(START_FRONT)?;
+    bytes.extend_from_slice(&known.to_be_bytes())?;
+    bytes.extend_from_slice(START_BACK)
+}
+
+fn put_all(bytes: &mut Vec<u8>, entries: &[Entry]) -> Result<(), AllocError> {
+    for entry in entries {
+        match entry {
+            Entry::Command(frame) => bytes.extend_from_slice(*frame)?,
+            Entry::Notification(frame) => bytes.extend_from_slice(*frame)?,
+        }
+    }
+    Ok(())
+}
+
+fn put_notifications(bytes: &mut Vec<u8>, entries: &[Entry]) -> Result<(), AllocError> {
+    for entry in entries {
+        if let Entry::Notification(frame) = entry {
+            bytes.extend_from_slice(*frame)?;
+        }
+    }
+    Ok(())
+}
+
+fn put_commands(bytes: &mut Vec<u8>, entries: &[Entry]) -> Result<(), AllocError> {
+    for entry in entries {
+        if let Entry::Command(frame) = entry {
+            bytes.extend_from_slice(*frame)?;
+        }
+    }
+    Ok(())
 }
 
 impl Run {
     /// The attempt to which so many entries are known.
-    pub fn replay(&self, alloc: Global, known: u32) -> Result<Replay, AllocError> {
-        let mut recorded = start(alloc, known)?;
+    pub fn replay(&self, alloc: Global, known: usize) -> Result<Replay, Fail> {
+        let (front, back) = self.entries.split_at_checked(known).ok_or("fewer entries")?;
+        let mut recorded = Vec::new(alloc);
+        put_start(&mut recorded, u32::try_from(known)?)?;
+        put_all(&mut recorded, front)?;
         let mut arrivals = Vec::new(alloc);
+        put_notifications(&mut arrivals, back)?;
         let mut written = Vec::new(alloc);
-        for (place, entry) in (0..).zip(self.entries) {
-            match entry {
-                Entry::Command(frame) | Entry::Notification(frame) if place < known => {
-                    recorded.extend_from_slice(frame)?
-                }
-                Entry::Command(frame) => written.extend_from_slice(frame)?,
-                Entry::Notification(frame) => arrivals.extend_from_slice(frame)?,
-            }
-        }
+        put_commands(&mut written, back)?;
         written.extend_from_slice(self.ending.frame())?;
         Ok(Replay {
             recorded,
             arrivals,
             written,
         })
+    }
+
+    /// All that the attempt is fed.
+    pub fn journal(&self, alloc: Global, known: usize) -> Result<Vec<u8>, Fail> {
+        let replay = self.replay(alloc, known)?;
+        let parts = [replay.recorded.as_slice(), replay.arrivals.as_slice()];
+        Ok(parts.concat(alloc)?)
     }
 }

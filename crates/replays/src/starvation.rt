@@ -14,89 +14,118 @@ use std::test::Fail;
 use vectors::frames::{CLEAR_ALL, OUTPUT_EMPTY, OUTPUT_X, SLEEP_TO_1000};
 use vm_rounds::{Attempt, Handler};
 
-/// The attempt answers want of memory to a step, and has these answers.
+/// The attempt answers want of memory to a step, has these answers, and sends these frames.
 fn assert_starved<H: Handler>(
     rt: &impl Abort,
+    alloc: Global,
     attempt: &mut Attempt<H>,
     answers: &[Told],
+    frames: &[&[u8]],
 ) -> Result<(), Fail> {
     assert_fails(rt, attempt, 500, "")?;
     assert_answers(rt, attempt.answers(), answers);
+    assert_sends(rt, alloc, attempt, frames)
+}
+
+/// A command that comes now, which the VM would refuse, and the end of the input change nothing.
+fn assert_stays<H: Handler>(
+    rt: &impl Abort,
+    alloc: Global,
+    attempt: &mut Attempt<H>,
+    answers: &[Told],
+) -> Result<(), Fail> {
+    attempt.feed(Bytes::from_static(CLEAR_ALL))?;
+    assert_starved(rt, alloc, attempt, answers, &[])?;
+    attempt.close()?;
+    assert_starved(rt, alloc, attempt, answers, &[])
+}
+
+/// An attempt that has this journal fails.
+fn assert_fails_on<H: Handler>(
+    rt: &impl Abort,
+    alloc: Global,
+    attempt: &mut Attempt<H>,
+    journal: &[u8],
+) -> Result<(), Fail> {
+    attempt.feed(Bytes::copy_from_slice(alloc, journal)?)?;
+    assert!(rt; drive(attempt).is_err());
     Ok(())
 }
 
-/// An attempt of a handler that finds no memory behind these answers. A command that comes then, which the VM would
-/// refuse, and the end of the input change nothing.
+/// An attempt of a handler that finds no memory behind these answers sends these frames, and fails for good.
 fn assert_starves<H: Handler>(
     rt: &impl Abort,
     alloc: Global,
     handler: &H,
     journal: &[u8],
     answers: &[Told],
-    written: &[&[u8]],
+    frames: &[&[u8]],
 ) -> Result<(), Fail> {
     let starving = Starving {
         handler,
         answers: answers.len(),
     };
     let mut attempt = attempt_of(alloc, starving)?;
-    attempt.feed(Bytes::copy_from_slice(alloc, journal)?)?;
-    assert!(rt; drive(&mut attempt).is_err());
-    assert_starved(rt, &mut attempt, answers)?;
-    assert_sends(rt, alloc, &mut attempt, written)?;
-    attempt.feed(Bytes::from_static(CLEAR_ALL))?;
-    assert_starved(rt, &mut attempt, answers)?;
-    attempt.close()?;
-    assert_starved(rt, &mut attempt, answers)?;
-    assert_sends(rt, alloc, &mut attempt, &[])
+    assert_fails_on(rt, alloc, &mut attempt, journal)?;
+    assert_starved(rt, alloc, &mut attempt, answers, frames)?;
+    assert_stays(rt, alloc, &mut attempt, answers)
 }
 
-/// Memory wants behind each answer of the run. Where only the input is known, these frames were written by then; where
-/// all entries are, none was.
-fn assert_starves_at_each_answer<H: Handler>(
+/// Memory wants behind each answer of the run, when these frames were written.
+fn assert_starves_everywhere<H: Handler>(
     rt: &impl Abort,
     alloc: Global,
     handler: &H,
     run: &Run,
+    known: usize,
     written: &[&[&[u8]]],
 ) -> Result<(), Fail> {
     assert_eq!(rt; written.len(), run.answers.len());
-    let first = run.replay(alloc, 1)?;
-    let journal = [first.recorded.as_slice(), first.arrivals.as_slice()].concat(alloc)?;
-    let last = run.replay(alloc, u32::try_from(run.entries.len())?)?;
+    let journal = run.journal(alloc, known)?;
     for (place, frames) in written.iter().enumerate() {
         let answers = run.answers.get(..=place).ok_or("no answers")?;
         assert_starves(rt, alloc, handler, journal.as_slice(), answers, frames)?;
-        assert_starves(rt, alloc, handler, last.recorded.as_slice(), answers, &[])?;
     }
     Ok(())
 }
 
+const NOTHING: &[&[u8]] = &[];
+
+/// The frames that the keeper has written behind each answer.
+const BY_KEEPER: &[&[&[u8]]] = &[
+    NOTHING,
+    &[CLEAR_A],
+    &[CLEAR_A, SET_B],
+    &[CLEAR_A, SET_B, SLEEP_TO_1000],
+    &[CLEAR_A, SET_B, SLEEP_TO_1000],
+    &[CLEAR_A, SET_B, SLEEP_TO_1000],
+    &[CLEAR_A, SET_B, SLEEP_TO_1000, OUTPUT_EMPTY],
+];
+
+/// The frames that the chooser has written behind each answer.
+const BY_CHOOSER: &[&[&[u8]]] = &[
+    NOTHING,
+    &[COMPLETE_1],
+    &[COMPLETE_1],
+    &[COMPLETE_1],
+    &[COMPLETE_1],
+    &[COMPLETE_1, OUTPUT_X],
+];
+
 #[test]
 fn memory_wants_behind_each_answer(rt: HostRuntime) -> Result<(), Fail> {
     let alloc = rt.alloc();
-    let written: [&[&[u8]]; 7] = [
-        &[],
-        &[CLEAR_A],
-        &[CLEAR_A, SET_B],
-        &[CLEAR_A, SET_B, SLEEP_TO_1000],
-        &[CLEAR_A, SET_B, SLEEP_TO_1000],
-        &[CLEAR_A, SET_B, SLEEP_TO_1000],
-        &[CLEAR_A, SET_B, SLEEP_TO_1000, OUTPUT_EMPTY],
-    ];
-    assert_starves_at_each_answer(&rt, alloc, &Keeper { alloc }, &KEPT, &written)
+    let keeper = Keeper { alloc };
+    assert_starves_everywhere(&rt, alloc, &keeper, &KEPT, 1, BY_KEEPER)?;
+    let chooser = Chooser { alloc };
+    assert_starves_everywhere(&rt, alloc, &chooser, &CHOSE_SUCCESS, 1, BY_CHOOSER)
 }
 
 #[test]
-fn memory_wants_in_each_branch(rt: HostRuntime) -> Result<(), Fail> {
+fn memory_wants_in_replay(rt: HostRuntime) -> Result<(), Fail> {
     let alloc = rt.alloc();
-    let written: [&[&[u8]]; 6] = [
-        &[],
-        &[COMPLETE_1],
-        &[COMPLETE_1],
-        &[COMPLETE_1],
-        &[COMPLETE_1],
-        &[COMPLETE_1, OUTPUT_X],
-    ];
-    assert_starves_at_each_answer(&rt, alloc, &Chooser { alloc }, &CHOSE_SUCCESS, &written)
+    let keeper = Keeper { alloc };
+    assert_starves_everywhere(&rt, alloc, &keeper, &KEPT, 6, &[NOTHING; 7])?;
+    let chooser = Chooser { alloc };
+    assert_starves_everywhere(&rt, alloc, &chooser, &CHOSE_SUCCESS, 4, &[NOTHING; 6])
 }
