@@ -88,7 +88,7 @@ waits_at s m p h is r = record { moves = r.moves; run = r.run; answers = sym (ap
 -- an await that isn't awake when no arrival is left
 stands : (s : Setup) (m : Meaning) (p : Point) (h : NotificationHandle) (is : m p.answers ≡ step.Await (Single h)) (r : Ran s m p (id_at h.0 p.derived.handles) p.derived.usage p.queue)
     → r.left ≡ [] → has_result_for (id_at h.0 p.derived.handles) (ready_in s (record p.derived { usage = r.usage })) ≡ false → p.left ≡ [] → Waits s m p (at_usage p r.usage r.left)
-stands s m p h is r none asleep spent = record { moves = waits_at s m p h is r; needs = waits_on s m (at_usage p r.usage r.left) (Single h) is asleep; no_arrival = none; no_command = spent }
+stands s m p h is r none asleep spent = record { moves = waits_at s m p h is r; future = Single h; awaits = is; asleep = asleep; no_arrival = none; none_recorded = spent; no_command = spent }
 
 stuck_at : (s : Setup) (m : Meaning) (q : Point) → move_at s m q ≡ Awaits → q.queue ≡ [] → IsStuck s m q
 stuck_at s m q needs none =
@@ -128,6 +128,7 @@ wakes s m given written aside p h is r identity awake =
     record {
       at = to;
       made = [];
+      none_before = inl refl;
       moves = record {
         moves = r.moves + 1;
         run = made_add s m r.moves 1 p [] q [] to r.run (to, [], sym (append-nil (supplied s m q) ∙ none), quiet_next s m q to none goes, (refl, refl));
