@@ -335,4 +335,4 @@ kept_told m version options r =
     (λ (b : BeforeInput version options r.fed r.answers r.waiting r.taken r.vm). inl b.answers)
     (λ (k : Runs m version options r.fed r.answers r.waiting r.taken r.vm).
     let told = attempt_is_told (setup_for version options k.journal.start) m k.journal.input k.moves (arrivals k.journal) k.journal.rest k.written k.at k.run in
-    inr (record { journal = k.journal; written = k.written; wrote = k.wrote; at = k.at; told = told.0; answers = k.answers; in_order = told.1 }))
+    inr (record { journal = k.journal; written = k.written; wrote = k.wrote; at = k.at; told = told.0; answers = k.answers; moves = k.moves; made = k.run; in_order = told.1 }))

@@ -90,7 +90,8 @@ handed_out j = record { entries = j.state; coverage = coverage_of j.start.partia
 abbrev pub Tells : {fed : List Fed} → Meaning → Version → VMOptions → Journal fed → List RawMessage → Point → Type 0
 Tells m version options j written p = Told (setup_for version options j.start) m j.input (arrivals j) (j.rest ++ written) p
 
--- The answers of an attempt are those of a point that is told; and while recorded commands are left, it has written none.
+-- The answers of an attempt are those of a point that is told; what it wrote are just the commands that the calls up to there
+-- define, where none is recorded; and while recorded commands are left, it has written none.
 pub record AnswersAreTold (m : Meaning) (version : Version) (options : VMOptions) (r : Record) : Type 0 where
   pub journal : Journal r.fed
   pub written : List RawMessage
@@ -98,6 +99,8 @@ pub record AnswersAreTold (m : Meaning) (version : Version) (options : VMOptions
   pub at : Point
   pub told : Tells m version options journal written at
   pub answers : at.answers ≡ r.answers
+  pub moves : ℕ
+  pub made : Made (setup_for version options journal.start) m moves (start (setup_for version options journal.start) journal.input (arrivals journal) journal.rest) written at
   pub in_order : (written ≡ []) ⊎ (at.left ≡ [])
 
 -- An await waits rightly: with all arrivals that were fed, its future is awake at no point that the journal tells with these
