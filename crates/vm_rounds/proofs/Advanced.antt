@@ -41,7 +41,7 @@ use Rattle.vm_rounds.specs.Agreement.{Agrees, Aside}
 use Rattle.vm_rounds.specs.Journals.{BeginsOrFails, HasAll, StillWaits, commands_among, machine_fed, missing, notifications_among, setup_for, waiting}
 use Rattle.vm_rounds.specs.Record.{Record}
 use Rattle.vm_rounds.specs.Stepping.{Advances, Asks, IfWaits, IsReplaying, LacksMemory, Reads, Replays, StepAt, StepDoes, StepFrom, StepUnless, fresh_record, with_vm}
-use Rattle.vm_rounds.specs.Told.{AnswersAreTold, BeforeInput, Begun, Comes, IsKept, IsLive, NothingWakes, Quiet, Runs, StillAwaits, Wrote, arrivals, bytes_fed, frames_fed}
+use Rattle.vm_rounds.specs.Told.{AnswersAreTold, BeforeInput, Begun, Comes, IsKept, IsLive, IsAsleep, Quiet, Runs, StillAwaits, Wrote, arrivals, bytes_fed, frames_fed}
 use Rattle.vm_rounds.proofs.Beginning.{input_begins}
 use Rattle.vm_rounds.proofs.Kept.{dead_same}
 use Rattle.vm_rounds.proofs.Pieces.{agrees_running}
@@ -259,9 +259,9 @@ runs_of m version options r k some =
     (λ (b : Runs m version options r.fed r.answers r.waiting r.taken r.vm). b)
     k
 
-advances_wait : (m : Meaning) (version : Version) (options : VMOptions) (old : Record) (result : Result Progress Error) (new : Record) → IsKept m version options old → IsLive old.vm.machine → Advances m old result new → IfWaits result (NothingWakes m version options new.fed new.answers new.taken new.vm)
+advances_wait : (m : Meaning) (version : Version) (options : VMOptions) (old : Record) (result : Result Progress Error) (new : Record) → IsKept m version options old → IsLive old.vm.machine → Advances m old result new → IfWaits result (IsAsleep m version options new.fed new.answers new.taken new.vm)
 advances_wait m version options old result new k live =
-    let P = NothingWakes m version options new.fed new.answers new.taken new.vm in
+    let P = IsAsleep m version options new.fed new.answers new.taken new.vm in
     ⊎_elim
     (λ (x : LacksMemory old result new). error_waits P result _ x.0)
     (λ (o : ((old.answers ≡ []) × Reads old result new) ⊎ ((old.answers ≢ []) × Asks m old result new)).
@@ -270,22 +270,22 @@ advances_wait m version options old result new k live =
     (λ (x : (old.answers ≢ []) × Asks m old result new). asks_wait m version options old result new (runs_of m version options old k x.0) live x.1)
     o)
 
-wait_at : (m : Meaning) (version : Version) (options : VMOptions) (old : Record) (result : Result Progress Error) (new : Record) → IsKept m version options old → old.vm.machine.failure ≡ None → (ph : Phase) → old.vm.machine.phase ≡ ph → StepAt ph m old result new → IfWaits result (NothingWakes m version options new.fed new.answers new.taken new.vm)
-wait_at m version options old result new k live WaitingStart at d = subst (λ z. IfWaits z (NothingWakes m version options new.fed new.answers new.taken new.vm)) (sym d.0) tt
-wait_at m version options old result new k live WaitingReplayEntries at d = subst (λ z. IfWaits z (NothingWakes m version options new.fed new.answers new.taken new.vm)) (sym d.0) tt
+wait_at : (m : Meaning) (version : Version) (options : VMOptions) (old : Record) (result : Result Progress Error) (new : Record) → IsKept m version options old → old.vm.machine.failure ≡ None → (ph : Phase) → old.vm.machine.phase ≡ ph → StepAt ph m old result new → IfWaits result (IsAsleep m version options new.fed new.answers new.taken new.vm)
+wait_at m version options old result new k live WaitingStart at d = subst (λ z. IfWaits z (IsAsleep m version options new.fed new.answers new.taken new.vm)) (sym d.0) tt
+wait_at m version options old result new k live WaitingReplayEntries at d = subst (λ z. IfWaits z (IsAsleep m version options new.fed new.answers new.taken new.vm)) (sym d.0) tt
 wait_at m version options old result new k live Closed at d = error_waits _ result _ d.0
 wait_at m version options old result new k live Replaying at d = advances_wait m version options old result new k (record { failure = live; phase = ap is_running at }) d
 wait_at m version options old result new k live Processing at d = advances_wait m version options old result new k (record { failure = live; phase = ap is_running at }) d
 
-wait_unless : (m : Meaning) (version : Version) (options : VMOptions) (old : Record) (result : Result Progress Error) (new : Record) → IsKept m version options old → (f : Option Error) → old.vm.machine.failure ≡ f → StepUnless f None m old result new → IfWaits result (NothingWakes m version options new.fed new.answers new.taken new.vm)
+wait_unless : (m : Meaning) (version : Version) (options : VMOptions) (old : Record) (result : Result Progress Error) (new : Record) → IsKept m version options old → (f : Option Error) → old.vm.machine.failure ≡ f → StepUnless f None m old result new → IfWaits result (IsAsleep m version options new.fed new.answers new.taken new.vm)
 wait_unless m version options old result new k (Some e) is d = ⊎_elim (λ (x : result ≡ Err e). error_waits _ result e x) (λ (x : result ≡ Err no_memory). error_waits _ result no_memory x) d.0
 wait_unless m version options old result new k None is d = wait_at m version options old result new k is old.vm.machine.phase refl d
 
 -- a step waits only where nothing wakes
-pub step_waits : (m : Meaning) (version : Version) (options : VMOptions) (old : Record) (result : Result Progress Error) (new : Record) → IsKept m version options old → old.over ≡ None → StepDoes m old result new → IfWaits result (NothingWakes m version options new.fed new.answers new.taken new.vm)
+pub step_waits : (m : Meaning) (version : Version) (options : VMOptions) (old : Record) (result : Result Progress Error) (new : Record) → IsKept m version options old → old.over ≡ None → StepDoes m old result new → IfWaits result (IsAsleep m version options new.fed new.answers new.taken new.vm)
 step_waits m version options old result new k going does = by_test old.starved does
   where
-    by_test : (b : Bool) → StepFrom b m old result new → IfWaits result (NothingWakes m version options new.fed new.answers new.taken new.vm)
+    by_test : (b : Bool) → StepFrom b m old result new → IfWaits result (IsAsleep m version options new.fed new.answers new.taken new.vm)
     by_test true d = error_waits _ result no_memory d.0
     by_test false d = wait_unless m version options old result new k old.vm.machine.failure refl (subst (λ over. StepUnless old.vm.machine.failure over m old result new) going d)
 

@@ -50,7 +50,7 @@ use Rattle.vm_rounds.specs.Journals.{is_command, setup_for}
 use Rattle.vm_rounds.specs.Record.{Record}
 use Rattle.vm_rounds.specs.Stepping.{Asks, IfWaits, Replays, asked, asked_from, future_in, progress_of, settled, with_vm}
 use Rattle.vm_rounds.specs.Steps.{Asked, IfDone, IsReadable, Made as IsMade, performed, request_of}
-use Rattle.vm_rounds.specs.Told.{BeforeInput, arrivals, IsKept, IsLive, NothingWakes, Quiet, Runs, StillAwaits, Wrote, bytes_fed, commands_of, handed_out}
+use Rattle.vm_rounds.specs.Told.{BeforeInput, arrivals, IsKept, IsLive, IsAsleep, Quiet, Runs, StillAwaits, Wrote, bytes_fed, commands_of, handed_out}
 use Rattle.vm_rounds.proofs.Following.{agreeing_follows}
 use Rattle.vm_rounds.proofs.Kept.{dead_same, not_live}
 use Rattle.vm_rounds.proofs.Leading.{no_move}
@@ -266,7 +266,7 @@ module _ (m : Meaning) (version : Version) (options : VMOptions) (r : Record) (k
 
   -- ---- what waits
 
-  waits_so : (q : Point) → Waits s m k.at q → (ms : List Message) → commands_of ms ≡ [] → w.machine.output ≡ r.vm.machine.output ++ map encoding ms → NothingWakes m version options r.fed r.answers r.taken w
+  waits_so : (q : Point) → Waits s m k.at q → (ms : List Message) → commands_of ms ≡ [] → w.machine.output ≡ r.vm.machine.output ++ map encoding ms → IsAsleep m version options r.fed r.answers r.taken w
   waits_so q ws ms commands output =
       let written = k.written ++ [] in
       let run = made_add s m k.moves ws.moves.moves (start s k.journal.input (arrivals k.journal) k.journal.rest) k.written k.at [] q k.run ws.moves.run in
@@ -286,7 +286,7 @@ module _ (m : Meaning) (version : Version) (options : VMOptions) (r : Record) (k
         no_command = ws.no_command;
       }
 
-  replied_waits : (P : Type 0) (x : Result Reply Error) → (o : Outcome Reply) → (IfDone o P → Following o) → Does o x r.vm.machine w.machine → OnOk x P → IfWaits (progress_of x) (NothingWakes m version options r.fed r.answers r.taken w)
+  replied_waits : (P : Type 0) (x : Result Reply Error) → (o : Outcome Reply) → (IfDone o P → Following o) → Does o x r.vm.machine w.machine → OnOk x P → IfWaits (progress_of x) (IsAsleep m version options r.fed r.answers r.taken w)
   replied_waits P (Ok (reply.Answer a)) o f does h = tt
   replied_waits P (Ok (reply.Waiting input run)) o f does h =
       let g : StillAgrees s m (handed_out k.journal) k.written k.at r.vm.machine w.machine = done_follows P o (reply.Waiting input run) f does h in
@@ -335,8 +335,8 @@ asks_keep m version options old result new k live (x, w, does, is, progress) =
     (replied_keeps m version options old k live w made.0.1 (IsReadable (request_of st) old.vm.machine) st refl x (performed st old.vm.machine) (agreeing_follows s m (handed_out k.journal) k.written old.vm.machine k.at (k.agrees live)) made.0.0 made.1))
 
 -- what a step that waits leaves of the record
-settled_waits : (m : Meaning) (version : Version) (options : VMOptions) (old : Record) (future : Option UnresolvedFuture) (w : View) (x : Result Reply Error) → IfWaits (progress_of x) (NothingWakes m version options old.fed old.answers old.taken w)
-    → IfWaits (progress_of x) (NothingWakes m version options (settled old future x w).fed (settled old future x w).answers (settled old future x w).taken (settled old future x w).vm)
+settled_waits : (m : Meaning) (version : Version) (options : VMOptions) (old : Record) (future : Option UnresolvedFuture) (w : View) (x : Result Reply Error) → IfWaits (progress_of x) (IsAsleep m version options old.fed old.answers old.taken w)
+    → IfWaits (progress_of x) (IsAsleep m version options (settled old future x w).fed (settled old future x w).answers (settled old future x w).taken (settled old future x w).vm)
 settled_waits m version options old future w (Ok (reply.Answer a)) h = tt
 settled_waits m version options old future w (Ok (reply.Waiting input run)) h = h
 settled_waits m version options old future w (Ok reply.Suspended) h = h
@@ -355,11 +355,11 @@ module _ (m : Meaning) (version : Version) (options : VMOptions) (old : Record) 
   follows_here w = agreeing_follows made_here m (handed_out k.journal) k.written old.vm.machine k.at (k.agrees live)
 
   -- a step waits only where nothing wakes
-  pub asks_wait : Asks m old result new → IfWaits result (NothingWakes m version options new.fed new.answers new.taken new.vm)
+  pub asks_wait : Asks m old result new → IfWaits result (IsAsleep m version options new.fed new.answers new.taken new.vm)
   asks_wait (x, w, does, is, progress) =
       let made : IsMade (m k.at.answers) x old.vm w = subst (λ q. IsMade q x old.vm w) is_next does in
-      subst (λ z. IfWaits z (NothingWakes m version options new.fed new.answers new.taken new.vm)) (sym progress)
-      (subst (λ (n : Record). IfWaits (progress_of x) (NothingWakes m version options n.fed n.answers n.taken n.vm)) (sym is)
+      subst (λ z. IfWaits z (IsAsleep m version options new.fed new.answers new.taken new.vm)) (sym progress)
+      (subst (λ (n : Record). IfWaits (progress_of x) (IsAsleep m version options n.fed n.answers n.taken n.vm)) (sym is)
       (settled_waits m version options old (future_in (asked m old)) w x
       (replied_waits m version options old k live w made.0.1 (IsReadable (request_of (m k.at.answers)) old.vm.machine) x (performed (m k.at.answers) old.vm.machine) (follows_here w) made.0.0 made.1)))
 

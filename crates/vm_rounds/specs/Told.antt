@@ -105,7 +105,7 @@ pub record AnswersAreTold (m : Meaning) (version : Version) (options : VMOptions
 
 -- An await waits rightly: with all arrivals that were fed, its future is awake at no point that the journal tells with these
 -- answers, and all its commands are used.
-pub record NothingWakes (m : Meaning) (version : Version) (options : VMOptions) (fed : List Fed) (answers_so_far : List Answer) (taken : List (List ℕ)) (vm : View) : Type 0 where
+pub record IsAsleep (m : Meaning) (version : Version) (options : VMOptions) (fed : List Fed) (answers_so_far : List Answer) (taken : List (List ℕ)) (vm : View) : Type 0 where
   pub journal : Journal fed
   pub written : List RawMessage
   pub wrote : Wrote taken vm.machine.output written
@@ -117,6 +117,10 @@ pub record NothingWakes (m : Meaning) (version : Version) (options : VMOptions) 
   pub answers : at.answers ≡ answers_so_far
   pub no_arrival : at.queue ≡ []
   pub no_command : at.left ≡ []
+
+-- the same of a record
+abbrev pub NothingWakes : Meaning → Version → VMOptions → Record → Type 0
+NothingWakes m version options r = IsAsleep m version options r.fed r.answers r.taken r.vm
 
 -- the VM can make calls: it has neither failed nor ended, nor is the invocation suspended
 pub record IsLive (v : Machine) : Type 0 where

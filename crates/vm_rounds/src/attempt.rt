@@ -80,7 +80,7 @@ impl<H: Handler> Attempt<H> {
     pub fn step(&mut self) -> VMResult<Progress>
         ensures does { StepDoes (H.meaning self.old.handler) self.old.record_of result self.new.record_of }
         // It waits or is suspended only where no number of the arrivals wakes the handler's await.
-        ensures waits { self.old.record_of.over ≡ None → IfWaits result (NothingWakes (H.meaning self.old.handler) self.old.version self.old.options self.new.record_of.fed self.new.record_of.answers self.new.record_of.taken self.new.record_of.vm) }
+        ensures waits { self.old.record_of.over ≡ None → IfWaits result (NothingWakes (H.meaning self.old.handler) self.old.version self.old.options self.new.record_of) }
         // While recorded commands are left, the handler's next call is answered, or it is refused.
         ensures replays { IsReplaying self.old.record_of → Replays self.old.record_of result self.new.record_of }
         ensures handler { self.new.handler ≡ self.old.handler }
