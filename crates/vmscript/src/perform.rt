@@ -151,6 +151,7 @@ fn perform_call(vm: &mut CoreVM, call: Call) -> Reply
 }
 
 /// Makes a new VM in the place of the last.
+#[tactic(auto, using(crate::proofs::Making::made_as_asked))]
 fn make(
     alloc: Global,
     vm: &mut Option<CoreVM>,
