@@ -1,5 +1,5 @@
 -- An event of a machine that agrees with a point does what the next move does.
-use Rattle.std.proofs.Common.{◌≡◌, ◌⊎◌, ℕ, zero, suc, Bool, true, false, cond, List, [], ◌∷◌, ◌++◌, map, Option, Some, None, refl, sym, ap, ◌∙◌, subst, inl, inr, append-nil}
+use Rattle.std.proofs.Common.{◌≡◌, ◌⊎◌, ℕ, false, List, [], ◌∷◌, ◌++◌, Option, Some, None, refl, sym, ap, ◌∙◌, subst, inl, inr, append-nil}
 use Rattle.journal_protocol.specs.declared.error.Error.{Error}
 use Rattle.journal_protocol.specs.declared.message.Message.TheVariants as message
 use Rattle.journal_protocol.specs.declared.message.RawMessage.{RawMessage}
@@ -14,11 +14,9 @@ use Rattle.vm_machine.specs.Commands.{phase_after}
 use Rattle.vm_model.specs.Calls.{Setup, Meaning, Move, identity_of}
 use Rattle.vm_model.specs.Calls.Move.{Answers, Needs, Awaits, Stops}
 use Rattle.vm_model.specs.Moves.{Point, longer, move_at, moved, next, supplied, supply}
-use Rattle.vm_model.specs.Histories.{IsStuck, Made}
-use Rattle.vm_model.proofs.Runs.{longer_nothing}
-use Rattle.vm_rounds.specs.declared.progress.Reply.{Reply}
+use Rattle.vm_model.specs.Histories.{Made}
 use Rattle.vm_rounds.specs.declared.progress.Reply.TheVariants as reply
-use Rattle.vm_rounds.specs.Agreement.{Agrees, Answered, Aside, Follows, IsRefused, MovesOn, frames_of, machine_at}
+use Rattle.vm_rounds.specs.Agreement.{Aside, Follows, MovesOn, frames_of, machine_at}
 use Rattle.vm_rounds.specs.Steps.{mapped}
 
 -- what stands aside, with these frames written

@@ -1,6 +1,6 @@
 -- A step keeps what is kept of an attempt.
-use Rattle.std.proofs.Common.{◌≡◌, ◌≢◌, ◌⊎◌, ℕ, zero, suc, ◌+◌, Bool, true, false, cond, List, [], ◌∷◌, ◌++◌, map, Option, Some, None, Result, Ok, Err, refl, sym, ap, ◌∙◌, subst, inl, inr, ⊎_elim, append_assoc, append-nil}
-use Rattle.std.specs.Prelude.{if◌then◌else◌, is_some, nat_lt, IsSome, OnOk}
+use Rattle.std.proofs.Common.{◌≡◌, ◌≢◌, ◌⊎◌, ℕ, zero, suc, ◌+◌, Bool, true, false, cond, List, [], ◌∷◌, ◌++◌, map, Option, Some, None, Result, Ok, Err, refl, sym, ap, ◌∙◌, subst, inl, inr, ⊎_elim, append-nil}
+use Rattle.std.specs.Prelude.{is_some, nat_lt, OnOk}
 use Rattle.journal_protocol.specs.declared.error.Error.{Error}
 use Rattle.journal_protocol.specs.declared.faults.NamedFault.{NamedFault}
 use Rattle.journal_protocol.specs.declared.message.Message.{Message}
@@ -9,7 +9,7 @@ use Rattle.journal_protocol.specs.declared.message.RawMessage.{RawMessage}
 use Rattle.journal_protocol.specs.declared.notification.NotificationId.{NotificationId}
 use Rattle.journal_protocol.specs.declared.notification.NotificationResult.{NotificationResult}
 use Rattle.journal_protocol.specs.declared.version.Version.{Version}
-use Rattle.journal_protocol.specs.Errors.{error_message, no_memory}
+use Rattle.journal_protocol.specs.Errors.{error_message}
 use Rattle.journal_protocol.specs.Message.{encoding, frame}
 use Rattle.vm_parts.specs.declared.options.VMOptions.{VMOptions}
 use Rattle.vm_parts.specs.declared.steps.Answer.{Answer}
@@ -31,12 +31,12 @@ use Rattle.vm_machine.specs.Outcomes.{Does, IsStarved, Outcome, Done, Failed}
 use Rattle.vm_machine.specs.Phases.{is_from_v6, is_running}
 use Rattle.vm_machine.specs.Requests.{ids_of, message_of}
 use Rattle.invocation_vm.specs.Calls.{has_metadata, skips_replay}
-use Rattle.invocation_vm.specs.Frames.{Rest, frames_of as split}
+use Rattle.invocation_vm.specs.Frames.{Rest}
 use Rattle.invocation_vm.specs.Views.{View}
-use Rattle.vm_model.specs.Calls.{Setup, Meaning, Derived, Demand, Move, awakeable_made, awaiting, call_of, commanded, demand_of, handing, is_awake, making_awakeable, name_in, numbered, ready_in, requested, result_taken, sleeping, value_taken}
+use Rattle.vm_model.specs.Calls.{Setup, Meaning, Derived, Move, awakeable_made, awaiting, call_of, handing, is_awake, making_awakeable, name_in, numbered, ready_in, requested, result_taken, sleeping, value_taken}
 use Rattle.vm_model.specs.Calls.Move.{Answers, Needs, Awaits, Stops}
 use Rattle.vm_model.specs.Journal.{stored_form}
-use Rattle.vm_model.specs.Moves.{Point, longer, move_at, next, start, supplied, supply}
+use Rattle.vm_model.specs.Moves.{Point, move_at, start, supplied, supply}
 use Rattle.vm_model.specs.Histories.{Made}
 use Rattle.vm_model.proofs.Compared.{attempt_is_told}
 use Rattle.vm_model.proofs.Runs.{made_add}
@@ -49,8 +49,8 @@ use Rattle.vm_rounds.specs.Agreement.{Agrees, Answered, Follows, HasEnded, IsRef
 use Rattle.vm_rounds.specs.Journals.{is_command, setup_for}
 use Rattle.vm_rounds.specs.Record.{Record}
 use Rattle.vm_rounds.specs.Stepping.{Asks, IfWaits, Replays, asked, asked_from, future_in, progress_of, settled, with_vm}
-use Rattle.vm_rounds.specs.Steps.{Asked, IfDone, IsReadable, Made as IsMade, performed, request_of}
-use Rattle.vm_rounds.specs.Told.{BeforeInput, arrivals, IsKept, IsLive, IsAsleep, Quiet, Runs, StillAwaits, Wrote, bytes_fed, commands_of, handed_out}
+use Rattle.vm_rounds.specs.Steps.{IfDone, IsReadable, Made as IsMade, performed, request_of}
+use Rattle.vm_rounds.specs.Told.{arrivals, IsKept, IsLive, IsAsleep, Runs, StillAwaits, Wrote, commands_of, handed_out}
 use Rattle.vm_rounds.proofs.Following.{agreeing_follows}
 use Rattle.vm_rounds.proofs.Kept.{dead_same, not_live}
 use Rattle.vm_rounds.proofs.Leading.{no_move}

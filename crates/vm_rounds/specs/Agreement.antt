@@ -1,5 +1,5 @@
 -- When the machine of an attempt agrees with a point of the handler's run, and what a call then does.
-use Rattle.std.specs.Prelude.{◌≡◌, ◌⊎◌, ℕ, Bool, true, false, List, [], ◌∷◌, ◌++◌, map, Option, Some, None}
+use Rattle.std.specs.Prelude.{◌≡◌, ◌⊎◌, ℕ, Bool, true, false, List, [], ◌∷◌, ◌++◌, map, Some, None}
 use Rattle.std.proofs.Common.{Global}
 use Rattle.journal_protocol.specs.declared.control.Suspension.{Suspension}
 use Rattle.journal_protocol.specs.declared.error.Error.{Error}
@@ -133,4 +133,3 @@ Follows s m given written p v (Done (reply.Waiting input run) w) = StillAgrees s
 Follows s m given written p v (Done reply.Suspended w) = IsSuspended s m p v w
 Follows s m given written p v (Done reply.Ended w) = HasEnded m p v w
 Follows s m given written p v (Failed e w) = IsRefused s m p v e w
-

@@ -1,5 +1,5 @@
 -- What the record of an attempt tells of its handler's run.
-use Rattle.std.specs.Prelude.{◌≡◌, ◌≢◌, ◌⊎◌, ℕ, true, false, cond, length, List, [], ◌∷◌, ◌++◌, map, Option, Some, None, IsSome}
+use Rattle.std.specs.Prelude.{◌≡◌, ◌⊎◌, ℕ, true, false, cond, length, List, [], ◌∷◌, ◌++◌, map, Option, Some, None}
 use Rattle.std.specs.List.{concat, flat_map}
 use Rattle.journal_protocol.specs.declared.commands.InputCommand.{InputCommand}
 use Rattle.journal_protocol.specs.declared.message.Message.{Message}
@@ -20,7 +20,7 @@ use Rattle.vm_machine.specs.Inputs.{coverage_of, entries_in, info_of}
 use Rattle.vm_machine.specs.Making.{fresh}
 use Rattle.vm_machine.specs.Phases.{is_running}
 use Rattle.invocation_vm.specs.Frames.{Rest, frames_of}
-use Rattle.vm_model.specs.Calls.{Setup, Meaning, is_awake}
+use Rattle.vm_model.specs.Calls.{Meaning, is_awake}
 use Rattle.vm_model.specs.Journal.{input_read_from, stored_form}
 use Rattle.vm_model.specs.Moves.{Point, start}
 use Rattle.vm_model.specs.Histories.{Made, Told}
@@ -176,4 +176,3 @@ pub record BeforeInput (version : Version) (options : VMOptions) (fed : List Fed
 -- what each call of an attempt keeps
 abbrev pub IsKept : Meaning → Version → VMOptions → Record → Type 0
 IsKept m version options r = BeforeInput version options r.fed r.answers r.waiting r.taken r.vm ⊎ Runs m version options r.fed r.answers r.waiting r.taken r.vm
-

@@ -1,4 +1,4 @@
-use Rattle.std.proofs.Common.{◌≡◌, refl, subst}
+use Rattle.std.proofs.Common.{refl, subst}
 use Rattle.std.specs.List.{concat}
 use Rattle.vmrun.specs.Runs.{Drives}
 use Rattle.vmrun.proofs.Driving.{all_left}
