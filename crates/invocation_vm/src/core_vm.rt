@@ -14,7 +14,7 @@ use crate::output::{joined, len_of};
 use crate::versions::{response_head, version_in};
 use crate::vm::VM;
 use bytes::Bytes;
-use journal_protocol::{Decoder, Error, HeaderMap, NamedFault};
+use journal_protocol::{Decoder, Error, HeaderMap, NamedFault, Version};
 use std::alloc::{AllocError, Global};
 use std::fmt;
 use std::time::Duration;
@@ -45,6 +45,13 @@ impl fmt::Debug for CoreVM {
 
 #[tactic(auto, using(crate::proofs::Calls::does_called, crate::proofs::Calls::does_failed))]
 impl CoreVM {
+    /// The version of the journal protocol that the VM was made for.
+    pub fn version(&self) -> Version
+        ensures { result ≡ (seen self.now).machine.version }
+    {
+        self.machine.version
+    }
+
     /// The first error of a failed VM.
     pub fn first_error(&self) -> VMResult<()>
         ensures { Lives (seen self.now).machine.failure result }

@@ -1,11 +1,10 @@
 -- What is ready for an id: of a completion its deliveries, of a signal those from the number of its takes on.
-use Rattle.std.proofs.Common.{◌≡◌, ◌≤◌, ℕ, zero, suc, Bool, true, false, cond, List, [], ◌∷◌, ◌++◌, length, drop, is_some, Option, Some, None, refl, sym, ap, ◌∙◌, subst, arith}
+use Rattle.std.proofs.Common.{◌≡◌, ◌≤◌, ℕ, zero, suc, Bool, true, false, cond, List, [], ◌∷◌, ◌++◌, length, drop, is_some, refl, sym, ap, ◌∙◌, subst, arith}
 use Rattle.std.proofs.lemmas.Bool.{eqb-true}
 use Rattle.std.specs.Cmp.Lexicographic.{bytes_decides}
 use Rattle.journal_protocol.specs.declared.notification.Notification.{Notification}
 use Rattle.journal_protocol.specs.declared.notification.NotificationId.{NotificationId}
 use Rattle.journal_protocol.specs.declared.notification.NotificationId.TheVariants.{CompletionId, SignalId, SignalName}
-use Rattle.journal_protocol.specs.declared.notification.NotificationResult.{NotificationResult}
 use Rattle.vm_parts.specs.declared.options.SignalDelivery.{SignalDelivery}
 use Rattle.vm_parts.specs.declared.options.SignalDelivery.TheVariants.{Queued, Overwrite}
 use Rattle.vm_parts.specs.Deliveries.{first, is_listed, left_ready, newest, present, results_of, same_id, without_all, without_first}

@@ -1,5 +1,5 @@
 -- Runs of two handlers, computed.
-use Rattle.std.proofs.Common.{◌≡◌, ℕ, Bool, true, false, List, [], ◌∷◌, ◌++◌, map, Option, Some, None, refl}
+use Rattle.std.proofs.Common.{◌≡◌, ℕ, false, List, [], ◌∷◌, map, Some, None, refl}
 use Rattle.std.specs.Prelude.{codes}
 use Rattle.std.specs.Str.{chars, is_utf8}
 use Rattle.journal_protocol.specs.declared.commands.InputCommand.{InputCommand}
@@ -18,7 +18,6 @@ use Rattle.journal_protocol.specs.Encoding.{clear_state, failure, output, sleep}
 use Rattle.journal_protocol.specs.Parts.{read_value}
 use Rattle.vm_parts.specs.declared.steps.Answer.{Answer}
 use Rattle.vm_parts.specs.declared.steps.Answer.TheVariants as answer
-use Rattle.vm_parts.specs.declared.steps.Step.{Step}
 use Rattle.vm_parts.specs.declared.steps.Step.TheVariants as step
 use Rattle.vm_parts.specs.declared.types.NotificationHandle.{NotificationHandle}
 use Rattle.vm_parts.specs.declared.types.UnresolvedFuture.TheVariants.{Single}
@@ -26,11 +25,11 @@ use Rattle.vm_parts.specs.declared.values.NonEmptyValue.TheVariants.{Success, Fa
 use Rattle.vm_parts.specs.declared.values.Value.TheVariants as value
 use Rattle.vm_parts.specs.Options.{default_options}
 use Rattle.vm_parts.specs.CommandTypes.{message_type}
-use Rattle.wire.specs.Format.{bytes, list, option, read_byte, read_bytes, read_items, read_list, read_option, read_pair, read_text, read_u16, read_u32, read_u64, u16s, u32s, u64s}
+use Rattle.wire.specs.Format.{bytes, list, option, read_byte, read_bytes, read_items, read_list, read_pair, read_text, read_u16, read_u32, read_u64, u16s, u32s, u64s}
 use Rattle.vm_model.specs.Calls.{Setup, Meaning}
-use Rattle.vm_model.specs.Journal.{Entry, Recorded, Notified, stored_form}
-use Rattle.vm_model.specs.Moves.{Point, after, longer, next, start, supplied, told_input}
-use Rattle.vm_model.specs.Histories.{Event, Report, reports, rounds}
+use Rattle.vm_model.specs.Journal.{Recorded, Notified, stored_form}
+use Rattle.vm_model.specs.Moves.{after, start, told_input}
+use Rattle.vm_model.specs.Histories.{Event, reports, rounds}
 use Rattle.vm_model.specs.Histories.Event.{Arrive, Feed, Act, Store}
 
 setup : Setup

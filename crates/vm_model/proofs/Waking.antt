@@ -1,12 +1,14 @@
 -- An await uses the least prefix of the arrivals by which its future is awake.
-use Rattle.std.proofs.Common.{◌≡◌, ◌<◌, ℕ, zero, suc, Bool, true, false, List, [], ◌∷◌, ◌++◌, take, drop, Some, refl, sym, ap, ◌∙◌, arith}
+use Rattle.std.proofs.Common.{◌≡◌, ◌<◌, ℕ, zero, suc, Bool, true, false, List, [], ◌∷◌, ◌++◌, take, drop, None, Some, refl, sym, ap, ◌∙◌, append_assoc, arith}
 use Rattle.std.proofs.lemmas.Option.{same_Some}
 use Rattle.journal_protocol.specs.declared.notification.Notification.{Notification}
 use Rattle.vm_parts.specs.declared.steps.Answer.{Answer}
+use Rattle.vm_parts.specs.declared.steps.Answer.TheVariants as answer
 use Rattle.vm_parts.specs.declared.types.UnresolvedFuture.{UnresolvedFuture}
 use Rattle.vm_model.specs.Calls.{Setup, Meaning, Derived, awaiting, call_of, is_awake}
-use Rattle.vm_model.specs.Moves.{Point, after, arrival_used, move_at, moved, next, uses_arrival}
+use Rattle.vm_model.specs.Moves.{Point, after, and_then, arrival_used, move_at, moved, next, uses_arrival}
 use Rattle.vm_model.specs.Histories.{IsAwaiting, IsLeast, arrivals_used}
+use Rattle.vm_model.proofs.Compared.{after_answers}
 use Rattle.vm_model.proofs.Runs.{and_then_some, none_some}
 
 -- the move of an await
@@ -73,3 +75,37 @@ await_runs s m future (suc j) p (x ∷ xs) is at h =
     let p' : Point = record p { derived = arrival_used x p.derived; queue = xs } in
     let first : next s m p ≡ Some p' = waits_next s m future p at b.0 ∙ ap (λ q. uses_arrival q p) is in
     rw first (await_runs s m future j p' xs refl at b.1)
+
+-- ---- an await that no arrival wakes
+
+-- an await that is awake is answered
+wakes_next : (s : Setup) (m : Meaning) (future : UnresolvedFuture) (p : Point) → IsAwaiting m p future → is_awake s future p.derived ≡ true → next s m p ≡ Some (record p { answers = p.answers ++ answer.Awake ∷ [] })
+wakes_next s m future p at t = ap (λ mv. moved mv p) (move_awaits s m p future at ∙ ap (λ b. awaiting b p.derived) t)
+
+-- a point from which moves lead on without an answer isn't awake
+asleep_before : (s : Setup) (m : Meaning) (future : UnresolvedFuture) (k : ℕ) (p q : Point) → after s m k p ≡ Some q → q.answers ≡ p.answers → IsAwaiting m p future → is_awake s future q.derived ≡ false → is_awake s future p.derived ≡ false
+asleep_before s m future zero p q h same at asleep = ap (λ x. is_awake s future x.derived) (same_Some p q h) ∙ asleep
+asleep_before s m future (suc k) p q h same at asleep = by_test (is_awake s future p.derived) refl
+  where
+    by_test : (b : Bool) → is_awake s future p.derived ≡ b → b ≡ false
+    by_test false e = refl
+    by_test true e =
+        let to : Point = record p { answers = p.answers ++ answer.Awake ∷ [] } in
+        let moves : after s m k to ≡ Some q = sym (ap (λ o. and_then o (after s m k)) (wakes_next s m future p at e)) ∙ h in
+        let more = after_answers s m k to q moves in
+        absurd (longer_list p.answers answer.Awake more.0 (sym same ∙ more.1 ∙ append_assoc p.answers (answer.Awake ∷ []) more.0))
+
+-- where all arrivals are used and the future isn't awake, it is awake at no point of the run with these answers
+pub none_wakes : (s : Setup) (m : Meaning) (future : UnresolvedFuture) (n k : ℕ) (first p q : Point) → after s m n first ≡ Some p → after s m k first ≡ Some q → q.answers ≡ p.answers → IsAwaiting m q future → is_awake s future q.derived ≡ false → q.queue ≡ [] → is_awake s future p.derived ≡ false
+none_wakes s m future zero k first p q a b same at asleep spent =
+    let is = same_Some first p a in
+    asleep_before s m future k p q (ap (after s m k) (sym is) ∙ b) same (sym (ap m same) ∙ at) asleep
+none_wakes s m future (suc n) zero first p q a b same at asleep spent =
+    let is = same_Some first q b in
+    let stuck : next s m first ≡ None = ap (next s m) is ∙ waits_next s m future q at asleep ∙ ap (λ l. uses_arrival l q) spent in
+    none_some (sym (ap (λ o. and_then o (after s m n)) stuck) ∙ a)
+none_wakes s m future (suc n) (suc k) first p q a b same at asleep spent =
+    let x = and_then_some (next s m first) (after s m n) p a in
+    let y = and_then_some (next s m first) (after s m k) q b in
+    let one : x.0 ≡ y.0 = same_Some x.0 y.0 (sym x.1 ∙ y.1) in
+    none_wakes s m future n k x.0 p q x.2 (ap (after s m k) one ∙ y.2) same at asleep spent

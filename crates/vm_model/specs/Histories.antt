@@ -1,12 +1,12 @@
 -- What a journal tells of a handler's run, what an attempt writes, and what rounds of attempts leave.
-use Rattle.std.specs.Prelude.{◌≡◌, ◌⊎◌, ◌<◌, ◌≤◌, length, take, ℕ, zero, suc, Bool, true, false, List, [], ◌∷◌, ◌++◌, map, Option, Some, None}
+use Rattle.std.specs.Prelude.{◌≡◌, ◌⊎◌, ◌<◌, ◌≤◌, length, take, ℕ, zero, suc, Bool, true, false, List, [], ◌∷◌, ◌++◌, Option, Some, None}
 use Rattle.journal_protocol.specs.declared.commands.InputCommand.{InputCommand}
 use Rattle.journal_protocol.specs.declared.message.RawMessage.{RawMessage}
 use Rattle.journal_protocol.specs.declared.notification.Notification.{Notification}
 use Rattle.vm_parts.specs.declared.steps.Answer.{Answer}
 use Rattle.vm_parts.specs.declared.steps.Step.TheVariants as step
 use Rattle.vm_parts.specs.declared.types.UnresolvedFuture.{UnresolvedFuture}
-use Rattle.vm_model.specs.Calls.{Setup, Meaning, Derived, is_awake}
+use Rattle.vm_model.specs.Calls.{Setup, Meaning, Derived}
 use Rattle.vm_model.specs.Journal.{Entry, Recorded, Notified, commands_in, notifications_in, input_read_from}
 use Rattle.vm_model.specs.Moves.{Point, after, next, start, supplied, longer, later, arrival_used}
 

@@ -1,6 +1,6 @@
 -- A point of a handler's run over two lists, the recorded commands and the arrivals that aren't used yet, and the
 -- moves from one point to the next.
-use Rattle.std.specs.Prelude.{ℕ, zero, suc, ◌+◌, ◌==◌, Bool, false, cond, if◌then◌else◌, List, [], ◌∷◌, ◌++◌, Option, Some, None}
+use Rattle.std.specs.Prelude.{ℕ, zero, suc, ◌==◌, Bool, false, cond, if◌then◌else◌, List, [], ◌∷◌, ◌++◌, Option, Some, None}
 use Rattle.journal_protocol.specs.declared.commands.InputCommand.{InputCommand}
 use Rattle.journal_protocol.specs.declared.message.Message.{Message}
 use Rattle.journal_protocol.specs.declared.message.Message.TheVariants as message
@@ -18,7 +18,7 @@ use Rattle.vm_parts.specs.declared.values.Input.{Input}
 use Rattle.vm_parts.specs.Counting.{fresh_counters}
 use Rattle.vm_parts.specs.Deliveries.{no_results}
 use Rattle.vm_parts.specs.States.{state_set, state_cleared, all_cleared}
-use Rattle.vm_model.specs.Calls.{Setup, Identity, Meaning, Derived, Usage, Demand, Move, call_of}
+use Rattle.vm_model.specs.Calls.{Setup, Identity, Meaning, Derived, Demand, Move, call_of}
 use Rattle.vm_model.specs.Calls.Usage.{Used}
 use Rattle.vm_model.specs.Calls.Move.{Answers, Needs, Awaits, Stops}
 use Rattle.vm_model.specs.Journal.{stored_form}

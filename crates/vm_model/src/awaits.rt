@@ -1,5 +1,5 @@
 //! Laws of awaits and takes.
-ghost use Rattle.std.specs.Prelude.{◌≡◌, ◌∷◌, ◌++◌, List, ℕ, Some, drop, take};
+ghost use Rattle.std.specs.Prelude.{◌≡◌, ◌∷◌, ◌++◌, [], List, ℕ, Some, drop, false, take};
 ghost use Rattle.journal_protocol.specs.declared.commands.InputCommand.{InputCommand};
 ghost use Rattle.journal_protocol.specs.declared.message.RawMessage.{RawMessage};
 ghost use Rattle.journal_protocol.specs.declared.notification.Notification.{Notification};
@@ -15,10 +15,12 @@ ghost use Rattle.vm_model.specs.Histories.{IsAwaiting, IsLeast, arrivals_used};
 ghost use Rattle.vm_model.specs.Deliveries.{EachTookAResult, deliveries, takes};
 
 /// An await that was answered had a least prefix of the arrivals by which its future is awake, and the run uses just
-/// those.
+/// those. Where all arrivals are used and the future isn't awake, no number of them wakes it: it is awake at no point of the
+/// run with these answers.
 pub fn awaits_wake()
     ensures only { (s : Setup) (m : Meaning) (future : UnresolvedFuture) (n : ℕ) (p q : Point) (a : Answer) (more : List Answer) → IsAwaiting m p future → after s m n p ≡ Some q → q.answers ≡ p.answers ++ a ∷ more → (j : ℕ) × IsLeast (is_awake s future) p.derived p.queue j }
     ensures uses { (s : Setup) (m : Meaning) (future : UnresolvedFuture) (j : ℕ) (p : Point) → IsAwaiting m p future → IsLeast (is_awake s future) p.derived p.queue j → after s m j p ≡ Some (record p { derived = arrivals_used (take j p.queue) p.derived; queue = drop j p.queue }) }
+    ensures none { (s : Setup) (m : Meaning) (future : UnresolvedFuture) (n k : ℕ) (first p q : Point) → after s m n first ≡ Some p → after s m k first ≡ Some q → q.answers ≡ p.answers → IsAwaiting m q future → is_awake s future q.derived ≡ false → q.queue ≡ [] → is_awake s future p.derived ≡ false }
 {}
 
 /// The present result of a completion that wasn't taken is its newest delivery among the arrivals that awaits have used.

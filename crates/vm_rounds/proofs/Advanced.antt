@@ -1,5 +1,5 @@
 -- Each call of an attempt keeps what is kept of it: the input, and all that a step does.
-use Rattle.std.proofs.Common.{◌≡◌, ◌≢◌, ◌⊎◌, ℕ, suc, Bool, true, false, List, [], ◌∷◌, ◌++◌, Option, Some, None, Result, Ok, Err, refl, sym, ap, ◌∙◌, subst, inl, inr, ⊎_elim, append-nil, Global}
+use Rattle.std.proofs.Common.{◌≡◌, ◌≢◌, ◌⊎◌, ℕ, Bool, true, false, List, [], ◌∷◌, ◌++◌, Option, Some, None, Result, Ok, Err, refl, sym, ap, ◌∙◌, subst, inl, inr, ⊎_elim, Global}
 use Rattle.std.specs.Prelude.{◌==◌, if◌then◌else◌, is_some, IsSome}
 use Rattle.journal_protocol.specs.declared.commands.InputCommand.{InputCommand}
 use Rattle.journal_protocol.specs.declared.error.Error.{Error}
@@ -9,6 +9,7 @@ use Rattle.journal_protocol.specs.declared.message.RawMessage.{RawMessage}
 use Rattle.journal_protocol.specs.declared.notification.Notification.{Notification}
 use Rattle.journal_protocol.specs.declared.types.MessageType.TheVariants as type
 use Rattle.journal_protocol.specs.declared.version.Version.{Version}
+use Rattle.journal_protocol.specs.Errors.{no_memory}
 use Rattle.journal_protocol.specs.Reading.{input_in}
 use Rattle.journal_protocol.specs.Types.{type_number}
 use Rattle.vm_parts.specs.declared.context.StateMap.{StateMap}
@@ -22,13 +23,13 @@ use Rattle.vm_machine.specs.declared.machine.Machine.{Machine}
 use Rattle.vm_machine.specs.declared.phase.Phase.{Phase}
 use Rattle.vm_machine.specs.declared.phase.Phase.TheVariants.{WaitingStart, WaitingReplayEntries, Replaying, Processing, Closed}
 use Rattle.vm_machine.specs.Commands.{entered, phase_after, popped, popped_from}
-use Rattle.vm_machine.specs.Inputs.{coverage_of, info_of, input_at, input_counted, input_read, input_step}
+use Rattle.vm_machine.specs.Inputs.{coverage_of, input_at, input_counted, input_read, input_step}
 use Rattle.vm_machine.specs.Making.{fresh}
-use Rattle.vm_machine.specs.Outcomes.{Does, IsStarved, Outcome, Done, Failed, ◌>>=◌, about_last, called, called_at, settled, ruled, failed}
+use Rattle.vm_machine.specs.Outcomes.{IsStarved, Outcome, Done, Failed, ◌>>=◌, about_last, called, called_at, settled, ruled, failed}
 use Rattle.vm_machine.specs.Phases.{is_closed, is_running}
 use Rattle.invocation_vm.specs.Frames.{Rest, frames_of}
-use Rattle.invocation_vm.specs.Making.{made}
-use Rattle.invocation_vm.specs.Views.{Calls, View, left_by}
+use Rattle.invocation_vm.specs.Making.{Makes, made}
+use Rattle.invocation_vm.specs.Views.{View, left_by}
 use Rattle.vm_model.specs.Calls.{Meaning, Setup, identity_of}
 use Rattle.vm_model.specs.Journal.{input_read_from}
 use Rattle.vm_model.specs.Moves.{longer, start, told_input}
@@ -37,15 +38,15 @@ use Rattle.vm_model.proofs.Runs.{made_after}
 use Rattle.vm_rounds.specs.declared.progress.Fed.{Fed}
 use Rattle.vm_rounds.specs.declared.progress.Progress.{Progress}
 use Rattle.vm_rounds.specs.Agreement.{Agrees, Aside}
-use Rattle.vm_rounds.specs.Journals.{BeginsOrFails, HasAll, StillWaits, commands_among, machine_fed, missing, notifications_among, setup_for, waiting}
+use Rattle.vm_rounds.specs.Journals.{BeginsOrFails, HasAll, StillWaits, commands_among, machine_fed, missing, notifications_among, setup_for}
 use Rattle.vm_rounds.specs.Record.{Record}
-use Rattle.vm_rounds.specs.Stepping.{Advances, Asks, LacksMemory, Reads, StepAt, StepDoes, StepFrom, StepUnless, fresh_record, with_vm}
-use Rattle.vm_rounds.specs.Told.{AnswersAreTold, BeforeInput, Begun, Comes, IsKept, IsLive, Quiet, Runs, StillAwaits, Wrote, arrivals, bytes_fed, frames_fed}
+use Rattle.vm_rounds.specs.Stepping.{Advances, Asks, IfWaits, IsReplaying, LacksMemory, Reads, Replays, StepAt, StepDoes, StepFrom, StepUnless, fresh_record}
+use Rattle.vm_rounds.specs.Told.{AnswersAreTold, BeforeInput, Begun, Comes, IsKept, IsLive, IsAsleep, Quiet, Runs, StillAwaits, Wrote, arrivals, bytes_fed, frames_fed}
 use Rattle.vm_rounds.proofs.Beginning.{input_begins}
 use Rattle.vm_rounds.proofs.Kept.{dead_same}
 use Rattle.vm_rounds.proofs.Pieces.{agrees_running}
 use Rattle.vm_rounds.proofs.Quiet.{Silent, error_quiet, quiet_same, wrote_quiet}
-use Rattle.vm_rounds.proofs.Stepped.{asks_keep}
+use Rattle.vm_rounds.proofs.Stepped.{asks_keep, asks_replay, asks_wait}
 
 -- ---- an event that failed
 
@@ -241,6 +242,76 @@ step_keeps m version options old result new k does = by_test old.starved does
     by_test true d = subst (IsKept m version options) (sym d.1) k
     by_test false d = step_unless m version options old result new k old.vm.machine.failure refl old.over d
 
+-- ---- a step that waits
+
+reads_wait : (P : Type 0) (old : Record) (result : Result Progress Error) (new : Record) → Reads old result new → IfWaits result P
+reads_wait P old (Ok progress) new (stepped, further) = subst (λ z. IfWaits (Ok z) P) (sym stepped) tt
+reads_wait P old (Err e) new d = tt
+
+error_waits : (P : Type 0) (result : Result Progress Error) (e : Error) → result ≡ Err e → IfWaits result P
+error_waits P result e is = subst (λ z. IfWaits z P) (sym is) tt
+
+-- the handler runs, as it was answered
+runs_of : (m : Meaning) (version : Version) (options : VMOptions) (r : Record) → IsKept m version options r → r.answers ≢ [] → Runs m version options r.fed r.answers r.waiting r.taken r.vm
+runs_of m version options r k some =
+    ⊎_elim
+    (λ (b : BeforeInput version options r.fed r.answers r.waiting r.taken r.vm). absurd (some b.answers))
+    (λ (b : Runs m version options r.fed r.answers r.waiting r.taken r.vm). b)
+    k
+
+advances_wait : (m : Meaning) (version : Version) (options : VMOptions) (old : Record) (result : Result Progress Error) (new : Record) → IsKept m version options old → IsLive old.vm.machine → Advances m old result new → IfWaits result (IsAsleep m version options new.fed new.answers new.taken new.vm)
+advances_wait m version options old result new k live =
+    let P = IsAsleep m version options new.fed new.answers new.taken new.vm in
+    ⊎_elim
+    (λ (x : LacksMemory old result new). error_waits P result _ x.0)
+    (λ (o : ((old.answers ≡ []) × Reads old result new) ⊎ ((old.answers ≢ []) × Asks m old result new)).
+    ⊎_elim
+    (λ (x : (old.answers ≡ []) × Reads old result new). reads_wait P old result new x.1)
+    (λ (x : (old.answers ≢ []) × Asks m old result new). asks_wait m version options old result new (runs_of m version options old k x.0) live x.1)
+    o)
+
+wait_at : (m : Meaning) (version : Version) (options : VMOptions) (old : Record) (result : Result Progress Error) (new : Record) → IsKept m version options old → old.vm.machine.failure ≡ None → (ph : Phase) → old.vm.machine.phase ≡ ph → StepAt ph m old result new → IfWaits result (IsAsleep m version options new.fed new.answers new.taken new.vm)
+wait_at m version options old result new k live WaitingStart at d = subst (λ z. IfWaits z (IsAsleep m version options new.fed new.answers new.taken new.vm)) (sym d.0) tt
+wait_at m version options old result new k live WaitingReplayEntries at d = subst (λ z. IfWaits z (IsAsleep m version options new.fed new.answers new.taken new.vm)) (sym d.0) tt
+wait_at m version options old result new k live Closed at d = error_waits _ result _ d.0
+wait_at m version options old result new k live Replaying at d = advances_wait m version options old result new k (record { failure = live; phase = ap is_running at }) d
+wait_at m version options old result new k live Processing at d = advances_wait m version options old result new k (record { failure = live; phase = ap is_running at }) d
+
+wait_unless : (m : Meaning) (version : Version) (options : VMOptions) (old : Record) (result : Result Progress Error) (new : Record) → IsKept m version options old → (f : Option Error) → old.vm.machine.failure ≡ f → StepUnless f None m old result new → IfWaits result (IsAsleep m version options new.fed new.answers new.taken new.vm)
+wait_unless m version options old result new k (Some e) is d = ⊎_elim (λ (x : result ≡ Err e). error_waits _ result e x) (λ (x : result ≡ Err no_memory). error_waits _ result no_memory x) d.0
+wait_unless m version options old result new k None is d = wait_at m version options old result new k is old.vm.machine.phase refl d
+
+-- a step waits only where nothing wakes
+pub step_waits : (m : Meaning) (version : Version) (options : VMOptions) (old : Record) (result : Result Progress Error) (new : Record) → IsKept m version options old → old.over ≡ None → StepDoes m old result new → IfWaits result (IsAsleep m version options new.fed new.answers new.taken new.vm)
+step_waits m version options old result new k going does = by_test old.starved does
+  where
+    by_test : (b : Bool) → StepFrom b m old result new → IfWaits result (IsAsleep m version options new.fed new.answers new.taken new.vm)
+    by_test true d = error_waits _ result no_memory d.0
+    by_test false d = wait_unless m version options old result new k old.vm.machine.failure refl (subst (λ over. StepUnless old.vm.machine.failure over m old result new) going d)
+
+-- ---- a step while recorded commands are left
+
+lacks_replay : (old : Record) (result : Result Progress Error) (new : Record) → LacksMemory old result new → Replays old result new
+lacks_replay old result new (is, left) = subst (λ z. Replays old z new) (sym is) (inl (ap (λ (r : Record). r.starved) left))
+
+-- a step of a handler that is replaying, as the step is at this phase
+replays_advance : (m : Meaning) (old : Record) (result : Result Progress Error) (new : Record) → IsReplaying old → StepDoes m old result new → Advances m old result new
+replays_advance m old result new is d =
+    subst (λ ph. StepAt ph m old result new) is.phase
+    (subst (λ f. StepUnless f None m old result new) is.failure
+    (subst (λ over. StepUnless old.vm.machine.failure over m old result new) is.over (subst (λ b. StepFrom b m old result new) is.starved d)))
+
+pub step_replays : (m : Meaning) (version : Version) (options : VMOptions) (old : Record) (result : Result Progress Error) (new : Record) → IsKept m version options old → IsReplaying old → StepDoes m old result new → Replays old result new
+step_replays m version options old result new k is does =
+    ⊎_elim
+    (λ (x : LacksMemory old result new). lacks_replay old result new x)
+    (λ (o : ((old.answers ≡ []) × Reads old result new) ⊎ ((old.answers ≢ []) × Asks m old result new)).
+    ⊎_elim
+    (λ (x : (old.answers ≡ []) × Reads old result new). absurd (is.runs x.0))
+    (λ (x : (old.answers ≢ []) × Asks m old result new). asks_replay m version options old result new (runs_of m version options old k x.0) (record { failure = is.failure; phase = ap is_running is.phase }) is.phase x.1)
+    o)
+    (replays_advance m old result new is does)
+
 -- ---- a new attempt, and what is told
 
 pub made_kept : (m : Meaning) (alloc : Global) (version : Version) (options : VMOptions) → IsKept m version options (fresh_record (made alloc options version))
@@ -253,10 +324,15 @@ made_kept m alloc version options = inl (record {
   tail = λ _. refl;
 })
 
+-- the attempt that is made
+pub new_kept : {S : Type 0} (m : Meaning) (alloc : Global) (options : VMOptions) (wanted : Result Version Error) (view : S → View) (vm : S) → Makes alloc options wanted view (Ok vm) → IsKept m (view vm).machine.version options (fresh_record (view vm))
+new_kept m alloc options (Ok version) view vm is = subst (λ (x : View). IsKept m x.machine.version options (fresh_record x)) (sym is) (made_kept m alloc version options)
+new_kept m alloc options (Err refusal) view vm is = absurd is
+
 pub kept_told : (m : Meaning) (version : Version) (options : VMOptions) (r : Record) → IsKept m version options r → (r.answers ≡ []) ⊎ AnswersAreTold m version options r
 kept_told m version options r =
     ⊎_elim
     (λ (b : BeforeInput version options r.fed r.answers r.waiting r.taken r.vm). inl b.answers)
     (λ (k : Runs m version options r.fed r.answers r.waiting r.taken r.vm).
     let told = attempt_is_told (setup_for version options k.journal.start) m k.journal.input k.moves (arrivals k.journal) k.journal.rest k.written k.at k.run in
-    inr (record { journal = k.journal; written = k.written; wrote = k.wrote; at = k.at; told = told.0; answers = k.answers; in_order = told.1 }))
+    inr (record { journal = k.journal; written = k.written; wrote = k.wrote; at = k.at; told = told.0; answers = k.answers; moves = k.moves; made = k.run; in_order = told.1 }))

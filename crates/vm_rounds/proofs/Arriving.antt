@@ -13,7 +13,6 @@ use Rattle.vm_parts.specs.declared.context.StateMap.{StateMap}
 use Rattle.vm_machine.specs.declared.machine.Machine.{Machine}
 use Rattle.vm_machine.specs.declared.phase.Phase.{Phase}
 use Rattle.vm_machine.specs.declared.phase.Phase.TheVariants.{WaitingStart, WaitingReplayEntries, Replaying, Processing, Closed}
-use Rattle.vm_machine.specs.Commands.{phase_after}
 use Rattle.vm_machine.specs.Inputs.{entry_step, message_step, notification_step, queued, start_step}
 use Rattle.vm_machine.specs.Outcomes.{Outcome, called, called_at, refused, settled}
 use Rattle.vm_machine.specs.Phases.{is_running}

@@ -1,5 +1,5 @@
 -- A machine that has the whole journal reads its input and agrees with the first point.
-use Rattle.std.proofs.Common.{◌≡◌, ℕ, Bool, true, false, List, [], ◌∷◌, Option, Some, None, refl, sym, ap, ◌∙◌, subst}
+use Rattle.std.proofs.Common.{◌≡◌, Bool, true, false, List, [], ◌∷◌, Option, Some, None, refl, sym, ap}
 use Rattle.std.specs.Prelude.{◌==◌, if◌then◌else◌}
 use Rattle.journal_protocol.specs.declared.commands.InputCommand.{InputCommand}
 use Rattle.journal_protocol.specs.declared.faults.NamedFault.TheVariants as fault
@@ -9,16 +9,15 @@ use Rattle.journal_protocol.specs.declared.types.MessageType.TheVariants as type
 use Rattle.journal_protocol.specs.Reading.{input_in}
 use Rattle.journal_protocol.specs.Types.{type_number}
 use Rattle.vm_parts.specs.declared.context.StateMap.{StateMap}
-use Rattle.vm_parts.specs.declared.values.Input.{Input}
 use Rattle.vm_machine.specs.declared.machine.Machine.{Machine}
 use Rattle.vm_machine.specs.declared.phase.Phase.TheVariants.{Replaying}
 use Rattle.vm_machine.specs.Commands.{entered, phase_after, popped}
-use Rattle.vm_machine.specs.Inputs.{input_of, input_read, input_step}
-use Rattle.vm_machine.specs.Outcomes.{Outcome, Done, Failed, ◌>>=◌, about_last}
+use Rattle.vm_machine.specs.Inputs.{input_read, input_step}
+use Rattle.vm_machine.specs.Outcomes.{Done, Failed, ◌>>=◌, about_last}
 use Rattle.vm_model.specs.Calls.{Setup, identity_of}
 use Rattle.vm_model.specs.Journal.{input_read_from}
-use Rattle.vm_model.specs.Moves.{start, told_input}
-use Rattle.vm_rounds.specs.Agreement.{Agrees, Aside, machine_at}
+use Rattle.vm_model.specs.Moves.{told_input}
+use Rattle.vm_rounds.specs.Agreement.{Aside}
 use Rattle.vm_rounds.specs.Journals.{BeginsOrFails, machine_fed}
 
 -- the machine once the first command is popped

@@ -1,10 +1,9 @@
 -- How a machine that waits for the known entries comes to have the whole journal.
-use Rattle.std.proofs.Common.{◌≡◌, ◌⊎◌, ℕ, zero, suc, ◌+◌, ◌-◌, Bool, true, false, cond, List, [], ◌∷◌, ◌++◌, length, Option, Some, None, refl, sym, ap, ◌∙◌, subst, inl, inr, ⊎_elim, append_assoc, append-nil, arith}
+use Rattle.std.proofs.Common.{◌≡◌, ◌⊎◌, ℕ, zero, suc, ◌-◌, Bool, true, false, cond, List, [], ◌∷◌, ◌++◌, length, Option, Some, None, refl, sym, ap, ◌∙◌, subst, inl, inr, ⊎_elim, append_assoc, append-nil, arith}
 use Rattle.std.specs.Prelude.{◌==◌, ◌&&◌, if◌then◌else◌, is_some, nat_le, nat_lt, IsSome}
 use native.Mathlib.Nat.{zero-add, suc-add}
 use Rattle.std.proofs.lemmas.Bool.{eqb-true}
 use Rattle.std.proofs.lemmas.Bool.Decides.{nat_tests}
-use Rattle.journal_protocol.specs.declared.error.Error.{Error}
 use Rattle.journal_protocol.specs.declared.faults.NamedFault.TheVariants as fault
 use Rattle.journal_protocol.specs.declared.message.RawMessage.{RawMessage}
 use Rattle.journal_protocol.specs.declared.notification.Notification.{Notification}
@@ -20,7 +19,7 @@ use Rattle.journal_protocol.specs.declared.start.Start.{Start}
 use Rattle.journal_protocol.specs.declared.version.Version.{Version}
 use Rattle.vm_parts.specs.declared.options.VMOptions.{VMOptions}
 use Rattle.std.proofs.Common.{Global}
-use Rattle.vm_machine.specs.Outcomes.{Outcome, Done, Failed, refused, settled}
+use Rattle.vm_machine.specs.Outcomes.{Outcome, Done, refused, settled}
 use Rattle.invocation_vm.specs.Views.{all_received, left_by, received}
 use Rattle.vm_model.specs.Calls.{Setup}
 use Rattle.vm_rounds.specs.Agreement.{Aside}

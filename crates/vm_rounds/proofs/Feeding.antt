@@ -1,5 +1,5 @@
 -- A piece that was kept and then handed to the VM.
-use Rattle.std.proofs.Common.{◌≡◌, ◌⊎◌, inr, ℕ, List, Result, Ok, Err, refl, ap, ◌∙◌, subst}
+use Rattle.std.proofs.Common.{◌≡◌, inr, ℕ, List, Result, Ok, Err, ap, ◌∙◌}
 use Rattle.std.specs.declared.alloc.AllocError.{AllocError}
 use Rattle.invocation_vm.specs.Views.{View, Leaves, after_input}
 use Rattle.vm_rounds.specs.Record.{Record}

@@ -2,7 +2,6 @@
 use Rattle.std.proofs.Common.{◌≡◌, ℕ, ◌+◌, Bool, true, false, cond, ◌&&◌, List, [], ◌∷◌, ◌++◌, Option, Some, None, refl, sym, ap, ◌∙◌, subst, append-nil}
 use Rattle.std.specs.Prelude.{if◌then◌else◌, nat_lt, not, ◌/◌, ◌==◌}
 use Rattle.std.specs.Duration.{as_nanos}
-use Rattle.std.specs.declared.time.Duration.{Duration}
 use Rattle.journal_protocol.specs.declared.faults.NamedFault.{NamedFault}
 use Rattle.journal_protocol.specs.declared.faults.NamedFault.TheVariants as fault
 use Rattle.journal_protocol.specs.declared.message.RawMessage.{RawMessage}
@@ -15,9 +14,8 @@ use Rattle.vm_parts.specs.declared.steps.Answer.TheVariants as answer
 use Rattle.vm_parts.specs.declared.steps.Step.{Step}
 use Rattle.vm_parts.specs.declared.steps.Step.TheVariants as step
 use Rattle.vm_parts.specs.declared.types.NotificationHandle.{NotificationHandle}
-use Rattle.vm_parts.specs.declared.values.NonEmptyValue.{NonEmptyValue}
 use Rattle.vm_parts.specs.declared.values.Value.{Value}
-use Rattle.vm_parts.specs.Counting.{missing, missing_signals}
+use Rattle.vm_parts.specs.Counting.{missing_signals}
 use Rattle.vm_parts.specs.Deliveries.{id_at, present_for, taken_by, unmapped}
 use Rattle.journal_protocol.specs.declared.notification.NotificationId.TheVariants.{SignalId}
 use Rattle.vm_parts.specs.Values.{value_message, value_of}
@@ -27,22 +25,19 @@ use Rattle.vm_machine.specs.declared.request.Request.TheVariants as request
 use Rattle.vm_machine.specs.Awaits.{take_step}
 use Rattle.vm_machine.specs.Awaits as awaits
 use Rattle.vm_machine.specs.Commands.{CanBeRead, issued, phase_after, unit_of}
-use Rattle.vm_machine.specs.Inputs.{end_at, end_step}
+use Rattle.vm_machine.specs.Inputs.{end_at}
 use Rattle.vm_machine.specs.Outcomes.{Outcome, Done, Failed, called, refused, ruled}
-use Rattle.vm_machine.specs.Phases.{is_closed, is_from_v6, is_processing, is_running, state_fault}
-use Rattle.vm_machine.specs.Requests.{ids_of, message_of}
+use Rattle.vm_machine.specs.Phases.{is_closed, is_from_v6, is_processing, state_fault}
 use Rattle.vm_machine.specs.Signals.{awakeable_counted, awakeable_id, awakeable_step}
-use Rattle.invocation_vm.specs.Calls.{handing, has_metadata, new_awakeable_step, skips_replay, sleep_step}
-use Rattle.vm_model.specs.Calls.{Setup, Meaning, Derived, Demand, Move, answer_of, awakeable_made, call_of, commanded, making_awakeable, demand_of, has_result_in, identity_of, name_in, numbered, ready_in, requested, result_taken, sleeping, taking, value_taken}
+use Rattle.invocation_vm.specs.Calls.{has_metadata, skips_replay}
+use Rattle.vm_model.specs.Calls.{Setup, Meaning, Derived, Move, answer_of, awakeable_made, call_of, making_awakeable, has_result_in, identity_of, name_in, ready_in, requested, result_taken, taking, value_taken}
 use Rattle.vm_model.specs.Calls.Usage.{Taken}
-use Rattle.vm_model.specs.Calls.Move.{Answers, Needs, Awaits, Stops}
+use Rattle.vm_model.specs.Calls.Move.{Answers, Stops}
 use Rattle.vm_model.specs.Moves.{Point, longer, move_at, moved, supply}
-use Rattle.vm_model.proofs.Runs.{longer_nothing}
-use Rattle.vm_rounds.specs.declared.progress.Reply.{Reply}
 use Rattle.vm_rounds.specs.declared.progress.Reply.TheVariants as reply
-use Rattle.vm_rounds.specs.Agreement.{Agrees, Aside, Follows, HasEnded, IsRefused, machine_at}
-use Rattle.vm_rounds.specs.Steps.{IfDone, IsReadable, awakeable_made as made_awakeable, done, ended, mapped, performed, request_of, slept, taken}
-use Rattle.vm_rounds.proofs.Leading.{Leads, error_written, follows_from, no_move, open_after, with_frames}
+use Rattle.vm_rounds.specs.Agreement.{Agrees, Aside, Follows, machine_at}
+use Rattle.vm_rounds.specs.Steps.{IfDone, IsReadable, mapped, performed, request_of}
+use Rattle.vm_rounds.proofs.Leading.{Leads, error_written, follows_from, no_move, open_after}
 use Rattle.vm_rounds.proofs.Own.{stands_for_itself}
 use Rattle.vm_rounds.proofs.Requesting.{issues, runs_at}
 use Rattle.vm_rounds.proofs.Waiting.{awaits_follow}

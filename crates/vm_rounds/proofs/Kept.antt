@@ -1,5 +1,5 @@
 -- What the calls of an attempt keep, but for its steps: feeding, closing the input, taking the output.
-use Rattle.std.proofs.Common.{◌≡◌, ◌≢◌, ◌⊎◌, ℕ, Bool, true, false, List, [], ◌∷◌, ◌++◌, Option, Some, None, Result, Ok, Err, refl, sym, ap, ◌∙◌, subst, inl, inr, ⊎_elim, append_assoc, append-nil}
+use Rattle.std.proofs.Common.{◌≡◌, ◌≢◌, ◌⊎◌, ℕ, Bool, true, false, List, [], ◌∷◌, ◌++◌, Option, Some, None, Result, Ok, Err, refl, sym, ap, ◌∙◌, subst, inl, inr, ⊎_elim, append-nil}
 use Rattle.std.specs.Prelude.{if◌then◌else◌, is_some, IsSome}
 use Rattle.std.specs.List.{concat}
 use Rattle.std.proofs.lemmas.List.Folds.{concat-append}
@@ -18,11 +18,11 @@ use Rattle.journal_protocol.specs.Types.{type_number}
 use Rattle.std.specs.Prelude.{◌==◌}
 use Rattle.std.proofs.Common.{Global}
 use Rattle.vm_model.specs.Moves.{Point, later}
-use Rattle.vm_machine.specs.Inputs.{close_step, closed_at, coverage_of, info_of, malformed_step, message_step}
+use Rattle.vm_machine.specs.Inputs.{close_step, closed_at, coverage_of, info_of, malformed_step}
 use Rattle.vm_machine.specs.Making.{fresh}
 use Rattle.vm_machine.specs.Outcomes.{IsStarved, called, called_at, settled}
 use Rattle.vm_machine.specs.Phases.{is_running}
-use Rattle.invocation_vm.specs.Frames.{Tail, Rest, Garbage, frames_of, joined}
+use Rattle.invocation_vm.specs.Frames.{Tail, Rest, Garbage, frames_of}
 use Rattle.invocation_vm.specs.Views.{View, after_closing, after_input, all_received, consumed, has_failed, left_by, left_over, received, spoiled}
 use Rattle.invocation_vm.proofs.Cuts.{frames_of-append}
 use Rattle.vm_model.specs.Calls.{Meaning, Setup}
@@ -31,11 +31,11 @@ use Rattle.vm_parts.specs.declared.context.StateMap.{StateMap}
 use Rattle.vm_rounds.specs.Agreement.{Agrees, Aside}
 use Rattle.vm_rounds.specs.Journals.{HasAll, StillWaits, is_command, is_notification, notifications_among, setup_for}
 use Rattle.vm_rounds.specs.Record.{Record}
-use Rattle.vm_rounds.specs.Stepping.{CloseDoes, Closes, FeedDoes, Feeds, Takes, emptied, kept, kept_at, output_len, taken_from, with_vm}
-use Rattle.vm_rounds.specs.Told.{BeforeInput, Begun, Comes, IsKept, IsLive, Journal, Quiet, Runs, Wrote, bytes_fed, frames_fed, handed_out}
+use Rattle.vm_rounds.specs.Stepping.{CloseDoes, Closes, FeedDoes, Feeds, Takes, emptied, kept, kept_at, with_vm}
+use Rattle.vm_rounds.specs.Told.{BeforeInput, Begun, Comes, IsKept, IsLive, Quiet, Runs, Wrote, bytes_fed, frames_fed, handed_out}
 use Rattle.vm_rounds.proofs.Arriving.{failed_receives}
 use Rattle.vm_rounds.proofs.Entries.{message_by, receives_by}
-use Rattle.vm_rounds.proofs.Pieces.{agrees_running, before_fed, bytes_behind, journal_to, more_frames, not_failed, run_to, running_fed, still_awaits}
+use Rattle.vm_rounds.proofs.Pieces.{before_fed, bytes_behind, journal_to, more_frames, not_failed, run_to, running_fed, still_awaits}
 use Rattle.vm_rounds.proofs.Quiet.{closing_quiet, input_quiet, quiet_same, wrote_quiet}
 
 -- ---- a VM that has failed

@@ -1,5 +1,5 @@
 -- An event of a machine that agrees with a point does what the next move does.
-use Rattle.std.proofs.Common.{◌≡◌, ◌⊎◌, ℕ, zero, suc, Bool, true, false, cond, List, [], ◌∷◌, ◌++◌, map, Option, Some, None, refl, sym, ap, ◌∙◌, subst, append-nil}
+use Rattle.std.proofs.Common.{◌≡◌, ◌⊎◌, ℕ, false, List, [], ◌∷◌, ◌++◌, Option, Some, None, refl, sym, ap, ◌∙◌, subst, inl, inr, append-nil}
 use Rattle.journal_protocol.specs.declared.error.Error.{Error}
 use Rattle.journal_protocol.specs.declared.message.Message.TheVariants as message
 use Rattle.journal_protocol.specs.declared.message.RawMessage.{RawMessage}
@@ -12,12 +12,11 @@ use Rattle.vm_machine.specs.Outcomes.{Outcome, Done, Failed, called, failed, rul
 use Rattle.vm_machine.specs.Phases.{is_closed}
 use Rattle.vm_machine.specs.Commands.{phase_after}
 use Rattle.vm_model.specs.Calls.{Setup, Meaning, Move, identity_of}
+use Rattle.vm_model.specs.Calls.Move.{Answers, Needs, Awaits, Stops}
 use Rattle.vm_model.specs.Moves.{Point, longer, move_at, moved, next, supplied, supply}
-use Rattle.vm_model.specs.Histories.{IsStuck, Made}
-use Rattle.vm_model.proofs.Runs.{longer_nothing}
-use Rattle.vm_rounds.specs.declared.progress.Reply.{Reply}
+use Rattle.vm_model.specs.Histories.{Made}
 use Rattle.vm_rounds.specs.declared.progress.Reply.TheVariants as reply
-use Rattle.vm_rounds.specs.Agreement.{Agrees, Answered, Aside, Follows, IsRefused, MovesOn, frames_of, machine_at}
+use Rattle.vm_rounds.specs.Agreement.{Aside, Follows, MovesOn, frames_of, machine_at}
 use Rattle.vm_rounds.specs.Steps.{mapped}
 
 -- what stands aside, with these frames written
@@ -47,6 +46,14 @@ one_move s m p q h = (q, [], sym (append-nil (supplied s m p)), h, (refl, refl))
 pub no_move : (s : Setup) (m : Meaning) (p : Point) → MovesOn s m p [] [] p
 no_move s m p = record { moves = 0; run = (refl, refl); answers = sym (append-nil p.answers) }
 
+-- a call brings its own command only where no recorded one is left
+supplies_behind : (mv : Move) (left : List RawMessage) → (supply mv left ≡ []) ⊎ (left ≡ [])
+supplies_behind mv [] = inr refl
+supplies_behind (Needs demand gives d) (c ∷ left) = inl refl
+supplies_behind (Answers gives d) (c ∷ left) = inl refl
+supplies_behind Awaits (c ∷ left) = inl refl
+supplies_behind Stops (c ∷ left) = inl refl
+
 -- a call whose outcome is what its move leads to
 pub follows_from : {A : Type 0} (s : Setup) (m : Meaning) (given : StateMap) (written : List RawMessage) (aside : Aside) (p : Point) (gives : A → Answer) (mv : Move) (o : Outcome A) → s.identity ≡ identity_of aside.start → move_at s m p ≡ mv
     → Leads s given written aside p (supply mv p.left) (λ a. gives a ∷ []) (moved mv (longer (supply mv p.left) p)) o → Follows s m given written p (machine_at s given written aside p) (mapped (λ a. reply.Answer (gives a)) (called o (machine_at s given written aside p)))
@@ -64,6 +71,7 @@ follows_from s m given written aside p gives mv o identity is h = by_cases (move
         record {
           at = q;
           made = supply mv p.left;
+          none_before = supplies_behind mv p.left;
           moves = record { moves = 1; run = subst (λ l. Made s m 1 p l q) supplies (one_move s m p q (leads (Some q) e)); answers = g.0 };
           agrees = record { aside = with_frames (supply mv p.left) aside; machine = g.1; identity = identity };
           output = ap (λ w. w.output) g.1;

@@ -1,12 +1,11 @@
 -- A command that can be encoded stands for itself once it is stored.
-use Rattle.std.proofs.Common.{◌≡◌, ℕ, Bool, true, false, ◌&&◌, ◌||◌, List, Option, Some, refl, sym, ap, ◌∙◌}
+use Rattle.std.proofs.Common.{◌≡◌, ℕ, Bool, true, false, ◌||◌, List, refl, ap, ◌∙◌}
 use Rattle.std.specs.Prelude.{◌==◌, nat_eq, if◌then◌else◌}
 use Rattle.std.specs.Cmp.Lexicographic.{bytes_decides, pointwise}
 use Rattle.std.proofs.lemmas.Bool.{eq-eqb}
 use Rattle.journal_protocol.specs.contracts.parts.ValueOrFailureEq.TheImpl.Laws as values_of
 use Rattle.journal_protocol.specs.contracts.signals.SignalEq.TheImpl.Laws as signals_of
 use Rattle.journal_protocol.specs.contracts.signals.SignalResultEq.TheImpl.Laws as sent_of
-use Rattle.journal_protocol.specs.declared.message.Message.{Message}
 use Rattle.journal_protocol.specs.declared.signals.Signal.TheVariants.{Index, Name}
 use Rattle.journal_protocol.specs.declared.signals.SignalResult.TheVariants as sent
 use Rattle.journal_protocol.specs.HeaderEqual.{header_equal}
@@ -18,7 +17,7 @@ use Rattle.journal_protocol.proofs.Alone.{read_back}
 use Rattle.vm_machine.specs.declared.request.Request.{Request}
 use Rattle.vm_machine.specs.declared.request.Request.TheVariants as request
 use Rattle.vm_machine.specs.Requests.{message_of, signal_result}
-use Rattle.vm_model.specs.Calls.{Setup, Derived, Demand, demand_of}
+use Rattle.vm_model.specs.Calls.{Setup, Derived, demand_of}
 use Rattle.vm_model.specs.Journal.{stored_form}
 use Rattle.vm_model.specs.Moves.{reads_as, stands_for}
 

@@ -1,5 +1,5 @@
 -- A piece of input that is fed keeps what is kept of an attempt.
-use Rattle.std.proofs.Common.{◌≡◌, ◌≢◌, ◌⊎◌, ℕ, zero, suc, ◌+◌, Bool, true, false, cond, List, [], ◌∷◌, ◌++◌, length, Option, Some, None, refl, sym, ap, ◌∙◌, subst, inl, inr, ⊎_elim, append_assoc, append-nil, arith, length-append}
+use Rattle.std.proofs.Common.{◌≡◌, ◌⊎◌, ℕ, suc, ◌+◌, true, false, List, [], ◌∷◌, ◌++◌, length, Option, Some, None, refl, sym, ap, ◌∙◌, subst, inl, inr, ⊎_elim, append_assoc, append-nil, arith, length-append}
 use Rattle.std.specs.Prelude.{if◌then◌else◌, is_some, IsSome}
 use Rattle.journal_protocol.specs.declared.error.Error.{Error}
 use Rattle.journal_protocol.specs.declared.message.RawMessage.{RawMessage}
@@ -10,13 +10,11 @@ use Rattle.vm_parts.specs.declared.options.VMOptions.{VMOptions}
 use Rattle.vm_parts.specs.declared.steps.Answer.{Answer}
 use Rattle.vm_parts.specs.declared.types.UnresolvedFuture.{UnresolvedFuture}
 use Rattle.vm_machine.specs.declared.machine.Machine.{Machine}
-use Rattle.vm_machine.specs.declared.phase.Phase.{Phase}
-use Rattle.vm_machine.specs.declared.phase.Phase.TheVariants.{WaitingStart, WaitingReplayEntries, Replaying, Processing, Closed}
-use Rattle.vm_machine.specs.Inputs.{coverage_of, info_of}
+use Rattle.vm_machine.specs.Inputs.{coverage_of}
 use Rattle.vm_machine.specs.Making.{fresh}
 use Rattle.vm_machine.specs.Phases.{is_running}
 use Rattle.invocation_vm.specs.Frames.{Tail, Rest, Garbage, frames_of, joined}
-use Rattle.invocation_vm.specs.Views.{View, after_input, all_received, consumed, has_failed, left_over}
+use Rattle.invocation_vm.specs.Views.{View, after_input, all_received, consumed, left_over}
 use Rattle.invocation_vm.proofs.Cuts.{frames_of-append, spoiled_fails}
 use Rattle.vm_model.specs.Calls.{Setup, Meaning}
 use Rattle.std.proofs.Common.{Global}
@@ -25,9 +23,9 @@ use Rattle.vm_model.specs.Moves.{Point, later, start}
 use Rattle.vm_model.proofs.Runs.{made_later}
 use Rattle.vm_rounds.specs.declared.progress.Fed.{Fed}
 use Rattle.vm_rounds.specs.Agreement.{Agrees, Aside}
-use Rattle.vm_rounds.specs.Journals.{HasAll, StartedWith, StillWaits, aside_for, commands_among, is_command, is_notification, missing, notifications_among, notified_by, setup_for, waiting}
+use Rattle.vm_rounds.specs.Journals.{HasAll, StartedWith, StillWaits, aside_for, commands_among, notifications_among, setup_for, waiting}
 use Rattle.vm_rounds.specs.Told.{BeforeInput, Begun, Comes, IsLive, Journal, Runs, StillAwaits, arrivals, bytes_fed, frames_fed, handed_out}
-use Rattle.vm_rounds.proofs.Arriving.{behind_one, frames_come, some_failure}
+use Rattle.vm_rounds.proofs.Arriving.{frames_come}
 use Rattle.vm_rounds.proofs.Entries.{commands_behind, entries_come, journals_come, more_come, notifications_behind}
 use Rattle.vm_rounds.proofs.Quiet.{input_quiet, wrote_quiet}
 use Rattle.vm_rounds.proofs.Requesting.{runs_at}

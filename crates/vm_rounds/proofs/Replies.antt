@@ -1,11 +1,11 @@
 -- What a call does, with its answer as a reply.
-use Rattle.std.proofs.Common.{◌≡◌, ◌⊎◌, inl, inr, Result, Ok, Err, refl}
+use Rattle.std.proofs.Common.{inl, inr, Result, Ok, Err, refl}
 use Rattle.std.specs.Prelude.{OnOk}
 use Rattle.journal_protocol.specs.declared.error.Error.{Error}
 use Rattle.vm_machine.specs.declared.machine.Machine.{Machine}
 use Rattle.vm_machine.specs.declared.request.Request.{Request}
 use Rattle.vm_machine.specs.Commands.{CanBeRead}
-use Rattle.vm_machine.specs.Outcomes.{Outcome, Done, Failed, Does, IsStarved}
+use Rattle.vm_machine.specs.Outcomes.{Outcome, Does}
 use Rattle.vm_rounds.specs.Steps.{mapped, result_mapped}
 
 pub replies : {A B : Type 0} (f : A → B) (o : Outcome A) (r : Result A Error) (old new : Machine) → Does o r old new → Does (mapped f o) (result_mapped f r) old new

@@ -1,5 +1,5 @@
 -- The calls with a command, in a machine that agrees with a point.
-use Rattle.std.proofs.Common.{◌≡◌, ◌⊎◌, ℕ, zero, suc, ◌+◌, Bool, true, false, cond, ◌&&◌, ◌||◌, List, [], ◌∷◌, ◌++◌, Option, Some, None, refl, sym, ap, ◌∙◌, subst, append-nil}
+use Rattle.std.proofs.Common.{◌≡◌, Bool, true, false, List, [], ◌∷◌, ◌++◌, Option, Some, None, refl, sym, ap, ◌∙◌, subst, append-nil}
 use Rattle.std.specs.Prelude.{◌==◌, if◌then◌else◌}
 use Rattle.journal_protocol.specs.declared.faults.NamedFault.{NamedFault}
 use Rattle.journal_protocol.specs.declared.faults.NamedFault.TheVariants as fault
@@ -18,16 +18,16 @@ use Rattle.vm_machine.specs.declared.machine.Machine.{Machine}
 use Rattle.vm_machine.specs.declared.request.Request.{Request}
 use Rattle.vm_machine.specs.declared.request.Request.TheVariants as request
 use Rattle.vm_machine.specs.declared.phase.Phase.TheVariants.{Replaying, Processing}
-use Rattle.vm_machine.specs.Commands.{carried_out, compared, counted, entered, ignores_payloads, issued, phase_after, popped, popped_from, prepared, replayed, typed, written as wrote}
+use Rattle.vm_machine.specs.Commands.{carried_out, compared, counted, entered, issued, phase_after, popped, popped_from, prepared, replayed, typed, written as wrote}
 use Rattle.vm_machine.specs.Phases.{is_processing, is_running, state_fault}
 use Rattle.vm_machine.specs.Outcomes.{Outcome, Done, Failed, ◌>>=◌, about_last}
 use Rattle.vm_machine.specs.Requests.{command_of, ids_of, message_of, name_of}
-use Rattle.vm_model.specs.Calls.{Setup, Derived, Demand, Move, answer_of, commanded, demand_of, numbered, requested}
-use Rattle.vm_model.specs.Calls.Move.{Answers, Needs, Awaits, Stops}
+use Rattle.vm_model.specs.Calls.{Setup, Demand, answer_of, commanded, demand_of, numbered, requested}
+use Rattle.vm_model.specs.Calls.Move.{Needs}
 use Rattle.vm_model.specs.Journal.{stored_form}
 use Rattle.vm_model.specs.Moves.{Point, changed, changed_by, command_used, longer, moved, reads_as, stands_for, supply, uses_command}
 use Rattle.vm_model.proofs.Runs.{longer_nothing}
-use Rattle.vm_rounds.specs.Agreement.{Aside, frames_of, is_some_command, machine_at}
+use Rattle.vm_rounds.specs.Agreement.{Aside, is_some_command, machine_at}
 use Rattle.vm_rounds.specs.Steps.{IfDone}
 use Rattle.vm_rounds.proofs.Leading.{Leads, open_after, with_frames}
 

@@ -1,6 +1,6 @@
 -- A step keeps what is kept of an attempt.
-use Rattle.std.proofs.Common.{◌≡◌, ◌≢◌, ◌⊎◌, ℕ, zero, suc, ◌+◌, Bool, true, false, cond, List, [], ◌∷◌, ◌++◌, map, Option, Some, None, Result, Ok, Err, refl, sym, ap, ◌∙◌, subst, inl, inr, ⊎_elim, append_assoc, append-nil}
-use Rattle.std.specs.Prelude.{if◌then◌else◌, is_some, nat_lt, IsSome, OnOk}
+use Rattle.std.proofs.Common.{◌≡◌, ◌≢◌, ◌⊎◌, ℕ, zero, suc, ◌+◌, Bool, true, false, cond, List, [], ◌∷◌, ◌++◌, map, Option, Some, None, Result, Ok, Err, refl, sym, ap, ◌∙◌, subst, inl, inr, ⊎_elim, append-nil}
+use Rattle.std.specs.Prelude.{is_some, nat_lt, OnOk}
 use Rattle.journal_protocol.specs.declared.error.Error.{Error}
 use Rattle.journal_protocol.specs.declared.faults.NamedFault.{NamedFault}
 use Rattle.journal_protocol.specs.declared.message.Message.{Message}
@@ -9,7 +9,7 @@ use Rattle.journal_protocol.specs.declared.message.RawMessage.{RawMessage}
 use Rattle.journal_protocol.specs.declared.notification.NotificationId.{NotificationId}
 use Rattle.journal_protocol.specs.declared.notification.NotificationResult.{NotificationResult}
 use Rattle.journal_protocol.specs.declared.version.Version.{Version}
-use Rattle.journal_protocol.specs.Errors.{error_message, no_memory}
+use Rattle.journal_protocol.specs.Errors.{error_message}
 use Rattle.journal_protocol.specs.Message.{encoding, frame}
 use Rattle.vm_parts.specs.declared.options.VMOptions.{VMOptions}
 use Rattle.vm_parts.specs.declared.steps.Answer.{Answer}
@@ -23,31 +23,34 @@ use Rattle.vm_parts.specs.Counting.{missing, missing_signals}
 use Rattle.vm_parts.specs.Deliveries.{id_at, present_for}
 use Rattle.vm_parts.specs.Values.{value_message, value_of}
 use Rattle.vm_machine.specs.declared.machine.Machine.{Machine}
-use Rattle.vm_machine.specs.declared.phase.Phase.TheVariants.{Closed}
+use Rattle.vm_machine.specs.declared.phase.Phase.TheVariants.{Closed, Processing, Replaying}
 use Rattle.vm_machine.specs.declared.request.Request.{Request}
 use Rattle.vm_machine.specs.declared.request.Request.TheVariants as request
+use Rattle.vm_machine.specs.Commands.{phase_after}
 use Rattle.vm_machine.specs.Outcomes.{Does, IsStarved, Outcome, Done, Failed}
 use Rattle.vm_machine.specs.Phases.{is_from_v6, is_running}
 use Rattle.vm_machine.specs.Requests.{ids_of, message_of}
 use Rattle.invocation_vm.specs.Calls.{has_metadata, skips_replay}
-use Rattle.invocation_vm.specs.Frames.{Rest, frames_of as split}
+use Rattle.invocation_vm.specs.Frames.{Rest}
 use Rattle.invocation_vm.specs.Views.{View}
-use Rattle.vm_model.specs.Calls.{Setup, Meaning, Derived, Demand, Move, awakeable_made, awaiting, call_of, commanded, demand_of, handing, is_awake, making_awakeable, name_in, numbered, ready_in, requested, result_taken, sleeping, value_taken}
+use Rattle.vm_model.specs.Calls.{Setup, Meaning, Derived, Move, awakeable_made, awaiting, call_of, handing, is_awake, making_awakeable, name_in, numbered, ready_in, requested, result_taken, sleeping, value_taken}
 use Rattle.vm_model.specs.Calls.Move.{Answers, Needs, Awaits, Stops}
 use Rattle.vm_model.specs.Journal.{stored_form}
-use Rattle.vm_model.specs.Moves.{Point, longer, move_at, next, start, supplied, supply}
+use Rattle.vm_model.specs.Moves.{Point, move_at, start, supplied, supply}
 use Rattle.vm_model.specs.Histories.{Made}
+use Rattle.vm_model.proofs.Compared.{attempt_is_told}
 use Rattle.vm_model.proofs.Runs.{made_add}
+use Rattle.vm_model.proofs.Waking.{none_wakes}
 use Rattle.vm_rounds.specs.declared.progress.Fed.{Fed}
 use Rattle.vm_rounds.specs.declared.progress.Progress.{Progress}
 use Rattle.vm_rounds.specs.declared.progress.Reply.{Reply}
 use Rattle.vm_rounds.specs.declared.progress.Reply.TheVariants as reply
-use Rattle.vm_rounds.specs.Agreement.{Agrees, Answered, Follows, HasEnded, IsRefused, IsSuspended, MovesOn, StillAgrees, frames_of}
+use Rattle.vm_rounds.specs.Agreement.{Agrees, Answered, Follows, HasEnded, IsRefused, IsSuspended, MovesOn, StillAgrees, Waits, frames_of}
 use Rattle.vm_rounds.specs.Journals.{is_command, setup_for}
 use Rattle.vm_rounds.specs.Record.{Record}
-use Rattle.vm_rounds.specs.Stepping.{Asks, asked, asked_from, future_in, progress_of, settled, with_vm}
-use Rattle.vm_rounds.specs.Steps.{Asked, IfDone, IsReadable, Made as IsMade, performed, request_of}
-use Rattle.vm_rounds.specs.Told.{BeforeInput, arrivals, IsKept, IsLive, Quiet, Runs, StillAwaits, Wrote, bytes_fed, commands_of, handed_out}
+use Rattle.vm_rounds.specs.Stepping.{Asks, IfWaits, Replays, asked, asked_from, future_in, progress_of, settled, with_vm}
+use Rattle.vm_rounds.specs.Steps.{IfDone, IsReadable, Made as IsMade, performed, request_of}
+use Rattle.vm_rounds.specs.Told.{arrivals, IsKept, IsLive, IsAsleep, Runs, StillAwaits, Wrote, commands_of, handed_out}
 use Rattle.vm_rounds.proofs.Following.{agreeing_follows}
 use Rattle.vm_rounds.proofs.Kept.{dead_same, not_live}
 use Rattle.vm_rounds.proofs.Leading.{no_move}
@@ -261,6 +264,65 @@ module _ (m : Meaning) (version : Version) (options : VMOptions) (r : Record) (k
       (λ (x : IsStarved e r.vm.machine w.machine). dead_same m version options r w (inr k) (quiet_same r.vm.machine w.machine x.output) x.failed)
       does
 
+  -- ---- what waits
+
+  waits_so : (q : Point) → Waits s m k.at q → (ms : List Message) → commands_of ms ≡ [] → w.machine.output ≡ r.vm.machine.output ++ map encoding ms → IsAsleep m version options r.fed r.answers r.taken w
+  waits_so q ws ms commands output =
+      let written = k.written ++ [] in
+      let run = made_add s m k.moves ws.moves.moves (start s k.journal.input (arrivals k.journal) k.journal.rest) k.written k.at [] q k.run ws.moves.run in
+      let told = attempt_is_told s m k.journal.input (k.moves + ws.moves.moves) (arrivals k.journal) k.journal.rest written q run in
+      let same : q.answers ≡ r.answers = ws.moves.answers ∙ append-nil k.at.answers ∙ k.answers in
+      record {
+        journal = k.journal;
+        written = written;
+        wrote = subst (Wrote r.taken w.machine.output) (ap (λ l. k.written ++ l) commands) (wrote_more r.taken r.vm.machine.output w.machine.output ms k.written output k.wrote);
+        future = ws.future;
+        awaits = ap m (sym same) ∙ ws.awaits;
+        asleep = λ p tell is. none_wakes s m ws.future tell.0 told.0.0 (start s k.journal.input (arrivals k.journal) (k.journal.rest ++ written)) p q tell.1 told.0.1 (same ∙ sym is) ws.awaits ws.asleep ws.no_arrival;
+        at = q;
+        told = told.0;
+        answers = same;
+        no_arrival = ws.no_arrival;
+        no_command = ws.no_command;
+      }
+
+  replied_waits : (P : Type 0) (x : Result Reply Error) → (o : Outcome Reply) → (IfDone o P → Following o) → Does o x r.vm.machine w.machine → OnOk x P → IfWaits (progress_of x) (IsAsleep m version options r.fed r.answers r.taken w)
+  replied_waits P (Ok (reply.Answer a)) o f does h = tt
+  replied_waits P (Ok (reply.Waiting input run)) o f does h =
+      let g : StillAgrees s m (handed_out k.journal) k.written k.at r.vm.machine w.machine = done_follows P o (reply.Waiting input run) f does h in
+      waits_so g.at g.waits [] refl (g.output ∙ sym (append-nil r.vm.machine.output))
+  replied_waits P (Ok reply.Suspended) o f does h =
+      let g : IsSuspended s m k.at r.vm.machine w.machine = done_follows P o reply.Suspended f does h in
+      waits_so g.at g.waits (message.Suspension g.suspension ∷ []) refl g.output
+  replied_waits P (Ok reply.Ended) o f does h = tt
+  replied_waits P (Err e) o f does h = tt
+
+  -- ---- what is replayed
+
+  nothing_made : k.at.left ≢ [] → (a : Answer) → Answered s m (handed_out k.journal) k.written k.at r.vm.machine a w.machine → w.machine.output ≡ r.vm.machine.output
+  nothing_made some a g =
+      ⊎_elim
+      (λ (none : g.made ≡ []). g.output ∙ ap (λ l. r.vm.machine.output ++ frames_of l) none ∙ append-nil r.vm.machine.output)
+      (λ (none : k.at.left ≡ []). absurd (some none))
+      g.none_before
+
+  replied_replays : (P : Type 0) (future : Option UnresolvedFuture) → k.at.left ≢ [] → (x : Result Reply Error) → (o : Outcome Reply) → (IfDone o P → Following o) → Does o x r.vm.machine w.machine → OnOk x P → Replays r (progress_of x) (settled r future x w)
+  replied_replays P future some (Ok (reply.Answer a)) o f does h = nothing_made some a (done_follows P o (reply.Answer a) f does h)
+  replied_replays P future some (Ok (reply.Waiting input run)) o f does h =
+      let g : StillAgrees s m (handed_out k.journal) k.written k.at r.vm.machine w.machine = done_follows P o (reply.Waiting input run) f does h in
+      some g.waits.none_recorded
+  replied_replays P future some (Ok reply.Suspended) o f does h =
+      let g : IsSuspended s m k.at r.vm.machine w.machine = done_follows P o reply.Suspended f does h in
+      some g.waits.none_recorded
+  replied_replays P future some (Ok reply.Ended) o f does h =
+      let g : HasEnded m k.at r.vm.machine w.machine = done_follows P o reply.Ended f does h in
+      some g.no_command
+  replied_replays P future some (Err e) o f does h =
+      ⊎_elim
+      (λ (x : o ≡ Failed e w.machine). let g : IsRefused s m k.at r.vm.machine e w.machine = failed_follows P o e f x in inr (ap is_some g.failure))
+      (λ (x : IsStarved e r.vm.machine w.machine). inr x.failed)
+      does
+
 -- a step of a handler that runs
 pub asks_keep : (m : Meaning) (version : Version) (options : VMOptions) (old : Record) (result : Result Progress Error) (new : Record) (k : Runs m version options old.fed old.answers old.waiting old.taken old.vm) → IsLive old.vm.machine → Asks m old result new → IsKept m version options new
 asks_keep m version options old result new k live (x, w, does, is, progress) =
@@ -271,3 +333,46 @@ asks_keep m version options old result new k live (x, w, does, is, progress) =
     subst (IsKept m version options) (sym is)
     (subst (λ q. IsKept m version options (settled old (future_in q) x w)) (sym same)
     (replied_keeps m version options old k live w made.0.1 (IsReadable (request_of st) old.vm.machine) st refl x (performed st old.vm.machine) (agreeing_follows s m (handed_out k.journal) k.written old.vm.machine k.at (k.agrees live)) made.0.0 made.1))
+
+-- what a step that waits leaves of the record
+settled_waits : (m : Meaning) (version : Version) (options : VMOptions) (old : Record) (future : Option UnresolvedFuture) (w : View) (x : Result Reply Error) → IfWaits (progress_of x) (IsAsleep m version options old.fed old.answers old.taken w)
+    → IfWaits (progress_of x) (IsAsleep m version options (settled old future x w).fed (settled old future x w).answers (settled old future x w).taken (settled old future x w).vm)
+settled_waits m version options old future w (Ok (reply.Answer a)) h = tt
+settled_waits m version options old future w (Ok (reply.Waiting input run)) h = h
+settled_waits m version options old future w (Ok reply.Suspended) h = h
+settled_waits m version options old future w (Ok reply.Ended) h = tt
+settled_waits m version options old future w (Err e) h = tt
+
+module _ (m : Meaning) (version : Version) (options : VMOptions) (old : Record) (result : Result Progress Error) (new : Record) (k : Runs m version options old.fed old.answers old.waiting old.taken old.vm) (live : IsLive old.vm.machine) where
+  abbrev made_here : Setup
+  made_here = setup_for version options k.journal.start
+
+  -- the step that is made is the handler's
+  is_next : asked m old ≡ m k.at.answers
+  is_next = asks_next m k.at old.answers old.waiting k.answers k.awaits
+
+  follows_here : (w : View) → IfDone (performed (m k.at.answers) old.vm.machine) (IsReadable (request_of (m k.at.answers)) old.vm.machine) → Follows made_here m (handed_out k.journal) k.written k.at old.vm.machine (performed (m k.at.answers) old.vm.machine)
+  follows_here w = agreeing_follows made_here m (handed_out k.journal) k.written old.vm.machine k.at (k.agrees live)
+
+  -- a step waits only where nothing wakes
+  pub asks_wait : Asks m old result new → IfWaits result (IsAsleep m version options new.fed new.answers new.taken new.vm)
+  asks_wait (x, w, does, is, progress) =
+      let made : IsMade (m k.at.answers) x old.vm w = subst (λ q. IsMade q x old.vm w) is_next does in
+      subst (λ z. IfWaits z (IsAsleep m version options new.fed new.answers new.taken new.vm)) (sym progress)
+      (subst (λ (n : Record). IfWaits (progress_of x) (IsAsleep m version options n.fed n.answers n.taken n.vm)) (sym is)
+      (settled_waits m version options old (future_in (asked m old)) w x
+      (replied_waits m version options old k live w made.0.1 (IsReadable (request_of (m k.at.answers)) old.vm.machine) x (performed (m k.at.answers) old.vm.machine) (follows_here w) made.0.0 made.1)))
+
+  -- recorded commands are left at the point
+  some_left : old.vm.machine.phase ≡ Replaying → k.at.left ≢ []
+  some_left replaying none =
+      let z : Replaying ≡ Processing = sym replaying ∙ ap (λ (v : Machine). v.phase) (k.agrees live).machine ∙ ap phase_after none in
+      cc
+
+  -- a step while recorded commands are left
+  pub asks_replay : old.vm.machine.phase ≡ Replaying → Asks m old result new → Replays old result new
+  asks_replay replaying (x, w, does, is, progress) =
+      let made : IsMade (m k.at.answers) x old.vm w = subst (λ q. IsMade q x old.vm w) is_next does in
+      subst (λ z. Replays old z new) (sym progress)
+      (subst (Replays old (progress_of x)) (sym is)
+      (replied_replays m version options old k live w made.0.1 (IsReadable (request_of (m k.at.answers)) old.vm.machine) (future_in (asked m old)) (some_left replaying) x (performed (m k.at.answers) old.vm.machine) (follows_here w) made.0.0 made.1))

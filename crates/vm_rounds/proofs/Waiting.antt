@@ -1,7 +1,6 @@
 -- An await, in a machine that agrees with a point: it uses arrivals until it wakes or none is left.
-use Rattle.std.proofs.Common.{◌≡◌, ◌⊎◌, ℕ, zero, suc, ◌+◌, Bool, true, false, cond, List, [], ◌∷◌, ◌++◌, Option, Some, None, refl, sym, ap, ◌∙◌, subst, inl, inr, ⊎_elim, append-nil, Result, Ok, Err}
+use Rattle.std.proofs.Common.{◌≡◌, ◌⊎◌, ℕ, suc, ◌+◌, Bool, true, false, List, [], ◌∷◌, ◌++◌, Option, Some, None, refl, sym, ap, ◌∙◌, subst, inl, inr, ⊎_elim, append-nil, Ok, Err}
 use Rattle.std.specs.Prelude.{if◌then◌else◌}
-use Rattle.journal_protocol.specs.declared.error.Error.{Error}
 use Rattle.journal_protocol.specs.declared.faults.NamedFault.TheVariants as fault
 use Rattle.journal_protocol.specs.declared.message.RawMessage.{RawMessage}
 use Rattle.journal_protocol.specs.declared.notification.Notification.{Notification}
@@ -10,26 +9,25 @@ use Rattle.journal_protocol.specs.Errors.{named_error}
 use Rattle.vm_parts.specs.declared.context.StateMap.{StateMap}
 use Rattle.vm_parts.specs.declared.steps.Answer.TheVariants as answer
 use Rattle.vm_parts.specs.declared.steps.Step.TheVariants as step
-use Rattle.vm_parts.specs.declared.types.AwaitResponse.{AwaitResponse}
-use Rattle.vm_parts.specs.declared.types.AwaitResponse.TheVariants.{AnyCompleted, WaitingExternalProgress}
+use Rattle.vm_parts.specs.declared.types.AwaitResponse.TheVariants.{WaitingExternalProgress}
 use Rattle.vm_parts.specs.declared.types.UnresolvedFuture.{UnresolvedFuture}
 use Rattle.vm_parts.specs.declared.types.UnresolvedFuture.TheVariants.{Single}
 use Rattle.vm_parts.specs.Deliveries.{has_result_for, id_at, used_for, used_until}
 use Rattle.vm_machine.specs.declared.machine.Machine.{Machine}
 use Rattle.vm_machine.specs.Awaits.{await_step, future_of, pending, suspended, tried}
 use Rattle.vm_machine.specs.Commands.{phase_after}
-use Rattle.vm_machine.specs.Outcomes.{Outcome, Done, Failed, called, refused, ruled}
+use Rattle.vm_machine.specs.Outcomes.{Done, called, refused, ruled}
 use Rattle.vm_machine.specs.Phases.{state_fault}
-use Rattle.vm_model.specs.Calls.{Setup, Meaning, Derived, Usage, awaiting, call_of, identity_of, is_awake, ready_in}
+use Rattle.vm_model.specs.Calls.{Setup, Meaning, Usage, awaiting, call_of, identity_of, is_awake, ready_in}
 use Rattle.vm_model.specs.Calls.Move.{Answers, Awaits}
 use Rattle.vm_model.specs.Calls.Usage.{Used}
 use Rattle.vm_parts.specs.declared.types.NotificationHandle.{NotificationHandle}
-use Rattle.vm_model.specs.Moves.{Point, arrival_used, longer, move_at, moved, next, supplied, supply, uses_arrival}
+use Rattle.vm_model.specs.Moves.{Point, longer, move_at, moved, next, supplied, supply, uses_arrival}
 use Rattle.vm_model.specs.Histories.{IsStuck, Made}
 use Rattle.vm_model.proofs.Runs.{longer_nothing, made_add}
-use Rattle.vm_rounds.specs.Agreement.{Agrees, Answered, Aside, Follows, HasEnded, IsRefused, IsSuspended, MovesOn, StillAgrees, Waits, frames_of, machine_at}
+use Rattle.vm_rounds.specs.Agreement.{Answered, Aside, Follows, MovesOn, Waits, machine_at}
 use Rattle.vm_rounds.specs.Steps.{await_reply, awaited, mapped}
-use Rattle.vm_rounds.proofs.Leading.{error_written, open_after}
+use Rattle.vm_rounds.proofs.Leading.{error_written}
 use Rattle.vm_rounds.proofs.Requesting.{runs_at}
 
 -- a point with this usage and these arrivals left
@@ -88,7 +86,7 @@ waits_at s m p h is r = record { moves = r.moves; run = r.run; answers = sym (ap
 -- an await that isn't awake when no arrival is left
 stands : (s : Setup) (m : Meaning) (p : Point) (h : NotificationHandle) (is : m p.answers ≡ step.Await (Single h)) (r : Ran s m p (id_at h.0 p.derived.handles) p.derived.usage p.queue)
     → r.left ≡ [] → has_result_for (id_at h.0 p.derived.handles) (ready_in s (record p.derived { usage = r.usage })) ≡ false → p.left ≡ [] → Waits s m p (at_usage p r.usage r.left)
-stands s m p h is r none asleep spent = record { moves = waits_at s m p h is r; needs = waits_on s m (at_usage p r.usage r.left) (Single h) is asleep; no_arrival = none; no_command = spent }
+stands s m p h is r none asleep spent = record { moves = waits_at s m p h is r; future = Single h; awaits = is; asleep = asleep; no_arrival = none; none_recorded = spent; no_command = spent }
 
 stuck_at : (s : Setup) (m : Meaning) (q : Point) → move_at s m q ≡ Awaits → q.queue ≡ [] → IsStuck s m q
 stuck_at s m q needs none =
@@ -128,6 +126,7 @@ wakes s m given written aside p h is r identity awake =
     record {
       at = to;
       made = [];
+      none_before = inl refl;
       moves = record {
         moves = r.moves + 1;
         run = made_add s m r.moves 1 p [] q [] to r.run (to, [], sym (append-nil (supplied s m q) ∙ none), quiet_next s m q to none goes, (refl, refl));

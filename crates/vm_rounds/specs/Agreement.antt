@@ -1,5 +1,5 @@
 -- When the machine of an attempt agrees with a point of the handler's run, and what a call then does.
-use Rattle.std.specs.Prelude.{◌≡◌, ℕ, Bool, true, false, List, [], ◌∷◌, ◌++◌, map, Option, Some, None}
+use Rattle.std.specs.Prelude.{◌≡◌, ◌⊎◌, ℕ, Bool, true, false, List, [], ◌∷◌, ◌++◌, map, Some, None}
 use Rattle.std.proofs.Common.{Global}
 use Rattle.journal_protocol.specs.declared.control.Suspension.{Suspension}
 use Rattle.journal_protocol.specs.declared.error.Error.{Error}
@@ -11,14 +11,14 @@ use Rattle.vm_parts.specs.declared.context.StartInfo.{StartInfo}
 use Rattle.vm_parts.specs.declared.context.StateMap.{StateMap}
 use Rattle.vm_parts.specs.declared.steps.Answer.{Answer}
 use Rattle.vm_parts.specs.declared.steps.Step.TheVariants as step
+use Rattle.vm_parts.specs.declared.types.UnresolvedFuture.{UnresolvedFuture}
 use Rattle.vm_machine.specs.declared.machine.Machine.{Machine}
 use Rattle.vm_machine.specs.declared.phase.Phase.TheVariants.{Closed}
 use Rattle.vm_machine.specs.Commands.{phase_after}
 use Rattle.vm_machine.specs.Outcomes.{Outcome, Done, Failed}
-use Rattle.vm_model.specs.Calls.{Setup, Meaning, identity_of, ready_in}
-use Rattle.vm_model.specs.Calls.Move.{Awaits}
-use Rattle.vm_model.specs.Moves.{Point, changed_by, move_at}
-use Rattle.vm_model.specs.Histories.{IsStuck, Made}
+use Rattle.vm_model.specs.Calls.{Setup, Meaning, identity_of, is_awake, ready_in}
+use Rattle.vm_model.specs.Moves.{Point, changed_by}
+use Rattle.vm_model.specs.Histories.{IsAwaiting, IsStuck, Made}
 use Rattle.vm_rounds.specs.declared.progress.Reply.{Reply}
 use Rattle.vm_rounds.specs.declared.progress.Reply.TheVariants as reply
 
@@ -76,20 +76,24 @@ pub record MovesOn (s : Setup) (m : Meaning) (p : Point) (gives : List Answer) (
   pub run : Made s m moves p made q
   pub answers : q.answers ≡ p.answers ++ gives
 
--- A call was answered: the run moves on by that answer, the machine agrees with where that leads, and what was made is
--- what was written.
+-- A call was answered: the run moves on by that answer, the machine agrees with where that leads, what was made is what
+-- was written, and nothing was made while recorded commands were left.
 pub record Answered (s : Setup) (m : Meaning) (given : StateMap) (written : List RawMessage) (p : Point) (v : Machine) (a : Answer) (w : Machine) : Type 0 where
   pub at : Point
   pub made : List RawMessage
+  pub none_before : (made ≡ []) ⊎ (p.left ≡ [])
   pub moves : MovesOn s m p (a ∷ []) made at
   pub agrees : Agrees s given (written ++ made) w at
   pub output : w.output ≡ v.output ++ frames_of made
 
--- An await waits: the run uses all arrivals, and the await still needs one.
+-- An await waits: no recorded command was left, and with all arrivals used the future isn't awake.
 pub record Waits (s : Setup) (m : Meaning) (p q : Point) : Type 0 where
   pub moves : MovesOn s m p [] [] q
-  pub needs : move_at s m q ≡ Awaits
+  pub future : UnresolvedFuture
+  pub awaits : IsAwaiting m q future
+  pub asleep : is_awake s future q.derived ≡ false
   pub no_arrival : q.queue ≡ []
+  pub none_recorded : p.left ≡ []
   pub no_command : q.left ≡ []
 
 -- it waits in a machine that agrees with where that leads, and nothing was written
@@ -129,4 +133,3 @@ Follows s m given written p v (Done (reply.Waiting input run) w) = StillAgrees s
 Follows s m given written p v (Done reply.Suspended w) = IsSuspended s m p v w
 Follows s m given written p v (Done reply.Ended w) = HasEnded m p v w
 Follows s m given written p v (Failed e w) = IsRefused s m p v e w
-

@@ -1,5 +1,7 @@
 -- What contracts see of an attempt.
 use Rattle.std.specs.Prelude.{ℕ, Bool, List, Option}
+use Rattle.journal_protocol.specs.declared.version.Version.{Version}
+use Rattle.vm_parts.specs.declared.options.VMOptions.{VMOptions}
 use Rattle.vm_parts.specs.declared.steps.Answer.{Answer}
 use Rattle.vm_parts.specs.declared.types.UnresolvedFuture.{UnresolvedFuture}
 use Rattle.invocation_vm.specs.Views.{View}
@@ -24,7 +26,9 @@ pub record Record : Type 0 where
   pub over : Option Progress
   pub vm : View
 
--- an attempt: its handler, and its record
+-- an attempt: what it was made for, and its record
 pub record AttemptView (H : Type 0) : Type 0 where
   pub handler : H
+  pub version : Version
+  pub options : VMOptions
   pub record_of : Record

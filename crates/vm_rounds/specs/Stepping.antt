@@ -1,5 +1,5 @@
 -- What the calls of an attempt do to its record.
-use Rattle.std.specs.Prelude.{◌≡◌, ◌≢◌, ◌⊎◌, ℕ, ◌+◌, ◌-◌, ◌^◌, min, Bool, true, false, List, [], ◌∷◌, ◌++◌, length, Option, Some, None, Result, Ok, Err}
+use Rattle.std.specs.Prelude.{◌≡◌, ◌≢◌, ◌⊎◌, ℕ, ◌+◌, ◌-◌, ◌^◌, min, Bool, true, false, List, [], ◌∷◌, ◌++◌, length, Option, Some, None, Result, Ok, Err, IsSome}
 use Rattle.std.proofs.Common.{Global}
 use Rattle.std.specs.List.{concat}
 use Rattle.std.specs.declared.alloc.AllocError.{AllocError}
@@ -12,12 +12,11 @@ use Rattle.vm_parts.specs.declared.steps.Step.{Step}
 use Rattle.vm_parts.specs.declared.steps.Step.TheVariants as step
 use Rattle.vm_parts.specs.declared.types.UnresolvedFuture.{UnresolvedFuture}
 use Rattle.vm_parts.specs.declared.values.Input.{Input}
-use Rattle.vm_machine.specs.declared.machine.Machine.{Machine}
 use Rattle.vm_machine.specs.declared.phase.Phase.{Phase}
 use Rattle.vm_machine.specs.declared.phase.Phase.TheVariants.{WaitingStart, WaitingReplayEntries, Replaying, Processing, Closed}
 use Rattle.vm_machine.specs.Inputs.{input_step}
 use Rattle.vm_machine.specs.Outcomes.{IsStarved}
-use Rattle.invocation_vm.specs.Views.{View, Calls, Leaves, after_input, after_closing}
+use Rattle.invocation_vm.specs.Views.{View, Calls, after_input, after_closing}
 use Rattle.vm_rounds.specs.declared.progress.Progress.{Progress}
 use Rattle.vm_rounds.specs.declared.progress.Progress.TheVariants as progress
 use Rattle.vm_rounds.specs.declared.progress.Reply.{Reply}
@@ -38,7 +37,7 @@ fresh_record vm = record { fed = []; closed = false; answers = []; taken = []; t
 
 -- an attempt is made for the version that is asked for; else the error says why, or no memory was found
 abbrev pub MakesAttempt : {H : Type 0} → Global → VMOptions → H → Result Version Error → Result (AttemptView H) Error → Type 0
-MakesAttempt alloc options handler (Ok version) (Ok a) = (a.handler ≡ handler) × (a.record_of ≡ fresh_record (made alloc options version))
+MakesAttempt alloc options handler (Ok version) (Ok a) = a ≡ record { handler = handler; version = version; options = options; record_of = fresh_record (made alloc options version) }
 MakesAttempt alloc options handler (Ok version) (Err e) = e ≡ no_memory
 MakesAttempt alloc options handler (Err refusal) (Ok a) = ⊥
 MakesAttempt alloc options handler (Err refusal) (Err e) = e ≡ refusal
@@ -130,6 +129,33 @@ StepFrom false meaning old result new = StepUnless old.vm.machine.failure old.ov
 -- a step, unless the attempt's own memory was lacking
 abbrev pub StepDoes : Meaning → Record → Result Progress Error → Record → Type 0
 StepDoes meaning old result new = StepFrom old.starved meaning old result new
+
+-- a step by which the handler waits for input, or is suspended
+abbrev pub IfWaits : Result Progress Error → Type 0 → Type 0
+IfWaits (Ok (progress.Waiting input run)) P = P
+IfWaits (Ok progress.Suspended) P = P
+IfWaits (Ok progress.NotReady) P = Unit {0}
+IfWaits (Ok progress.Stepped) P = Unit {0}
+IfWaits (Ok progress.Ended) P = Unit {0}
+IfWaits (Err e) P = Unit {0}
+
+-- the handler runs, and recorded commands are left
+pub record IsReplaying (r : Record) : Type 0 where
+  pub runs : r.answers ≢ []
+  pub starved : r.starved ≡ false
+  pub over : r.over ≡ None
+  pub failure : r.vm.machine.failure ≡ None
+  pub phase : r.vm.machine.phase ≡ Replaying
+
+-- While recorded commands are left, the handler's call is answered and nothing is written; or the VM fails, or memory is
+-- lacking.
+abbrev pub Replays : Record → Result Progress Error → Record → Type 0
+Replays old (Ok progress.Stepped) new = new.vm.machine.output ≡ old.vm.machine.output
+Replays old (Ok progress.NotReady) new = ⊥
+Replays old (Ok (progress.Waiting input run)) new = ⊥
+Replays old (Ok progress.Suspended) new = ⊥
+Replays old (Ok progress.Ended) new = ⊥
+Replays old (Err e) new = (new.starved ≡ true) ⊎ IsSome new.vm.machine.failure
 
 -- ---- input
 

@@ -1,5 +1,5 @@
 -- What the record of an attempt tells of its handler's run.
-use Rattle.std.specs.Prelude.{◌≡◌, ◌≢◌, ◌⊎◌, ℕ, true, cond, length, List, [], ◌∷◌, ◌++◌, map, Option, Some, None, IsSome}
+use Rattle.std.specs.Prelude.{◌≡◌, ◌⊎◌, ℕ, true, false, cond, length, List, [], ◌∷◌, ◌++◌, map, Option, Some, None}
 use Rattle.std.specs.List.{concat, flat_map}
 use Rattle.journal_protocol.specs.declared.commands.InputCommand.{InputCommand}
 use Rattle.journal_protocol.specs.declared.message.Message.{Message}
@@ -20,7 +20,7 @@ use Rattle.vm_machine.specs.Inputs.{coverage_of, entries_in, info_of}
 use Rattle.vm_machine.specs.Making.{fresh}
 use Rattle.vm_machine.specs.Phases.{is_running}
 use Rattle.invocation_vm.specs.Frames.{Rest, frames_of}
-use Rattle.vm_model.specs.Calls.{Setup, Meaning}
+use Rattle.vm_model.specs.Calls.{Meaning, is_awake}
 use Rattle.vm_model.specs.Journal.{input_read_from, stored_form}
 use Rattle.vm_model.specs.Moves.{Point, start}
 use Rattle.vm_model.specs.Histories.{Made, Told}
@@ -86,16 +86,41 @@ handed_out j = record { entries = j.state; coverage = coverage_of j.start.partia
 
 -- ---- the answers
 
--- The answers of an attempt are those of a point that its journal tells, followed by what it wrote, with the arrivals that
--- it was fed; and while recorded commands are left, it has written none.
+-- A point is told by an attempt's journal followed by what it wrote, with the arrivals that it was fed.
+abbrev pub Tells : {fed : List Fed} → Meaning → Version → VMOptions → Journal fed → List RawMessage → Point → Type 0
+Tells m version options j written p = Told (setup_for version options j.start) m j.input (arrivals j) (j.rest ++ written) p
+
+-- The answers of an attempt are those of a point that is told; what it wrote are just the commands that the calls up to there
+-- define, where none is recorded; and while recorded commands are left, it has written none.
 pub record AnswersAreTold (m : Meaning) (version : Version) (options : VMOptions) (r : Record) : Type 0 where
   pub journal : Journal r.fed
   pub written : List RawMessage
   pub wrote : Wrote r.taken r.vm.machine.output written
   pub at : Point
-  pub told : Told (setup_for version options journal.start) m journal.input (arrivals journal) (journal.rest ++ written) at
+  pub told : Tells m version options journal written at
   pub answers : at.answers ≡ r.answers
+  pub moves : ℕ
+  pub made : Made (setup_for version options journal.start) m moves (start (setup_for version options journal.start) journal.input (arrivals journal) journal.rest) written at
   pub in_order : (written ≡ []) ⊎ (at.left ≡ [])
+
+-- An await waits rightly: with all arrivals that were fed, its future is awake at no point that the journal tells with these
+-- answers, and all its commands are used.
+pub record IsAsleep (m : Meaning) (version : Version) (options : VMOptions) (fed : List Fed) (answers_so_far : List Answer) (taken : List (List ℕ)) (vm : View) : Type 0 where
+  pub journal : Journal fed
+  pub written : List RawMessage
+  pub wrote : Wrote taken vm.machine.output written
+  pub future : UnresolvedFuture
+  pub awaits : m answers_so_far ≡ step.Await future
+  pub asleep : (p : Point) → Tells m version options journal written p → p.answers ≡ answers_so_far → is_awake (setup_for version options journal.start) future p.derived ≡ false
+  pub at : Point
+  pub told : Tells m version options journal written at
+  pub answers : at.answers ≡ answers_so_far
+  pub no_arrival : at.queue ≡ []
+  pub no_command : at.left ≡ []
+
+-- the same of a record
+abbrev pub NothingWakes : Meaning → Version → VMOptions → Record → Type 0
+NothingWakes m version options r = IsAsleep m version options r.fed r.answers r.taken r.vm
 
 -- the VM can make calls: it has neither failed nor ended, nor is the invocation suspended
 pub record IsLive (v : Machine) : Type 0 where
@@ -151,4 +176,3 @@ pub record BeforeInput (version : Version) (options : VMOptions) (fed : List Fed
 -- what each call of an attempt keeps
 abbrev pub IsKept : Meaning → Version → VMOptions → Record → Type 0
 IsKept m version options r = BeforeInput version options r.fed r.answers r.waiting r.taken r.vm ⊎ Runs m version options r.fed r.answers r.waiting r.taken r.vm
-

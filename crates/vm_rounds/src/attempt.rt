@@ -1,11 +1,11 @@
-//! One attempt of a handler: bytes in, steps, bytes out.
+//! One attempt of a handler: bytes in, steps, bytes out. Its answers are told by its journal at all times.
 ghost use Rattle.std.specs.Prelude.{codes};
 
 use crate::handler::Handler;
 use crate::inner::Inner;
 use crate::progress::Progress;
 use bytes::Bytes;
-use invocation_vm::{CoreVM, HeaderMap, VM, VMOptions, VMResult};
+use invocation_vm::{CoreVM, HeaderMap, VM, VMOptions, VMResult, Version};
 use std::alloc::{AllocError, Global};
 use std::marker::Model;
 use vm_parts::Answer;
@@ -14,22 +14,28 @@ use vm_parts::Answer;
 /// the input was closed, the answers, and all output.
 #[derive(Drop)]
 pub struct Attempt<H: Handler> {
+    version: Version,
+    options: VMOptions,
     inner: Inner<H>,
 }
 
 impl<H: Handler> Model for Attempt<H> {
     ghost use Rattle.vm_rounds.specs.Record.{AttemptView};
     ghost use Rattle.vm_rounds.specs.Inside.{the_record};
+    ghost use Rattle.vm_rounds.specs.Told.{IsKept};
 
     ghost Value = { AttemptView H };
 
-    ghost view = { λ a. record { handler = a.inner.handler; record_of = the_record a.inner } };
+    ghost view = { λ a. record { handler = a.inner.handler; version = a.version; options = a.options; record_of = the_record a.inner } };
+
+    ghost invariant = { λ a. IsKept (H.meaning a.inner.handler) a.version a.options (the_record a.inner) };
 }
 
 impl<H: Handler> Attempt<H> {
-    ghost use Rattle.std.specs.Prelude.{◌≡◌};
+    ghost use Rattle.std.specs.Prelude.{◌≡◌, ◌⊎◌, [], None};
     ghost use Rattle.invocation_vm.specs.Making.{version_in};
-    ghost use Rattle.vm_rounds.specs.Stepping.{MakesAttempt, StepDoes, FeedDoes, CloseDoes, Takes};
+    ghost use Rattle.vm_rounds.specs.Stepping.{MakesAttempt, StepDoes, FeedDoes, CloseDoes, IfWaits, IsReplaying, Replays, Takes};
+    ghost use Rattle.vm_rounds.specs.Told.{AnswersAreTold, NothingWakes};
 
     /// An attempt for the version that the header `content-type` names; the VM's refusals are its own.
     pub fn new<M: HeaderMap>(
@@ -44,6 +50,8 @@ impl<H: Handler> Attempt<H> {
     {
         match CoreVM::new(alloc, headers, options) {
             Ok(vm) => Ok(Attempt {
+                version: vm.version(),
+                options,
                 inner: Inner::new(alloc, vm, handler),
             }),
             Err(error) => Err(error),
@@ -54,6 +62,7 @@ impl<H: Handler> Attempt<H> {
     pub fn feed(&mut self, piece: Bytes) -> Result<(), AllocError>
         ensures does { FeedDoes self.old.record_of.starved piece self.old.record_of result self.new.record_of }
         ensures handler { self.new.handler ≡ self.old.handler }
+        ensures made_for { (self.new.version ≡ self.old.version) × (self.new.options ≡ self.old.options) }
     {
         self.inner.feed(piece)
     }
@@ -62,6 +71,7 @@ impl<H: Handler> Attempt<H> {
     pub fn close(&mut self) -> Result<(), AllocError>
         ensures does { CloseDoes self.old.record_of.starved self.old.record_of result self.new.record_of }
         ensures handler { self.new.handler ≡ self.old.handler }
+        ensures made_for { (self.new.version ≡ self.old.version) × (self.new.options ≡ self.old.options) }
     {
         self.inner.close()
     }
@@ -69,7 +79,12 @@ impl<H: Handler> Attempt<H> {
     /// Asks the handler, and the VM, for one answer more.
     pub fn step(&mut self) -> VMResult<Progress>
         ensures does { StepDoes (H.meaning self.old.handler) self.old.record_of result self.new.record_of }
+        // It waits or is suspended only where no number of the arrivals wakes the handler's await.
+        ensures waits { self.old.record_of.over ≡ None → IfWaits result (NothingWakes (H.meaning self.old.handler) self.old.version self.old.options self.new.record_of) }
+        // While recorded commands are left, the handler's next call is answered, or it is refused.
+        ensures replays { IsReplaying self.old.record_of → Replays self.old.record_of result self.new.record_of }
         ensures handler { self.new.handler ≡ self.old.handler }
+        ensures made_for { (self.new.version ≡ self.old.version) × (self.new.options ≡ self.old.options) }
     {
         self.inner.step()
     }
@@ -78,13 +93,16 @@ impl<H: Handler> Attempt<H> {
     pub fn take_output(&mut self) -> Result<Bytes, AllocError>
         ensures does { Takes self.old.record_of result self.new.record_of }
         ensures handler { self.new.handler ≡ self.old.handler }
+        ensures made_for { (self.new.version ≡ self.old.version) × (self.new.options ≡ self.old.options) }
     {
         self.inner.take_output()
     }
 
-    /// The answers so far; the first is the input.
+    /// The answers so far; the first is the input. They are those of a point that the attempt's journal tells.
     pub fn answers(&self) -> &[Answer]
-        ensures { result.now ≡ self.now.record_of.answers }
+        ensures answers { result.now ≡ self.now.record_of.answers }
+        // The journal is what was fed, followed by the commands that were written; none is written while recorded ones are left.
+        ensures told { (self.now.record_of.answers ≡ []) ⊎ AnswersAreTold (H.meaning self.now.handler) self.now.version self.now.options self.now.record_of }
     {
         self.inner.answers.as_slice()
     }

@@ -1,6 +1,6 @@
 -- The handler `sleeper`: sleep, await it, take it, write an empty output, end. When it is cancelled it writes a failure
 -- and ends.
-use Rattle.std.specs.Prelude.{ℕ, Bool, true, false, ◌==◌, if◌then◌else◌, List, [], length, slice_get, codes, Option, Some, None}
+use Rattle.std.specs.Prelude.{Bool, true, false, ◌==◌, if◌then◌else◌, List, [], length, slice_get, codes, Option, Some, None}
 use Rattle.vm_parts.specs.declared.steps.Answer.{Answer}
 use Rattle.vm_parts.specs.declared.steps.Answer.TheVariants as answer
 use Rattle.vm_parts.specs.declared.steps.Step.{Step}

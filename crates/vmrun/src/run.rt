@@ -71,7 +71,7 @@ fn serve<H: Handler, R: Read, W: Write>(
     reader: &mut R,
     writer: &mut W,
 ) -> io::Result<ExitStatus>
-    ensures { IfOk result (λ ending. Serves (H.meaning attempt.old.handler) attempt.old.record_of (R.remaining reader.old) ending (W.contents writer.old) (W.contents writer.new)) }
+    ensures { IfOk result (λ ending. Serves (λ _. Unit {0}) (H.meaning attempt.old.handler) attempt.old.record_of (R.remaining reader.old) ending (W.contents writer.old) (W.contents writer.new)) }
 {
     let mut input = Vec::new(alloc);
     reader.read_to_end(&mut input)?;
@@ -118,7 +118,8 @@ pub fn run<R: Read, W: Write>(
     ensures unwritten { result ≡ status.Usage → writer.new ≡ writer.old }
     // So is a refused content type.
     ensures refused { handler.now ≡ codes "sleeper" → IfErr (version_in (Some (Some content_type.now))) (λ refusal. (result ≡ status.Failed) × (reader.new ≡ reader.old) × (writer.new ≡ writer.old)) }
-    // A handler that has ended or is suspended was fed all that was to be read, and all that its attempt sends is written.
+    // A handler that has ended or is suspended was fed all that was to be read, its answers are told by that journal and by what
+    // its attempt wrote, and all that the attempt sends is written.
     ensures runs { handler.now ≡ codes "sleeper" → RunEnds (λ ending. ServesAnew alloc (version_in (Some (Some content_type.now))) sleeper_step (R.remaining reader.old) ending (W.contents writer.old) (W.contents writer.new)) result }
 {
     if handler == "sleeper" {

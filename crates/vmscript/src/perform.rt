@@ -1,7 +1,9 @@
 //! What a line asks for, done.
-ghost use Rattle.std.specs.Prelude.{◌≡◌, IfOk};
+ghost use Rattle.std.specs.Prelude.{◌≡◌, codes};
+ghost use Rattle.invocation_vm.specs.Making.{version_in};
 ghost use Rattle.invocation_vm.specs.Seen.{seen};
 ghost use Rattle.vmscript.specs.Called.{Called, reply_of, reply_or_memory};
+ghost use Rattle.vmscript.specs.ContentTypes.{found};
 ghost use Rattle.vmscript.specs.declared.reply.Reply.TheVariants as reply;
 ghost use Rattle.vmscript.specs.Performed.{Made, Performed};
 
@@ -11,7 +13,7 @@ use crate::request::{Call, Request};
 use bytes::Bytes;
 use invocation_vm::{
     AwaitResponse, AwakeableHandle, CoreVM, Error, Input, NotificationHandle, ResponseHead,
-    UnresolvedFuture, VM, VMOptions, VMResult, Value, Version,
+    UnresolvedFuture, VM, VMOptions, VMResult, Value,
 };
 use std::alloc::{AllocError, Global};
 
@@ -148,41 +150,30 @@ fn perform_call(vm: &mut CoreVM, call: Call) -> Reply
     }
 }
 
-/// The version of a VM.
-fn version_of(vm: &CoreVM) -> Result<Version, AllocError>
-    ensures { IfOk result (λ version. version ≡ (seen vm.now).machine.version) }
-{
-    match vm.get_response_head() {
-        Ok(head) => Ok(head.version),
-        Err(error) => Err(error),
-    }
-}
-
 /// Makes a new VM in the place of the last.
+#[tactic(auto, using(crate::proofs::Making::made_as_asked))]
 fn make(
     alloc: Global,
     vm: &mut Option<CoreVM>,
     content_type: ContentType,
     options: VMOptions,
 ) -> Reply
-    ensures { Made result vm.new }
+    ensures { Made alloc options (version_in (found content_type (codes "content-type"))) result vm.new }
 {
     *vm = None;
     match CoreVM::new(alloc, content_type, options) {
-        Ok(new) => match version_of(&new) {
-            Ok(version) => {
-                *vm = Some(new);
-                Reply::Made(version)
-            }
-            Err(error) => Reply::Refused(Error::from(error)),
-        },
+        Ok(new) => {
+            let version = new.version();
+            *vm = Some(new);
+            Reply::Made(version)
+        }
         Err(error) => Reply::Refused(error),
     }
 }
 
 /// Does what a line asks for.
 pub fn perform(alloc: Global, vm: &mut Option<CoreVM>, request: Request) -> Reply
-    ensures { Performed request vm.old result vm.new }
+    ensures { Performed alloc request vm.old result vm.new }
 {
     match request {
         Request::Nothing => Reply::Nothing,

@@ -1,6 +1,5 @@
-use Rattle.std.proofs.Common.{◌≡◌, ◌-◌, ◌^◌, refl, sym, ◌∙◌, subst, arith}
+use Rattle.std.proofs.Common.{sym, ◌∙◌, subst, arith}
 use Rattle.vm_rounds.specs.Stepping.{StepDoes}
-use Rattle.vmrun.specs.Runs.{Stepped}
 use Rattle.vmrun.proofs.Driving.{stepped_more, drives_to, drives_out}
 use Rattle.vmrun.proofs.run.drive.Goals as goal
 
