@@ -1,7 +1,7 @@
 // What the tests of attempts share: answers as rows tell them, and what an attempt sends.
 // The attempts are made for the version 7, under the options by default.
 use invocation_vm::{VMOptions, VMResult, Value};
-use std::alloc::{AllocError, Global};
+use std::alloc::Global;
 use std::process::Abort;
 use std::test::Fail;
 use vectors::headers::Headers;
