@@ -40,8 +40,8 @@ use Rattle.vm_rounds.specs.declared.progress.Progress.{Progress}
 use Rattle.vm_rounds.specs.Agreement.{Agrees, Aside}
 use Rattle.vm_rounds.specs.Journals.{BeginsOrFails, HasAll, StillWaits, commands_among, machine_fed, missing, notifications_among, setup_for}
 use Rattle.vm_rounds.specs.Record.{Record}
-use Rattle.vm_rounds.specs.Stepping.{Advances, Asks, IfWaits, IsReplaying, LacksMemory, Reads, Replays, StepAt, StepDoes, StepFrom, StepUnless, fresh_record}
-use Rattle.vm_rounds.specs.Told.{AnswersAreTold, BeforeInput, Begun, Comes, IsKept, IsLive, IsAsleep, Quiet, Runs, StillAwaits, Wrote, arrivals, bytes_fed, frames_fed}
+use Rattle.vm_rounds.specs.Stepping.{Advances, Asks, IfWaits, IsReplaying, LacksMemory, Reads, StepAt, StepDoes, StepFrom, StepUnless, fresh_record}
+use Rattle.vm_rounds.specs.Told.{AnswersAreTold, BeforeInput, Begun, Comes, IsKept, IsLive, IsAsleep, Quiet, Replays, Runs, StillAwaits, Wrote, arrivals, bytes_fed, frames_fed}
 use Rattle.vm_rounds.proofs.Beginning.{input_begins}
 use Rattle.vm_rounds.proofs.Kept.{dead_same}
 use Rattle.vm_rounds.proofs.Pieces.{agrees_running}
@@ -291,8 +291,8 @@ step_waits m version options old result new k going does = by_test old.starved d
 
 -- ---- a step while recorded commands are left
 
-lacks_replay : (old : Record) (result : Result Progress Error) (new : Record) → LacksMemory old result new → Replays old result new
-lacks_replay old result new (is, left) = subst (λ z. Replays old z new) (sym is) (inl (ap (λ (r : Record). r.starved) left))
+lacks_replay : (m : Meaning) (version : Version) (options : VMOptions) (old : Record) (result : Result Progress Error) (new : Record) → LacksMemory old result new → Replays m version options old result new
+lacks_replay m version options old result new (is, left) = subst (λ z. Replays m version options old z new) (sym is) (inl (ap (λ (r : Record). r.starved) left))
 
 -- a step of a handler that is replaying, as the step is at this phase
 replays_advance : (m : Meaning) (old : Record) (result : Result Progress Error) (new : Record) → IsReplaying old → StepDoes m old result new → Advances m old result new
@@ -301,10 +301,10 @@ replays_advance m old result new is d =
     (subst (λ f. StepUnless f None m old result new) is.failure
     (subst (λ over. StepUnless old.vm.machine.failure over m old result new) is.over (subst (λ b. StepFrom b m old result new) is.starved d)))
 
-pub step_replays : (m : Meaning) (version : Version) (options : VMOptions) (old : Record) (result : Result Progress Error) (new : Record) → IsKept m version options old → IsReplaying old → StepDoes m old result new → Replays old result new
+pub step_replays : (m : Meaning) (version : Version) (options : VMOptions) (old : Record) (result : Result Progress Error) (new : Record) → IsKept m version options old → IsReplaying old → StepDoes m old result new → Replays m version options old result new
 step_replays m version options old result new k is does =
     ⊎_elim
-    (λ (x : LacksMemory old result new). lacks_replay old result new x)
+    (λ (x : LacksMemory old result new). lacks_replay m version options old result new x)
     (λ (o : ((old.answers ≡ []) × Reads old result new) ⊎ ((old.answers ≢ []) × Asks m old result new)).
     ⊎_elim
     (λ (x : (old.answers ≡ []) × Reads old result new). absurd (is.runs x.0))

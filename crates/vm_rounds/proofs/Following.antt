@@ -152,6 +152,7 @@ ends s m given written aside p is (c ∷ left) e =
       at = p;
       moves = no_move s m p;
       stuck = ap (λ mv. moved mv (longer (supply mv p.left) p)) stops;
+      none_used = refl;
       output = error_written (ruled v (named_error (state_fault (phase_after (c ∷ left))) None)) v aside.output refl (open_after p.left);
       failure = refl;
     }

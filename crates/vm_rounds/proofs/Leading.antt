@@ -76,6 +76,6 @@ follows_from s m given written aside p gives mv o identity is h = by_cases (move
           agrees = record { aside = with_frames (supply mv p.left) aside; machine = g.1; identity = identity };
           output = ap (λ w. w.output) g.1;
         }
-    by_cases None e (Failed f w) g = record { at = p; moves = no_move s m p; stuck = leads None e; output = error_written (ruled w f) w aside.output g.0 g.1; failure = refl }
+    by_cases None e (Failed f w) g = record { at = p; moves = no_move s m p; stuck = leads None e; none_used = refl; output = error_written (ruled w f) w aside.output g.0 g.1; failure = refl }
     by_cases (Some q) e (Failed f w) g = absurd g
     by_cases None e (Done a w) g = absurd g

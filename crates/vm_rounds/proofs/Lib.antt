@@ -14,3 +14,4 @@ pub mod Pieces
 pub mod Kept
 pub mod Stepped
 pub mod Advanced
+pub mod Replayed

@@ -48,9 +48,9 @@ use Rattle.vm_rounds.specs.declared.progress.Reply.TheVariants as reply
 use Rattle.vm_rounds.specs.Agreement.{Agrees, Answered, Follows, HasEnded, IsRefused, IsSuspended, MovesOn, StillAgrees, Waits, frames_of}
 use Rattle.vm_rounds.specs.Journals.{is_command, setup_for}
 use Rattle.vm_rounds.specs.Record.{Record}
-use Rattle.vm_rounds.specs.Stepping.{Asks, IfWaits, Replays, asked, asked_from, future_in, progress_of, settled, with_vm}
+use Rattle.vm_rounds.specs.Stepping.{Asks, IfWaits, asked, asked_from, future_in, progress_of, settled, with_vm}
 use Rattle.vm_rounds.specs.Steps.{IfDone, IsReadable, Made as IsMade, performed, request_of}
-use Rattle.vm_rounds.specs.Told.{arrivals, IsKept, IsLive, IsAsleep, Runs, StillAwaits, Wrote, commands_of, handed_out}
+use Rattle.vm_rounds.specs.Told.{arrivals, IsKept, IsLive, IsAsleep, RefusesReplay, Replays, Runs, StillAwaits, Wrote, commands_of, handed_out}
 use Rattle.vm_rounds.proofs.Following.{agreeing_follows}
 use Rattle.vm_rounds.proofs.Kept.{dead_same, not_live}
 use Rattle.vm_rounds.proofs.Leading.{no_move}
@@ -306,21 +306,49 @@ module _ (m : Meaning) (version : Version) (options : VMOptions) (r : Record) (k
       (λ (none : k.at.left ≡ []). absurd (some none))
       g.none_before
 
-  replied_replays : (P : Type 0) (future : Option UnresolvedFuture) → k.at.left ≢ [] → (x : Result Reply Error) → (o : Outcome Reply) → (IfDone o P → Following o) → Does o x r.vm.machine w.machine → OnOk x P → Replays r (progress_of x) (settled r future x w)
-  replied_replays P future some (Ok (reply.Answer a)) o f does h = nothing_made some a (done_follows P o (reply.Answer a) f does h)
-  replied_replays P future some (Ok (reply.Waiting input run)) o f does h =
-      let g : StillAgrees s m (handed_out k.journal) k.written k.at r.vm.machine w.machine = done_follows P o (reply.Waiting input run) f does h in
-      some g.waits.none_recorded
-  replied_replays P future some (Ok reply.Suspended) o f does h =
-      let g : IsSuspended s m k.at r.vm.machine w.machine = done_follows P o reply.Suspended f does h in
-      some g.waits.none_recorded
-  replied_replays P future some (Ok reply.Ended) o f does h =
-      let g : HasEnded m k.at r.vm.machine w.machine = done_follows P o reply.Ended f does h in
-      some g.no_command
-  replied_replays P future some (Err e) o f does h =
+  -- a refusal, at the point that the run comes to
+  refuses_there : (e : Error) (c : RawMessage) (further : List RawMessage) → k.at.left ≡ c ∷ further → IsRefused s m k.at r.vm.machine e w.machine → RefusesReplay m version options r.fed r.answers e r.vm.machine w.machine
+  refuses_there e c further some g =
+      let first = start s k.journal.input (arrivals k.journal) k.journal.rest in
+      let run : Made s m (k.moves + g.moves.moves) first (k.written ++ []) g.at = made_add s m k.moves g.moves.moves first k.written k.at [] g.at k.run g.moves.run in
+      let none : k.written ≡ [] =
       ⊎_elim
-      (λ (x : o ≡ Failed e w.machine). let g : IsRefused s m k.at r.vm.machine e w.machine = failed_follows P o e f x in inr (ap is_some g.failure))
-      (λ (x : IsStarved e r.vm.machine w.machine). inr x.failed)
+      (λ (x : k.written ≡ []). x)
+      (λ (x : k.at.left ≡ []). absurd (let z : [] ≡ c ∷ further = sym x ∙ some in cc))
+      (attempt_is_told s m k.journal.input k.moves (arrivals k.journal) k.journal.rest k.written k.at k.run).1
+      in
+      record {
+        journal = k.journal;
+        at = g.at;
+        moves = k.moves + g.moves.moves;
+        made = subst (λ l. Made s m (k.moves + g.moves.moves) first l g.at) (append-nil k.written ∙ none) run;
+        answers = g.moves.answers ∙ append-nil k.at.answers ∙ k.answers;
+        recorded = c;
+        further = further;
+        left = g.none_used ∙ some;
+        stuck = g.stuck;
+        output = g.output;
+        failure = g.failure;
+      }
+
+  replied_replays : (P : Type 0) (future : Option UnresolvedFuture) (c : RawMessage) (further : List RawMessage) → k.at.left ≡ c ∷ further → (x : Result Reply Error) → (o : Outcome Reply) → (IfDone o P → Following o) → Does o x r.vm.machine w.machine → OnOk x P → Replays m version options r (progress_of x) (settled r future x w)
+  replied_replays P future c further some (Ok (reply.Answer a)) o f does h = nothing_made (λ none. let z : [] ≡ c ∷ further = sym none ∙ some in cc) a (done_follows P o (reply.Answer a) f does h)
+  replied_replays P future c further some (Ok (reply.Waiting input run)) o f does h =
+      let g : StillAgrees s m (handed_out k.journal) k.written k.at r.vm.machine w.machine = done_follows P o (reply.Waiting input run) f does h in
+      let z : [] ≡ c ∷ further = sym g.waits.none_recorded ∙ some in
+      cc
+  replied_replays P future c further some (Ok reply.Suspended) o f does h =
+      let g : IsSuspended s m k.at r.vm.machine w.machine = done_follows P o reply.Suspended f does h in
+      let z : [] ≡ c ∷ further = sym g.waits.none_recorded ∙ some in
+      cc
+  replied_replays P future c further some (Ok reply.Ended) o f does h =
+      let g : HasEnded m k.at r.vm.machine w.machine = done_follows P o reply.Ended f does h in
+      let z : [] ≡ c ∷ further = sym g.no_command ∙ some in
+      cc
+  replied_replays P future c further some (Err e) o f does h =
+      ⊎_elim
+      (λ (x : o ≡ Failed e w.machine). inr (inr (refuses_there e c further some (failed_follows P o e f x))))
+      (λ (x : IsStarved e r.vm.machine w.machine). inr (inl x))
       does
 
 -- a step of a handler that runs
@@ -364,15 +392,17 @@ module _ (m : Meaning) (version : Version) (options : VMOptions) (old : Record) 
       (replied_waits m version options old k live w made.0.1 (IsReadable (request_of (m k.at.answers)) old.vm.machine) x (performed (m k.at.answers) old.vm.machine) (follows_here w) made.0.0 made.1)))
 
   -- recorded commands are left at the point
-  some_left : old.vm.machine.phase ≡ Replaying → k.at.left ≢ []
-  some_left replaying none =
-      let z : Replaying ≡ Processing = sym replaying ∙ ap (λ (v : Machine). v.phase) (k.agrees live).machine ∙ ap phase_after none in
-      cc
+  some_left : old.vm.machine.phase ≡ Replaying → (left : List RawMessage) → k.at.left ≡ left → (c : RawMessage) × (further : List RawMessage) × (k.at.left ≡ c ∷ further)
+  some_left replaying (c ∷ further) is = (c, further, is)
+  some_left replaying [] is =
+      let z : Replaying ≡ Processing = sym replaying ∙ ap (λ (v : Machine). v.phase) (k.agrees live).machine ∙ ap phase_after is in
+      absurd (cc)
 
   -- a step while recorded commands are left
-  pub asks_replay : old.vm.machine.phase ≡ Replaying → Asks m old result new → Replays old result new
+  pub asks_replay : old.vm.machine.phase ≡ Replaying → Asks m old result new → Replays m version options old result new
   asks_replay replaying (x, w, does, is, progress) =
       let made : IsMade (m k.at.answers) x old.vm w = subst (λ q. IsMade q x old.vm w) is_next does in
-      subst (λ z. Replays old z new) (sym progress)
-      (subst (Replays old (progress_of x)) (sym is)
-      (replied_replays m version options old k live w made.0.1 (IsReadable (request_of (m k.at.answers)) old.vm.machine) (future_in (asked m old)) (some_left replaying) x (performed (m k.at.answers) old.vm.machine) (follows_here w) made.0.0 made.1))
+      let some = some_left replaying k.at.left refl in
+      subst (λ z. Replays m version options old z new) (sym progress)
+      (subst (Replays m version options old (progress_of x)) (sym is)
+      (replied_replays m version options old k live w made.0.1 (IsReadable (request_of (m k.at.answers)) old.vm.machine) (future_in (asked m old)) some.0 some.1 some.2 x (performed (m k.at.answers) old.vm.machine) (follows_here w) made.0.0 made.1))

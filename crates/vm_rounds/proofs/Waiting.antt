@@ -101,7 +101,7 @@ unfolding called
 pends s m given written aside p h is r identity none asleep (c ∷ left) e =
     let q = at_usage p r.usage r.left in
     let w : Machine = record (machine_at s given written aside q) { phase = phase_after (c ∷ left) } in
-    record { at = q; moves = waits_at s m p h is r; stuck = stuck_at s m q (waits_on s m q (Single h) is asleep) none; output = error_written (ruled w (named_error fault.UncompletedDoProgressDuringReplay None)) w aside.output refl refl; failure = refl }
+    record { at = q; moves = waits_at s m p h is r; stuck = stuck_at s m q (waits_on s m q (Single h) is asleep) none; none_used = refl; output = error_written (ruled w (named_error fault.UncompletedDoProgressDuringReplay None)) w aside.output refl refl; failure = refl }
 pends s m given written aside p h is r identity none asleep [] e = by_test aside.input_closed refl
   where
     q : Point

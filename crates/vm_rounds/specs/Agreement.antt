@@ -118,11 +118,13 @@ pub record HasEnded (m : Meaning) (p : Point) (v w : Machine) : Type 0 where
   pub output : w.output ≡ v.output ++ encoding message.End ∷ []
   pub closed : w.phase ≡ Closed
 
--- A call was refused: the run comes to a point from which no move leads on, and one Error is written.
+-- A call was refused: the run comes to a point from which no move leads on, no recorded command was used, and one Error is
+-- written.
 pub record IsRefused (s : Setup) (m : Meaning) (p : Point) (v : Machine) (e : Error) (w : Machine) : Type 0 where
   pub at : Point
   pub moves : MovesOn s m p [] [] at
   pub stuck : IsStuck s m at
+  pub none_used : at.left ≡ p.left
   pub output : w.output ≡ v.output ++ encoding (message.Error (error_message e)) ∷ []
   pub failure : w.failure ≡ Some e
 

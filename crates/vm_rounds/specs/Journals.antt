@@ -1,5 +1,5 @@
 -- The journal that an attempt was fed, and the machine that it makes of it.
-use Rattle.std.specs.Prelude.{◌≡◌, ◌⊎◌, ℕ, zero, suc, ◌+◌, Bool, false, ◌&&◌, ◌==◌, nat_le, nat_lt, cond, length, List, [], ◌∷◌, ◌++◌, Option, Some, None, IsSome}
+use Rattle.std.specs.Prelude.{◌≡◌, ◌⊎◌, ℕ, zero, suc, ◌+◌, Bool, true, false, ◌&&◌, ◌==◌, nat_le, nat_lt, cond, length, List, [], ◌∷◌, ◌++◌, Option, Some, None, IsSome}
 use Rattle.std.proofs.Common.{Global}
 use Rattle.journal_protocol.specs.declared.commands.InputCommand.{InputCommand}
 use Rattle.journal_protocol.specs.declared.message.RawMessage.{RawMessage}
@@ -20,6 +20,7 @@ use Rattle.vm_machine.specs.declared.phase.Phase.TheVariants.{WaitingReplayEntri
 use Rattle.vm_machine.specs.Inputs.{coverage_of, entries_in, info_of}
 use Rattle.vm_machine.specs.Outcomes.{Outcome, Done, Failed}
 use Rattle.vm_model.specs.Calls.{Setup, identity_of}
+use Rattle.vm_model.specs.Journal.{Entry, Recorded, Notified}
 use Rattle.vm_model.specs.Moves.{start, told_input}
 use Rattle.vm_rounds.specs.Agreement.{Agrees, Aside}
 
@@ -45,6 +46,21 @@ notified_by (Some n) ns = n ∷ ns
 abbrev pub notifications_among : List RawMessage → List Notification
 notifications_among [] = []
 notifications_among (raw ∷ raws) = cond (is_notification raw) (notified_by (notification_in raw.body) (notifications_among raws)) (notifications_among raws)
+
+-- a command's frame as an entry, before others
+abbrev pub recorded_by : Bool → RawMessage → List Entry → List Entry
+recorded_by true raw es = Recorded raw ∷ es
+recorded_by false raw es = es
+
+-- a notification as an entry, if there is one
+abbrev pub told_by : Option Notification → List Entry → List Entry
+told_by None es = es
+told_by (Some n) es = Notified n ∷ es
+
+-- frames as the entries of a journal; a notification's body that spells none is no entry
+abbrev pub as_entries : List RawMessage → List Entry
+as_entries [] = []
+as_entries (raw ∷ raws) = recorded_by (is_command raw) raw (cond (is_notification raw) (told_by (notification_in raw.body) (as_entries raws)) (as_entries raws))
 
 -- Before the handler has read its input: the commands and notifications that came behind Start, and nothing else.
 abbrev pub machine_fed : Setup → StateMap → Aside → List RawMessage → List Notification → Phase → Machine

@@ -1,5 +1,5 @@
 -- What the calls of an attempt do to its record.
-use Rattle.std.specs.Prelude.{◌≡◌, ◌≢◌, ◌⊎◌, ℕ, ◌+◌, ◌-◌, ◌^◌, min, Bool, true, false, List, [], ◌∷◌, ◌++◌, length, Option, Some, None, Result, Ok, Err, IsSome}
+use Rattle.std.specs.Prelude.{◌≡◌, ◌≢◌, ◌⊎◌, ℕ, ◌+◌, ◌-◌, ◌^◌, min, Bool, true, false, List, [], ◌∷◌, ◌++◌, length, Option, Some, None, Result, Ok, Err}
 use Rattle.std.proofs.Common.{Global}
 use Rattle.std.specs.List.{concat}
 use Rattle.std.specs.declared.alloc.AllocError.{AllocError}
@@ -146,16 +146,6 @@ pub record IsReplaying (r : Record) : Type 0 where
   pub over : r.over ≡ None
   pub failure : r.vm.machine.failure ≡ None
   pub phase : r.vm.machine.phase ≡ Replaying
-
--- While recorded commands are left, the handler's call is answered and nothing is written; or the VM fails, or memory is
--- lacking.
-abbrev pub Replays : Record → Result Progress Error → Record → Type 0
-Replays old (Ok progress.Stepped) new = new.vm.machine.output ≡ old.vm.machine.output
-Replays old (Ok progress.NotReady) new = ⊥
-Replays old (Ok (progress.Waiting input run)) new = ⊥
-Replays old (Ok progress.Suspended) new = ⊥
-Replays old (Ok progress.Ended) new = ⊥
-Replays old (Err e) new = (new.starved ≡ true) ⊎ IsSome new.vm.machine.failure
 
 -- ---- input
 

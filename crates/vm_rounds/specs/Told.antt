@@ -1,12 +1,15 @@
 -- What the record of an attempt tells of its handler's run.
-use Rattle.std.specs.Prelude.{◌≡◌, ◌⊎◌, ℕ, true, false, cond, length, List, [], ◌∷◌, ◌++◌, map, Option, Some, None}
+use Rattle.std.specs.Prelude.{◌≡◌, ◌⊎◌, ℕ, true, false, cond, length, List, [], ◌∷◌, ◌++◌, map, Option, Some, None, Result, Ok, Err}
 use Rattle.std.specs.List.{concat, flat_map}
 use Rattle.journal_protocol.specs.declared.commands.InputCommand.{InputCommand}
+use Rattle.journal_protocol.specs.declared.error.Error.{Error}
 use Rattle.journal_protocol.specs.declared.message.Message.{Message}
+use Rattle.journal_protocol.specs.declared.message.Message.TheVariants as message
 use Rattle.journal_protocol.specs.declared.message.RawMessage.{RawMessage}
 use Rattle.journal_protocol.specs.declared.notification.Notification.{Notification}
 use Rattle.journal_protocol.specs.declared.start.Start.{Start}
 use Rattle.journal_protocol.specs.declared.version.Version.{Version}
+use Rattle.journal_protocol.specs.Errors.{error_message}
 use Rattle.journal_protocol.specs.Message.{encoding}
 use Rattle.journal_protocol.specs.Reading.{start_in}
 use Rattle.vm_parts.specs.declared.context.StateMap.{StateMap}
@@ -23,8 +26,11 @@ use Rattle.invocation_vm.specs.Frames.{Rest, frames_of}
 use Rattle.vm_model.specs.Calls.{Meaning, is_awake}
 use Rattle.vm_model.specs.Journal.{input_read_from, stored_form}
 use Rattle.vm_model.specs.Moves.{Point, start}
-use Rattle.vm_model.specs.Histories.{Made, Told}
+use Rattle.vm_model.specs.Histories.{IsStuck, Made, Told}
+use Rattle.vm_machine.specs.Outcomes.{IsStarved}
 use Rattle.vm_rounds.specs.declared.progress.Fed.{Fed}
+use Rattle.vm_rounds.specs.declared.progress.Progress.{Progress}
+use Rattle.vm_rounds.specs.declared.progress.Progress.TheVariants as progress
 use Rattle.vm_rounds.specs.Agreement.{Agrees, Aside}
 use Rattle.vm_rounds.specs.Journals.{HasAll, StillWaits, commands_among, is_command, notifications_among, setup_for}
 use Rattle.vm_parts.specs.declared.steps.Answer.{Answer}
@@ -121,6 +127,32 @@ pub record IsAsleep (m : Meaning) (version : Version) (options : VMOptions) (fed
 -- the same of a record
 abbrev pub NothingWakes : Meaning → Version → VMOptions → Record → Type 0
 NothingWakes m version options r = IsAsleep m version options r.fed r.answers r.taken r.vm
+
+-- A call is refused while recorded commands are left: the journal tells a point with these answers from which no move leads on,
+-- one Error is written, and the VM fails by it.
+pub record RefusesReplay (m : Meaning) (version : Version) (options : VMOptions) (fed : List Fed) (answers_so_far : List Answer) (e : Error) (old new : Machine) : Type 0 where
+  pub journal : Journal fed
+  pub at : Point
+  pub moves : ℕ
+  pub made : Made (setup_for version options journal.start) m moves (start (setup_for version options journal.start) journal.input (arrivals journal) journal.rest) [] at
+  pub answers : at.answers ≡ answers_so_far
+  pub recorded : RawMessage
+  pub further : List RawMessage
+  pub left : at.left ≡ recorded ∷ further
+  pub stuck : IsStuck (setup_for version options journal.start) m at
+  pub output : new.output ≡ old.output ++ encoding (message.Error (error_message e)) ∷ []
+  pub failure : new.failure ≡ Some e
+
+-- While recorded commands are left, the handler's call is answered and nothing is written; or it is refused; or memory is lacking.
+abbrev pub Replays : Meaning → Version → VMOptions → Record → Result Progress Error → Record → Type 0
+Replays m version options old (Ok progress.Stepped) new = new.vm.machine.output ≡ old.vm.machine.output
+Replays m version options old (Ok progress.NotReady) new = ⊥
+Replays m version options old (Ok (progress.Waiting input run)) new = ⊥
+Replays m version options old (Ok progress.Suspended) new = ⊥
+Replays m version options old (Ok progress.Ended) new = ⊥
+Replays m version options old (Err e) new =
+    (new.starved ≡ true)
+    ⊎ (IsStarved e old.vm.machine new.vm.machine ⊎ RefusesReplay m version options old.fed old.answers e old.vm.machine new.vm.machine)
 
 -- the VM can make calls: it has neither failed nor ended, nor is the invocation suspended
 pub record IsLive (v : Machine) : Type 0 where

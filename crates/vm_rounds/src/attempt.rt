@@ -34,8 +34,8 @@ impl<H: Handler> Model for Attempt<H> {
 impl<H: Handler> Attempt<H> {
     ghost use Rattle.std.specs.Prelude.{◌≡◌, ◌⊎◌, [], None};
     ghost use Rattle.invocation_vm.specs.Making.{version_in};
-    ghost use Rattle.vm_rounds.specs.Stepping.{MakesAttempt, StepDoes, FeedDoes, CloseDoes, IfWaits, IsReplaying, Replays, Takes};
-    ghost use Rattle.vm_rounds.specs.Told.{AnswersAreTold, NothingWakes};
+    ghost use Rattle.vm_rounds.specs.Stepping.{MakesAttempt, StepDoes, FeedDoes, CloseDoes, IfWaits, IsReplaying, Takes};
+    ghost use Rattle.vm_rounds.specs.Told.{AnswersAreTold, NothingWakes, Replays};
 
     /// An attempt for the version that the header `content-type` names; the VM's refusals are its own.
     pub fn new<M: HeaderMap>(
@@ -81,8 +81,8 @@ impl<H: Handler> Attempt<H> {
         ensures does { StepDoes (H.meaning self.old.handler) self.old.record_of result self.new.record_of }
         // It waits or is suspended only where no number of the arrivals wakes the handler's await.
         ensures waits { self.old.record_of.over ≡ None → IfWaits result (NothingWakes (H.meaning self.old.handler) self.old.version self.old.options self.new.record_of) }
-        // While recorded commands are left, the handler's next call is answered, or it is refused.
-        ensures replays { IsReplaying self.old.record_of → Replays self.old.record_of result self.new.record_of }
+        // While recorded commands are left, the handler's next call is answered, or it is refused where the journal tells no more.
+        ensures replays { IsReplaying self.old.record_of → Replays (H.meaning self.old.handler) self.old.version self.old.options self.old.record_of result self.new.record_of }
         ensures handler { self.new.handler ≡ self.old.handler }
         ensures made_for { (self.new.version ≡ self.old.version) × (self.new.options ≡ self.old.options) }
     {

@@ -12,13 +12,14 @@ ghost use Rattle.journal_protocol.specs.declared.version.Version.{Version};
 ghost use Rattle.vm_parts.specs.declared.options.VMOptions.{VMOptions};
 ghost use Rattle.invocation_vm.specs.Views.{all_received};
 ghost use Rattle.vm_model.specs.Calls.{Setup, Meaning, identity_of};
+ghost use Rattle.vm_model.specs.Histories.{History};
 ghost use Rattle.vm_model.specs.Journal.{input_read_from};
 ghost use Rattle.vm_model.specs.Moves.{Point, later};
 ghost use Rattle.vm_parts.specs.declared.context.StateMap.{StateMap};
 ghost use Rattle.vm_rounds.specs.Agreement.{Agrees, Aside, Follows};
-ghost use Rattle.vm_rounds.specs.Journals.{BeginsOrFails, Started, machine_fed, notifications_among};
+ghost use Rattle.vm_rounds.specs.Journals.{BeginsOrFails, Started, as_entries, machine_fed, notifications_among, setup_for};
 ghost use Rattle.vm_rounds.specs.Steps.{performed, request_of, IfDone, IsReadable};
-ghost use Rattle.vm_rounds.specs.Told.{AnswersAreTold, IsKept};
+ghost use Rattle.vm_rounds.specs.Told.{AnswersAreTold, IsKept, RefusesReplay};
 ghost use Rattle.vm_rounds.specs.declared.progress.Progress.{Progress};
 ghost use Rattle.std.specs.Prelude.{Result};
 ghost use Rattle.journal_protocol.specs.declared.error.Error.{Error};
@@ -67,6 +68,12 @@ pub fn attempts_keep()
     ensures closed { (m : Meaning) (version : Version) (options : VMOptions) (old : Record) (result : Result Unit AllocError) (new : Record) → IsKept m version options old → CloseDoes old.starved old result new → IsKept m version options new }
     ensures taken { (m : Meaning) (version : Version) (options : VMOptions) (old : Record) (result : Result (List ℕ) AllocError) (new : Record) → IsKept m version options old → Takes old result new → IsKept m version options new }
     ensures stepped { (m : Meaning) (version : Version) (options : VMOptions) (old : Record) (result : Result Progress Error) (new : Record) → IsKept m version options old → StepDoes m old result new → IsKept m version options new }
+{}
+
+/// Where the known entries are a history of the handler, no call is refused while recorded commands are left: no mismatch, no
+/// pending await, no end before its time.
+pub fn histories_are_replayed()
+    ensures { (m : Meaning) (version : Version) (options : VMOptions) (fed : List Fed) (answers : List Answer) (e : Error) (old new : Machine) (refusal : RefusesReplay m version options fed answers e old new) → History (setup_for version options refusal.journal.start) m (as_entries refusal.journal.entries) → ⊥ }
 {}
 
 /// The answers of an attempt are those of a point that its journal tells, followed by what it wrote, with the arrivals that it

@@ -11,7 +11,8 @@ mod progress;
 pub use attempt::Attempt;
 pub use handler::Handler;
 pub use laws::{
-    answers_are_told, attempts_begin, attempts_keep, calls_follow, frames_arrive, journals_come,
+    answers_are_told, attempts_begin, attempts_keep, calls_follow, frames_arrive,
+    histories_are_replayed, journals_come,
 };
 pub use progress::{Fed, Progress};
 pub use vm_parts::{Answer, Step};

@@ -1,0 +1,75 @@
+-- The frames of a journal as its entries, and a history that is replayed.
+use Rattle.std.proofs.Common.{◌≡◌, Bool, true, false, cond, List, [], ◌∷◌, ◌++◌, Option, Some, None, refl, sym, ap, ◌∙◌, subst}
+use Rattle.std.proofs.lemmas.Option.{same_Some}
+use Rattle.journal_protocol.specs.declared.error.Error.{Error}
+use Rattle.journal_protocol.specs.declared.message.RawMessage.{RawMessage}
+use Rattle.journal_protocol.specs.declared.notification.Notification.{Notification}
+use Rattle.journal_protocol.specs.declared.version.Version.{Version}
+use Rattle.journal_protocol.specs.Reading.{notification_in}
+use Rattle.vm_parts.specs.declared.options.VMOptions.{VMOptions}
+use Rattle.vm_parts.specs.declared.steps.Answer.{Answer}
+use Rattle.vm_machine.specs.declared.machine.Machine.{Machine}
+use Rattle.vm_model.specs.Calls.{Meaning}
+use Rattle.vm_model.specs.Journal.{Entry, commands_in, input_read_from, notifications_in}
+use Rattle.vm_model.specs.Moves.{start}
+use Rattle.vm_model.specs.Histories.{History, Made}
+use Rattle.vm_model.proofs.Compared.{none_refused}
+use Rattle.vm_rounds.specs.declared.progress.Fed.{Fed}
+use Rattle.vm_rounds.specs.Journals.{as_entries, commands_among, is_command, is_notification, notifications_among, notified_by, recorded_by, setup_for, told_by}
+use Rattle.vm_rounds.specs.Told.{RefusesReplay, arrivals}
+use Rattle.vm_rounds.proofs.Pieces.{notifications_append}
+
+recorded_commands : (b : Bool) (raw : RawMessage) (es : List Entry) (cs : List RawMessage) → commands_in es ≡ cs → commands_in (recorded_by b raw es) ≡ cond b (raw ∷ cs) cs
+recorded_commands true raw es cs is = ap (λ l. raw ∷ l) is
+recorded_commands false raw es cs is = is
+
+told_commands : (o : Option Notification) (es : List Entry) → commands_in (told_by o es) ≡ commands_in es
+told_commands None es = refl
+told_commands (Some n) es = refl
+
+noted_commands : (b : Bool) (o : Option Notification) (es : List Entry) → commands_in (cond b (told_by o es) es) ≡ commands_in es
+noted_commands true o es = told_commands o es
+noted_commands false o es = refl
+
+commands_same : (raws : List RawMessage) → commands_in (as_entries raws) ≡ commands_among raws
+commands_same [] = refl
+commands_same (raw ∷ raws) =
+    recorded_commands (is_command raw) raw (cond (is_notification raw) (told_by (notification_in raw.body) (as_entries raws)) (as_entries raws)) (commands_among raws)
+    (noted_commands (is_notification raw) (notification_in raw.body) (as_entries raws) ∙ commands_same raws)
+
+recorded_notes : (b : Bool) (raw : RawMessage) (es : List Entry) → notifications_in (recorded_by b raw es) ≡ notifications_in es
+recorded_notes true raw es = refl
+recorded_notes false raw es = refl
+
+told_notes : (o : Option Notification) (es : List Entry) (ns : List Notification) → notifications_in es ≡ ns → notifications_in (told_by o es) ≡ notified_by o ns
+told_notes None es ns is = is
+told_notes (Some n) es ns is = ap (λ l. n ∷ l) is
+
+noted_notes : (b : Bool) (o : Option Notification) (es : List Entry) (ns : List Notification) → notifications_in es ≡ ns → notifications_in (cond b (told_by o es) es) ≡ cond b (notified_by o ns) ns
+noted_notes true o es ns is = told_notes o es ns is
+noted_notes false o es ns is = is
+
+notes_same : (raws : List RawMessage) → notifications_in (as_entries raws) ≡ notifications_among raws
+notes_same [] = refl
+notes_same (raw ∷ raws) =
+    recorded_notes (is_command raw) raw (cond (is_notification raw) (told_by (notification_in raw.body) (as_entries raws)) (as_entries raws))
+    ∙ noted_notes (is_notification raw) (notification_in raw.body) (as_entries raws) (notifications_among raws) (notes_same raws)
+
+head_same : (a b : RawMessage) (xs ys : List RawMessage) → a ∷ xs ≡ b ∷ ys → a ≡ b
+head_same a b xs ys e = cc
+
+tail_same : (a b : RawMessage) (xs ys : List RawMessage) → a ∷ xs ≡ b ∷ ys → xs ≡ ys
+tail_same a b xs ys e = cc
+
+-- on a history no call is refused while recorded commands are left
+pub history_replayed : (m : Meaning) (version : Version) (options : VMOptions) (fed : List Fed) (answers : List Answer) (e : Error) (old new : Machine) (x : RefusesReplay m version options fed answers e old new) → History (setup_for version options x.journal.start) m (as_entries x.journal.entries) → ⊥
+history_replayed m version options fed answers e old new x h =
+    let j = x.journal in
+    let s = setup_for version options j.start in
+    let begins : h.first ∷ h.rest ≡ j.first ∷ j.rest = sym h.begins ∙ commands_same j.entries ∙ j.commands in
+    let first : h.first ≡ j.first = head_same h.first j.first h.rest j.rest begins in
+    let rest : h.rest ≡ j.rest = tail_same h.first j.first h.rest j.rest begins in
+    let input : h.input ≡ j.input = same_Some h.input j.input (sym h.reads ∙ ap input_read_from first ∙ j.reads_input) in
+    let notes : notifications_in (as_entries j.entries) ++ notifications_among j.others ≡ arrivals j = ap (λ l. l ++ notifications_among j.others) (notes_same j.entries) ∙ sym (notifications_append j.entries j.others) in
+    let made : Made s m x.moves (start s h.input (notifications_in (as_entries j.entries) ++ notifications_among j.others) h.rest) [] x.at = subst (λ p. Made s m x.moves p [] x.at) (λ i. start s (sym input i) (sym notes i) (sym rest i)) x.made in
+    none_refused s m (as_entries j.entries) (notifications_among j.others) x.moves [] x.further x.recorded x.at h made x.left x.stuck
