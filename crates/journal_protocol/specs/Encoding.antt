@@ -86,7 +86,7 @@ sleep m = fields (u64s m.wake_up_time ∷ u32s m.result_completion_id ∷ bytes 
 unfoldable pub output : OutputCommand → List ℕ
 output m = fields (value_or_failure m.result ∷ [])
 
--- a suspension: the future that the invocation stops for
+-- a suspension: the future until which the attempt stops
 unfoldable pub suspension : Suspension → List ℕ
 suspension m = fields (future m.future ∷ [])
 
