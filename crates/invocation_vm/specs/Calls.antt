@@ -29,6 +29,7 @@ sleep_step millis name v =
     if nat_lt millis 18446744073709551616 then issued (request.Sleep millis name) v
     else refused fault.OutOfBoundsDuration v
 
+-- the list has no items
 abbrev pub is_empty : {A : Type 0} → List A → Bool
 is_empty [] = true
 is_empty (x ∷ xs) = false

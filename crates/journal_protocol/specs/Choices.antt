@@ -17,10 +17,12 @@ use Rattle.journal_protocol.specs.declared.invocations.IdempotencyId.{Idempotenc
 
 -- ---- nothing or a value
 
+-- void; or a value of fewer than 2 ^ 64 bytes
 abbrev pub void_or_value_valid : VoidOrValue → Type 0
 void_or_value_valid state.Void = Unit {0}
 void_or_value_valid (state.Value bs) = bytes_format.valid bs
 
+-- 0 is void, 1 and bytes are a value; none where another byte stands in front or the bytes end before
 unfoldable pub read_void_or_value : Reading VoidOrValue
 read_void_or_value = read_case (
     choose 0 (read_as (λ _. state.Void) read_nothing) (
@@ -39,15 +41,18 @@ void_or_value_is = cases_are void_or_value void_or_value_valid _ (
     case_is void_or_value void_or_value_valid 1 state.Value bytes_format _ (λ _ v. v) (λ _. refl) (
     no_case_is void_or_value void_or_value_valid)))
 
+-- the format of what stands under a key: 0 for void, or 1 and a value's bytes
 abbrev pub void_or_value_format : Format VoidOrValue
 void_or_value_format = record { spelling = void_or_value; valid = void_or_value_valid; read = read_void_or_value; reads = void_or_value_reads; read_is = void_or_value_is }
 
 -- ---- signals
 
+-- a number below 2 ^ 32; or a name that is a text
 abbrev pub signal_valid : Signal → Type 0
 signal_valid (by.Index n) = u32_format.valid n
 signal_valid (by.Name name) = text_format.valid name
 
+-- 0 and a u32 are a signal's number, 1 and a text its name; none where another byte stands in front or either can't be read
 unfoldable pub read_signal : Reading Signal
 read_signal = read_case (
     choose 0 (read_as by.Index u32_format.read) (
@@ -66,16 +71,20 @@ signal_is = cases_are signal signal_valid _ (
     case_is signal signal_valid 1 by.Name text_format _ (λ _ v. v) (λ _. refl) (
     no_case_is signal signal_valid)))
 
+-- the format of a signal: 0 and its number (u32), or 1 and its name (text)
 abbrev pub signal_format : Format Signal
 signal_format = record { spelling = signal; valid = signal_valid; read = read_signal; reads = signal_reads; read_is = signal_is }
 
 -- ---- what is sent to a signal
 
+-- void; a value of fewer than 2 ^ 64 bytes; or a failure whose code, texts and count fit
 abbrev pub signal_result_valid : SignalResult → Type 0
 signal_result_valid sent.Void = Unit {0}
 signal_result_valid (sent.Value bs) = bytes_format.valid bs
 signal_result_valid (sent.Failure f) = failure_format.valid f
 
+-- 0 is void, 1 and bytes are a value, 2 and a failure are that failure; none where another byte stands in front or what is
+-- behind it can't be read
 unfoldable pub read_signal_result : Reading SignalResult
 read_signal_result = read_case (
     choose 0 (read_as (λ _. sent.Void) read_nothing) (
@@ -97,11 +106,13 @@ signal_result_is = cases_are signal_result signal_result_valid _ (
     case_is signal_result signal_result_valid 2 sent.Failure failure_format _ (λ _ v. v) (λ _. refl) (
     no_case_is signal_result signal_result_valid))))
 
+-- the format of what is sent to a signal: 0 for void, 1 and a value's bytes, or 2 and a failure
 abbrev pub signal_result_format : Format SignalResult
 signal_result_format = record { spelling = signal_result; valid = signal_result_valid; read = read_signal_result; reads = signal_result_reads; read_is = signal_result_is }
 
 -- ---- targets
 
+-- a workflow's run as (name, (key, scope)): two texts and an optional text
 abbrev pub workflow_id_by_parts : Format WorkflowId
 workflow_id_by_parts = via (λ w. (w.name, (w.key, w.scope))) (λ p. record { name = p.0; key = p.1.0; scope = p.1.1 }) (λ _. refl) (λ _. refl)
     (pair_format text_format (pair_format text_format (option_format text_format)))
@@ -110,9 +121,12 @@ pub workflow_id_same : (w : WorkflowId) → workflow_id w ≡ (workflow_id_by_pa
 unfolding workflow_id
 workflow_id_same w = refl
 
+-- the format of a workflow's run: name and key (texts), and scope (a text or none)
 abbrev pub workflow_id_format : Format WorkflowId
 workflow_id_format = spelled workflow_id workflow_id_by_parts workflow_id_same
 
+-- a call by its idempotency key as (service, (service's key, (handler, (idempotency key, scope)))): texts, of
+-- which the service's key and the scope may be absent
 abbrev pub idempotency_id_by_parts : Format IdempotencyId
 idempotency_id_by_parts = via (λ w. (w.service_name, (w.service_key, (w.handler_name, (w.idempotency_key, w.scope))))) (λ p. record { service_name = p.0; service_key = p.1.0; handler_name = p.1.1.0; idempotency_key = p.1.1.1.0; scope = p.1.1.1.1 }) (λ _. refl) (λ _. refl)
     (pair_format text_format (pair_format (option_format text_format) (pair_format text_format (pair_format text_format (option_format text_format)))))
@@ -121,14 +135,18 @@ pub idempotency_id_same : (w : IdempotencyId) → idempotency_id w ≡ (idempote
 unfolding idempotency_id
 idempotency_id_same w = refl
 
+-- the format of a call by its idempotency key: service, service's key if any, handler, idempotency key, scope if any
 abbrev pub idempotency_id_format : Format IdempotencyId
 idempotency_id_format = spelled idempotency_id idempotency_id_by_parts idempotency_id_same
 
+-- an invocation's id that is a text; or a workflow's run or a call by its idempotency key whose texts are texts
 abbrev pub target_valid : InvocationTarget → Type 0
 target_valid (of.InvocationId id) = text_format.valid id
 target_valid (of.WorkflowId w) = workflow_id_format.valid w
 target_valid (of.IdempotencyId w) = idempotency_id_format.valid w
 
+-- 0 and a text are an invocation's id, 1 and a workflow's run, 2 and a call by its idempotency key; none where another byte
+-- stands in front or what is behind it can't be read
 unfoldable pub read_target : Reading InvocationTarget
 read_target = read_case (
     choose 0 (read_as of.InvocationId text_format.read) (
@@ -150,5 +168,6 @@ target_is = cases_are invocation_target target_valid _ (
     case_is invocation_target target_valid 2 of.IdempotencyId idempotency_id_format _ (λ _ v. v) (λ _. refl) (
     no_case_is invocation_target target_valid))))
 
+-- the format of which invocation is meant: 0 and its id (text), 1 and a workflow's run, or 2 and a call by its idempotency key
 abbrev pub target_format : Format InvocationTarget
 target_format = record { spelling = invocation_target; valid = target_valid; read = read_target; reads = target_reads; read_is = target_is }

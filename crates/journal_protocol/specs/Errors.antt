@@ -18,12 +18,15 @@ use Rattle.journal_protocol.specs.Types.{type_number}
 abbrev pub plain_error : ℕ → List ℕ → Option RelatedCommand → Error
 plain_error code message related = record { code = code; message = message; stacktrace = []; behavior = Retry; next_retry_delay = None; related_command = related }
 
+-- the error of a fault that has a name: its code and its text, to be retried
 abbrev pub named_error : NamedFault → Option RelatedCommand → Error
 named_error f related = plain_error (code_of f) (text_of f) related
 
+-- want of memory: code 500 and no text, about no command
 abbrev pub no_memory : Error
 no_memory = named_error fault.Memory None
 
+-- what is answered to bytes that were not read: want of memory, or, where they are malformed, BadMessage
 abbrev pub fault_error : Fault → Error
 fault_error Memory = no_memory
 fault_error Malformed = named_error fault.BadMessage None
@@ -37,6 +40,7 @@ name_of (c ∷ cs) = Some (c ∷ cs)
 abbrev pub millis_of : Duration → ℕ
 millis_of d = min (as_nanos d / 1_000_000) (2 ^ 64 - 1)
 
+-- the name of the command that an error is about; none where it is about none or the name is empty
 abbrev pub related_name : Option RelatedCommand → Option (List ℕ)
 related_name None = None
 related_name (Some r) = name_of r.name

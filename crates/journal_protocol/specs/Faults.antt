@@ -3,6 +3,8 @@ use Rattle.std.specs.Prelude.{ℕ, List, codes}
 use Rattle.journal_protocol.specs.declared.faults.NamedFault.{NamedFault}
 use Rattle.journal_protocol.specs.declared.faults.NamedFault.TheVariants as fault
 
+-- 400 and 415: the request is wrong; 570: replay doesn't fit; 571: the protocol was broken; 573: the version lacks the feature;
+-- 598: closed; 599: suspended; 500: all else
 abbrev pub code_of : NamedFault → ℕ
 code_of fault.BadRequest = 400
 code_of fault.MissingContentType = 415

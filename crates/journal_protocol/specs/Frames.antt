@@ -5,6 +5,7 @@ use Rattle.journal_protocol.specs.Types.{type_at}
 use Rattle.journal_protocol.specs.declared.types.MessageType.{MessageType}
 use Rattle.journal_protocol.specs.declared.message.RawMessage.{RawMessage}
 
+-- what is at the front of some bytes: a whole frame and the bytes behind it, less than a frame, or no frame
 pub data NextFrame : Type 0 where
   Whole : RawMessage → List ℕ → NextFrame
   Partial : NextFrame
@@ -14,6 +15,7 @@ pub data NextFrame : Type 0 where
 abbrev pub number_in : List ℕ → ℕ
 number_in bs = from_be_bytes w16 (take 2 bs)
 
+-- the length of the body, in the eight bytes behind the number
 abbrev pub size_in : List ℕ → ℕ
 size_in bs = from_be_bytes w64 (take 8 (drop 2 bs))
 
@@ -21,6 +23,7 @@ size_in bs = from_be_bytes w64 (take 8 (drop 2 bs))
 abbrev pub framed : MessageType → ℕ → List ℕ → NextFrame
 framed ty n bs = if nat_lt (length bs) n then Partial else Whole (record { ty = ty; body = take n bs }) (drop n bs)
 
+-- no frame where the number is no type's; else a part of one until the number, the length and all of the body are there
 abbrev pub typed : Option MessageType → List ℕ → NextFrame
 typed None bs = Malformed
 typed (Some ty) bs = if nat_lt (length bs) 10 then Partial else framed ty (size_in bs) (drop 10 bs)

@@ -12,6 +12,7 @@ use Rattle.journal_protocol.specs.declared.future.FutureKind.{FutureKind}
 use Rattle.journal_protocol.specs.declared.future.FutureKind.TheVariants.{FirstCompleted, AllCompleted, FirstSucceededOrAllFailed, AllSucceededOrFirstFailed, Unknown}
 use Rattle.journal_protocol.specs.declared.future.FutureNode.{FutureNode}
 
+-- one byte: 0 first completed, 1 all completed, 2 first succeeded or all failed, 3 all succeeded or first failed, 4 unknown
 abbrev pub kind : FutureKind → List ℕ
 kind FirstCompleted = 0 ∷ []
 kind AllCompleted = 1 ∷ []
@@ -19,6 +20,7 @@ kind FirstSucceededOrAllFailed = 2 ∷ []
 kind AllSucceededOrFirstFailed = 3 ∷ []
 kind Unknown = 4 ∷ []
 
+-- the kind whose number, 0 to 4, is the first byte; none where it is another byte or none is left
 unfoldable pub read_kind : Reading FutureKind
 read_kind = read_case (
     choose 0 (read_as (λ _. FirstCompleted) read_nothing) (
@@ -46,6 +48,7 @@ kind_is = cases_are kind (λ _. Unit {0}) _ (
     case_is kind (λ _. Unit {0}) 4 (λ _. Unknown) nothing_format _ (λ _ v. v) (λ _. refl) (
     no_case_is kind (λ _. Unit {0})))))))
 
+-- a kind in one byte, 0 to 4
 abbrev pub kind_format : Format FutureKind
 kind_format = record { spelling = kind; valid = (λ _. Unit {0}); read = read_kind; reads = kind_reads; read_is = kind_is }
 
@@ -63,15 +66,19 @@ node n = head n ++ u64s n.nested
 abbrev pub NodeParts : Type 0
 NodeParts = (FutureKind × (List ℕ × (List ℕ × List (List ℕ)))) × ℕ
 
+-- a node as pairs: ((kind, (completions, (signals, named signals))), how many nest in it)
 abbrev pub parts_of : FutureNode → NodeParts
 parts_of n = ((n.kind, (n.waiting_completions, (n.waiting_signals, n.waiting_named_signals))), n.nested)
 
+-- the node that these pairs are the parts of
 abbrev pub of_parts : NodeParts → FutureNode
 of_parts p = record { kind = p.0.0; waiting_completions = p.0.1.0; waiting_signals = p.0.1.1.0; waiting_named_signals = p.0.1.1.1; nested = p.1 }
 
+-- kind, completions (u32) and signals (u32) and named signals (texts) as three lists, and how many nest in it (u64)
 abbrev pub parts_format : Format NodeParts
 parts_format = pair_format (pair_format kind_format (pair_format (list_format u32_format) (pair_format (list_format u32_format) (list_format text_format)))) u64_format
 
+-- the format of a node: spelled as its parts, one behind the other, and read back into a node
 abbrev pub node_format : Format FutureNode
 node_format = spelled node (via parts_of of_parts (λ _. refl) (λ _. refl) parts_format) (λ _. refl)
 
@@ -103,6 +110,7 @@ pub record Layout (nodes : List FutureNode) : Type 0 where
   pub placed : nodes ≡ top ∷ flat_map (λ child. child) children
   pub spelled_so : future nodes ≡ head top ++ list future children
 
+-- the numbers, counts and texts of each node fit, and the nodes are one whole future
 unfoldable pub future_valid : List FutureNode → Type 0
 future_valid nodes = AllByRecursion node_format.valid nodes × IsFuture nodes
 
@@ -172,6 +180,7 @@ pub future_reads : IsReadBack future future_valid read_future
 unfolding read_future future future_valid
 future_reads nodes rest v = nodes_read (length (flat_map node nodes ++ rest)) 1 nodes rest v.1 v.0 (omega arith)
 
+-- the format of a future: its nodes one behind the other, with no count in front, since the nodes say where it ends
 abbrev pub future_format : Format (List FutureNode)
 future_format = record { spelling = future; valid = future_valid; read = read_future; reads = future_reads; read_is = future_is }
 

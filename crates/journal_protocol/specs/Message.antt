@@ -13,6 +13,7 @@ use Rattle.journal_protocol.specs.Errors.{fault_error}
 use Rattle.journal_protocol.specs.declared.message.Message.{Message}
 use Rattle.journal_protocol.specs.declared.message.Message.TheVariants as message
 
+-- the type whose number stands at the front of the message's frame
 abbrev pub type_of : Message → MessageType
 type_of (message.Start _) = type.Start
 type_of (message.Suspension _) = type.Suspension
@@ -45,6 +46,7 @@ type_of (message.GetInvocationOutput _) = type.GetInvocationOutputCommand
 type_of (message.Output _) = type.OutputCommand
 type_of (message.Notification _) = type.Notification
 
+-- the message's fields, one behind the other; an end has none
 abbrev pub body : Message → List ℕ
 body (message.Start m) = start m
 body (message.Suspension m) = suspension m
@@ -81,6 +83,7 @@ body (message.Notification m) = notification m
 abbrev pub frame : MessageType → List ℕ → List ℕ
 frame ty b = u16s (type_number ty) ++ bytes b
 
+-- the message as a frame: its type's number (2 bytes), its body's length (8 bytes), its body
 abbrev pub encoding : Message → List ℕ
 encoding m = frame (type_of m) (body m)
 
@@ -129,6 +132,7 @@ pub record DecodesToError (ty : MessageType) (b : List ℕ) (e : errors.Error) :
   pub error : e ≡ fault_error why
   pub none : DecodesTo ty b (Err why)
 
+-- a body of a type is read as a message, or the error says why it isn't
 abbrev pub Decodes : MessageType → List ℕ → Result Message errors.Error → Type 0
 Decodes ty b (Ok m) = DecodesTo ty b (Ok m)
 Decodes ty b (Err e) = DecodesToError ty b e

@@ -11,6 +11,7 @@ use Rattle.journal_protocol.specs.Stream.{IsPart}
 abbrev pub IsWhole : Message → Type 0
 IsWhole m = IsValid m × (length (body m) < 2 ^ 64)
 
+-- the stream is the frames of these messages, each whole, and behind them a rest that is no whole frame
 pub record Splits (stream : List ℕ) (messages : List Message) (rest : List ℕ) : Type 0 where
   pub whole : stream ≡ flat_map encoding messages ++ rest
   pub each : AllByRecursion IsWhole messages

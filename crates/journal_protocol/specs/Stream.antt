@@ -22,12 +22,15 @@ pub record IsPart (bs : List ℕ) : Type 0 where
 
 -- ---- what the decoder answers: the first frame as it is spelled, and as a function
 
+-- A frame was taken from the front of old, new is left; or nothing was, since only a part is there, or by want of memory, or
+-- since the number at the front is no type's.
 abbrev pub Next : List ℕ → Result (Option RawMessage) Fault → List ℕ → Type 0
 Next old (Ok (Some raw)) new = (length raw.body < 2 ^ 64) × (old ≡ frame raw.ty raw.body ++ new)
 Next old (Ok None) new = (new ≡ old) × IsPart old
 Next old (Err fault.Memory) new = new ≡ old
 Next old (Err fault.Malformed) new = (new ≡ old) × IsMalformed old
 
+-- the same, by the function that gives the first frame of some bytes
 abbrev pub NextIs : List ℕ → Result (Option RawMessage) Fault → List ℕ → Type 0
 NextIs old (Ok (Some raw)) new = next_of old ≡ Whole raw new
 NextIs old (Ok None) new = (next_of old ≡ Partial) × (new ≡ old)
@@ -40,6 +43,7 @@ pub record NextIsError (old : List ℕ) (e : Error) (new : List ℕ) : Type 0 wh
   pub error : e ≡ fault_error why
   pub unchanged : NextIs old (Err why) new
 
+-- as NextIs, but a fault is the error that it is for the one who sent the bytes
 abbrev pub Gives : List ℕ → Result (Option RawMessage) Error → List ℕ → Type 0
 Gives old (Ok raw) new = NextIs old (Ok raw) new
 Gives old (Err e) new = NextIsError old e new

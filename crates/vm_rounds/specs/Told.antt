@@ -83,6 +83,7 @@ pub record Journal (fed : List Fed) : Type 0 where
   pub input : InputCommand
   pub reads_input : input_read_from first ≡ Some input
 
+-- all notifications that came, in order: those among the known entries and those behind them
 abbrev pub arrivals : {fed : List Fed} → Journal fed → List Notification
 arrivals j = notifications_among (j.entries ++ j.others)
 

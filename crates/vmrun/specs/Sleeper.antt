@@ -21,6 +21,7 @@ handle_of (Some (answer.Taken value)) = record { 0 = 0 }
 handle_of (Some (answer.Completed is)) = record { 0 = 0 }
 handle_of None = record { 0 = 0 }
 
+-- the answer says that the invocation was cancelled
 abbrev pub is_cancelled : Option Answer → Bool
 is_cancelled (Some answer.Cancelled) = true
 is_cancelled (Some (answer.Handle handle)) = false
