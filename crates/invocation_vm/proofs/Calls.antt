@@ -6,8 +6,9 @@ use Rattle.journal_protocol.specs.Errors.{no_memory}
 use Rattle.vm_machine.specs.declared.fault.Fault.{Fault}
 use Rattle.vm_machine.specs.declared.fault.Fault.TheVariants as fault
 use Rattle.vm_machine.specs.declared.machine.Machine.{Machine}
-use Rattle.vm_machine.specs.declared.request.Request.{Request}
-use Rattle.vm_machine.specs.Commands.{CanBeRead}
+use Rattle.journal_protocol.specs.declared.message.Message.{Message}
+use Rattle.vm_machine.specs.Commands.{CanBeRead, unit_of}
+use Rattle.invocation_vm.specs.Calls.{unanswered}
 use Rattle.vm_machine.specs.Outcomes.{Outcome, Done, Failed, Gives, Does, Lives, Settles, settled, called, called_at, IsStarved, starved, ruled, failed, flat, flattened}
 
 -- the case of want of memory
@@ -57,8 +58,35 @@ pub flattens_call : {A : Type 0} (o : Outcome (Result A Error)) (r : Result (Res
 flattens_call {A = A} o r s old new d e = subst (λ (x : Result A Error). Does (flat (called o old)) x old new) (sym e) (flattens (called o old) r old new d)
 
 -- where a call is answered, its event was
-pub settles_sent : {A : Type 0} (q : Request) (v : Machine) (given : Result A Fault) (r : Result A Error) (mid new : Machine) → Settles given r mid new → OnOk given (CanBeRead q v) → OnOk r (CanBeRead q v)
-settles_sent q v (Ok a) r mid new s h = rw s.0 h
-settles_sent q v (Err fault.Memory) r mid new s h = rw s.0 tt
-settles_sent q v (Err (fault.Refused e)) r mid new s h =
-    elim s as (λ _. OnOk r (CanBeRead q v)) [ inl x ↦ rw x.0 tt | inr x ↦ rw x.0 tt ]
+pub settles_sent : {A : Type 0} (m : Message) (v : Machine) (given : Result A Fault) (r : Result A Error) (mid new : Machine) → Settles given r mid new → OnOk given (CanBeRead m v) → OnOk r (CanBeRead m v)
+settles_sent m v (Ok a) r mid new s h = rw s.0 h
+settles_sent m v (Err fault.Memory) r mid new s h = rw s.0 tt
+settles_sent m v (Err (fault.Refused e)) r mid new s h =
+    elim s as (λ _. OnOk r (CanBeRead m v)) [ inl x ↦ rw x.0 tt | inr x ↦ rw x.0 tt ]
+
+-- ---- a call that answers nothing
+
+unit_at : {A : Type 0} (f : Option Error) (o : Outcome A) (r : Result A Error) (old new : Machine) → Does (called_at f o old) r old new → Does (called_at f (unit_of o) old) (unanswered r) old new
+unit_at None (Done a w) (Ok b) old new h = cc
+unit_at {A = A} None (Done a w) (Err e) old new h = elim h as (λ _. Does (Done (tt {0}) w) (Err e) old new) [ inl x ↦ absurd (no_failure x) | inr x ↦ inr x ]
+  where
+    no_failure : Done a w ≡ Failed e new → ⊥
+    no_failure x = cc
+unit_at None (Failed d w) (Ok b) old new h = absurd (no_done h)
+  where
+    no_done : Failed (ruled w d) (failed (ruled w d) w) ≡ Done b new → ⊥
+    no_done x = cc
+unit_at {A = A} None (Failed d w) (Err e) old new h = elim h as (λ _. Does {A = Unit} (Failed (ruled w d) (failed (ruled w d) w)) (Err e) old new) [ inl x ↦ inl cc | inr x ↦ inr x ]
+unit_at (Some d) o (Ok b) old new h = absurd (no_done h)
+  where
+    no_done : Failed d old ≡ Done b new → ⊥
+    no_done x = cc
+unit_at (Some d) o (Err e) old new h = elim h as (λ _. Does {A = Unit} (Failed d old) (Err e) old new) [ inl x ↦ inl cc | inr x ↦ inr x ]
+
+pub unit_called : {A : Type 0} (o : Outcome A) (r : Result A Error) (old new : Machine) → Does (called o old) r old new → Does (called (unit_of o) old) (unanswered r) old new
+unfolding called
+unit_called o r old new h = unit_at old.failure o r old new h
+
+pub unit_sent : {A : Type 0} (m : Message) (v : Machine) (r : Result A Error) → OnOk r (CanBeRead m v) → OnOk (unanswered r) (CanBeRead m v)
+unit_sent m v (Ok a) h = h
+unit_sent m v (Err e) h = tt

@@ -26,17 +26,16 @@ use Rattle.vm_parts.specs.declared.values.NonEmptyValue.{NonEmptyValue}
 use Rattle.vm_parts.specs.declared.values.Value.{Value}
 use Rattle.vm_parts.specs.Values.{value_message}
 use Rattle.vm_machine.specs.declared.machine.Machine.{Machine}
-use Rattle.vm_machine.specs.declared.request.Request.{Request}
-use Rattle.vm_machine.specs.declared.request.Request.TheVariants as request
-use Rattle.vm_machine.specs.Commands.{issued, unit_of}
+use Rattle.vm_machine.specs.declared.asks.Command.{Command}
+use Rattle.vm_machine.specs.Commands.{commanded, unit_of}
 use Rattle.vm_machine.specs.Endings.{EndsIf, EndsOnce, EventWrites, Writes, is_over, is_terminal}
 use Rattle.vm_machine.specs.Awaits.{take_step}
 use Rattle.vm_machine.specs.Inputs.{close_step, end_step, input_step, malformed_step, message_step}
 use Rattle.vm_machine.specs.Signals.{awakeable_step}
 use Rattle.vm_machine.specs.Outcomes.{Does, IsStarved, Outcome, Done, Failed, called, flat, refused}
 use Rattle.vm_machine.specs.Reports.{report_step}
-use Rattle.vm_machine.proofs.Endings.{Event, answered, await_writes, awakeable_writes, called_writes, close_writes, end_writes, input_writes, issued_event, malformed_writes, message_writes, nothing_behind, report_writes, same, take_writes, writes_nothing}
-use Rattle.invocation_vm.specs.Calls.{cancel_invocation_step, complete_awakeable_step, complete_signal_step, future_step, handing, needs_v6, new_awakeable_step, output_step, skips_replay, sleep_step, state_clear_all_step, state_clear_step, state_set_step}
+use Rattle.vm_machine.proofs.Endings.{Event, answered, await_writes, awakeable_writes, called_writes, close_writes, end_writes, input_writes, commanded_event, malformed_writes, message_writes, nothing_behind, report_writes, same, take_writes, writes_nothing}
+use Rattle.invocation_vm.specs.Calls.{CallsCommand, CallsUnit, future_step, new_awakeable_step, skips_replay}
 use Rattle.invocation_vm.specs.Endings.{EndsOnceAfter, StaysSo}
 use Rattle.invocation_vm.specs.Frames.{Tail, Rest, Garbage, frames_of}
 use Rattle.invocation_vm.specs.Making.{made}
@@ -128,37 +127,12 @@ leaves_stay after (Err e) old new w l = stays old new (starved_writes no_memory 
 
 -- ---- each call
 
-unit_event : (r : Request) (v : Machine) → v.failure ≡ None → Event v (unit_of (issued r v))
-unit_event r v live = answered v (issued r v) tt (issued_event r v live)
+pub command_stays : (c : Command) (r : Result NotificationHandle Error) (old new : View) → is_terminal c.message ≡ false → CallsCommand c r old new → StaysSo old new
+command_stays c r old new goes h = calls_stay (commanded c) r old new (called_writes old.machine (commanded c old.machine) (commanded_event c old.machine goes)) h.0
 
-unit_stays : (r : Request) (result : Result Unit Error) (old new : View) → Calls (λ v. unit_of (issued r v)) result old new → StaysSo old new
-unit_stays r result old new c = calls_stay (λ v. unit_of (issued r v)) result old new (called_writes old.machine (unit_of (issued r old.machine)) (unit_event r old.machine)) c
-
-handing_at : (b : Bool) (done : Outcome Unit) (v : Machine) → Event v done → Event v (if b then refused fault.UnsupportedFeatureForNegotiatedVersion v else done)
-handing_at true done v e = same v
-handing_at false done v e = e
-
-handing_stays : (value : NonEmptyValue) (r : Request) (result : Result Unit Error) (old new : View) → Calls (λ v. handing value (unit_of (issued r v)) v) result old new → StaysSo old new
-handing_stays value r result old new c =
-    calls_stay (λ v. handing value (unit_of (issued r v)) v) result old new
-    (called_writes old.machine (handing value (unit_of (issued r old.machine)) old.machine) (λ live. handing_at (needs_v6 old.machine value) (unit_of (issued r old.machine)) old.machine (unit_event r old.machine live))) c
-
-sleep_at : (b : Bool) (millis : ℕ) (name : List ℕ) (v : Machine) → v.failure ≡ None → Event v (if b then issued (request.Sleep millis name) v else refused fault.OutOfBoundsDuration v)
-sleep_at true millis name v live = issued_event (request.Sleep millis name) v live
-sleep_at false millis name v live = same v
-
-pub sleep_stays : (millis : ℕ) (name : List ℕ) (r : Result NotificationHandle Error) (old new : View) → Calls (sleep_step millis name) r old new → StaysSo old new
-sleep_stays millis name r old new c =
-    calls_stay (sleep_step millis name) r old new (called_writes old.machine (sleep_step millis name old.machine) (sleep_at (nat_lt millis 18446744073709551616) millis name old.machine)) c
-
-pub set_stays : (key value name : List ℕ) (options : PayloadOptions) (r : Result Unit Error) (old new : View) → Calls (state_set_step key value name options) r old new → StaysSo old new
-set_stays key value name options r old new c = unit_stays (request.SetState key value name options) r old new c
-
-pub clear_stays : (key name : List ℕ) (r : Result Unit Error) (old new : View) → Calls (state_clear_step key name) r old new → StaysSo old new
-clear_stays key name r old new c = unit_stays (request.ClearState key name) r old new c
-
-pub clear_all_stays : (name : List ℕ) (r : Result Unit Error) (old new : View) → Calls (state_clear_all_step name) r old new → StaysSo old new
-clear_all_stays name r old new c = unit_stays (request.ClearAllState name) r old new c
+pub unit_stays : (c : Command) (r : Result Unit Error) (old new : View) → is_terminal c.message ≡ false → CallsUnit c r old new → StaysSo old new
+unit_stays c r old new goes h =
+    calls_stay (λ v. unit_of (commanded c v)) r old new (called_writes old.machine (unit_of (commanded c old.machine)) (λ live. answered old.machine (commanded c old.machine) tt (commanded_event c old.machine goes live))) h.0
 
 new_awakeable_writes : (b : Bool) (v : Machine) → EventWrites v (called (if b then refused fault.UnsupportedFeature v else awakeable_step v) v)
 new_awakeable_writes true v = called_writes v (refused {A = AwakeableHandle} fault.UnsupportedFeature v) (λ live. same v)
@@ -166,18 +140,6 @@ new_awakeable_writes false v = awakeable_writes v
 
 pub awakeable_stays : (r : Result AwakeableHandle Error) (old new : View) → Calls new_awakeable_step r old new → StaysSo old new
 awakeable_stays r old new c = calls_stay new_awakeable_step r old new (new_awakeable_writes (skips_replay old.machine.options.journal_replay) old.machine) c
-
-pub complete_awakeable_stays : (id : List ℕ) (value : NonEmptyValue) (options : PayloadOptions) (r : Result Unit Error) (old new : View) → Calls (complete_awakeable_step id value options) r old new → StaysSo old new
-complete_awakeable_stays id value options r old new c = handing_stays value (request.CompleteAwakeable id (value_message value) options) r old new c
-
-pub complete_signal_stays : (target signal : List ℕ) (value : NonEmptyValue) (r : Result Unit Error) (old new : View) → Calls (complete_signal_step target signal value) r old new → StaysSo old new
-complete_signal_stays target signal value r old new c = handing_stays value (request.CompleteSignal target signal (value_message value)) r old new c
-
-pub cancel_stays : (target : List ℕ) (r : Result Unit Error) (old new : View) → Calls (cancel_invocation_step target) r old new → StaysSo old new
-cancel_stays target r old new c = unit_stays (request.CancelInvocation target) r old new c
-
-pub output_stays : (value : NonEmptyValue) (options : PayloadOptions) (r : Result Unit Error) (old new : View) → Calls (output_step value options) r old new → StaysSo old new
-output_stays value options r old new c = handing_stays value (request.Output (value_message value) options) r old new c
 
 pub input_stays : (r : Result Input Error) (old new : View) → Calls input_step r old new → StaysSo old new
 input_stays r old new c = calls_stay input_step r old new (input_writes old.machine) c

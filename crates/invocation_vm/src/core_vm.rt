@@ -1,15 +1,13 @@
 //! `CoreVM`: the VM over a decoder and a machine.
 ghost use Rattle.std.specs.Prelude.{◌≡◌, [], length, min, IfOk};
 ghost use Rattle.std.specs.List.{concat};
+ghost use Rattle.vm_machine.specs.Asks.{ask_of};
 ghost use Rattle.vm_machine.specs.Outcomes.{Lives};
-ghost use Rattle.invocation_vm.specs.Calls.{future_step};
+ghost use Rattle.invocation_vm.specs.Calls.{CallsCommand, CallsUnit, future_step};
 ghost use Rattle.invocation_vm.specs.Seen.{seen};
 ghost use Rattle.invocation_vm.specs.Views.{Calls};
 
-use crate::commands::{
-    cancel_invocation, clear_all_state, clear_state, complete_awakeable, complete_signal,
-    make_awakeable, set_state, sleep, write_output,
-};
+use crate::commands::{make_awakeable, name_text, unanswered};
 use crate::output::{joined, len_of};
 use crate::versions::{response_head, version_in};
 use crate::vm::VM;
@@ -18,12 +16,13 @@ use journal_protocol::{Decoder, Error, HeaderMap, NamedFault, Version};
 use std::alloc::{AllocError, Global};
 use std::fmt;
 use std::time::Duration;
-use vm_machine::Machine;
 use vm_machine::settle::flatten;
+use vm_machine::{Ask, Command, Machine, asks};
 use vm_parts::{
     AwaitResponse, AwakeableHandle, CommandRelationship, Input, NonEmptyValue, NotificationHandle,
-    PayloadOptions, ResponseHead, State, UnresolvedFuture, VMOptions, VMResult, Value,
+    PayloadOptions, ResponseHead, State, Step, UnresolvedFuture, VMOptions, VMResult, Value,
 };
+use wire::Text;
 
 /// The invocation VM.
 #[derive(Drop)]
@@ -43,7 +42,7 @@ impl fmt::Debug for CoreVM {
     }
 }
 
-#[tactic(auto, using(crate::proofs::Calls::does_called, crate::proofs::Calls::does_failed))]
+#[tactic(auto, using(crate::proofs::Calls::does_called, crate::proofs::Calls::does_failed, crate::proofs::Calls::settles_sent, crate::proofs::Calls::unit_called, crate::proofs::Calls::unit_sent))]
 impl CoreVM {
     /// The version of the journal protocol that the VM was made for.
     pub fn version(&self) -> Version
@@ -57,6 +56,37 @@ impl CoreVM {
         ensures { Lives (seen self.now).machine.failure result }
     {
         self.machine.live()
+    }
+
+    fn call(&mut self, command: &mut Command) -> VMResult<NotificationHandle>
+        ensures { CallsCommand command.old result (seen self.old) (seen self.new) }
+    {
+        if let Err(error) = self.machine.live() {
+            return Err(error);
+        }
+        let given = self.machine.command(command);
+        self.machine.settle(given)
+    }
+
+    /// What a step asks for.
+    pub fn ask_of(&self, step: Step) -> Ask
+        ensures { result ≡ ask_of (seen self.now).machine.version step }
+    {
+        asks::ask_of(self.machine.alloc, self.machine.version, step)
+    }
+
+    /// A call that has a command.
+    pub fn command(&mut self, mut command: Command) -> VMResult<NotificationHandle>
+        ensures { CallsCommand command result (seen self.old) (seen self.new) }
+    {
+        self.call(&mut command)
+    }
+
+    /// A call that has a command and answers nothing.
+    fn unit(&mut self, command: Command) -> VMResult<()>
+        ensures { CallsUnit command result (seen self.old) (seen self.new) }
+    {
+        unanswered(self.command(command))
     }
 
     /// As `do_await`, where an error by which the VM doesn't fail is an answer.
@@ -93,7 +123,7 @@ impl CoreVM {
     }
 }
 
-#[tactic(auto, using(crate::proofs::Calls::flattens_call, crate::proofs::Calls::does_called, crate::proofs::Calls::does_failed, crate::proofs::Feeds::leaves_called, crate::proofs::Feeds::stays_called, crate::proofs::Calls::settles_sent))]
+#[tactic(auto, using(crate::proofs::Calls::flattens_call, crate::proofs::Calls::does_called, crate::proofs::Calls::does_failed, crate::proofs::Feeds::leaves_called, crate::proofs::Feeds::stays_called))]
 impl VM for CoreVM {
     ghost view = { λ s. record { undecoded = s.decoder; machine = s.machine } };
 
@@ -192,11 +222,7 @@ impl VM for CoreVM {
         wake_up_time_since_unix_epoch: Duration,
         now_since_unix_epoch: Option<Duration>,
     ) -> VMResult<NotificationHandle> {
-        if let Err(error) = self.machine.live() {
-            return Err(error);
-        }
-        let given = sleep(&mut self.machine, name, wake_up_time_since_unix_epoch);
-        self.machine.settle(given)
+        self.command(asks::sleep(Text::from_string(name), wake_up_time_since_unix_epoch))
     }
 
     fn sys_state_set(
@@ -206,27 +232,18 @@ impl VM for CoreVM {
         name: Option<String>,
         options: PayloadOptions,
     ) -> VMResult<()> {
-        if let Err(error) = self.machine.live() {
-            return Err(error);
-        }
-        let given = set_state(&mut self.machine, key, value, name, options);
-        self.machine.settle(given)
+        let name = name_text(self.machine.alloc, name);
+        self.unit(asks::set_state(Text::from_string(key), value, name, options))
     }
 
     fn sys_state_clear(&mut self, key: String, name: Option<String>) -> VMResult<()> {
-        if let Err(error) = self.machine.live() {
-            return Err(error);
-        }
-        let given = clear_state(&mut self.machine, key, name);
-        self.machine.settle(given)
+        let name = name_text(self.machine.alloc, name);
+        self.unit(asks::clear_state(Text::from_string(key), name))
     }
 
     fn sys_state_clear_all(&mut self, name: Option<String>) -> VMResult<()> {
-        if let Err(error) = self.machine.live() {
-            return Err(error);
-        }
-        let given = clear_all_state(&mut self.machine, name);
-        self.machine.settle(given)
+        let name = name_text(self.machine.alloc, name);
+        self.unit(asks::clear_all_state(name))
     }
 
     fn sys_awakeable(&mut self) -> VMResult<AwakeableHandle> {
@@ -243,11 +260,8 @@ impl VM for CoreVM {
         value: NonEmptyValue,
         options: PayloadOptions,
     ) -> VMResult<()> {
-        if let Err(error) = self.machine.live() {
-            return Err(error);
-        }
-        let given = complete_awakeable(&mut self.machine, id, value, options);
-        self.machine.settle(given)
+        let version = self.machine.version;
+        self.unit(asks::complete_awakeable(Text::from_string(id), value, options, version))
     }
 
     fn sys_complete_signal(
@@ -256,27 +270,18 @@ impl VM for CoreVM {
         signal_name: String,
         value: NonEmptyValue,
     ) -> VMResult<()> {
-        if let Err(error) = self.machine.live() {
-            return Err(error);
-        }
-        let given = complete_signal(&mut self.machine, target_invocation_id, signal_name, value);
-        self.machine.settle(given)
+        let target = Text::from_string(target_invocation_id);
+        let signal = Text::from_string(signal_name);
+        self.unit(asks::complete_signal(target, signal, value, self.machine.version))
     }
 
     fn sys_cancel_invocation(&mut self, target_invocation_id: String) -> VMResult<()> {
-        if let Err(error) = self.machine.live() {
-            return Err(error);
-        }
-        let given = cancel_invocation(&mut self.machine, target_invocation_id);
-        self.machine.settle(given)
+        self.unit(asks::cancel_invocation(Text::from_string(target_invocation_id)))
     }
 
     fn sys_write_output(&mut self, value: NonEmptyValue, options: PayloadOptions) -> VMResult<()> {
-        if let Err(error) = self.machine.live() {
-            return Err(error);
-        }
-        let given = write_output(&mut self.machine, value, options);
-        self.machine.settle(given)
+        let version = self.machine.version;
+        self.unit(asks::output(value, options, version))
     }
 
     fn sys_end(&mut self) -> VMResult<()> {

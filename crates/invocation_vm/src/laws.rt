@@ -1,24 +1,25 @@
 //! Laws of a VM over any list of its calls.
-ghost use Rattle.std.specs.Prelude.{◌≡◌, ◌<◌, ◌^◌, ℕ, List, [], ◌++◌, Option, Some, Result, Ok, Err};
+ghost use Rattle.std.specs.Prelude.{◌≡◌, ◌<◌, ◌^◌, ℕ, false, List, [], ◌++◌, Option, Some, Result, Ok, Err};
 ghost use Rattle.std.proofs.Common.{Global};
 ghost use Rattle.std.specs.declared.alloc.AllocError.{AllocError};
 ghost use Rattle.journal_protocol.specs.declared.error.Error.{Error};
 ghost use Rattle.journal_protocol.specs.declared.version.Version.{Version};
 ghost use Rattle.vm_parts.specs.declared.command_type.CommandRelationship.{CommandRelationship};
-ghost use Rattle.vm_parts.specs.declared.options.PayloadOptions.{PayloadOptions};
 ghost use Rattle.vm_parts.specs.declared.options.VMOptions.{VMOptions};
 ghost use Rattle.vm_parts.specs.declared.types.AwaitResponse.{AwaitResponse};
 ghost use Rattle.vm_parts.specs.declared.types.AwakeableHandle.{AwakeableHandle};
 ghost use Rattle.vm_parts.specs.declared.types.NotificationHandle.{NotificationHandle};
 ghost use Rattle.vm_parts.specs.declared.types.UnresolvedFuture.{UnresolvedFuture};
 ghost use Rattle.vm_parts.specs.declared.values.Input.{Input};
-ghost use Rattle.vm_parts.specs.declared.values.NonEmptyValue.{NonEmptyValue};
 ghost use Rattle.vm_parts.specs.declared.values.Value.{Value};
 ghost use Rattle.vm_machine.specs.declared.machine.Machine.{Machine};
+ghost use Rattle.vm_machine.specs.declared.asks.Command.{Command};
+ghost use Rattle.vm_machine.specs.Asks.{sleep_command};
 ghost use Rattle.vm_machine.specs.Awaits.{take_step};
+ghost use Rattle.vm_machine.specs.Endings.{is_terminal};
 ghost use Rattle.vm_machine.specs.Inputs.{end_step, input_step};
 ghost use Rattle.vm_machine.specs.Outcomes.{IsStarved, Outcome};
-ghost use Rattle.invocation_vm.specs.Calls.{cancel_invocation_step, complete_awakeable_step, complete_signal_step, future_step, new_awakeable_step, output_step, sleep_step, state_clear_all_step, state_clear_step, state_set_step};
+ghost use Rattle.invocation_vm.specs.Calls.{CallsCommand, CallsUnit, future_step, new_awakeable_step};
 ghost use Rattle.invocation_vm.specs.Endings.{EndsOnceAfter, StaysSo};
 ghost use Rattle.invocation_vm.specs.Making.{made};
 ghost use Rattle.invocation_vm.specs.Sleeps.{MaySleep, sleeping};
@@ -36,23 +37,17 @@ pub fn all_output_ends_once()
     ensures awaits { (future : UnresolvedFuture) (r : Result AwaitResponse Error) (old new : View) → CallsFlat (future_step future) r old new → StaysSo old new }
     ensures takes { (handle : ℕ) (r : Result (Option Value) Error) (old new : View) → Calls (take_step handle) r old new → StaysSo old new }
     ensures inputs { (r : Result Input Error) (old new : View) → Calls input_step r old new → StaysSo old new }
-    ensures sleeps { (millis : ℕ) (name : List ℕ) (r : Result NotificationHandle Error) (old new : View) → Calls (sleep_step millis name) r old new → StaysSo old new }
-    ensures sets { (key value name : List ℕ) (options : PayloadOptions) (r : Result Unit Error) (old new : View) → Calls (state_set_step key value name options) r old new → StaysSo old new }
-    ensures clears { (key name : List ℕ) (r : Result Unit Error) (old new : View) → Calls (state_clear_step key name) r old new → StaysSo old new }
-    ensures all_clears { (name : List ℕ) (r : Result Unit Error) (old new : View) → Calls (state_clear_all_step name) r old new → StaysSo old new }
+    ensures commands { (c : Command) (r : Result NotificationHandle Error) (old new : View) → is_terminal c.message ≡ false → CallsCommand c r old new → StaysSo old new }
+    ensures unanswered { (c : Command) (r : Result Unit Error) (old new : View) → is_terminal c.message ≡ false → CallsUnit c r old new → StaysSo old new }
     ensures awakeables { (r : Result AwakeableHandle Error) (old new : View) → Calls new_awakeable_step r old new → StaysSo old new }
-    ensures completed_awakeables { (id : List ℕ) (value : NonEmptyValue) (options : PayloadOptions) (r : Result Unit Error) (old new : View) → Calls (complete_awakeable_step id value options) r old new → StaysSo old new }
-    ensures completed_signals { (target signal : List ℕ) (value : NonEmptyValue) (r : Result Unit Error) (old new : View) → Calls (complete_signal_step target signal value) r old new → StaysSo old new }
-    ensures cancels { (target : List ℕ) (r : Result Unit Error) (old new : View) → Calls (cancel_invocation_step target) r old new → StaysSo old new }
-    ensures outputs { (value : NonEmptyValue) (options : PayloadOptions) (r : Result Unit Error) (old new : View) → Calls (output_step value options) r old new → StaysSo old new }
     ensures ends { (r : Result Unit Error) (old new : View) → Calls end_step r old new → StaysSo old new }
 {}
 
 /// A sleep in Processing answers the next handle and writes just one frame, that of a Sleep with the next completion
 /// id; it fails only where it finds no memory.
 pub fn sleep_is_written()
-    ensures slept { (millis : ℕ) (name : List ℕ) (handle : NotificationHandle) (old new : View) → MaySleep old.machine → millis < 2 ^ 64 → Calls (sleep_step millis name) (Ok handle) old new → (handle.0 ≡ old.machine.counters.handle) × (new ≡ record old { machine = sleeping millis name old.machine }) }
-    ensures starved { (millis : ℕ) (name : List ℕ) (e : Error) (old new : View) → MaySleep old.machine → millis < 2 ^ 64 → Calls (sleep_step millis name) (Err e) old new → IsStarved e old.machine new.machine }
+    ensures slept { (millis : ℕ) (name : List ℕ) (handle : NotificationHandle) (old new : View) → MaySleep old.machine → millis < 2 ^ 64 → CallsCommand (sleep_command millis name) (Ok handle) old new → (handle.0 ≡ old.machine.counters.handle) × (new ≡ record old { machine = sleeping millis name old.machine }) }
+    ensures starved { (millis : ℕ) (name : List ℕ) (e : Error) (old new : View) → MaySleep old.machine → millis < 2 ^ 64 → CallsCommand (sleep_command millis name) (Err e) old new → IsStarved e old.machine new.machine }
 {}
 
 /// A failed VM answers its first error to each call of a `VMResult` and stays as it is.

@@ -1,12 +1,10 @@
 //! The calls of a VM, each with what it does to the view of it.
-ghost use Rattle.std.specs.Prelude.{◌≡◌, ◌/◌, IfOk, OnOk, string_bytes, codes};
+ghost use Rattle.std.specs.Prelude.{◌≡◌, ◌/◌, IfOk, string_bytes, codes};
 ghost use Rattle.std.specs.Duration.{as_nanos};
-ghost use Rattle.vm_parts.specs.Values.{value_message};
-ghost use Rattle.vm_machine.specs.declared.request.Request.TheVariants as request;
+ghost use Rattle.vm_machine.specs.Asks.{cancel_invocation_command, clear_all_state_command, clear_state_command, complete_awakeable_command, complete_signal_command, output_command, set_state_command, sleep_command};
 ghost use Rattle.vm_machine.specs.Awaits.{IsReadyAt, is_completed, last_index, state_of, take_step};
-ghost use Rattle.vm_machine.specs.Commands.{CanBeRead};
 ghost use Rattle.vm_machine.specs.Inputs.{end_step, input_step};
-ghost use Rattle.invocation_vm.specs.Calls.{cancel_invocation_step, complete_awakeable_step, complete_signal_step, future_step, name_or_empty, new_awakeable_step, output_step, sleep_step, state_clear_all_step, state_clear_step, state_set_step};
+ghost use Rattle.invocation_vm.specs.Calls.{CallsCommand, CallsUnit, future_step, name_or_empty, new_awakeable_step};
 ghost use Rattle.invocation_vm.specs.Making.{Makes, response_head, version_in};
 ghost use Rattle.invocation_vm.specs.Views.{View, Calls, CallsFlat, Leaves, TakesOutput, after_closing, after_error, after_input};
 
@@ -86,8 +84,7 @@ pub trait VM: Sized {
         wake_up_time_since_unix_epoch: Duration,
         now_since_unix_epoch: Option<Duration>,
     ) -> VMResult<NotificationHandle>
-        ensures does { Calls (sleep_step (as_nanos wake_up_time_since_unix_epoch / 1_000_000) (string_bytes name)) result (view self.old) (view self.new) }
-        ensures sent { OnOk result (CanBeRead (request.Sleep (as_nanos wake_up_time_since_unix_epoch / 1_000_000) (string_bytes name)) (view self.old).machine) };
+        ensures { CallsCommand (sleep_command (as_nanos wake_up_time_since_unix_epoch / 1_000_000) (string_bytes name)) result (view self.old) (view self.new) };
 
     /// Gives a state key a value.
     fn sys_state_set(
@@ -97,18 +94,15 @@ pub trait VM: Sized {
         name: Option<String>,
         options: PayloadOptions,
     ) -> VMResult<()>
-        ensures does { Calls (state_set_step (string_bytes key) value (name_or_empty name) options) result (view self.old) (view self.new) }
-        ensures sent { OnOk result (CanBeRead (request.SetState (string_bytes key) value (name_or_empty name) options) (view self.old).machine) };
+        ensures { CallsUnit (set_state_command (string_bytes key) value (name_or_empty name) options) result (view self.old) (view self.new) };
 
     /// Takes a state key's value away.
     fn sys_state_clear(&mut self, key: String, name: Option<String>) -> VMResult<()>
-        ensures does { Calls (state_clear_step (string_bytes key) (name_or_empty name)) result (view self.old) (view self.new) }
-        ensures sent { OnOk result (CanBeRead (request.ClearState (string_bytes key) (name_or_empty name)) (view self.old).machine) };
+        ensures { CallsUnit (clear_state_command (string_bytes key) (name_or_empty name)) result (view self.old) (view self.new) };
 
     /// Takes each state key's value away.
     fn sys_state_clear_all(&mut self, name: Option<String>) -> VMResult<()>
-        ensures does { Calls (state_clear_all_step (name_or_empty name)) result (view self.old) (view self.new) }
-        ensures sent { OnOk result (CanBeRead (request.ClearAllState (name_or_empty name)) (view self.old).machine) };
+        ensures { CallsUnit (clear_all_state_command (name_or_empty name)) result (view self.old) (view self.new) };
 
     /// Makes an awakeable: an id for others to complete it by, and a handle to await it by. It has no command, and is
     /// refused where the options disable replay.
@@ -122,8 +116,7 @@ pub trait VM: Sized {
         value: NonEmptyValue,
         options: PayloadOptions,
     ) -> VMResult<()>
-        ensures does { Calls (complete_awakeable_step (string_bytes id) value options) result (view self.old) (view self.new) }
-        ensures sent { OnOk result (CanBeRead (request.CompleteAwakeable (string_bytes id) (value_message value) options) (view self.old).machine) };
+        ensures { CallsUnit (complete_awakeable_command (string_bytes id) value options (view self.old).machine.version) result (view self.old) (view self.new) };
 
     /// Sends a named signal to another invocation. A failure with metadata needs V6.
     fn sys_complete_signal(
@@ -132,18 +125,15 @@ pub trait VM: Sized {
         signal_name: String,
         value: NonEmptyValue,
     ) -> VMResult<()>
-        ensures does { Calls (complete_signal_step (string_bytes target_invocation_id) (string_bytes signal_name) value) result (view self.old) (view self.new) }
-        ensures sent { OnOk result (CanBeRead (request.CompleteSignal (string_bytes target_invocation_id) (string_bytes signal_name) (value_message value)) (view self.old).machine) };
+        ensures { CallsUnit (complete_signal_command (string_bytes target_invocation_id) (string_bytes signal_name) value (view self.old).machine.version) result (view self.old) (view self.new) };
 
     /// Sends the built-in cancel signal to another invocation.
     fn sys_cancel_invocation(&mut self, target_invocation_id: String) -> VMResult<()>
-        ensures does { Calls (cancel_invocation_step (string_bytes target_invocation_id)) result (view self.old) (view self.new) }
-        ensures sent { OnOk result (CanBeRead (request.CancelInvocation (string_bytes target_invocation_id)) (view self.old).machine) };
+        ensures { CallsUnit (cancel_invocation_command (string_bytes target_invocation_id)) result (view self.old) (view self.new) };
 
     /// The handler's result. A failure with metadata needs V6.
     fn sys_write_output(&mut self, value: NonEmptyValue, options: PayloadOptions) -> VMResult<()>
-        ensures does { Calls (output_step value options) result (view self.old) (view self.new) }
-        ensures sent { OnOk result (CanBeRead (request.Output (value_message value) options) (view self.old).machine) };
+        ensures { CallsUnit (output_command value options (view self.old).machine.version) result (view self.old) (view self.new) };
 
     /// The handler ends; its last call.
     fn sys_end(&mut self) -> VMResult<()>

@@ -1,29 +1,24 @@
 -- What calls that are carried out leave of the state and of the counters, in replay as in Processing.
 use Rattle.std.proofs.Common.{◌≡◌, ℕ, ◌+◌, Bool, true, false, List, [], ◌∷◌, Option, Some, None, refl, sym, ap, subst, ◌∙◌, arith}
+use native.Mathlib.Nat.{add-zero}
 use Rattle.std.specs.Prelude.{if◌then◌else◌, ◌==◌}
 use Rattle.journal_protocol.specs.declared.error.Error.{Error}
 use Rattle.journal_protocol.specs.declared.faults.NamedFault.{NamedFault}
 use Rattle.journal_protocol.specs.declared.faults.NamedFault.TheVariants as fault
 use Rattle.journal_protocol.specs.declared.message.Message.{Message}
 use Rattle.journal_protocol.specs.declared.message.RawMessage.{RawMessage}
-use Rattle.journal_protocol.specs.declared.types.MessageType.{MessageType}
 use Rattle.journal_protocol.specs.HeaderEqual.{header_equal}
 use Rattle.journal_protocol.specs.Message.{type_of}
 use Rattle.journal_protocol.specs.Reading.{message_in}
 use Rattle.journal_protocol.specs.Types.{type_number}
-use Rattle.vm_parts.specs.declared.options.PayloadOptions.{PayloadOptions}
 use Rattle.vm_parts.specs.declared.types.AwakeableHandle.{AwakeableHandle}
 use Rattle.vm_parts.specs.declared.types.NotificationHandle.{NotificationHandle}
-use Rattle.vm_parts.specs.CommandTypes.{message_type}
 use Rattle.vm_parts.specs.Counting.{missing, missing_signals}
-use Rattle.vm_parts.specs.States.{state_set, state_cleared, all_cleared}
 use Rattle.vm_machine.specs.declared.machine.Machine.{Machine}
-use Rattle.vm_machine.specs.declared.request.Request.{Request}
-use Rattle.vm_machine.specs.declared.request.Request.TheVariants.{Sleep, Output, SetState, ClearState, ClearAllState, CompleteAwakeable, CompleteSignal, CancelInvocation}
 use Rattle.vm_machine.specs.Commands.{entered, written, ignores_payloads, phase_after, popped, popped_from, compared, replayed, carried_out, prepared, counted, issued}
 use Rattle.vm_machine.specs.Outcomes.{Outcome, Done, Failed, ◌>>=◌, about_last}
 use Rattle.vm_machine.specs.Phases.{is_running, is_processing}
-use Rattle.vm_machine.specs.Requests.{command_of, name_of, ids_of, message_of}
+use Rattle.vm_machine.specs.Requests.{changed, ids_of, name_of, shown_type, with_ids}
 use Rattle.vm_machine.specs.Signals.{awakeable_step, awakeable_counted}
 use Rattle.vm_machine.specs.Numbers.{Counted}
 
@@ -81,66 +76,39 @@ pub answered : (o : Outcome Unit) (given handle : NotificationHandle) (w : Machi
 answered (Done t u) given handle w h = (ap (λ x. Done tt x) (same_machine given handle u w h), same_answer given handle u w h)
 answered (Failed e u) given handle w h = absurd (no_answer e handle u w h)
 
--- what a call changes of the state and the counters, besides its command's index
-prepared_state : (r : Request) (ty : MessageType) (name : List ℕ) (v : Machine) → (prepared r (entered ty name v)).state ≡ (prepared r v).state
-prepared_state (Sleep wake_up_time x) ty name v = refl
-prepared_state (Output value options) ty name v = refl
-prepared_state (SetState key value x options) ty name v = refl
-prepared_state (ClearState key x) ty name v = refl
-prepared_state (ClearAllState x) ty name v = refl
-prepared_state (CompleteAwakeable id value options) ty name v = refl
-prepared_state (CompleteSignal target signal value) ty name v = refl
-prepared_state (CancelInvocation target) ty name v = refl
-
-prepared_counts : (r : Request) (ty : MessageType) (name : List ℕ) (v : Machine) → Counted (ids_of r) 0 (ids_of r) v.counters (prepared r (entered ty name v)).counters
-prepared_counts (Sleep wake_up_time x) ty name v = record { completions = refl; signals = omega arith; handles = refl }
-prepared_counts (Output value options) ty name v = record { completions = omega arith; signals = omega arith; handles = omega arith }
-prepared_counts (SetState key value x options) ty name v = record { completions = omega arith; signals = omega arith; handles = omega arith }
-prepared_counts (ClearState key x) ty name v = record { completions = omega arith; signals = omega arith; handles = omega arith }
-prepared_counts (ClearAllState x) ty name v = record { completions = omega arith; signals = omega arith; handles = omega arith }
-prepared_counts (CompleteAwakeable id value options) ty name v = record { completions = omega arith; signals = omega arith; handles = omega arith }
-prepared_counts (CompleteSignal target signal value) ty name v = record { completions = omega arith; signals = omega arith; handles = omega arith }
-prepared_counts (CancelInvocation target) ty name v = record { completions = omega arith; signals = omega arith; handles = omega arith }
-
 -- what a call leaves
-abbrev Leaves : Request → NotificationHandle → Machine → Machine → Type 0
-Leaves r handle v w = (w.state ≡ (prepared r v).state) × Counted (ids_of r) 0 (ids_of r) v.counters w.counters × (handle.0 ≡ v.counters.handle)
+abbrev pub Leaves : Message → NotificationHandle → Machine → Machine → Type 0
+Leaves m handle v w = (w.state ≡ changed (with_ids v.counters.completion m) v.state) × Counted (ids_of m) 0 (ids_of m) v.counters w.counters × (handle.0 ≡ v.counters.handle)
 
-counted_leaves : (o : Option NamedFault) (r : Request) (handle : NotificationHandle) (v w : Machine) → counted o r v ≡ Done handle w → Leaves r handle v w
-counted_leaves (Some name) r handle v w h = absurd (no_answer _ handle v w h)
-counted_leaves None r handle v w h =
-    let ty = message_type (command_of r) in
-    let a = answered (carried_out (message_of r v.counters.completion) (ignores_payloads v r) (prepared r (entered ty (name_of r) v))) (record { 0 = v.counters.handle }) handle w h in
-    let k = carried_keeps (message_of r v.counters.completion) (ignores_payloads v r) (prepared r (entered ty (name_of r) v)) w a.0 in (
-      k.0 ∙ prepared_state r ty (name_of r) v,
-      subst (λ c. Counted (ids_of r) 0 (ids_of r) v.counters c) (sym k.1) (prepared_counts r ty (name_of r) v),
+counted_leaves : (o : Option NamedFault) (m : Message) (unstable : Bool) (handle : NotificationHandle) (v w : Machine) → counted o m unstable v ≡ Done handle w → Leaves m handle v w
+counted_leaves (Some name) m unstable handle v w h = absurd (no_answer _ handle v w h)
+counted_leaves None m unstable handle v w h =
+    let c = with_ids v.counters.completion m in
+    let ignore = ignores_payloads v.options.non_determinism_checks unstable in
+    let a = answered (carried_out c ignore (prepared m v)) (record { 0 = v.counters.handle }) handle w h in
+    let k = carried_keeps c ignore (prepared m v) w a.0 in (
+      k.0,
+      subst (λ x. Counted (ids_of m) 0 (ids_of m) v.counters x) (sym k.1) (record { completions = refl; signals = sym (add-zero v.counters.signal); handles = refl }),
       ap (λ x. x.0) a.1,
     )
 
-issued_at : (b : Bool) (r : Request) (handle : NotificationHandle) (v w u : Machine) (e : Error)
-    → (if b then counted (missing (ids_of r) 0 (ids_of r) v.counters) r v else Failed e u) ≡ Done handle w → Leaves r handle v w
-issued_at true r handle v w u e h = counted_leaves (missing (ids_of r) 0 (ids_of r) v.counters) r handle v w h
-issued_at false r handle v w u e h = absurd (no_answer e handle u w h)
+issued_at : (b : Bool) (m : Message) (unstable : Bool) (handle : NotificationHandle) (v w u : Machine) (e : Error)
+    → (if b then counted (missing (ids_of m) 0 (ids_of m) v.counters) m unstable v else Failed e u) ≡ Done handle w → Leaves m handle v w
+issued_at true m unstable handle v w u e h = counted_leaves (missing (ids_of m) 0 (ids_of m) v.counters) m unstable handle v w h
+issued_at false m unstable handle v w u e h = absurd (no_answer e handle u w h)
 
-issued_leaves : (r : Request) (handle : NotificationHandle) (v w : Machine) → issued r v ≡ Done handle w → Leaves r handle v w
+pub issued_leaves : (m : Message) (unstable : Bool) (handle : NotificationHandle) (v w : Machine) → issued m unstable v ≡ Done handle w → Leaves m handle v w
 unfolding issued
-issued_leaves r handle v w h = issued_at (is_running v.phase) r handle v w _ _ h
+issued_leaves m unstable handle v w h = issued_at (is_running v.phase) m unstable handle v w _ _ h
 
-pub set_leaves : (key value name : List ℕ) (options : PayloadOptions) (handle : NotificationHandle) (v w : Machine)
-    → issued (SetState key value name options) v ≡ Done handle w → w.state ≡ state_set key value v.state
-set_leaves key value name options handle v w h = (issued_leaves (SetState key value name options) handle v w h).0
+pub issued_changes : (m : Message) (unstable : Bool) (handle : NotificationHandle) (v w : Machine) → issued m unstable v ≡ Done handle w → w.state ≡ changed (with_ids v.counters.completion m) v.state
+issued_changes m unstable handle v w h = (issued_leaves m unstable handle v w h).0
 
-pub cleared_leaves : (key name : List ℕ) (handle : NotificationHandle) (v w : Machine) → issued (ClearState key name) v ≡ Done handle w → w.state ≡ state_cleared key v.state
-cleared_leaves key name handle v w h = (issued_leaves (ClearState key name) handle v w h).0
+pub issued_counts : (m : Message) (unstable : Bool) (handle : NotificationHandle) (v w : Machine) → issued m unstable v ≡ Done handle w → Counted (ids_of m) 0 (ids_of m) v.counters w.counters
+issued_counts m unstable handle v w h = (issued_leaves m unstable handle v w h).1
 
-pub all_cleared_leaves : (name : List ℕ) (handle : NotificationHandle) (v w : Machine) → issued (ClearAllState name) v ≡ Done handle w → w.state ≡ all_cleared v.state
-all_cleared_leaves name handle v w h = (issued_leaves (ClearAllState name) handle v w h).0
-
-pub issued_counts : (r : Request) (handle : NotificationHandle) (v w : Machine) → issued r v ≡ Done handle w → Counted (ids_of r) 0 (ids_of r) v.counters w.counters
-issued_counts r handle v w h = (issued_leaves r handle v w h).1
-
-pub issued_handle : (r : Request) (handle : NotificationHandle) (v w : Machine) → issued r v ≡ Done handle w → handle.0 ≡ v.counters.handle
-issued_handle r handle v w h = (issued_leaves r handle v w h).2
+pub issued_handle : (m : Message) (unstable : Bool) (handle : NotificationHandle) (v w : Machine) → issued m unstable v ≡ Done handle w → handle.0 ≡ v.counters.handle
+issued_handle m unstable handle v w h = (issued_leaves m unstable handle v w h).2
 
 -- ---- awakeables
 

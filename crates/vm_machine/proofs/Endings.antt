@@ -33,17 +33,22 @@ use Rattle.vm_parts.specs.Counting.{missing, missing_signals}
 use Rattle.vm_machine.specs.declared.machine.Machine.{Machine}
 use Rattle.vm_machine.specs.declared.phase.Phase.{Phase}
 use Rattle.vm_machine.specs.declared.phase.Phase.TheVariants.{WaitingStart, WaitingReplayEntries, Replaying, Processing, Closed}
-use Rattle.vm_machine.specs.declared.request.Request.{Request}
-use Rattle.vm_machine.specs.declared.request.Request.TheVariants.{Sleep, Output, SetState, ClearState, ClearAllState, CompleteAwakeable, CompleteSignal, CancelInvocation}
+use Rattle.journal_protocol.specs.declared.version.Version.{Version}
+use Rattle.vm_parts.specs.declared.steps.Step.{Step}
+use Rattle.vm_parts.specs.declared.steps.Step.TheVariants as step
+use Rattle.vm_machine.specs.declared.asks.Ask.{Ask}
+use Rattle.vm_machine.specs.declared.asks.Ask.TheVariants as ask
+use Rattle.vm_machine.specs.declared.asks.Command.{Command}
+use Rattle.vm_machine.specs.Asks.{ask_of}
 use Rattle.vm_machine.specs.Awaits.{await_step, future_of, pending, result_taken, suspended, take_step, taken_at, tried, value_taken}
 use Rattle.vm_machine.specs.Inputs.{close_step, closed_at, counted_entry, end_at, end_step, ended, enqueued, entries_in, entry_step, input_at, input_counted, input_read, input_step, malformed_step, message_step, notification_step, queued, start_step, started, started_with}
 use Rattle.vm_machine.specs.Reports.{is_retry, related_to, report_step}
 use Rattle.vm_machine.specs.Signals.{awakeable_counted, awakeable_step}
-use Rattle.vm_machine.specs.Commands.{entered, written, ignores_payloads, phase_after, popped, popped_from, compared, replayed, carried_out, prepared, counted, issued}
+use Rattle.vm_machine.specs.Commands.{entered, written, ignores_payloads, phase_after, popped, popped_from, compared, replayed, carried_out, prepared, counted, issued, commanded, commanded_unless}
 use Rattle.vm_machine.specs.Endings.{EndsOnce, EventWrites, Writes, is_over, is_terminal}
 use Rattle.vm_machine.specs.Outcomes.{Outcome, Done, Failed, ◌>>=◌, about_last, called, called_at, failed, refused, ruled}
 use Rattle.vm_machine.specs.Phases.{is_closed, is_from_v7, is_processing, is_replaying, is_running, state_fault}
-use Rattle.vm_machine.specs.Requests.{command_of, ids_of, message_of, name_of}
+use Rattle.vm_machine.specs.Requests.{ids_of, name_of, shown_type, with_ids}
 
 -- ---- nothing is written
 
@@ -120,25 +125,26 @@ not_closed Closed e = absurd cc
 goes_on : (v : Machine) → v.failure ≡ None → is_running v.phase ≡ true → is_over v ≡ false
 goes_on v live runs = λ i. is_some (live i) || not_closed v.phase runs i
 
-command_goes_on : (r : Request) (id : ℕ) → is_terminal (message_of r id) ≡ false
-command_goes_on (Sleep wake_up_time name) id = refl
-command_goes_on (Output value options) id = refl
-command_goes_on (SetState key value name options) id = refl
-command_goes_on (ClearState key name) id = refl
-command_goes_on (ClearAllState name) id = refl
-command_goes_on (CompleteAwakeable awakeable value options) id = refl
-command_goes_on (CompleteSignal target signal value) id = refl
-command_goes_on (CancelInvocation target) id = refl
+-- its numbers don't change what a message is
+pub same_type : (id : ℕ) (m : Message) → type_of (with_ids id m) ≡ type_of m
+same_type id (message.GetLazyState c) = refl
+same_type id (message.GetLazyStateKeys c) = refl
+same_type id (message.Sleep c) = refl
+same_type id (message.Call c) = refl
+same_type id (message.OneWayCall c) = refl
+same_type id (message.GetPromise c) = refl
+same_type id (message.PeekPromise c) = refl
+same_type id (message.CompletePromise c) = refl
+same_type id (message.Run c) = refl
+same_type id (message.AttachInvocation c) = refl
+same_type id (message.GetInvocationOutput c) = refl
+same_type id m = refl
 
-prepared_same : (r : Request) (v : Machine) → Same v (prepared r (entered (message_type (command_of r)) (name_of r) v))
-prepared_same (Sleep wake_up_time name) v = record { output = refl; closed = refl; failure = refl }
-prepared_same (Output value options) v = record { output = refl; closed = refl; failure = refl }
-prepared_same (SetState key value name options) v = record { output = refl; closed = refl; failure = refl }
-prepared_same (ClearState key name) v = record { output = refl; closed = refl; failure = refl }
-prepared_same (ClearAllState name) v = record { output = refl; closed = refl; failure = refl }
-prepared_same (CompleteAwakeable awakeable value options) v = record { output = refl; closed = refl; failure = refl }
-prepared_same (CompleteSignal target signal value) v = record { output = refl; closed = refl; failure = refl }
-prepared_same (CancelInvocation target) v = record { output = refl; closed = refl; failure = refl }
+command_goes_on : (m : Message) (id : ℕ) → is_terminal m ≡ false → is_terminal (with_ids id m) ≡ false
+command_goes_on m id goes = ap (λ ty. nat_le 2 (type_number ty) && nat_le (type_number ty) 4) (same_type id m) ∙ goes
+
+prepared_same : (m : Message) (v : Machine) → Same v (prepared m v)
+prepared_same m v = record { output = refl; closed = refl; failure = refl }
 
 one_message : (b : Bool) (m : Message) (after : Bool) → b ≡ false → is_terminal m ≡ false → EndsOnce b (m ∷ []) after
 one_message true m after e t = absurd cc
@@ -206,25 +212,49 @@ pub answered : {A B : Type 0} (v : Machine) (o : Outcome A) (b : B) → Event v 
 answered v (Done a w) b h = h
 answered v (Failed e w) b h = h
 
-counted_event : (found : Option NamedFault) (r : Request) (v : Machine) → is_over v ≡ false → is_closed v.phase ≡ false → Event v (counted found r v)
-counted_event (Some name) r v goes c = same v
-counted_event None r v goes c =
-    let u = prepared r (entered (message_type (command_of r)) (name_of r) v) in
+counted_event : (found : Option NamedFault) (m : Message) (unstable : Bool) (v : Machine) → is_terminal m ≡ false → is_over v ≡ false → is_closed v.phase ≡ false → Event v (counted found m unstable v)
+counted_event (Some name) m unstable v command goes c = same v
+counted_event None m unstable v command goes c =
     let handle : NotificationHandle = record { 0 = v.counters.handle } in
-    let m = message_of r v.counters.completion in
-    answered v (carried_out m (ignores_payloads v r) u) handle (carried_event m (ignores_payloads v r) v u (prepared_same r v) goes c (command_goes_on r v.counters.completion))
+    let n = with_ids v.counters.completion m in
+    let ignore = ignores_payloads v.options.non_determinism_checks unstable in
+    answered v (carried_out n ignore (prepared m v)) handle (carried_event n ignore v (prepared m v) (prepared_same m v) goes c (command_goes_on m v.counters.completion command))
 
-issued_at : (r : Request) (v : Machine) (b : Bool) → is_running v.phase ≡ b → v.failure ≡ None
-    → Event v (if b then counted (missing (ids_of r) 0 (ids_of r) v.counters) r v else (let w = entered (message_type (command_of r)) (name_of r) v in Failed (about_last (state_fault v.phase) w) w))
-issued_at r v true e live = counted_event (missing (ids_of r) 0 (ids_of r) v.counters) r v (goes_on v live e) (not_closed v.phase e)
-issued_at r v false e live = record { output = refl; closed = refl; failure = refl }
+issued_at : (m : Message) (unstable : Bool) (v : Machine) (b : Bool) → is_terminal m ≡ false → is_running v.phase ≡ b → v.failure ≡ None
+    → Event v (if b then counted (missing (ids_of m) 0 (ids_of m) v.counters) m unstable v else (let w = entered (shown_type m) (name_of m) v in Failed (about_last (state_fault v.phase) w) w))
+issued_at m unstable v true command e live = counted_event (missing (ids_of m) 0 (ids_of m) v.counters) m unstable v command (goes_on v live e) (not_closed v.phase e)
+issued_at m unstable v false command e live = record { output = refl; closed = refl; failure = refl }
 
-pub issued_event : (r : Request) (v : Machine) → v.failure ≡ None → Event v (issued r v)
+pub issued_event : (m : Message) (unstable : Bool) (v : Machine) → is_terminal m ≡ false → v.failure ≡ None → Event v (issued m unstable v)
 unfolding issued
-issued_event r v live = issued_at r v (is_running v.phase) refl live
+issued_event m unstable v command live = issued_at m unstable v (is_running v.phase) command refl live
 
-pub issued_writes : (r : Request) (v : Machine) → EventWrites v (called (issued r v) v)
-issued_writes r v = called_writes v (issued r v) (issued_event r v)
+pub issued_writes : (m : Message) (unstable : Bool) (v : Machine) → is_terminal m ≡ false → EventWrites v (called (issued m unstable v) v)
+issued_writes m unstable v command = called_writes v (issued m unstable v) (issued_event m unstable v command)
+
+-- what a step asks for ends nothing by itself
+abbrev pub GoesOn : Ask → Type 0
+GoesOn (ask.Command c) = is_terminal c.message ≡ false
+GoesOn _ = Unit {0}
+
+pub asks_go_on : (version : Version) (s : Step) → GoesOn (ask_of version s)
+asks_go_on version step.Awakeable = tt
+asks_go_on version (step.Await future) = tt
+asks_go_on version (step.Take handle) = tt
+asks_go_on version (step.Completed handle) = tt
+asks_go_on version step.End = tt
+asks_go_on version s = refl
+
+-- a command that is asked for
+pub asked_commands_go_on : (version : Version) (s : Step) (c : Command) → ask_of version s ≡ ask.Command c → is_terminal c.message ≡ false
+asked_commands_go_on version s c is = subst GoesOn is (asks_go_on version s)
+
+commanded_at : (refusal : Option NamedFault) (m : Message) (unstable : Bool) (v : Machine) → is_terminal m ≡ false → v.failure ≡ None → Event v (commanded_unless refusal m unstable v)
+commanded_at (Some name) m unstable v command live = same v
+commanded_at None m unstable v command live = issued_event m unstable v command live
+
+pub commanded_event : (c : Command) (v : Machine) → is_terminal c.message ≡ false → v.failure ≡ None → Event v (commanded c v)
+commanded_event c v command live = commanded_at c.refusal c.message c.unstable v command live
 
 -- ---- awakeables and reported errors
 

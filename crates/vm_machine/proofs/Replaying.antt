@@ -12,41 +12,17 @@ use Rattle.journal_protocol.specs.Message.{encoding, type_of}
 use Rattle.journal_protocol.specs.Reading.{message_in}
 use Rattle.journal_protocol.specs.Types.{type_number}
 use Rattle.vm_parts.specs.declared.types.NotificationHandle.{NotificationHandle}
-use Rattle.vm_parts.specs.CommandTypes.{message_type}
 use Rattle.vm_parts.specs.Counting.{missing}
 use Rattle.vm_machine.specs.declared.machine.Machine.{Machine}
 use Rattle.vm_machine.specs.declared.phase.Phase.{Phase}
 use Rattle.vm_machine.specs.declared.phase.Phase.TheVariants.{Replaying}
-use Rattle.vm_machine.specs.declared.request.Request.{Request}
-use Rattle.vm_machine.specs.declared.request.Request.TheVariants.{Sleep, Output, SetState, ClearState, ClearAllState, CompleteAwakeable, CompleteSignal, CancelInvocation}
 use Rattle.vm_machine.specs.Commands.{about_next, entered, written, ignores_payloads, phase_after, popped, popped_from, compared, replayed, carried_out, prepared, counted, issued}
 use Rattle.vm_machine.specs.Endings.{EndsOnce, Writes, is_over}
 use Rattle.vm_machine.specs.Outcomes.{Outcome, Done, Failed, ◌>>=◌, about_last, called, called_at}
 use Rattle.vm_machine.specs.Phases.{is_running, is_processing, state_fault}
-use Rattle.vm_machine.specs.Replays.{MayReplay, Pops, Refuses, command_at, is_header_equal, is_of_its_type}
-use Rattle.vm_machine.specs.Requests.{command_of, name_of, ids_of}
+use Rattle.vm_machine.specs.Replays.{MayReplay, Pops, Refuses, command_at, ignores, is_header_equal, is_of_its_type}
+use Rattle.vm_machine.specs.Requests.{ids_of, name_of, shown_type}
 use Rattle.vm_machine.proofs.Carried.{IsDone, answered, no_answer, same_machine}
-
--- the machine that a call's command is looked up by
-abbrev At : Request → Machine → Machine
-At r v = prepared r (entered (message_type (command_of r)) (name_of r) v)
-
--- what a call keeps before its command, and the command that its errors relate to
-record Kept (r : Request) (v : Machine) : Type 0 where
-  phase : (At r v).phase ≡ v.phase
-  commands : (At r v).commands ≡ v.commands
-  output : (At r v).output ≡ v.output
-  related : (name : NamedFault) → about_last name (At r v) ≡ about_next name (message_type (command_of r)) (name_of r) v
-
-kept : (r : Request) (v : Machine) → Kept r v
-kept (Sleep wake_up_time x) v = record { phase = refl; commands = refl; output = refl; related = λ name. refl }
-kept (Output value options) v = record { phase = refl; commands = refl; output = refl; related = λ name. refl }
-kept (SetState key value x options) v = record { phase = refl; commands = refl; output = refl; related = λ name. refl }
-kept (ClearState key x) v = record { phase = refl; commands = refl; output = refl; related = λ name. refl }
-kept (ClearAllState x) v = record { phase = refl; commands = refl; output = refl; related = λ name. refl }
-kept (CompleteAwakeable id value options) v = record { phase = refl; commands = refl; output = refl; related = λ name. refl }
-kept (CompleteSignal target signal value) v = record { phase = refl; commands = refl; output = refl; related = λ name. refl }
-kept (CancelInvocation target) v = record { phase = refl; commands = refl; output = refl; related = λ name. refl }
 
 -- ---- the next recorded command
 
@@ -97,84 +73,82 @@ found m ignore (raw ∷ rest) u w h = typed_at m ignore (type_number raw.ty == t
 
 -- ---- a call that is done
 
-pops_at : (o : Option NamedFault) (r : Request) (h : NotificationHandle) (v w : Machine) → v.phase ≡ Replaying → counted o r v ≡ Done h w → Pops r v w
-pops_at (Some name) r h v w p d = absurd (no_answer _ h v w d)
-pops_at None r h v w p d =
+pops_at : (o : Option NamedFault) (r : Message) (unstable : Bool) (h : NotificationHandle) (v w : Machine) → v.phase ≡ Replaying → counted o r unstable v ≡ Done h w → Pops r unstable v w
+pops_at (Some name) r unstable h v w p d = absurd (no_answer _ h v w d)
+pops_at None r unstable h v w p d =
     let m = command_at r v in
-    let ignore = ignores_payloads v r in
-    let u = At r v in
-    let k = kept r v in
+    let ignore = ignores v unstable in
+    let u = prepared r v in
     let a = answered (carried_out m ignore u) (record { 0 = v.counters.handle }) h w d in
-    let f = found m ignore v.commands u w (sym (looked_up m ignore v.commands u (k.phase ∙ p) k.commands) ∙ a.0) in
-    record { raw = f.raw; recorded = f.recorded; read = f.read; equal = f.equal; popped = f.popped; output = f.output ∙ k.output }
+    let f = found m ignore v.commands u w (sym (looked_up m ignore v.commands u p refl) ∙ a.0) in
+    record { raw = f.raw; recorded = f.recorded; read = f.read; equal = f.equal; popped = f.popped; output = f.output }
 
-running_at : (b : Bool) (r : Request) (h : NotificationHandle) (v w u : Machine) (e : Error)
-    → v.phase ≡ Replaying → (if b then counted (missing (ids_of r) 0 (ids_of r) v.counters) r v else Failed e u) ≡ Done h w → Pops r v w
-running_at true r h v w u e p d = pops_at (missing (ids_of r) 0 (ids_of r) v.counters) r h v w p d
-running_at false r h v w u e p d = absurd (no_answer e h u w d)
+running_at : (b : Bool) (r : Message) (unstable : Bool) (h : NotificationHandle) (v w u : Machine) (e : Error)
+    → v.phase ≡ Replaying → (if b then counted (missing (ids_of r) 0 (ids_of r) v.counters) r unstable v else Failed e u) ≡ Done h w → Pops r unstable v w
+running_at true r unstable h v w u e p d = pops_at (missing (ids_of r) 0 (ids_of r) v.counters) r unstable h v w p d
+running_at false r unstable h v w u e p d = absurd (no_answer e h u w d)
 
-pub pops : (r : Request) (h : NotificationHandle) (v w : Machine) → v.phase ≡ Replaying → issued r v ≡ Done h w → Pops r v w
+pub pops : (r : Message) (unstable : Bool) (h : NotificationHandle) (v w : Machine) → v.phase ≡ Replaying → issued r unstable v ≡ Done h w → Pops r unstable v w
 unfolding issued
-pops r h v w p d = running_at (is_running v.phase) r h v w _ _ p d
+pops r unstable h v w p d = running_at (is_running v.phase) r unstable h v w _ _ p d
 
 -- ---- a call that is refused
 
-counts : (r : Request) (v : Machine) → MayReplay r v → issued r v ≡ counted None r v
+counts : (r : Message) (unstable : Bool) (v : Machine) → MayReplay r v → issued r unstable v ≡ counted None r unstable v
 unfolding issued
-counts r v may =
+counts r unstable v may =
     ap
-    (λ (x : Phase). if is_running x then counted (missing (ids_of r) 0 (ids_of r) v.counters) r v
-    else (let w = entered (message_type (command_of r)) (name_of r) v in Failed (about_last (state_fault v.phase) w) w))
-    may.phase ∙ ap (λ (o : Option NamedFault). counted o r v) may.numbers
+    (λ (x : Phase). if is_running x then counted (missing (ids_of r) 0 (ids_of r) v.counters) r unstable v
+    else (let w = entered (shown_type r) (name_of r) v in Failed (about_last (state_fault v.phase) w) w))
+    may.phase ∙ ap (λ (o : Option NamedFault). counted o r unstable v) may.numbers
 
 -- the call's answer
 abbrev answer : Machine → Outcome Unit → Outcome NotificationHandle
 answer v o = o >>= λ _ w. Done (record { 0 = v.counters.handle }) w
 
 -- the lookup fails with an error about the command, and so does the call
-refuses : (name : NamedFault) (r : Request) (raws : List RawMessage) (left v : Machine) → MayReplay r v → v.commands ≡ raws → left.output ≡ (At r v).output
-    → Looked (command_at r v) (ignores_payloads v r) raws (At r v) ≡ Failed (about_last name (At r v)) left → Refuses name r v
-refuses name r raws left v may c o f =
-    let k = kept r v in
-    let look = looked_up (command_at r v) (ignores_payloads v r) raws (At r v) (k.phase ∙ may.phase) (k.commands ∙ c) in
+refuses : (name : NamedFault) (r : Message) (unstable : Bool) (raws : List RawMessage) (left v : Machine) → MayReplay r v → v.commands ≡ raws → left.output ≡ (prepared r v).output
+    → Looked (command_at r v) (ignores v unstable) raws (prepared r v) ≡ Failed (about_last name (prepared r v)) left → Refuses name r unstable v
+refuses name r unstable raws left v may c o f =
+    let look = looked_up (command_at r v) (ignores v unstable) raws (prepared r v) may.phase c in
     record {
       left = left;
-      outcome = counts r v may ∙ ap (answer v) (look ∙ f) ∙ ap (λ (e : Error). Failed e left) (k.related name);
-      output = o ∙ k.output;
+      outcome = counts r unstable v may ∙ ap (answer v) (look ∙ f);
+      output = o;
     }
 
-pub none_left : (r : Request) (v : Machine) → MayReplay r v → v.commands ≡ [] → Refuses fault.UnavailableEntry r v
-none_left r v may c = refuses fault.UnavailableEntry r [] (At r v) v may c refl refl
+pub none_left : (r : Message) (unstable : Bool) (v : Machine) → MayReplay r v → v.commands ≡ [] → Refuses fault.UnavailableEntry r unstable v
+none_left r unstable v may c = refuses fault.UnavailableEntry r unstable [] (prepared r v) v may c refl refl
 
-pub other_type : (r : Request) (raw : RawMessage) (rest : List RawMessage) (v : Machine) → MayReplay r v → v.commands ≡ raw ∷ rest → is_of_its_type raw r v ≡ false → Refuses fault.CommandTypeMismatch r v
-other_type r raw rest v may c t =
+pub other_type : (r : Message) (unstable : Bool) (raw : RawMessage) (rest : List RawMessage) (v : Machine) → MayReplay r v → v.commands ≡ raw ∷ rest → is_of_its_type raw r v ≡ false → Refuses fault.CommandTypeMismatch r unstable v
+other_type r unstable raw rest v may c t =
     let m = command_at r v in
-    let x = without rest (At r v) in
-    refuses fault.CommandTypeMismatch r (raw ∷ rest) x v may c refl
-    (ap (λ b. (if b then Done raw x else Failed (about_last fault.CommandTypeMismatch x) x) >>= λ y z. compared m (ignores_payloads v r) (message_in y.ty y.body) z) t)
+    let x = without rest (prepared r v) in
+    refuses fault.CommandTypeMismatch r unstable (raw ∷ rest) x v may c refl
+    (ap (λ b. (if b then Done raw x else Failed (about_last fault.CommandTypeMismatch x) x) >>= λ y z. compared m (ignores v unstable) (message_in y.ty y.body) z) t)
 
 -- a recorded command of the call's type, as it was read
-refuses_read : (name : NamedFault) (r : Request) (raw : RawMessage) (rest : List RawMessage) (v : Machine) (o : Option Message)
+refuses_read : (name : NamedFault) (r : Message) (unstable : Bool) (raw : RawMessage) (rest : List RawMessage) (v : Machine) (o : Option Message)
     → MayReplay r v → v.commands ≡ raw ∷ rest → is_of_its_type raw r v ≡ true → message_in raw.ty raw.body ≡ o
-    → compared (command_at r v) (ignores_payloads v r) o (without rest (At r v)) ≡ Failed (about_last name (At r v)) (without rest (At r v)) → Refuses name r v
-refuses_read name r raw rest v o may c t i f =
+    → compared (command_at r v) (ignores v unstable) o (without rest (prepared r v)) ≡ Failed (about_last name (prepared r v)) (without rest (prepared r v)) → Refuses name r unstable v
+refuses_read name r unstable raw rest v o may c t i f =
     let m = command_at r v in
-    let ignore = ignores_payloads v r in
-    let x = without rest (At r v) in
-    refuses name r (raw ∷ rest) x v may c refl (
+    let ignore = ignores v unstable in
+    let x = without rest (prepared r v) in
+    refuses name r unstable (raw ∷ rest) x v may c refl (
     ap (λ b. (if b then Done raw x else Failed (about_last fault.CommandTypeMismatch x) x) >>= λ y z. compared m ignore (message_in y.ty y.body) z) t
     ∙ ap (λ (y : Option Message). compared m ignore y x) i ∙ f
     )
 
-pub not_read : (r : Request) (raw : RawMessage) (rest : List RawMessage) (v : Machine)
-    → MayReplay r v → v.commands ≡ raw ∷ rest → is_of_its_type raw r v ≡ true → message_in raw.ty raw.body ≡ None → Refuses fault.BadMessage r v
-not_read r raw rest v may c t i = refuses_read fault.BadMessage r raw rest v None may c t i refl
+pub not_read : (r : Message) (unstable : Bool) (raw : RawMessage) (rest : List RawMessage) (v : Machine)
+    → MayReplay r v → v.commands ≡ raw ∷ rest → is_of_its_type raw r v ≡ true → message_in raw.ty raw.body ≡ None → Refuses fault.BadMessage r unstable v
+not_read r unstable raw rest v may c t i = refuses_read fault.BadMessage r unstable raw rest v None may c t i refl
 
-pub not_equal : (r : Request) (raw : RawMessage) (rest : List RawMessage) (recorded : Message) (v : Machine)
-    → MayReplay r v → v.commands ≡ raw ∷ rest → is_of_its_type raw r v ≡ true → message_in raw.ty raw.body ≡ Some recorded → is_header_equal recorded r v ≡ false → Refuses fault.CommandMismatch r v
-not_equal r raw rest recorded v may c t i n =
-    let x = without rest (At r v) in
-    refuses_read fault.CommandMismatch r raw rest v (Some recorded) may c t i (ap (λ b. if b then Done tt x else Failed (about_last fault.CommandMismatch x) x) n)
+pub not_equal : (r : Message) (unstable : Bool) (raw : RawMessage) (rest : List RawMessage) (recorded : Message) (v : Machine)
+    → MayReplay r v → v.commands ≡ raw ∷ rest → is_of_its_type raw r v ≡ true → message_in raw.ty raw.body ≡ Some recorded → is_header_equal recorded r unstable v ≡ false → Refuses fault.CommandMismatch r unstable v
+not_equal r unstable raw rest recorded v may c t i n =
+    let x = without rest (prepared r v) in
+    refuses_read fault.CommandMismatch r unstable raw rest v (Some recorded) may c t i (ap (λ b. if b then Done tt x else Failed (about_last fault.CommandMismatch x) x) n)
 
 -- ---- a machine that is over
 

@@ -1,5 +1,5 @@
 -- What a call with a command does: in Processing its command is written, in replay the recorded one is popped.
-use Rattle.std.specs.Prelude.{◌≡◌, ℕ, ◌+◌, Bool, true, false, ◌||◌, ◌==◌, if◌then◌else◌, List, [], ◌∷◌, ◌++◌, Option, Some, None}
+use Rattle.std.specs.Prelude.{◌≡◌, ℕ, zero, suc, ◌+◌, Bool, true, false, ◌||◌, ◌==◌, if◌then◌else◌, List, [], ◌∷◌, ◌++◌, Option, Some, None, Result, OnOk}
 use Rattle.journal_protocol.specs.declared.error.Error.{Error}
 use Rattle.journal_protocol.specs.declared.faults.NamedFault.{NamedFault}
 use Rattle.journal_protocol.specs.declared.faults.NamedFault.TheVariants as fault
@@ -13,20 +13,20 @@ use Rattle.journal_protocol.specs.Reading.{message_in}
 use Rattle.journal_protocol.specs.Runs.{IsWhole}
 use Rattle.journal_protocol.specs.HeaderEqual.{header_equal}
 use Rattle.journal_protocol.specs.Types.{type_number}
+use Rattle.vm_parts.specs.declared.async_results.Mapping.{Mapping}
+use Rattle.vm_parts.specs.declared.context.Counters.{Counters}
 use Rattle.vm_parts.specs.declared.options.NonDeterministicChecksOption.{NonDeterministicChecksOption}
 use Rattle.vm_parts.specs.declared.options.NonDeterministicChecksOption.TheVariants as checks
 use Rattle.vm_parts.specs.declared.types.NotificationHandle.{NotificationHandle}
-use Rattle.vm_parts.specs.CommandTypes.{message_type}
 use Rattle.vm_parts.specs.Counting.{next_index, missing}
-use Rattle.vm_parts.specs.States.{state_set, state_cleared, all_cleared}
+use Rattle.vm_machine.specs.declared.asks.Command.{Command}
+use Rattle.vm_machine.specs.declared.fault.Fault.{Fault}
 use Rattle.vm_machine.specs.declared.machine.Machine.{Machine}
 use Rattle.vm_machine.specs.declared.phase.Phase.{Phase}
 use Rattle.vm_machine.specs.declared.phase.Phase.TheVariants.{Replaying, Processing}
-use Rattle.vm_machine.specs.declared.request.Request.{Request}
-use Rattle.vm_machine.specs.declared.request.Request.TheVariants as request
-use Rattle.vm_machine.specs.Outcomes.{Outcome, Done, Failed, ◌>>=◌, about_last}
+use Rattle.vm_machine.specs.Outcomes.{Outcome, Done, Failed, ◌>>=◌, Gives, about_last, refused}
 use Rattle.vm_machine.specs.Phases.{is_running, is_processing, state_fault}
-use Rattle.vm_machine.specs.Requests.{command_of, name_of, ids_of, is_unstable, message_of}
+use Rattle.vm_machine.specs.Requests.{changed, ids_of, name_of, shown_type, with_ids}
 
 -- a command is counted, and its type and name are kept
 abbrev pub entered : MessageType → List ℕ → Machine → Machine
@@ -50,8 +50,8 @@ checks_are_off checks.PayloadChecksDisabled = true
 checks_are_off checks.Enabled = false
 
 -- payloads aren't compared where the options say so or the call's may differ
-abbrev pub ignores_payloads : Machine → Request → Bool
-ignores_payloads v r = checks_are_off v.options.non_determinism_checks || is_unstable r
+abbrev pub ignores_payloads : NonDeterministicChecksOption → Bool → Bool
+ignores_payloads option unstable = checks_are_off option || unstable
 
 -- the machine is in Processing once the last recorded command is popped
 abbrev pub phase_after : List RawMessage → Phase
@@ -89,41 +89,62 @@ unfoldable pub carried_out : Message → Bool → Machine → Outcome Unit
 carried_out m ignore v =
     if is_processing v.phase then Done tt (written m v) else replayed m ignore v
 
--- the next handle stands for the next completion id
-abbrev pub handed_out : Machine → Machine
-handed_out v =
+-- so many handles, from this one on, each for a completion id, from this one on
+abbrev pub mapped_from : ℕ → ℕ → ℕ → List Mapping
+mapped_from zero handle id = []
+mapped_from (suc n) handle id = record { handle = handle; id = CompletionId id } ∷ mapped_from n (handle + 1) (id + 1)
+
+-- so many completion ids are given, with a handle for each
+abbrev pub given_on : ℕ → Counters → Counters
+given_on n c = record c { completion = c.completion + n; handle = c.handle + n }
+
+-- the next handles stand for the next completion ids
+abbrev pub handed_out : ℕ → Machine → Machine
+handed_out n v =
     record v {
-      results = record v.results { handles = v.results.handles ++ record { handle = v.counters.handle; id = CompletionId v.counters.completion } ∷ [] };
-      counters = record v.counters { completion = v.counters.completion + 1; handle = v.counters.handle + 1 };
+      results = record v.results { handles = v.results.handles ++ mapped_from n v.counters.handle v.counters.completion };
+      counters = given_on n v.counters;
     }
 
--- what a call changes before its command
-abbrev pub prepared : Request → Machine → Machine
-prepared (request.Sleep wake_up_time name) v = handed_out v
-prepared (request.Output value options) v = v
-prepared (request.SetState key value name options) v = record v { state = state_set key value v.state }
-prepared (request.ClearState key name) v = record v { state = state_cleared key v.state }
-prepared (request.ClearAllState name) v = record v { state = all_cleared v.state }
-prepared (request.CompleteAwakeable id value options) v = v
-prepared (request.CompleteSignal target signal value) v = v
-prepared (request.CancelInvocation target) v = v
+-- what a call changes before its command: it is counted and shown, its numbers are given, and the state is changed
+abbrev pub prepared : Message → Machine → Machine
+prepared m v =
+    (let w = handed_out (ids_of m) (entered (shown_type m) (name_of m) v) in record w { state = changed (with_ids v.counters.completion m) v.state })
 
 -- a call whose state was checked: the counters, and then the command
-abbrev pub counted : Option NamedFault → Request → Machine → Outcome NotificationHandle
-counted (Some name) r v = Failed (about_next name (message_type (command_of r)) (name_of r) v) v
-counted None r v =
-    carried_out (message_of r v.counters.completion) (ignores_payloads v r) (prepared r (entered (message_type (command_of r)) (name_of r) v))
+abbrev pub counted : Option NamedFault → Message → Bool → Machine → Outcome NotificationHandle
+counted (Some name) m unstable v = Failed (about_next name (shown_type m) (name_of m) v) v
+counted None m unstable v =
+    carried_out (with_ids v.counters.completion m) (ignores_payloads v.options.non_determinism_checks unstable) (prepared m v)
     >>= λ _ w. Done (record { 0 = v.counters.handle }) w
 
--- a call that has a command; it answers its handle, where it has one
-unfoldable pub issued : Request → Machine → Outcome NotificationHandle
-issued r v =
-    if is_running v.phase then counted (missing (ids_of r) 0 (ids_of r) v.counters) r v
-    else (let w = entered (message_type (command_of r)) (name_of r) v in Failed (about_last (state_fault v.phase) w) w)
+-- A call that has a command, given without its numbers, and whether its payload may differ from one attempt to the next;
+-- it answers its first handle, where it has one.
+unfoldable pub issued : Message → Bool → Machine → Outcome NotificationHandle
+issued m unstable v =
+    if is_running v.phase then counted (missing (ids_of m) 0 (ids_of m) v.counters) m unstable v
+    else (let w = entered (shown_type m) (name_of m) v in Failed (about_last (state_fault v.phase) w) w)
 
 -- Where a call's command is written, its frame can be read back: each field and the length fit their places.
-abbrev pub CanBeRead : Request → Machine → Type 0
-CanBeRead r v = is_processing v.phase ≡ true → IsWhole (message_of r v.counters.completion)
+abbrev pub CanBeRead : Message → Machine → Type 0
+CanBeRead m v = is_processing v.phase ≡ true → IsWhole (with_ids v.counters.completion m)
+
+-- A call that has a command, and what it wrote can be read back.
+abbrev pub Issues : Message → Bool → Result NotificationHandle Fault → Machine → Machine → Type 0
+Issues m unstable r old new = Gives (issued m unstable old) r old new × OnOk r (CanBeRead m old)
+
+-- a call that has a command, unless it is refused
+abbrev pub commanded_unless : Option NamedFault → Message → Bool → Machine → Outcome NotificationHandle
+commanded_unless (Some name) m unstable v = refused name v
+commanded_unless None m unstable v = issued m unstable v
+
+-- a call that has a command
+abbrev pub commanded : Command → Machine → Outcome NotificationHandle
+commanded c v = commanded_unless c.refusal c.message c.unstable v
+
+-- A call that has a command, and what it wrote can be read back.
+abbrev pub Carries : Command → Result NotificationHandle Fault → Machine → Machine → Type 0
+Carries c r old new = Gives (commanded c old) r old new × OnOk r (CanBeRead c.message old)
 
 -- a call that answers nothing
 abbrev pub unit_of : {A : Type 0} → Outcome A → Outcome Unit

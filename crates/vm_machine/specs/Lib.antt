@@ -1,3 +1,4 @@
+pub mod Asks
 pub mod Awaits
 pub mod Commands
 pub mod Endings

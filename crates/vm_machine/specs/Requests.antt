@@ -1,73 +1,68 @@
--- The table of the calls that have a command: the command's type, name, numbers and message.
-use Rattle.std.specs.Prelude.{ℕ, Bool, false, List, []}
+-- What a message asks for as a command: how errors show it, its numbers, and what it changes. One table over messages for
+-- all calls; a message that isn't named in one takes no part in it.
+use Rattle.std.specs.Prelude.{ℕ, ◌+◌, List, []}
 use Rattle.journal_protocol.specs.declared.message.Message.{Message}
 use Rattle.journal_protocol.specs.declared.message.Message.TheVariants as message
-use Rattle.journal_protocol.specs.declared.parts.ValueOrFailure.{ValueOrFailure}
-use Rattle.journal_protocol.specs.declared.parts.ValueOrFailure.TheVariants as given
-use Rattle.journal_protocol.specs.declared.signals.Signal.TheVariants.{Index, Name}
-use Rattle.journal_protocol.specs.declared.signals.SignalResult.{SignalResult}
-use Rattle.journal_protocol.specs.declared.signals.SignalResult.TheVariants as sent
-use Rattle.vm_parts.specs.declared.command_type.CommandType.{CommandType}
-use Rattle.vm_parts.specs.declared.command_type.CommandType.TheVariants as command
-use Rattle.vm_machine.specs.declared.request.Request.{Request}
-use Rattle.vm_machine.specs.declared.request.Request.TheVariants.{Sleep, Output, SetState, ClearState, ClearAllState, CompleteAwakeable, CompleteSignal, CancelInvocation}
+use Rattle.journal_protocol.specs.declared.types.MessageType.{MessageType}
+use Rattle.journal_protocol.specs.declared.types.MessageType.TheVariants as type
+use Rattle.journal_protocol.specs.Message.{type_of}
+use Rattle.vm_parts.specs.declared.context.StateMap.{StateMap}
+use Rattle.vm_parts.specs.States.{state_set, state_cleared, all_cleared}
 
--- the command's type
-abbrev pub command_of : Request → CommandType
-command_of (Sleep wake_up_time name) = command.Sleep
-command_of (Output value options) = command.Output
-command_of (SetState key value name options) = command.SetState
-command_of (ClearState key name) = command.ClearState
-command_of (ClearAllState name) = command.ClearAllState
-command_of (CompleteAwakeable id value options) = command.CompleteAwakeable
-command_of (CompleteSignal target signal value) = command.SendSignal
-command_of (CancelInvocation target) = command.CancelInvocation
+-- the type that errors show: a state read is shown as its lazy form
+abbrev pub shown_type : Message → MessageType
+shown_type (message.GetEagerState c) = type.GetLazyStateCommand
+shown_type (message.GetEagerStateKeys c) = type.GetLazyStateKeysCommand
+shown_type m = type_of m
 
--- its name, as an error that relates to it shows it
-abbrev pub name_of : Request → List ℕ
-name_of (Sleep wake_up_time name) = name
-name_of (Output value options) = []
-name_of (SetState key value name options) = name
-name_of (ClearState key name) = name
-name_of (ClearAllState name) = name
-name_of (CompleteAwakeable id value options) = []
-name_of (CompleteSignal target signal value) = []
-name_of (CancelInvocation target) = []
+-- the name that errors show
+abbrev pub name_of : Message → List ℕ
+name_of (message.Sleep c) = c.name
+name_of (message.SetState c) = c.name
+name_of (message.ClearState c) = c.name
+name_of (message.ClearAllState c) = c.name
+name_of (message.GetLazyState c) = c.name
+name_of (message.GetLazyStateKeys c) = c.name
+name_of (message.GetEagerState c) = c.name
+name_of (message.GetEagerStateKeys c) = c.name
+name_of (message.Call c) = c.request.name
+name_of (message.OneWayCall c) = c.request.name
+name_of (message.Run c) = c.name
+name_of m = []
 
 -- how many completion ids it takes, with a handle for each
-abbrev pub ids_of : Request → ℕ
-ids_of (Sleep wake_up_time name) = 1
-ids_of (Output value options) = 0
-ids_of (SetState key value name options) = 0
-ids_of (ClearState key name) = 0
-ids_of (ClearAllState name) = 0
-ids_of (CompleteAwakeable id value options) = 0
-ids_of (CompleteSignal target signal value) = 0
-ids_of (CancelInvocation target) = 0
+abbrev pub ids_of : Message → ℕ
+ids_of (message.Sleep c) = 1
+ids_of (message.GetLazyState c) = 1
+ids_of (message.GetLazyStateKeys c) = 1
+ids_of (message.Call c) = 2
+ids_of (message.OneWayCall c) = 1
+ids_of (message.GetPromise c) = 1
+ids_of (message.PeekPromise c) = 1
+ids_of (message.CompletePromise c) = 1
+ids_of (message.Run c) = 1
+ids_of (message.AttachInvocation c) = 1
+ids_of (message.GetInvocationOutput c) = 1
+ids_of m = 0
 
--- whether its payload may differ from one attempt to the next
-abbrev pub is_unstable : Request → Bool
-is_unstable (Sleep wake_up_time name) = false
-is_unstable (Output value options) = options.unstable_serialization
-is_unstable (SetState key value name options) = options.unstable_serialization
-is_unstable (ClearState key name) = false
-is_unstable (ClearAllState name) = false
-is_unstable (CompleteAwakeable id value options) = options.unstable_serialization
-is_unstable (CompleteSignal target signal value) = false
-is_unstable (CancelInvocation target) = false
+-- the message with its completion ids, of which this is the first
+abbrev pub with_ids : ℕ → Message → Message
+with_ids id (message.Sleep c) = message.Sleep (record c { result_completion_id = id })
+with_ids id (message.GetLazyState c) = message.GetLazyState (record c { result_completion_id = id })
+with_ids id (message.GetLazyStateKeys c) = message.GetLazyStateKeys (record c { result_completion_id = id })
+with_ids id (message.Call c) = message.Call (record c { request = record c.request { invocation_id_notification_idx = id }; result_completion_id = id + 1 })
+with_ids id (message.OneWayCall c) = message.OneWayCall (record c { request = record c.request { invocation_id_notification_idx = id } })
+with_ids id (message.GetPromise c) = message.GetPromise (record c { result_completion_id = id })
+with_ids id (message.PeekPromise c) = message.PeekPromise (record c { result_completion_id = id })
+with_ids id (message.CompletePromise c) = message.CompletePromise (record c { result_completion_id = id })
+with_ids id (message.Run c) = message.Run (record c { result_completion_id = id })
+with_ids id (message.AttachInvocation c) = message.AttachInvocation (record c { result_completion_id = id })
+with_ids id (message.GetInvocationOutput c) = message.GetInvocationOutput (record c { result_completion_id = id })
+with_ids id m = m
 
--- a result, as a signal's
-abbrev pub signal_result : ValueOrFailure → SignalResult
-signal_result (given.Value bytes) = sent.Value bytes
-signal_result (given.Failure failure) = sent.Failure failure
-
--- the command, where id is the first completion id that it takes
-abbrev pub message_of : Request → ℕ → Message
-message_of (Sleep wake_up_time name) id = message.Sleep (record { wake_up_time = wake_up_time; result_completion_id = id; name = name })
-message_of (Output value options) id = message.Output (record { result = value })
-message_of (SetState key value name options) id = message.SetState (record { name = name; key = key; value = value })
-message_of (ClearState key name) id = message.ClearState (record { name = name; key = key })
-message_of (ClearAllState name) id = message.ClearAllState (record { name = name })
-message_of (CompleteAwakeable awakeable value options) id = message.CompleteAwakeable (record { awakeable_id = awakeable; result = value })
-message_of (CompleteSignal target signal value) id = message.SendSignal (record { target_invocation_id = target; signal = Name signal; result = signal_result value })
-message_of (CancelInvocation target) id = message.SendSignal (record { target_invocation_id = target; signal = Index 1; result = sent.Void })
+-- the state after it
+abbrev pub changed : Message → StateMap → StateMap
+changed (message.SetState c) state = state_set c.key c.value state
+changed (message.ClearState c) state = state_cleared c.key state
+changed (message.ClearAllState c) state = all_cleared state
+changed m state = state

@@ -3,14 +3,16 @@ ghost use Rattle.std.specs.Prelude.{◌≡◌, ◌<◌, ◌+◌, ◌^◌, true, 
 ghost use Rattle.journal_protocol.specs.Errors.{named_error};
 ghost use Rattle.journal_protocol.specs.Runs.{IsWhole};
 ghost use Rattle.vm_machine.specs.Outcomes.{Gives, about_last, last_related};
-ghost use Rattle.vm_machine.specs.Commands.{entered, written, popped, replayed, carried_out, handed_out, ignores_payloads, prepared, issued, checks_are_off, CanBeRead};
+ghost use Rattle.vm_machine.specs.Commands.{entered, written, popped, replayed, carried_out, handed_out, checks_are_off, Carries, Issues};
 ghost use Rattle.vm_machine.specs.Phases.{is_processing};
-ghost use Rattle.vm_machine.specs.Requests.{ids_of};
+ghost use Rattle.vm_machine.specs.Requests.{changed, ids_of};
 
+use crate::asks::Command;
 use crate::fault::Fault;
 use crate::machine::Machine;
 use crate::phase::Phase;
-use crate::request::Request;
+use crate::receive::refuse;
+use crate::request::{give_ids, ids_of, name_of, shown_type};
 use journal_protocol::{
     Encoder, Error, Message, MessageType, NamedFault, NotificationId, RawMessage, RelatedCommand,
     header_eq,
@@ -120,38 +122,31 @@ impl Machine {
         self.replay(message, ignore_payloads)
     }
 
-    /// Whether replay doesn't compare the call's payload.
-    fn ignores_payloads(&self, request: &Request) -> bool
-        ensures { result ≡ ignores_payloads self.now request.now }
-    {
-        checks_are_off(self.options.non_determinism_checks) || request.is_unstable()
-    }
-
-    /// Gives the next handle the next completion id.
-    fn hand_out(&mut self) -> Result<(), AllocError>
-        requires ids { self.old.counters.completion + 1 < 2 ^ 32 }
-        requires handles { self.old.counters.handle + 1 < 2 ^ 32 }
-        ensures ok { OnOk result (self.new ≡ handed_out self.old) }
+    /// Gives so many next handles the next completion ids.
+    fn hand_out(&mut self, ids: u32) -> Result<(), AllocError>
+        requires ids { self.old.counters.completion + ids < 2 ^ 32 }
+        requires handles { self.old.counters.handle + ids < 2 ^ 32 }
+        ensures ok { OnOk result (self.new ≡ handed_out ids self.old) }
         ensures err { OnErr result (self.new.output ≡ self.old.output) }
     {
-        let id = NotificationId::CompletionId(self.counters.completion);
-        self.results.map_handle(self.counters.handle, id)?;
-        self.counters.completion += 1;
-        self.counters.handle += 1;
+        for i in 0..ids {
+            let id = NotificationId::CompletionId(self.counters.completion + i);
+            self.results.map_handle(self.counters.handle + i, id)?;
+        }
+        self.counters.completion += ids;
+        self.counters.handle += ids;
         Ok(())
     }
 
-    fn prepare(&mut self, request: &Request) -> Result<(), AllocError>
-        requires ids { self.old.counters.completion + ids_of request.now < 2 ^ 32 }
-        requires handles { self.old.counters.handle + ids_of request.now < 2 ^ 32 }
-        ensures ok { OnOk result (self.new ≡ prepared request.now self.old) }
+    /// What a command changes of the state.
+    fn change(&mut self, command: &Message) -> Result<(), AllocError>
+        ensures ok { OnOk result (self.new ≡ record self.old { state = changed command.now self.old.state }) }
         ensures err { OnErr result (self.new.output ≡ self.old.output) }
     {
-        match request {
-            Request::Sleep { .. } => self.hand_out(),
-            Request::SetState { key, value, .. } => self.state.set(key, value),
-            Request::ClearState { key, .. } => self.state.clear(key),
-            Request::ClearAllState { .. } => {
+        match command {
+            Message::SetState(command) => self.state.set(&command.key, &command.value),
+            Message::ClearState(command) => self.state.clear(&command.key),
+            Message::ClearAllState(_) => {
                 self.state.clear_all();
                 Ok(())
             }
@@ -159,29 +154,44 @@ impl Machine {
         }
     }
 
-    /// A call that has a command.
-    #[tactic(auto, using(crate::proofs::Preparing::prepared_quiet, crate::proofs::Preparing::prepared_reads), unfolding(crate::specs::Commands::issued))]
-    pub fn issue(&mut self, request: &Request) -> Result<NotificationHandle, Fault>
-        ensures does { Gives (issued request.now self.old) result self.old self.new }
-        ensures sent { OnOk result (CanBeRead request.now self.old) }
+    /// A call that has a command, which is given without its numbers, and whether its payload may differ from one
+    /// attempt to the next.
+    #[tactic(auto, unfolding(crate::specs::Commands::issued))]
+    pub fn issue(
+        &mut self,
+        message: &mut Message,
+        unstable: bool,
+    ) -> Result<NotificationHandle, Fault>
+        ensures { Issues message.old unstable result self.old self.new }
     {
-        let ty = request.ty().message_type();
-        let name = request.name(self.alloc)?;
+        let ty = shown_type(message);
+        let name = name_of(self.alloc, message)?;
         if !self.phase.is_running() {
             self.enter(ty, name);
             return Err(Fault::Refused(self.about_last(self.phase.fault())?));
         }
-        let ids = request.ids();
+        let ids = ids_of(message);
         if let Some(fault) = self.counters.missing(ids, 0, ids) {
             let index = self.counters.next_index();
             return Err(Fault::Refused(about_next(fault, index, ty, name)));
         }
         let handle = NotificationHandle(self.counters.handle);
-        let ignore_payloads = self.ignores_payloads(request);
-        let message = request.message(self.counters.completion)?;
+        give_ids(message, self.counters.completion);
         self.enter(ty, name);
-        self.prepare(request)?;
-        self.carry_out(&message, ignore_payloads)?;
+        self.hand_out(ids)?;
+        self.change(message)?;
+        let ignore_payloads = checks_are_off(self.options.non_determinism_checks) || unstable;
+        self.carry_out(message, ignore_payloads)?;
         Ok(handle)
+    }
+
+    /// A call that has a command, unless its arguments refuse it.
+    pub fn command(&mut self, command: &mut Command) -> Result<NotificationHandle, Fault>
+        ensures { Carries command.old result self.old self.new }
+    {
+        if let Some(fault) = command.refusal {
+            return Err(refuse(fault));
+        }
+        self.issue(&mut command.message, command.unstable)
     }
 }

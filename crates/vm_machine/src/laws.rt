@@ -1,51 +1,50 @@
 //! Laws of the calls, in replay as in Processing.
-ghost use Rattle.std.specs.Prelude.{◌≡◌, ℕ, true, false, List, [], ◌∷◌, Option, Some, None};
-ghost use Rattle.vm_parts.specs.declared.options.PayloadOptions.{PayloadOptions};
+ghost use Rattle.std.specs.Prelude.{◌≡◌, ℕ, Bool, true, false, List, [], ◌∷◌, Option, Some, None};
 ghost use Rattle.vm_parts.specs.declared.types.AwakeableHandle.{AwakeableHandle};
 ghost use Rattle.vm_parts.specs.declared.types.NotificationHandle.{NotificationHandle};
-ghost use Rattle.vm_parts.specs.States.{state_set, state_cleared, all_cleared};
 ghost use Rattle.vm_machine.specs.declared.machine.Machine.{Machine};
 ghost use Rattle.vm_machine.specs.declared.phase.Phase.TheVariants.{Replaying};
-ghost use Rattle.vm_machine.specs.declared.request.Request.{Request};
-ghost use Rattle.vm_machine.specs.declared.request.Request.TheVariants.{SetState, ClearState, ClearAllState};
 ghost use Rattle.journal_protocol.specs.declared.error.Error.{Error};
 ghost use Rattle.journal_protocol.specs.declared.faults.NamedFault.TheVariants as fault;
 ghost use Rattle.journal_protocol.specs.declared.message.Message.{Message};
 ghost use Rattle.journal_protocol.specs.declared.message.RawMessage.{RawMessage};
 ghost use Rattle.journal_protocol.specs.Reading.{message_in};
 ghost use Rattle.vm_parts.specs.declared.command_type.CommandRelationship.{CommandRelationship};
+ghost use Rattle.journal_protocol.specs.declared.version.Version.{Version};
+ghost use Rattle.vm_parts.specs.declared.steps.Step.{Step};
+ghost use Rattle.vm_machine.specs.declared.asks.Ask.TheVariants as ask;
+ghost use Rattle.vm_machine.specs.declared.asks.Command.{Command};
+ghost use Rattle.vm_machine.specs.Asks.{ask_of};
 ghost use Rattle.vm_machine.specs.Awaits.{await_step, take_step};
 ghost use Rattle.vm_machine.specs.Commands.{issued};
-ghost use Rattle.vm_machine.specs.Endings.{EventWrites, Writes, is_over};
+ghost use Rattle.vm_machine.specs.Endings.{EventWrites, Writes, is_over, is_terminal};
 ghost use Rattle.vm_machine.specs.Inputs.{close_step, end_step, input_step, malformed_step, message_step};
 ghost use Rattle.vm_machine.specs.Reports.{report_step};
 ghost use Rattle.vm_machine.specs.Numbers.{Counted};
 ghost use Rattle.vm_machine.specs.Outcomes.{Done, Failed, Outcome, called};
 ghost use Rattle.vm_machine.specs.Replays.{MayReplay, Pops, Refuses, is_header_equal, is_of_its_type};
-ghost use Rattle.vm_machine.specs.Requests.{ids_of};
+ghost use Rattle.vm_machine.specs.Requests.{changed, ids_of, with_ids};
 ghost use Rattle.vm_machine.specs.Signals.{awakeable_step};
 
 /// The calls that change the state do so, whether their command is written or popped.
-#[tactic(auto, using(crate::proofs::Carried::set_leaves, crate::proofs::Carried::cleared_leaves, crate::proofs::Carried::all_cleared_leaves))]
+#[tactic(auto, using(crate::proofs::Carried::issued_changes))]
 pub fn state_is_changed()
-    ensures set { (key value name : List ℕ) (options : PayloadOptions) (h : NotificationHandle) (v w : Machine) → issued (SetState key value name options) v ≡ Done h w → w.state ≡ state_set key value v.state }
-    ensures cleared { (key name : List ℕ) (h : NotificationHandle) (v w : Machine) → issued (ClearState key name) v ≡ Done h w → w.state ≡ state_cleared key v.state }
-    ensures all_cleared { (name : List ℕ) (h : NotificationHandle) (v w : Machine) → issued (ClearAllState name) v ≡ Done h w → w.state ≡ all_cleared v.state }
+    ensures { (m : Message) (unstable : Bool) (h : NotificationHandle) (v w : Machine) → issued m unstable v ≡ Done h w → w.state ≡ changed (with_ids v.counters.completion m) v.state }
 {}
 
 /// Numbers are given in order, each once: a call takes as many completion ids and handles as its command has, an
 /// awakeable one signal id and one handle; what is answered is the handle that came next.
 #[tactic(auto, using(crate::proofs::Carried::issued_counts, crate::proofs::Carried::issued_handle, crate::proofs::Carried::awakeable_makes))]
 pub fn numbers_are_in_order()
-    ensures calls { (r : Request) (h : NotificationHandle) (v w : Machine) → issued r v ≡ Done h w → Counted (ids_of r) 0 (ids_of r) v.counters w.counters }
-    ensures handles { (r : Request) (h : NotificationHandle) (v w : Machine) → issued r v ≡ Done h w → h.0 ≡ v.counters.handle }
+    ensures calls { (m : Message) (unstable : Bool) (h : NotificationHandle) (v w : Machine) → issued m unstable v ≡ Done h w → Counted (ids_of m) 0 (ids_of m) v.counters w.counters }
+    ensures handles { (m : Message) (unstable : Bool) (h : NotificationHandle) (v w : Machine) → issued m unstable v ≡ Done h w → h.0 ≡ v.counters.handle }
     ensures awakeables { (a : AwakeableHandle) (v w : Machine) → awakeable_step v ≡ Done a w → Counted 0 1 1 v.counters w.counters × (a.handle.0 ≡ v.counters.handle) }
 {}
 
 /// Whatever happens to a machine, at most one Suspension, Error or End is written, and nothing behind it: nothing on a
 /// machine that has failed, has ended or is suspended, and a machine that writes one of them is so.
 pub fn output_ends_once()
-    ensures commands { (r : Request) (v : Machine) → EventWrites v (called (issued r v) v) }
+    ensures commands { (m : Message) (unstable : Bool) (v : Machine) → is_terminal m ≡ false → EventWrites v (called (issued m unstable v) v) }
     ensures awakeables { (v : Machine) → EventWrites v (called (awakeable_step v) v) }
     ensures awaits { (handle : ℕ) (v : Machine) → EventWrites v (called (await_step handle v) v) }
     ensures takes { (handle : ℕ) (v : Machine) → EventWrites v (called (take_step handle v) v) }
@@ -57,14 +56,20 @@ pub fn output_ends_once()
     ensures closings { (v : Machine) → EventWrites v (called (close_step v) v) }
 {}
 
+/// What a step asks for is no terminal message.
+#[tactic(auto, using(crate::proofs::Endings::asked_commands_go_on))]
+pub fn commands_end_nothing()
+    ensures { (version : Version) (s : Step) (c : Command) → ask_of version s ≡ ask.Command c → is_terminal c.message ≡ false }
+{}
+
 /// A replayed command writes nothing, and the next recorded command is popped only where it is header-equal to the
 /// call's; else the call is refused with the error that says why.
 pub fn replay_pops_what_is_equal()
-    ensures popped { (r : Request) (h : NotificationHandle) (v w : Machine) → v.phase ≡ Replaying → issued r v ≡ Done h w → Pops r v w }
-    ensures none_left { (r : Request) (v : Machine) → MayReplay r v → v.commands ≡ [] → Refuses fault.UnavailableEntry r v }
-    ensures other_type { (r : Request) (raw : RawMessage) (rest : List RawMessage) (v : Machine) → MayReplay r v → v.commands ≡ raw ∷ rest → is_of_its_type raw r v ≡ false → Refuses fault.CommandTypeMismatch r v }
-    ensures not_read { (r : Request) (raw : RawMessage) (rest : List RawMessage) (v : Machine) → MayReplay r v → v.commands ≡ raw ∷ rest → is_of_its_type raw r v ≡ true → message_in raw.ty raw.body ≡ None → Refuses fault.BadMessage r v }
-    ensures not_equal { (r : Request) (raw : RawMessage) (rest : List RawMessage) (recorded : Message) (v : Machine) → MayReplay r v → v.commands ≡ raw ∷ rest → is_of_its_type raw r v ≡ true → message_in raw.ty raw.body ≡ Some recorded → is_header_equal recorded r v ≡ false → Refuses fault.CommandMismatch r v }
+    ensures popped { (m : Message) (unstable : Bool) (h : NotificationHandle) (v w : Machine) → v.phase ≡ Replaying → issued m unstable v ≡ Done h w → Pops m unstable v w }
+    ensures none_left { (m : Message) (unstable : Bool) (v : Machine) → MayReplay m v → v.commands ≡ [] → Refuses fault.UnavailableEntry m unstable v }
+    ensures other_type { (m : Message) (unstable : Bool) (raw : RawMessage) (rest : List RawMessage) (v : Machine) → MayReplay m v → v.commands ≡ raw ∷ rest → is_of_its_type raw m v ≡ false → Refuses fault.CommandTypeMismatch m unstable v }
+    ensures not_read { (m : Message) (unstable : Bool) (raw : RawMessage) (rest : List RawMessage) (v : Machine) → MayReplay m v → v.commands ≡ raw ∷ rest → is_of_its_type raw m v ≡ true → message_in raw.ty raw.body ≡ None → Refuses fault.BadMessage m unstable v }
+    ensures not_equal { (m : Message) (unstable : Bool) (raw : RawMessage) (rest : List RawMessage) (recorded : Message) (v : Machine) → MayReplay m v → v.commands ≡ raw ∷ rest → is_of_its_type raw m v ≡ true → message_in raw.ty raw.body ≡ Some recorded → is_header_equal recorded m unstable v ≡ false → Refuses fault.CommandMismatch m unstable v }
 {}
 
 /// Once a machine has failed, has ended or is suspended nothing is written: each event writes as `output_ends_once`

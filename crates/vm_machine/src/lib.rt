@@ -1,6 +1,7 @@
 //! The machine of the VM: one function for each event, each with the outcome that its contract names.
 #![tactic(auto)]
 
+pub mod asks;
 pub mod awaits;
 pub mod commands;
 pub mod fault;
@@ -15,7 +16,7 @@ pub mod request;
 pub mod settle;
 pub mod signals;
 
+pub use asks::{Ask, Command};
 pub use fault::Fault;
 pub use machine::Machine;
 pub use phase::Phase;
-pub use request::Request;

@@ -11,22 +11,21 @@ use Rattle.journal_protocol.specs.declared.notification.NotificationId.{Notifica
 use Rattle.journal_protocol.specs.declared.notification.NotificationResult.{NotificationResult}
 use Rattle.vm_parts.specs.declared.steps.Answer.{Answer}
 use Rattle.vm_parts.specs.declared.steps.Step.{Step}
-use Rattle.vm_parts.specs.declared.steps.Step.TheVariants as step
 use Rattle.vm_parts.specs.declared.types.NotificationHandle.{NotificationHandle}
-use Rattle.vm_parts.specs.declared.values.NonEmptyValue.{NonEmptyValue}
 use Rattle.vm_parts.specs.declared.values.Value.{Value}
 use Rattle.vm_parts.specs.Counting.{missing, missing_signals}
 use Rattle.vm_parts.specs.Deliveries.{id_at, present_for}
-use Rattle.vm_parts.specs.Values.{value_message, value_of}
-use Rattle.vm_machine.specs.declared.request.Request.{Request}
-use Rattle.vm_machine.specs.declared.request.Request.TheVariants as request
-use Rattle.vm_machine.specs.Phases.{is_from_v6}
+use Rattle.vm_parts.specs.Values.{value_of}
+use Rattle.vm_machine.specs.declared.asks.Ask.{Ask}
+use Rattle.vm_machine.specs.declared.asks.Ask.TheVariants as ask
+use Rattle.vm_machine.specs.declared.asks.Command.{Command}
+use Rattle.vm_machine.specs.Asks.{ask_of}
 use Rattle.vm_machine.specs.Requests.{ids_of}
-use Rattle.invocation_vm.specs.Calls.{has_metadata, skips_replay}
-use Rattle.vm_model.specs.Calls.{Setup, Meaning, Derived, Demand, Move, awakeable_made, awaiting, call_of, commanded, handing, is_awake, making_awakeable, name_in, numbered, ready_in, requested, result_taken, sleeping, value_taken}
+use Rattle.invocation_vm.specs.Calls.{skips_replay}
+use Rattle.vm_model.specs.Calls.{Setup, Meaning, Derived, Demand, Move, asked, awakeable_made, awaiting, call_of, commanded, commanding, is_awake, making_awakeable, numbered, ready_in, result_taken, value_taken}
 use Rattle.vm_model.specs.Calls.Move.{Answers, Needs, Awaits, Stops}
 use Rattle.vm_model.specs.Moves.{Point, after, command_used, move_at, moved, next, stands_for, start, uses_arrival, uses_command}
-use Rattle.vm_model.specs.Sums.{calls_after, calls_for, completion_ids, handles, signal_ids, total}
+use Rattle.vm_model.specs.Sums.{calls_after, calls_for, completion_ids, completion_ids_in, handles, signal_ids, signal_ids_in, total}
 use Rattle.vm_model.proofs.Runs.{and_then_some, none_some}
 
 -- so many numbers were given
@@ -42,37 +41,16 @@ GivenAfter ids signals d (Needs demand gives e) = (a : Answer) × (gives ≡ a �
 GivenAfter ids signals d Awaits = Unit {0}
 GivenAfter ids signals d Stops = Unit {0}
 
-commanded_given : (r : Request) (d : Derived) → Given (ids_of r) 0 (ids_of r + 0) d (commanded r d)
-commanded_given (request.Sleep wake_up_time name) d = record { completion = refl; signal = sym (add-zero d.counters.signal); handle = refl }
-commanded_given (request.Output value options) d = record { completion = sym (add-zero d.counters.completion); signal = sym (add-zero d.counters.signal); handle = sym (add-zero d.counters.handle) }
-commanded_given (request.SetState key value name options) d = record { completion = sym (add-zero d.counters.completion); signal = sym (add-zero d.counters.signal); handle = sym (add-zero d.counters.handle) }
-commanded_given (request.ClearState key name) d = record { completion = sym (add-zero d.counters.completion); signal = sym (add-zero d.counters.signal); handle = sym (add-zero d.counters.handle) }
-commanded_given (request.ClearAllState name) d = record { completion = sym (add-zero d.counters.completion); signal = sym (add-zero d.counters.signal); handle = sym (add-zero d.counters.handle) }
-commanded_given (request.CompleteAwakeable id value options) d = record { completion = sym (add-zero d.counters.completion); signal = sym (add-zero d.counters.signal); handle = sym (add-zero d.counters.handle) }
-commanded_given (request.CompleteSignal target signal value) d = record { completion = sym (add-zero d.counters.completion); signal = sym (add-zero d.counters.signal); handle = sym (add-zero d.counters.handle) }
-commanded_given (request.CancelInvocation target) d = record { completion = sym (add-zero d.counters.completion); signal = sym (add-zero d.counters.signal); handle = sym (add-zero d.counters.handle) }
+commanded_given : (c : Command) (d : Derived) → Given (ids_of c.message) 0 (ids_of c.message + 0) d (commanded c d)
+commanded_given c d = record { completion = refl; signal = sym (add-zero d.counters.signal); handle = ap (λ n. d.counters.handle + n) (sym (add-zero (ids_of c.message))) }
 
-numbered_given : (s : Setup) (r : Request) (o : Option NamedFault) (d : Derived) → GivenAfter (ids_of r) 0 d (numbered s r o d)
-numbered_given s r (Some fault) d = tt
-numbered_given s r None d = (_, refl, commanded_given r d)
+numbered_given : (s : Setup) (c : Command) (o : Option NamedFault) (d : Derived) → GivenAfter (ids_of c.message) 0 d (numbered s c o d)
+numbered_given s c (Some fault) d = tt
+numbered_given s c None d = (_, refl, commanded_given c d)
 
-requested_given : (s : Setup) (r : Request) (d : Derived) → GivenAfter (ids_of r) 0 d (requested s r d)
-requested_given s r d = numbered_given s r (missing (ids_of r) 0 (ids_of r) d.counters) d
-
-handing_given : (s : Setup) (value : NonEmptyValue) (r : Request) (d : Derived) → GivenAfter (ids_of r) 0 d (handing s value r d)
-handing_given s value r d = by_tests (has_metadata value) (is_from_v6 s.version)
-  where
-    by_tests : (a b : Bool) → GivenAfter (ids_of r) 0 d (cond a (cond b (requested s r d) Stops) (requested s r d))
-    by_tests true true = requested_given s r d
-    by_tests true false = tt
-    by_tests false b = requested_given s r d
-
-sleeping_given : (s : Setup) (millis : ℕ) (name : List ℕ) (d : Derived) → GivenAfter 1 0 d (sleeping s millis name d)
-sleeping_given s millis name d = by_test (nat_lt millis 18446744073709551616)
-  where
-    by_test : (b : Bool) → GivenAfter 1 0 d (cond b (requested s (request.Sleep millis name) d) Stops)
-    by_test true = requested_given s (request.Sleep millis name) d
-    by_test false = tt
+commanding_given : (s : Setup) (c : Command) (o : Option NamedFault) (d : Derived) → GivenAfter (ids_of c.message) 0 d (commanding s c o d)
+commanding_given s c (Some fault) d = tt
+commanding_given s c None d = numbered_given s c (missing (ids_of c.message) 0 (ids_of c.message) d.counters) d
 
 awakeable_given : (s : Setup) (o : Option NamedFault) (d : Derived) → GivenAfter 0 1 d (awakeable_made s o d)
 awakeable_given s (Some fault) d = tt
@@ -98,20 +76,16 @@ result_given handle (Some id) (Some result) d = value_given handle id (value_of 
 result_given handle (Some id) None d = (_, refl, nothing_given d d refl)
 result_given handle None o d = (_, refl, nothing_given d d refl)
 
-call_given : (s : Setup) (step : Step) (d : Derived) → GivenAfter (completion_ids step) (signal_ids step) d (call_of s step d)
-call_given s (step.Sleep name wake_up_time now) d = sleeping_given s _ name d
-call_given s (step.StateSet key value name options) d = requested_given s (request.SetState key value (name_in name) options) d
-call_given s (step.StateClear key name) d = requested_given s (request.ClearState key (name_in name)) d
-call_given s (step.StateClearAll name) d = requested_given s (request.ClearAllState (name_in name)) d
-call_given s step.Awakeable d = making_given s (skips_replay s.options.journal_replay) d
-call_given s (step.CompleteAwakeable id value options) d = handing_given s value (request.CompleteAwakeable id (value_message value) options) d
-call_given s (step.CompleteSignal target signal value) d = handing_given s value (request.CompleteSignal target signal (value_message value)) d
-call_given s (step.CancelInvocation target) d = requested_given s (request.CancelInvocation target) d
-call_given s (step.WriteOutput value options) d = handing_given s value (request.Output (value_message value) options) d
-call_given s (step.Await future) d = awaiting_given (is_awake s future d) d
-call_given s (step.Take handle) d = result_given handle (id_at handle.0 d.handles) (present_for s.options.signal_delivery (id_at handle.0 d.handles) (ready_in s d)) d
-call_given s (step.Completed handle) d = (_, refl, nothing_given d d refl)
-call_given s step.End d = tt
+asked_given : (s : Setup) (a : Ask) (d : Derived) → GivenAfter (completion_ids_in a) (signal_ids_in a) d (asked s a d)
+asked_given s (ask.Command c) d = commanding_given s c c.refusal d
+asked_given s ask.Awakeable d = making_given s (skips_replay s.options.journal_replay) d
+asked_given s (ask.Await future) d = awaiting_given (is_awake s future d) d
+asked_given s (ask.Take handle) d = result_given handle (id_at handle.0 d.handles) (present_for s.options.signal_delivery (id_at handle.0 d.handles) (ready_in s d)) d
+asked_given s (ask.Completed handle) d = (_, refl, nothing_given d d refl)
+asked_given s ask.End d = tt
+
+call_given : (s : Setup) (st : Step) (d : Derived) → GivenAfter (completion_ids s.version st) (signal_ids s.version st) d (call_of s st d)
+call_given s st d = asked_given s (ask_of s.version st) d
 
 -- ---- one move
 
@@ -147,17 +121,17 @@ moved_moves ids signals Stops p q g m = none_some m
 -- ---- so many moves
 
 -- the numbers given between two points are the sums over the calls between them
-record Sums (m : Meaning) (p q : Point) : Type 0 where
+record Sums (s : Setup) (m : Meaning) (p q : Point) : Type 0 where
   gained : List Answer
   answers : q.answers ≡ p.answers ++ gained
-  numbers : Given (total completion_ids (calls_after m p.answers gained)) (total signal_ids (calls_after m p.answers gained)) (total handles (calls_after m p.answers gained)) p.derived q.derived
+  numbers : Given (total (completion_ids s.version) (calls_after m p.answers gained)) (total (signal_ids s.version) (calls_after m p.answers gained)) (total (handles s.version) (calls_after m p.answers gained)) p.derived q.derived
 
-sums_none : (m : Meaning) (p : Point) → Sums m p p
-sums_none m p = record { gained = []; answers = sym (append-nil p.answers); numbers = nothing_given p.derived p.derived refl }
+sums_none : (s : Setup) (m : Meaning) (p : Point) → Sums s m p p
+sums_none s m p = record { gained = []; answers = sym (append-nil p.answers); numbers = nothing_given p.derived p.derived refl }
 
-sums_answer : (m : Meaning) (p r q : Point) (a : Answer) → r.answers ≡ p.answers ++ a ∷ [] → Given (completion_ids (m p.answers)) (signal_ids (m p.answers)) (completion_ids (m p.answers) + signal_ids (m p.answers)) p.derived r.derived → Sums m r q → Sums m p q
-sums_answer m p r q a is g t =
-    let n = subst (λ l. Given (total completion_ids (calls_after m l t.gained)) (total signal_ids (calls_after m l t.gained)) (total handles (calls_after m l t.gained)) r.derived q.derived) is t.numbers in
+sums_answer : (s : Setup) (m : Meaning) (p r q : Point) (a : Answer) → r.answers ≡ p.answers ++ a ∷ [] → Given (completion_ids s.version (m p.answers)) (signal_ids s.version (m p.answers)) (completion_ids s.version (m p.answers) + signal_ids s.version (m p.answers)) p.derived r.derived → Sums s m r q → Sums s m p q
+sums_answer s m p r q a is g t =
+    let n = subst (λ l. Given (total (completion_ids s.version) (calls_after m l t.gained)) (total (signal_ids s.version) (calls_after m l t.gained)) (total (handles s.version) (calls_after m l t.gained)) r.derived q.derived) is t.numbers in
     let c1 = n.completion in
     let c2 = g.completion in
     let s1 = n.signal in
@@ -170,32 +144,32 @@ sums_answer m p r q a is g t =
       numbers = record { completion = omega (arith, c1, c2); signal = omega (arith, s1, s2); handle = omega (arith, h1, h2) };
     }
 
-sums_arrival : (m : Meaning) (p r q : Point) → r.answers ≡ p.answers → r.derived.counters ≡ p.derived.counters → Sums m r q → Sums m p q
-sums_arrival m p r q is same t =
-    let n = subst (λ l. Given (total completion_ids (calls_after m l t.gained)) (total signal_ids (calls_after m l t.gained)) (total handles (calls_after m l t.gained)) r.derived q.derived) is t.numbers in
+sums_arrival : (s : Setup) (m : Meaning) (p r q : Point) → r.answers ≡ p.answers → r.derived.counters ≡ p.derived.counters → Sums s m r q → Sums s m p q
+sums_arrival s m p r q is same t =
+    let n = subst (λ l. Given (total (completion_ids s.version) (calls_after m l t.gained)) (total (signal_ids s.version) (calls_after m l t.gained)) (total (handles s.version) (calls_after m l t.gained)) r.derived q.derived) is t.numbers in
     record {
       gained = t.gained;
       answers = t.answers ∙ ap (λ l. l ++ t.gained) is;
       numbers = record {
-        completion = n.completion ∙ ap (λ c. c.completion + total completion_ids (calls_after m p.answers t.gained)) same;
-        signal = n.signal ∙ ap (λ c. c.signal + total signal_ids (calls_after m p.answers t.gained)) same;
-        handle = n.handle ∙ ap (λ c. c.handle + total handles (calls_after m p.answers t.gained)) same;
+        completion = n.completion ∙ ap (λ c. c.completion + total (completion_ids s.version) (calls_after m p.answers t.gained)) same;
+        signal = n.signal ∙ ap (λ c. c.signal + total (signal_ids s.version) (calls_after m p.answers t.gained)) same;
+        handle = n.handle ∙ ap (λ c. c.handle + total (handles s.version) (calls_after m p.answers t.gained)) same;
       };
     }
 
-after_sums : (s : Setup) (m : Meaning) (n : ℕ) (p q : Point) → after s m n p ≡ Some q → Sums m p q
+after_sums : (s : Setup) (m : Meaning) (n : ℕ) (p q : Point) → after s m n p ≡ Some q → Sums s m p q
 unfolding Moves
-after_sums s m zero p q e = subst (λ z. Sums m p z) (same_Some _ q e) (sums_none m p)
+after_sums s m zero p q e = subst (λ z. Sums s m p z) (same_Some _ q e) (sums_none s m p)
 after_sums s m (suc n) p q e =
     let x = and_then_some (next s m p) (after s m n) q e in
     ⊎_elim
-    (λ (y : (a : Answer) × (x.0.answers ≡ p.answers ++ a ∷ []) × Given (completion_ids (m p.answers)) (signal_ids (m p.answers)) (completion_ids (m p.answers) + signal_ids (m p.answers)) p.derived x.0.derived). sums_answer m p x.0 q y.0 y.1 y.2 (after_sums s m n x.0 q x.2))
-    (λ (y : (x.0.answers ≡ p.answers) × (x.0.derived.counters ≡ p.derived.counters)). sums_arrival m p x.0 q y.0 y.1 (after_sums s m n x.0 q x.2))
-    (moved_moves (completion_ids (m p.answers)) (signal_ids (m p.answers)) (move_at s m p) p x.0 (call_given s (m p.answers) p.derived) x.1)
+    (λ (y : (a : Answer) × (x.0.answers ≡ p.answers ++ a ∷ []) × Given (completion_ids s.version (m p.answers)) (signal_ids s.version (m p.answers)) (completion_ids s.version (m p.answers) + signal_ids s.version (m p.answers)) p.derived x.0.derived). sums_answer s m p x.0 q y.0 y.1 y.2 (after_sums s m n x.0 q x.2))
+    (λ (y : (x.0.answers ≡ p.answers) × (x.0.derived.counters ≡ p.derived.counters)). sums_arrival s m p x.0 q y.0 y.1 (after_sums s m n x.0 q x.2))
+    (moved_moves (completion_ids s.version (m p.answers)) (signal_ids s.version (m p.answers)) (move_at s m p) p x.0 (call_given s (m p.answers) p.derived) x.1)
 
 -- in a run that a journal tells: completion ids from 1, signal ids and handles from 17
 pub told_sums : (s : Setup) (m : Meaning) (n : ℕ) (input : InputCommand) (ns : List Notification) (cs : List RawMessage) (q : Point) → after s m n (start s input ns cs) ≡ Some q
-    → (q.derived.counters.completion ≡ 1 + total completion_ids (calls_for m q.answers)) × (q.derived.counters.signal ≡ 17 + total signal_ids (calls_for m q.answers)) × (q.derived.counters.handle ≡ 17 + total handles (calls_for m q.answers))
+    → (q.derived.counters.completion ≡ 1 + total (completion_ids s.version) (calls_for m q.answers)) × (q.derived.counters.signal ≡ 17 + total (signal_ids s.version) (calls_for m q.answers)) × (q.derived.counters.handle ≡ 17 + total (handles s.version) (calls_for m q.answers))
 told_sums s m n input ns cs q e =
     let t = after_sums s m n (start s input ns cs) q e in
     rw t.answers (t.numbers.completion, t.numbers.signal, t.numbers.handle)

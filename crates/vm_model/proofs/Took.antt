@@ -8,20 +8,18 @@ use Rattle.journal_protocol.specs.declared.notification.Notification.{Notificati
 use Rattle.journal_protocol.specs.declared.notification.NotificationId.{NotificationId}
 use Rattle.journal_protocol.specs.declared.notification.NotificationResult.{NotificationResult}
 use Rattle.vm_parts.specs.declared.steps.Answer.{Answer}
-use Rattle.vm_parts.specs.declared.steps.Step.{Step}
-use Rattle.vm_parts.specs.declared.steps.Step.TheVariants as step
 use Rattle.vm_parts.specs.declared.types.NotificationHandle.{NotificationHandle}
-use Rattle.vm_parts.specs.declared.values.NonEmptyValue.{NonEmptyValue}
 use Rattle.vm_parts.specs.declared.values.Value.{Value}
 use Rattle.vm_parts.specs.Counting.{missing, missing_signals}
 use Rattle.vm_parts.specs.Deliveries.{id_at, present, present_for}
-use Rattle.vm_parts.specs.Values.{value_message, value_of}
-use Rattle.vm_machine.specs.declared.request.Request.{Request}
-use Rattle.vm_machine.specs.declared.request.Request.TheVariants as request
-use Rattle.vm_machine.specs.Phases.{is_from_v6}
+use Rattle.vm_parts.specs.Values.{value_of}
+use Rattle.vm_machine.specs.declared.asks.Ask.{Ask}
+use Rattle.vm_machine.specs.declared.asks.Ask.TheVariants as ask
+use Rattle.vm_machine.specs.declared.asks.Command.{Command}
+use Rattle.vm_machine.specs.Asks.{ask_of}
 use Rattle.vm_machine.specs.Requests.{ids_of}
-use Rattle.invocation_vm.specs.Calls.{has_metadata, skips_replay}
-use Rattle.vm_model.specs.Calls.{Setup, Meaning, Derived, Demand, Move, awakeable_made, awaiting, call_of, completions_given, handing, is_awake, making_awakeable, name_in, numbered, ready_in, requested, result_taken, sleeping, value_taken}
+use Rattle.invocation_vm.specs.Calls.{skips_replay}
+use Rattle.vm_model.specs.Calls.{Setup, Meaning, Derived, Demand, Move, asked, awakeable_made, awaiting, commanding, is_awake, making_awakeable, numbered, ready_in, result_taken, value_taken}
 use Rattle.vm_model.specs.Calls.Move.{Answers, Needs, Awaits, Stops}
 use Rattle.vm_model.specs.Moves.{Point, after, command_used, move_at, moved, next, stands_for, start, uses_arrival, uses_command}
 use Rattle.vm_model.specs.Deliveries.{EachTookAResult}
@@ -37,31 +35,13 @@ TookAfter s (Needs demand gives d) = Took s d
 TookAfter s Awaits = Unit {0}
 TookAfter s Stops = Unit {0}
 
-given_took : (s : Setup) (n : ℕ) (d : Derived) → Took s d → Took s (completions_given n d)
-given_took s zero d h = h
-given_took s (suc n) d h = given_took s n _ h
+numbered_took : (s : Setup) (c : Command) (o : Option NamedFault) (d : Derived) → Took s d → TookAfter s (numbered s c o d)
+numbered_took s c (Some fault) d h = tt
+numbered_took s c None d h = h
 
-numbered_took : (s : Setup) (r : Request) (o : Option NamedFault) (d : Derived) → Took s d → TookAfter s (numbered s r o d)
-numbered_took s r (Some fault) d h = tt
-numbered_took s r None d h = given_took s (ids_of r) _ h
-
-requested_took : (s : Setup) (r : Request) (d : Derived) → Took s d → TookAfter s (requested s r d)
-requested_took s r d h = numbered_took s r (missing (ids_of r) 0 (ids_of r) d.counters) d h
-
-handing_took : (s : Setup) (value : NonEmptyValue) (r : Request) (d : Derived) → Took s d → TookAfter s (handing s value r d)
-handing_took s value r d h = by_tests (has_metadata value) (is_from_v6 s.version)
-  where
-    by_tests : (a b : Bool) → TookAfter s (cond a (cond b (requested s r d) Stops) (requested s r d))
-    by_tests true true = requested_took s r d h
-    by_tests true false = tt
-    by_tests false b = requested_took s r d h
-
-sleeping_took : (s : Setup) (millis : ℕ) (name : List ℕ) (d : Derived) → Took s d → TookAfter s (sleeping s millis name d)
-sleeping_took s millis name d h = by_test (Rattle.std.specs.Prelude.nat_lt millis 18446744073709551616)
-  where
-    by_test : (b : Bool) → TookAfter s (cond b (requested s (request.Sleep millis name) d) Stops)
-    by_test true = requested_took s (request.Sleep millis name) d h
-    by_test false = tt
+commanding_took : (s : Setup) (c : Command) (o : Option NamedFault) (d : Derived) → Took s d → TookAfter s (commanding s c o d)
+commanding_took s c (Some fault) d h = tt
+commanding_took s c None d h = numbered_took s c (missing (ids_of c.message) 0 (ids_of c.message) d.counters) d h
 
 awakeable_took : (s : Setup) (o : Option NamedFault) (d : Derived) → Took s d → TookAfter s (awakeable_made s o d)
 awakeable_took s (Some fault) d h = tt
@@ -84,20 +64,13 @@ result_took s handle (Some id) (Some result) d is h = value_took s handle id (va
 result_took s handle (Some id) None d is h = h
 result_took s handle None o d is h = h
 
-call_took : (s : Setup) (step : Step) (d : Derived) → Took s d → TookAfter s (call_of s step d)
-call_took s (step.Sleep name wake_up_time now) d h = sleeping_took s _ name d h
-call_took s (step.StateSet key value name options) d h = requested_took s (request.SetState key value (name_in name) options) d h
-call_took s (step.StateClear key name) d h = requested_took s (request.ClearState key (name_in name)) d h
-call_took s (step.StateClearAll name) d h = requested_took s (request.ClearAllState (name_in name)) d h
-call_took s step.Awakeable d h = making_took s (skips_replay s.options.journal_replay) d h
-call_took s (step.CompleteAwakeable id value options) d h = handing_took s value (request.CompleteAwakeable id (value_message value) options) d h
-call_took s (step.CompleteSignal target signal value) d h = handing_took s value (request.CompleteSignal target signal (value_message value)) d h
-call_took s (step.CancelInvocation target) d h = requested_took s (request.CancelInvocation target) d h
-call_took s (step.WriteOutput value options) d h = handing_took s value (request.Output (value_message value) options) d h
-call_took s (step.Await future) d h = awaiting_took s (is_awake s future d) d h
-call_took s (step.Take handle) d h = result_took s handle (id_at handle.0 d.handles) (present_for s.options.signal_delivery (id_at handle.0 d.handles) (ready_in s d)) d refl h
-call_took s (step.Completed handle) d h = h
-call_took s step.End d h = tt
+asked_took : (s : Setup) (a : Ask) (d : Derived) → Took s d → TookAfter s (asked s a d)
+asked_took s (ask.Command c) d h = commanding_took s c c.refusal d h
+asked_took s ask.Awakeable d h = making_took s (skips_replay s.options.journal_replay) d h
+asked_took s (ask.Await future) d h = awaiting_took s (is_awake s future d) d h
+asked_took s (ask.Take handle) d h = result_took s handle (id_at handle.0 d.handles) (present_for s.options.signal_delivery (id_at handle.0 d.handles) (ready_in s d)) d refl h
+asked_took s (ask.Completed handle) d h = h
+asked_took s ask.End d h = tt
 
 command_took : (s : Setup) (b : Bool) (e : Demand) (gives : List Answer) (d : Derived) (left : List RawMessage) (p q : Point) → Took s d → command_used b e gives d left p ≡ Some q → Took s q.derived
 command_took s false e gives d left p q h m = none_some m
@@ -121,7 +94,7 @@ after_took : (s : Setup) (m : Meaning) (n : ℕ) (p q : Point) → Took s p.deri
 after_took s m zero p q h e = subst (λ z. Took s z.derived) (same_Some _ q e) h
 after_took s m (suc n) p q h e =
     let x = and_then_some (next s m p) (after s m n) q e in
-    after_took s m n x.0 q (moved_took s (move_at s m p) p x.0 h (call_took s (m p.answers) p.derived h) x.1) x.2
+    after_took s m n x.0 q (moved_took s (move_at s m p) p x.0 h (asked_took s (ask_of s.version (m p.answers)) p.derived h) x.1) x.2
 
 -- in a run that a journal tells each take took what was present
 pub told_took : (s : Setup) (m : Meaning) (n : ℕ) (input : InputCommand) (ns : List Notification) (cs : List RawMessage) (q : Point) → after s m n (start s input ns cs) ≡ Some q → EachTookAResult s.options.signal_delivery q.derived.usage

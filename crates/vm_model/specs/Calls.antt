@@ -1,11 +1,10 @@
--- The table of calls: what each step of a handler asks for, from what is known so far. One row a kind of step.
-use Rattle.std.specs.Prelude.{ℕ, suc, zero, ◌+◌, ◌/◌, ◌==◌, nat_lt, Bool, true, false, ◌||◌, cond, if◌then◌else◌, List, [], ◌∷◌, ◌++◌, Option, Some, None}
-use Rattle.std.specs.Duration.{as_nanos}
+-- What comes of each step of a handler, from what is known so far: one row a kind of what steps ask for.
+use Rattle.std.specs.Prelude.{ℕ, ◌+◌, ◌==◌, Bool, true, false, cond, List, [], ◌∷◌, ◌++◌, Option, Some, None}
 use Rattle.journal_protocol.specs.declared.faults.NamedFault.{NamedFault}
 use Rattle.journal_protocol.specs.declared.message.Message.{Message}
 use Rattle.journal_protocol.specs.declared.notification.Notification.{Notification}
 use Rattle.journal_protocol.specs.declared.notification.NotificationId.{NotificationId}
-use Rattle.journal_protocol.specs.declared.notification.NotificationId.TheVariants.{CompletionId, SignalId}
+use Rattle.journal_protocol.specs.declared.notification.NotificationId.TheVariants.{SignalId}
 use Rattle.journal_protocol.specs.declared.notification.NotificationResult.{NotificationResult}
 use Rattle.journal_protocol.specs.declared.version.Version.{Version}
 use Rattle.vm_parts.specs.declared.async_results.Mapping.{Mapping}
@@ -17,23 +16,21 @@ use Rattle.vm_parts.specs.declared.options.VMOptions.{VMOptions}
 use Rattle.vm_parts.specs.declared.steps.Answer.{Answer}
 use Rattle.vm_parts.specs.declared.steps.Answer.TheVariants as answer
 use Rattle.vm_parts.specs.declared.steps.Step.{Step}
-use Rattle.vm_parts.specs.declared.steps.Step.TheVariants as step
 use Rattle.vm_parts.specs.declared.types.NotificationHandle.{NotificationHandle}
 use Rattle.vm_parts.specs.declared.types.UnresolvedFuture.{UnresolvedFuture}
 use Rattle.vm_parts.specs.declared.types.UnresolvedFuture.TheVariants.{Single}
-use Rattle.vm_parts.specs.declared.values.NonEmptyValue.{NonEmptyValue}
 use Rattle.vm_parts.specs.declared.values.Value.{Value}
-use Rattle.vm_parts.specs.CommandTypes.{message_type}
 use Rattle.vm_parts.specs.Counting.{missing, missing_signals, next_index}
 use Rattle.vm_parts.specs.Deliveries.{has_result_for, id_at, left_ready, present_for, unmapped}
-use Rattle.vm_parts.specs.Values.{value_message, value_of}
-use Rattle.vm_machine.specs.declared.request.Request.{Request}
-use Rattle.vm_machine.specs.declared.request.Request.TheVariants as request
-use Rattle.vm_machine.specs.Commands.{checks_are_off}
-use Rattle.vm_machine.specs.Phases.{is_from_v6}
-use Rattle.vm_machine.specs.Requests.{command_of, ids_of, is_unstable, message_of, name_of}
+use Rattle.vm_parts.specs.Values.{value_of}
+use Rattle.vm_machine.specs.declared.asks.Ask.{Ask}
+use Rattle.vm_machine.specs.declared.asks.Ask.TheVariants as ask
+use Rattle.vm_machine.specs.declared.asks.Command.{Command}
+use Rattle.vm_machine.specs.Asks.{ask_of, command_answer}
+use Rattle.vm_machine.specs.Commands.{given_on, ignores_payloads, mapped_from}
+use Rattle.vm_machine.specs.Requests.{ids_of, name_of, shown_type, with_ids}
 use Rattle.vm_machine.specs.Signals.{awakeable_id}
-use Rattle.invocation_vm.specs.Calls.{has_metadata, skips_replay}
+use Rattle.invocation_vm.specs.Calls.{skips_replay}
 
 -- What stays the same over all attempts of an invocation, as a handler is told it.
 pub record Identity : Type 0 where
@@ -109,59 +106,35 @@ pub data Move : Type 0 where
 
 -- ---- calls with a command
 
--- the next handle stands for the next completion id, so many times
-abbrev pub completions_given : ℕ → Derived → Derived
-completions_given zero d = d
-completions_given (suc n) d =
-    completions_given n (record d {
-      handles = d.handles ++ record { handle = d.counters.handle; id = CompletionId d.counters.completion } ∷ [];
-      counters = record d.counters { completion = d.counters.completion + 1; handle = d.counters.handle + 1 };
-    })
-
 -- what a command leaves: it is counted, its type and name are kept, and its numbers are given
-abbrev pub commanded : Request → Derived → Derived
-commanded r d =
-    completions_given (ids_of r) (record d {
-      counters = record d.counters { command = Some (next_index d.counters.command) };
-      last = record { ty = message_type (command_of r); name = name_of r };
-    })
+abbrev pub commanded : Command → Derived → Derived
+commanded c d = record d {
+  counters = given_on (ids_of c.message) (record d.counters { command = Some (next_index d.counters.command) });
+  last = record { ty = shown_type c.message; name = name_of c.message };
+  handles = d.handles ++ mapped_from (ids_of c.message) d.counters.handle d.counters.completion;
+}
 
 -- the command of a call, by the next numbers
-abbrev pub demand_of : Setup → Request → Derived → Demand
-demand_of s r d = record { command = message_of r d.counters.completion; ignores_payload = checks_are_off s.options.non_determinism_checks || is_unstable r }
+abbrev pub demand_of : Setup → Command → Derived → Demand
+demand_of s c d = record { command = with_ids d.counters.completion c.message; ignores_payload = ignores_payloads s.options.non_determinism_checks c.unstable }
 
--- a command with results is answered by its handle, another by nothing
-abbrev pub answer_of : Request → Derived → Answer
-answer_of (request.Sleep wake_up_time name) d = answer.Handle (record { 0 = d.counters.handle })
-answer_of (request.Output value options) d = answer.Unit
-answer_of (request.SetState key value name options) d = answer.Unit
-answer_of (request.ClearState key name) d = answer.Unit
-answer_of (request.ClearAllState name) d = answer.Unit
-answer_of (request.CompleteAwakeable id value options) d = answer.Unit
-answer_of (request.CompleteSignal target signal value) d = answer.Unit
-answer_of (request.CancelInvocation target) d = answer.Unit
+-- a command with results is answered by its first handle, another by nothing
+abbrev pub answer_of : Command → Derived → Answer
+answer_of c d = command_answer (ids_of c.message) (record { 0 = d.counters.handle })
 
 -- a call with a command, by the first kind of number that is missing
-abbrev pub numbered : Setup → Request → Option NamedFault → Derived → Move
-numbered s r (Some fault) d = Stops
-numbered s r None d = Needs (demand_of s r d) (answer_of r d ∷ []) (commanded r d)
+abbrev pub numbered : Setup → Command → Option NamedFault → Derived → Move
+numbered s c (Some fault) d = Stops
+numbered s c None d = Needs (demand_of s c d) (answer_of c d ∷ []) (commanded c d)
 
 -- a call with a command, where its numbers are left
-abbrev pub requested : Setup → Request → Derived → Move
-requested s r d = numbered s r (missing (ids_of r) 0 (ids_of r) d.counters) d
+abbrev pub requested : Setup → Command → Derived → Move
+requested s c d = numbered s c (missing (ids_of c.message) 0 (ids_of c.message) d.counters) d
 
--- an absent name is empty
-abbrev pub name_in : Option (List ℕ) → List ℕ
-name_in None = []
-name_in (Some name) = name
-
--- a time in ms has to fit
-abbrev pub sleeping : Setup → ℕ → List ℕ → Derived → Move
-sleeping s millis name d = if nat_lt millis 18446744073709551616 then requested s (request.Sleep millis name) d else Stops
-
--- metadata on a failure needs V6
-abbrev pub handing : Setup → NonEmptyValue → Request → Derived → Move
-handing s value r d = cond (has_metadata value) (cond (is_from_v6 s.version) (requested s r d) Stops) (requested s r d)
+-- a call with a command, unless its arguments refuse it
+abbrev pub commanding : Setup → Command → Option NamedFault → Derived → Move
+commanding s c (Some fault) d = Stops
+commanding s c None d = requested s c d
 
 -- ---- calls without a command
 
@@ -205,18 +178,15 @@ taking s handle id d = result_taken handle id (present_for s.options.signal_deli
 
 -- ---- the table
 
--- what a step asks for
+-- what comes of what a step asks for
+abbrev pub asked : Setup → Ask → Derived → Move
+asked s (ask.Command c) d = commanding s c c.refusal d
+asked s ask.Awakeable d = making_awakeable s (skips_replay s.options.journal_replay) d
+asked s (ask.Await future) d = awaiting (is_awake s future d) d
+asked s (ask.Take handle) d = taking s handle (id_at handle.0 d.handles) d
+asked s (ask.Completed handle) d = Answers (answer.Completed (has_result_in s handle d) ∷ []) d
+asked s ask.End d = Stops
+
+-- what comes of a step
 abbrev pub call_of : Setup → Step → Derived → Move
-call_of s (step.Sleep name wake_up_time now) d = sleeping s (as_nanos wake_up_time / 1000000) name d
-call_of s (step.StateSet key value name options) d = requested s (request.SetState key value (name_in name) options) d
-call_of s (step.StateClear key name) d = requested s (request.ClearState key (name_in name)) d
-call_of s (step.StateClearAll name) d = requested s (request.ClearAllState (name_in name)) d
-call_of s step.Awakeable d = making_awakeable s (skips_replay s.options.journal_replay) d
-call_of s (step.CompleteAwakeable id value options) d = handing s value (request.CompleteAwakeable id (value_message value) options) d
-call_of s (step.CompleteSignal target signal value) d = handing s value (request.CompleteSignal target signal (value_message value)) d
-call_of s (step.CancelInvocation target) d = requested s (request.CancelInvocation target) d
-call_of s (step.WriteOutput value options) d = handing s value (request.Output (value_message value) options) d
-call_of s (step.Await future) d = awaiting (is_awake s future d) d
-call_of s (step.Take handle) d = taking s handle (id_at handle.0 d.handles) d
-call_of s (step.Completed handle) d = Answers (answer.Completed (has_result_in s handle d) ∷ []) d
-call_of s step.End d = Stops
+call_of s st d = asked s (ask_of s.version st) d

@@ -3,7 +3,6 @@
 use Rattle.std.specs.Prelude.{ℕ, zero, suc, ◌==◌, Bool, false, cond, if◌then◌else◌, List, [], ◌∷◌, ◌++◌, Option, Some, None}
 use Rattle.journal_protocol.specs.declared.commands.InputCommand.{InputCommand}
 use Rattle.journal_protocol.specs.declared.message.Message.{Message}
-use Rattle.journal_protocol.specs.declared.message.Message.TheVariants as message
 use Rattle.journal_protocol.specs.declared.message.RawMessage.{RawMessage}
 use Rattle.journal_protocol.specs.declared.notification.Notification.{Notification}
 use Rattle.journal_protocol.specs.declared.types.MessageType.TheVariants as type
@@ -17,7 +16,7 @@ use Rattle.vm_parts.specs.declared.steps.Answer.TheVariants as answer
 use Rattle.vm_parts.specs.declared.values.Input.{Input}
 use Rattle.vm_parts.specs.Counting.{fresh_counters}
 use Rattle.vm_parts.specs.Deliveries.{no_results}
-use Rattle.vm_parts.specs.States.{state_set, state_cleared, all_cleared}
+use Rattle.vm_machine.specs.Requests.{changed}
 use Rattle.vm_model.specs.Calls.{Setup, Identity, Meaning, Derived, Demand, Move, call_of}
 use Rattle.vm_model.specs.Calls.Usage.{Used}
 use Rattle.vm_model.specs.Calls.Move.{Answers, Needs, Awaits, Stops}
@@ -118,13 +117,6 @@ abbrev pub start : Setup → InputCommand → List Notification → List RawMess
 start s input ns cs = record { answers = answer.Input (told_input s.identity input) ∷ []; derived = first_derived; said = []; queue = ns; left = cs }
 
 -- ---- the state
-
--- the state after a command
-abbrev pub changed : Message → StateMap → StateMap
-changed (message.SetState c) state = state_set c.key c.value state
-changed (message.ClearState c) state = state_cleared c.key state
-changed (message.ClearAllState c) state = all_cleared state
-changed _ state = state
 
 -- the state after commands
 abbrev pub changed_by : List Message → StateMap → StateMap

@@ -2,44 +2,34 @@
 use Rattle.std.specs.Prelude.{ℕ, ◌+◌, List, [], ◌∷◌, ◌++◌}
 use Rattle.vm_parts.specs.declared.steps.Answer.{Answer}
 use Rattle.vm_parts.specs.declared.steps.Step.{Step}
-use Rattle.vm_parts.specs.declared.steps.Step.TheVariants as step
+use Rattle.vm_machine.specs.declared.asks.Ask.{Ask}
+use Rattle.vm_machine.specs.declared.asks.Ask.TheVariants as ask
+use Rattle.vm_machine.specs.Asks.{ask_of}
+use Rattle.vm_machine.specs.Requests.{ids_of}
+use Rattle.journal_protocol.specs.declared.version.Version.{Version}
 use Rattle.vm_model.specs.Calls.{Meaning}
 
--- how many completion ids a call takes
-abbrev pub completion_ids : Step → ℕ
-completion_ids (step.Sleep name wake_up_time now) = 1
-completion_ids (step.StateSet key value name options) = 0
-completion_ids (step.StateClear key name) = 0
-completion_ids (step.StateClearAll name) = 0
-completion_ids step.Awakeable = 0
-completion_ids (step.CompleteAwakeable id value options) = 0
-completion_ids (step.CompleteSignal target signal value) = 0
-completion_ids (step.CancelInvocation target) = 0
-completion_ids (step.WriteOutput value options) = 0
-completion_ids (step.Await future) = 0
-completion_ids (step.Take handle) = 0
-completion_ids (step.Completed handle) = 0
-completion_ids step.End = 0
+-- how many completion ids are asked for
+abbrev pub completion_ids_in : Ask → ℕ
+completion_ids_in (ask.Command c) = ids_of c.message
+completion_ids_in a = 0
+
+-- how many signal ids are asked for
+abbrev pub signal_ids_in : Ask → ℕ
+signal_ids_in ask.Awakeable = 1
+signal_ids_in a = 0
+
+-- how many completion ids a call takes, in a run of this version
+abbrev pub completion_ids : Version → Step → ℕ
+completion_ids version s = completion_ids_in (ask_of version s)
 
 -- how many signal ids
-abbrev pub signal_ids : Step → ℕ
-signal_ids step.Awakeable = 1
-signal_ids (step.Sleep name wake_up_time now) = 0
-signal_ids (step.StateSet key value name options) = 0
-signal_ids (step.StateClear key name) = 0
-signal_ids (step.StateClearAll name) = 0
-signal_ids (step.CompleteAwakeable id value options) = 0
-signal_ids (step.CompleteSignal target signal value) = 0
-signal_ids (step.CancelInvocation target) = 0
-signal_ids (step.WriteOutput value options) = 0
-signal_ids (step.Await future) = 0
-signal_ids (step.Take handle) = 0
-signal_ids (step.Completed handle) = 0
-signal_ids step.End = 0
+abbrev pub signal_ids : Version → Step → ℕ
+signal_ids version s = signal_ids_in (ask_of version s)
 
 -- how many handles: one for each of both
-abbrev pub handles : Step → ℕ
-handles s = completion_ids s + signal_ids s
+abbrev pub handles : Version → Step → ℕ
+handles version s = completion_ids version s + signal_ids version s
 
 -- the calls that brought these answers behind those
 abbrev pub calls_after : Meaning → List Answer → List Answer → List Step

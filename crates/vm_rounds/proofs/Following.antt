@@ -1,7 +1,6 @@
 -- Each call of a handler, in a machine that agrees with a point, does what the moves from there lead to.
 use Rattle.std.proofs.Common.{◌≡◌, ℕ, ◌+◌, Bool, true, false, cond, ◌&&◌, List, [], ◌∷◌, ◌++◌, Option, Some, None, refl, sym, ap, ◌∙◌, subst, append-nil}
 use Rattle.std.specs.Prelude.{if◌then◌else◌, nat_lt, not, ◌/◌, ◌==◌}
-use Rattle.std.specs.Duration.{as_nanos}
 use Rattle.journal_protocol.specs.declared.faults.NamedFault.{NamedFault}
 use Rattle.journal_protocol.specs.declared.faults.NamedFault.TheVariants as fault
 use Rattle.journal_protocol.specs.declared.message.RawMessage.{RawMessage}
@@ -18,27 +17,32 @@ use Rattle.vm_parts.specs.declared.values.Value.{Value}
 use Rattle.vm_parts.specs.Counting.{missing_signals}
 use Rattle.vm_parts.specs.Deliveries.{id_at, present_for, taken_by, unmapped}
 use Rattle.journal_protocol.specs.declared.notification.NotificationId.TheVariants.{SignalId}
-use Rattle.vm_parts.specs.Values.{value_message, value_of}
+use Rattle.vm_parts.specs.Values.{value_of}
 use Rattle.vm_machine.specs.declared.machine.Machine.{Machine}
-use Rattle.vm_machine.specs.declared.request.Request.{Request}
-use Rattle.vm_machine.specs.declared.request.Request.TheVariants as request
+use Rattle.journal_protocol.specs.declared.version.Version.{Version}
+use Rattle.vm_parts.specs.declared.types.UnresolvedFuture.{UnresolvedFuture}
+use Rattle.vm_machine.specs.declared.asks.Ask.{Ask}
+use Rattle.vm_machine.specs.declared.asks.Ask.TheVariants as ask
+use Rattle.vm_machine.specs.declared.asks.Command.{Command}
+use Rattle.vm_machine.specs.Asks.{ask_of, command_answer}
+use Rattle.vm_machine.specs.Requests.{ids_of}
 use Rattle.vm_machine.specs.Awaits.{take_step}
 use Rattle.vm_machine.specs.Awaits as awaits
-use Rattle.vm_machine.specs.Commands.{CanBeRead, issued, phase_after, unit_of}
+use Rattle.vm_machine.specs.Commands.{CanBeRead, commanded_unless, phase_after}
 use Rattle.vm_machine.specs.Inputs.{end_at}
 use Rattle.vm_machine.specs.Outcomes.{Outcome, Done, Failed, called, refused, ruled}
-use Rattle.vm_machine.specs.Phases.{is_closed, is_from_v6, is_processing, state_fault}
+use Rattle.vm_machine.specs.Phases.{is_closed, is_processing, state_fault}
 use Rattle.vm_machine.specs.Signals.{awakeable_counted, awakeable_id, awakeable_step}
-use Rattle.invocation_vm.specs.Calls.{has_metadata, skips_replay}
-use Rattle.vm_model.specs.Calls.{Setup, Meaning, Derived, Move, answer_of, awakeable_made, call_of, making_awakeable, has_result_in, identity_of, name_in, ready_in, requested, result_taken, taking, value_taken}
+use Rattle.invocation_vm.specs.Calls.{skips_replay}
+use Rattle.vm_model.specs.Calls.{Setup, Meaning, Derived, Move, asked, awakeable_made, call_of, commanding, making_awakeable, has_result_in, identity_of, ready_in, result_taken, taking, value_taken}
 use Rattle.vm_model.specs.Calls.Usage.{Taken}
 use Rattle.vm_model.specs.Calls.Move.{Answers, Stops}
 use Rattle.vm_model.specs.Moves.{Point, longer, move_at, moved, supply}
 use Rattle.vm_rounds.specs.declared.progress.Reply.TheVariants as reply
 use Rattle.vm_rounds.specs.Agreement.{Agrees, Aside, Follows, machine_at}
-use Rattle.vm_rounds.specs.Steps.{IfDone, IsReadable, mapped, performed, request_of}
+use Rattle.vm_rounds.specs.Steps.{IfDone, IsReadable, ReadsBack, mapped, performed, performed_by}
 use Rattle.vm_rounds.proofs.Leading.{Leads, error_written, follows_from, no_move, open_after}
-use Rattle.vm_rounds.proofs.Own.{stands_for_itself}
+use Rattle.vm_rounds.proofs.Own.{AsksCommand, IsCommand, asks_command, stands_for_itself}
 use Rattle.vm_rounds.proofs.Requesting.{issues, runs_at}
 use Rattle.vm_rounds.proofs.Waiting.{awaits_follow}
 
@@ -102,43 +106,16 @@ unfolding called
 event_done P f s given written aside p (Done a w) h = h
 event_done P f s given written aside p (Failed e w) h = tt
 
-unit_done : (P : Type 0) (o : Outcome NotificationHandle) → IfDone (unit_of o) P → IfDone o P
-unit_done P (Done a w) h = h
-unit_done P (Failed e w) h = tt
+-- a command, where what it writes can be read back
+abbrev Reads : Setup → StateMap → List RawMessage → Aside → Command → Point → Type 0
+Reads s given written aside c p = CanBeRead c.message (machine_at s given written aside p)
 
--- a request, where what it writes can be read back
-abbrev Reads : Setup → StateMap → List RawMessage → Aside → Request → Point → Type 0
-Reads s given written aside r p = CanBeRead r (machine_at s given written aside p)
-
-requests : (s : Setup) (given : StateMap) (written : List RawMessage) (aside : Aside) (p : Point) (r : Request) (gives : NotificationHandle → Answer) → gives (record { 0 = p.derived.counters.handle }) ≡ answer_of r p.derived → IfDone (issued r (machine_at s given written aside p)) (Reads s given written aside r p) → LeadsOn s given written aside p gives (requested s r p.derived) (issued r (machine_at s given written aside p))
-requests s given written aside p r gives is own = issues s given written aside r p (λ h. gives h ∷ []) (ap (λ a. a ∷ []) is) (Reads s given written aside r p) (λ (whole : Reads s given written aside r p) spent. stands_for_itself s r p.derived (whole (ap (λ l. is_processing (phase_after l)) spent))) own
-
--- an outcome whose answer is dropped
-drops : (s : Setup) (given : StateMap) (written : List RawMessage) (aside : Aside) (p : Point) (mv : Move) (to : Option Point) (o : Outcome NotificationHandle) → Leads s given written aside p (supply mv p.left) (λ _. answer.Unit ∷ []) to o → Leads s given written aside p (supply mv p.left) (λ _. answer.Unit ∷ []) to (unit_of o)
-drops s given written aside p mv (Some q) (Done a w) g = g
-drops s given written aside p mv None (Failed e w) g = g
-drops s given written aside p mv (Some q) (Failed e w) g = absurd g
-drops s given written aside p mv None (Done a w) g = absurd g
-
--- a request whose call answers nothing
-unit_request : (s : Setup) (given : StateMap) (written : List RawMessage) (aside : Aside) (p : Point) (r : Request) → answer.Unit ≡ answer_of r p.derived → IfDone (unit_of (issued r (machine_at s given written aside p))) (Reads s given written aside r p) → LeadsOn s given written aside p (λ _. answer.Unit) (requested s r p.derived) (unit_of (issued r (machine_at s given written aside p)))
-unit_request s given written aside p r is own =
-    let mv = requested s r p.derived in
-    drops s given written aside p mv (moved mv (longer (supply mv p.left) p)) (issued r (machine_at s given written aside p)) (requests s given written aside p r (λ _. answer.Unit) is (unit_done (Reads s given written aside r p) (issued r (machine_at s given written aside p)) own))
-
--- a request that hands a value on
-hands : (s : Setup) (given : StateMap) (written : List RawMessage) (aside : Aside) (p : Point) (r : Request) → answer.Unit ≡ answer_of r p.derived → (a b : Bool) → IfDone (if a && not b then refused fault.UnsupportedFeatureForNegotiatedVersion (machine_at s given written aside p) else unit_of (issued r (machine_at s given written aside p))) (Reads s given written aside r p)
-    → LeadsOn s given written aside p (λ _. answer.Unit) (cond a (cond b (requested s r p.derived) Stops) (requested s r p.derived))
-    (if a && not b then refused fault.UnsupportedFeatureForNegotiatedVersion (machine_at s given written aside p) else unit_of (issued r (machine_at s given written aside p)))
-hands s given written aside p r is true true own = unit_request s given written aside p r is own
-hands s given written aside p r is true false own = (refl, open_after p.left)
-hands s given written aside p r is false b own = unit_request s given written aside p r is own
-
--- a sleep, where its time fits
-sleeps : (s : Setup) (given : StateMap) (written : List RawMessage) (aside : Aside) (p : Point) (millis : ℕ) (name : List ℕ) (b : Bool) → IfDone (cond b (issued (request.Sleep millis name) (machine_at s given written aside p)) (refused fault.OutOfBoundsDuration (machine_at s given written aside p))) (Reads s given written aside (request.Sleep millis name) p)
-    → LeadsOn s given written aside p answer.Handle (cond b (requested s (request.Sleep millis name) p.derived) Stops) (cond b (issued (request.Sleep millis name) (machine_at s given written aside p)) (refused fault.OutOfBoundsDuration (machine_at s given written aside p)))
-sleeps s given written aside p millis name true own = requests s given written aside p (request.Sleep millis name) answer.Handle refl own
-sleeps s given written aside p millis name false own = (refl, open_after p.left)
+-- a call with a command, by why its arguments refuse it
+commands_follow : (s : Setup) (given : StateMap) (written : List RawMessage) (aside : Aside) (p : Point) (c : Command) → IsCommand c.message → (o : Option NamedFault) → IfDone (commanded_unless o c.message c.unstable (machine_at s given written aside p)) (Reads s given written aside c p)
+    → LeadsOn s given written aside p (command_answer (ids_of c.message)) (commanding s c o p.derived) (commanded_unless o c.message c.unstable (machine_at s given written aside p))
+commands_follow s given written aside p c command (Some name) own = (refl, open_after p.left)
+commands_follow s given written aside p c command None own =
+    issues s given written aside c p (λ h. command_answer (ids_of c.message) h ∷ []) refl (Reads s given written aside c p) (λ (whole : Reads s given written aside c p) spent. stands_for_itself s c p.derived command (whole (ap (λ l. is_processing (phase_after l)) spent))) own
 
 -- ---- the end
 
@@ -159,38 +136,36 @@ ends s m given written aside p is (c ∷ left) e =
 
 -- ---- all calls
 
-completes : (s : Setup) (m : Meaning) (given : StateMap) (written : List RawMessage) (aside : Aside) (p : Point) (h : NotificationHandle) → s.identity ≡ identity_of aside.start → m p.answers ≡ step.Completed h → Follows s m given written p (machine_at s given written aside p) (performed (step.Completed h) (machine_at s given written aside p))
+completes : (s : Setup) (m : Meaning) (given : StateMap) (written : List RawMessage) (aside : Aside) (p : Point) (h : NotificationHandle) → s.identity ≡ identity_of aside.start → move_at s m p ≡ asked s (ask.Completed h) p.derived → Follows s m given written p (machine_at s given written aside p) (performed_by (ask.Completed h) (machine_at s given written aside p))
 unfolding called
 completes s m given written aside p h identity is =
-    rw (runs_at p.left) (follows_from s m given written aside p answer.Completed (call_of s (step.Completed h) p.derived) (Done (has_result_in s h p.derived) (machine_at s given written aside p)) identity (ap (λ st. call_of s st p.derived) is) (answers s given written aside p answer.Completed (has_result_in s h p.derived) p.derived))
+    rw (runs_at p.left) (follows_from s m given written aside p answer.Completed (asked s (ask.Completed h) p.derived) (Done (has_result_in s h p.derived) (machine_at s given written aside p)) identity is (answers s given written aside p answer.Completed (has_result_in s h p.derived) p.derived))
+
+-- the steps that ask for an await, or for the end
+awaits_asked : (version : Version) (st : Step) (future : UnresolvedFuture) → ask_of version st ≡ ask.Await future → st ≡ step.Await future
+awaits_asked version (step.Await x) future is = cc
+awaits_asked version st future is = absurd cc
+
+end_asked : (version : Version) (st : Step) → ask_of version st ≡ ask.End → st ≡ step.End
+end_asked version step.End is = refl
+end_asked version st is = absurd cc
+
+-- what is asked for, in a machine that agrees with a point
+asked_follows : (s : Setup) (m : Meaning) (given : StateMap) (written : List RawMessage) (aside : Aside) (p : Point) → s.identity ≡ identity_of aside.start → (a : Ask) → ask_of s.version (m p.answers) ≡ a → AsksCommand a → IfDone (performed_by a (machine_at s given written aside p)) (IsReadable a (machine_at s given written aside p)) → Follows s m given written p (machine_at s given written aside p) (performed_by a (machine_at s given written aside p))
+asked_follows s m given written aside p identity (ask.Command c) is command whole =
+    follows_from s m given written aside p (command_answer (ids_of c.message)) _ _ identity (ap (λ a. asked s a p.derived) is) (commands_follow s given written aside p c command c.refusal (event_done _ _ s given written aside p _ whole))
+asked_follows s m given written aside p identity ask.Awakeable is command whole =
+    follows_from s m given written aside p answer.Awakeable _ _ identity (ap (λ a. asked s a p.derived) is) (makes_awakeable s given written aside p identity (skips_replay s.options.journal_replay))
+asked_follows s m given written aside p identity (ask.Await future) is command whole = awaits_follow s m given written aside p future identity (awaits_asked s.version (m p.answers) future is)
+asked_follows s m given written aside p identity (ask.Take h) is command whole =
+    follows_from s m given written aside p answer.Taken _ _ identity (ap (λ a. asked s a p.derived) is) (takes_follow s given written aside p h)
+asked_follows s m given written aside p identity (ask.Completed h) is command whole = completes s m given written aside p h identity (ap (λ a. asked s a p.derived) is)
+asked_follows s m given written aside p identity ask.End is command whole = ends s m given written aside p (end_asked s.version (m p.answers) is) p.left refl
 
 -- In a machine that agrees with a point, the handler's call does what the moves from there lead to.
-pub call_follows : (s : Setup) (m : Meaning) (given : StateMap) (written : List RawMessage) (aside : Aside) (p : Point) → s.identity ≡ identity_of aside.start → (st : Step) → IfDone (performed st (machine_at s given written aside p)) (IsReadable (request_of st) (machine_at s given written aside p)) → m p.answers ≡ st → Follows s m given written p (machine_at s given written aside p) (performed st (machine_at s given written aside p))
-call_follows s m given written aside p identity (step.Sleep name until now) whole is =
-    let millis = as_nanos until / 1000000 in
-    follows_from s m given written aside p answer.Handle _ _ identity (ap (λ st. call_of s st p.derived) is) (sleeps s given written aside p millis name (nat_lt millis 18446744073709551616) (event_done _ _ s given written aside p _ whole))
-call_follows s m given written aside p identity (step.StateSet key value name options) whole is =
-    follows_from s m given written aside p (λ _. answer.Unit) _ _ identity (ap (λ st. call_of s st p.derived) is) (unit_request s given written aside p (request.SetState key value (name_in name) options) refl (event_done _ _ s given written aside p _ whole))
-call_follows s m given written aside p identity (step.StateClear key name) whole is =
-    follows_from s m given written aside p (λ _. answer.Unit) _ _ identity (ap (λ st. call_of s st p.derived) is) (unit_request s given written aside p (request.ClearState key (name_in name)) refl (event_done _ _ s given written aside p _ whole))
-call_follows s m given written aside p identity (step.StateClearAll name) whole is =
-    follows_from s m given written aside p (λ _. answer.Unit) _ _ identity (ap (λ st. call_of s st p.derived) is) (unit_request s given written aside p (request.ClearAllState (name_in name)) refl (event_done _ _ s given written aside p _ whole))
-call_follows s m given written aside p identity step.Awakeable whole is =
-    follows_from s m given written aside p answer.Awakeable _ _ identity (ap (λ st. call_of s st p.derived) is) (makes_awakeable s given written aside p identity (skips_replay s.options.journal_replay))
-call_follows s m given written aside p identity (step.CompleteAwakeable id value options) whole is =
-    follows_from s m given written aside p (λ _. answer.Unit) _ _ identity (ap (λ st. call_of s st p.derived) is) (hands s given written aside p (request.CompleteAwakeable id (value_message value) options) refl (has_metadata value) (is_from_v6 s.version) (event_done _ _ s given written aside p _ whole))
-call_follows s m given written aside p identity (step.CompleteSignal target signal value) whole is =
-    follows_from s m given written aside p (λ _. answer.Unit) _ _ identity (ap (λ st. call_of s st p.derived) is) (hands s given written aside p (request.CompleteSignal target signal (value_message value)) refl (has_metadata value) (is_from_v6 s.version) (event_done _ _ s given written aside p _ whole))
-call_follows s m given written aside p identity (step.CancelInvocation target) whole is =
-    follows_from s m given written aside p (λ _. answer.Unit) _ _ identity (ap (λ st. call_of s st p.derived) is) (unit_request s given written aside p (request.CancelInvocation target) refl (event_done _ _ s given written aside p _ whole))
-call_follows s m given written aside p identity (step.WriteOutput value options) whole is =
-    follows_from s m given written aside p (λ _. answer.Unit) _ _ identity (ap (λ st. call_of s st p.derived) is) (hands s given written aside p (request.Output (value_message value) options) refl (has_metadata value) (is_from_v6 s.version) (event_done _ _ s given written aside p _ whole))
-call_follows s m given written aside p identity (step.Await future) whole is = awaits_follow s m given written aside p future identity is
-call_follows s m given written aside p identity (step.Take h) whole is =
-    follows_from s m given written aside p answer.Taken _ _ identity (ap (λ st. call_of s st p.derived) is) (takes_follow s given written aside p h)
-call_follows s m given written aside p identity (step.Completed h) whole is = completes s m given written aside p h identity is
-call_follows s m given written aside p identity step.End whole is = ends s m given written aside p is p.left refl
+call_follows : (s : Setup) (m : Meaning) (given : StateMap) (written : List RawMessage) (aside : Aside) (p : Point) → s.identity ≡ identity_of aside.start → IfDone (performed (m p.answers) (machine_at s given written aside p)) (ReadsBack (m p.answers) (machine_at s given written aside p)) → Follows s m given written p (machine_at s given written aside p) (performed (m p.answers) (machine_at s given written aside p))
+call_follows s m given written aside p identity whole = asked_follows s m given written aside p identity (ask_of s.version (m p.answers)) refl (asks_command s.version (m p.answers)) whole
 
-pub agreeing_follows : (s : Setup) (m : Meaning) (given : StateMap) (written : List RawMessage) (v : Machine) (p : Point) → Agrees s given written v p → IfDone (performed (m p.answers) v) (IsReadable (request_of (m p.answers)) v) → Follows s m given written p v (performed (m p.answers) v)
+pub agreeing_follows : (s : Setup) (m : Meaning) (given : StateMap) (written : List RawMessage) (v : Machine) (p : Point) → Agrees s given written v p → IfDone (performed (m p.answers) v) (ReadsBack (m p.answers) v) → Follows s m given written p v (performed (m p.answers) v)
 agreeing_follows s m given written v p a whole =
-    rw a.machine (call_follows s m given written a.aside p a.identity (m p.answers) (subst (λ x. IfDone (performed (m p.answers) x) (IsReadable (request_of (m p.answers)) x)) a.machine whole) refl)
+    rw a.machine (call_follows s m given written a.aside p a.identity (subst (λ (x : Machine). IfDone (performed (m p.answers) x) (ReadsBack (m p.answers) x)) a.machine whole))

@@ -3,7 +3,7 @@ use Rattle.std.proofs.Common.{inl, inr, Result, Ok, Err, refl}
 use Rattle.std.specs.Prelude.{OnOk}
 use Rattle.journal_protocol.specs.declared.error.Error.{Error}
 use Rattle.vm_machine.specs.declared.machine.Machine.{Machine}
-use Rattle.vm_machine.specs.declared.request.Request.{Request}
+use Rattle.journal_protocol.specs.declared.message.Message.{Message}
 use Rattle.vm_machine.specs.Commands.{CanBeRead}
 use Rattle.vm_machine.specs.Outcomes.{Outcome, Does}
 use Rattle.vm_rounds.specs.Steps.{mapped, result_mapped}
@@ -13,6 +13,6 @@ replies f o (Ok a) old new h = rw h refl
 replies {B = B} f o (Err e) old new h = elim h as (λ _. Does {A = B} (mapped f o) (Err e) old new) [ inl x ↦ inl (rw x refl) | inr x ↦ inr x ]
 
 -- where a reply is an answer, its call was answered
-pub replies_sent : {A B : Type 0} (q : Request) (v : Machine) (f : A → B) (r : Result A Error) → OnOk r (CanBeRead q v) → OnOk (result_mapped f r) (CanBeRead q v)
+pub replies_sent : {A B : Type 0} (q : Message) (v : Machine) (f : A → B) (r : Result A Error) → OnOk r (CanBeRead q v) → OnOk (result_mapped f r) (CanBeRead q v)
 replies_sent q v f (Ok a) h = h
 replies_sent q v f (Err e) h = tt

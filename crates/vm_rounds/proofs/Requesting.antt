@@ -12,20 +12,18 @@ use Rattle.journal_protocol.specs.Types.{type_number}
 use Rattle.vm_parts.specs.declared.context.StateMap.{StateMap}
 use Rattle.vm_parts.specs.declared.steps.Answer.{Answer}
 use Rattle.vm_parts.specs.declared.types.NotificationHandle.{NotificationHandle}
-use Rattle.vm_parts.specs.CommandTypes.{message_type}
 use Rattle.vm_parts.specs.Counting.{missing}
 use Rattle.vm_machine.specs.declared.machine.Machine.{Machine}
-use Rattle.vm_machine.specs.declared.request.Request.{Request}
-use Rattle.vm_machine.specs.declared.request.Request.TheVariants as request
+use Rattle.vm_machine.specs.declared.asks.Command.{Command}
 use Rattle.vm_machine.specs.declared.phase.Phase.TheVariants.{Replaying, Processing}
 use Rattle.vm_machine.specs.Commands.{carried_out, compared, counted, entered, issued, phase_after, popped, popped_from, prepared, replayed, typed, written as wrote}
 use Rattle.vm_machine.specs.Phases.{is_processing, is_running, state_fault}
 use Rattle.vm_machine.specs.Outcomes.{Outcome, Done, Failed, ◌>>=◌, about_last}
-use Rattle.vm_machine.specs.Requests.{command_of, ids_of, message_of, name_of}
+use Rattle.vm_machine.specs.Requests.{changed, ids_of, name_of, shown_type, with_ids}
 use Rattle.vm_model.specs.Calls.{Setup, Demand, answer_of, commanded, demand_of, numbered, requested}
 use Rattle.vm_model.specs.Calls.Move.{Needs}
 use Rattle.vm_model.specs.Journal.{stored_form}
-use Rattle.vm_model.specs.Moves.{Point, changed, changed_by, command_used, longer, moved, reads_as, stands_for, supply, uses_command}
+use Rattle.vm_model.specs.Moves.{Point, changed_by, command_used, longer, moved, reads_as, stands_for, supply, uses_command}
 use Rattle.vm_model.proofs.Runs.{longer_nothing}
 use Rattle.vm_rounds.specs.Agreement.{Aside, is_some_command, machine_at}
 use Rattle.vm_rounds.specs.Steps.{IfDone}
@@ -54,26 +52,19 @@ some_behind [] c = refl
 some_behind (x ∷ cs) c = refl
 
 -- the point of a call whose command is counted and said, but neither used nor answered
-abbrev said_by : Request → Point → Point
-said_by r p = record p { derived = commanded r p.derived; said = p.said ++ message_of r p.derived.counters.completion ∷ [] }
+abbrev said_by : Command → Point → Point
+said_by r p = record p { derived = commanded r p.derived; said = p.said ++ with_ids p.derived.counters.completion r.message ∷ [] }
 
 -- and the point behind it
-abbrev past : Request → List Answer → List RawMessage → Point → Point
-past r gives left p = record { answers = p.answers ++ gives; derived = commanded r p.derived; said = p.said ++ message_of r p.derived.counters.completion ∷ []; queue = p.queue; left = left }
+abbrev past : Command → List Answer → List RawMessage → Point → Point
+past r gives left p = record { answers = p.answers ++ gives; derived = commanded r p.derived; said = p.said ++ with_ids p.derived.counters.completion r.message ∷ []; queue = p.queue; left = left }
 
-abbrev state_said : Setup → StateMap → List RawMessage → Aside → Request → Point → StateMap → Machine
+abbrev state_said : Setup → StateMap → List RawMessage → Aside → Command → Point → StateMap → Machine
 state_said s given written aside r p state = record (machine_at s given written aside (said_by r p)) { state = state }
 
 -- what a call changes before its command
-prepares : (s : Setup) (given : StateMap) (written : List RawMessage) (aside : Aside) (r : Request) (p : Point) → prepared r (entered (message_type (command_of r)) (name_of r) (machine_at s given written aside p)) ≡ machine_at s given written aside (said_by r p)
-prepares s given written aside (request.Sleep wake_up_time name) p = let r = request.Sleep wake_up_time name in ap (state_said s given written aside r p) (sym (changed_behind p.said (message_of r p.derived.counters.completion) given))
-prepares s given written aside (request.Output value options) p = let r = request.Output value options in ap (state_said s given written aside r p) (sym (changed_behind p.said (message_of r p.derived.counters.completion) given))
-prepares s given written aside (request.SetState key value name options) p = let r = request.SetState key value name options in ap (state_said s given written aside r p) (sym (changed_behind p.said (message_of r p.derived.counters.completion) given))
-prepares s given written aside (request.ClearState key name) p = let r = request.ClearState key name in ap (state_said s given written aside r p) (sym (changed_behind p.said (message_of r p.derived.counters.completion) given))
-prepares s given written aside (request.ClearAllState name) p = let r = request.ClearAllState name in ap (state_said s given written aside r p) (sym (changed_behind p.said (message_of r p.derived.counters.completion) given))
-prepares s given written aside (request.CompleteAwakeable id value options) p = let r = request.CompleteAwakeable id value options in ap (state_said s given written aside r p) (sym (changed_behind p.said (message_of r p.derived.counters.completion) given))
-prepares s given written aside (request.CompleteSignal target signal value) p = let r = request.CompleteSignal target signal value in ap (state_said s given written aside r p) (sym (changed_behind p.said (message_of r p.derived.counters.completion) given))
-prepares s given written aside (request.CancelInvocation target) p = let r = request.CancelInvocation target in ap (state_said s given written aside r p) (sym (changed_behind p.said (message_of r p.derived.counters.completion) given))
+prepares : (s : Setup) (given : StateMap) (written : List RawMessage) (aside : Aside) (r : Command) (p : Point) → prepared r.message (machine_at s given written aside p) ≡ machine_at s given written aside (said_by r p)
+prepares s given written aside r p = ap (state_said s given written aside r p) (sym (changed_behind p.said (with_ids p.derived.counters.completion r.message) given))
 
 -- the outcome of a call whose command was carried out
 abbrev handed : Point → Outcome Unit → Outcome NotificationHandle
@@ -81,12 +72,12 @@ handed p o = o >>= λ _ w. Done (record { 0 = p.derived.counters.handle }) w
 
 -- ---- no recorded command is left: the call's own is written
 
-writes : (s : Setup) (given : StateMap) (written : List RawMessage) (aside : Aside) (r : Request) (p : Point) (gives : NotificationHandle → List Answer) → gives (record { 0 = p.derived.counters.handle }) ≡ answer_of r p.derived ∷ [] → p.left ≡ [] → stands_for (demand_of s r p.derived) (stored_form (message_of r p.derived.counters.completion)) ≡ true
-    → (b : Bool) → stands_for (demand_of s r p.derived) (stored_form (message_of r p.derived.counters.completion)) ≡ b
-    → Leads s given written aside p (stored_form (message_of r p.derived.counters.completion) ∷ []) gives (command_used b (demand_of s r p.derived) (answer_of r p.derived ∷ []) (commanded r p.derived) [] p) (handed p (Done tt (wrote (message_of r p.derived.counters.completion) (machine_at s given written aside (said_by r p)))))
+writes : (s : Setup) (given : StateMap) (written : List RawMessage) (aside : Aside) (r : Command) (p : Point) (gives : NotificationHandle → List Answer) → gives (record { 0 = p.derived.counters.handle }) ≡ answer_of r p.derived ∷ [] → p.left ≡ [] → stands_for (demand_of s r p.derived) (stored_form (with_ids p.derived.counters.completion r.message)) ≡ true
+    → (b : Bool) → stands_for (demand_of s r p.derived) (stored_form (with_ids p.derived.counters.completion r.message)) ≡ b
+    → Leads s given written aside p (stored_form (with_ids p.derived.counters.completion r.message) ∷ []) gives (command_used b (demand_of s r p.derived) (answer_of r p.derived ∷ []) (commanded r p.derived) [] p) (handed p (Done tt (wrote (with_ids p.derived.counters.completion r.message) (machine_at s given written aside (said_by r p)))))
 writes s given written aside r p gives answer spent own false e = absurd (let z : true ≡ false = sym own ∙ e in cc)
 writes s given written aside r p gives answer spent own true e =
-    let m = message_of r p.derived.counters.completion in (
+    let m = with_ids p.derived.counters.completion r.message in (
       ap (λ l. p.answers ++ l) (sym answer),
       λ i. record (machine_at s given written (with_frames (stored_form m ∷ []) aside) (past r (answer_of r p.derived ∷ []) [] p)) { commands = spent i; phase = phase_after (spent i); wrote_command = sym (some_behind written (stored_form m)) i },
     )
@@ -94,28 +85,28 @@ writes s given written aside r p gives answer spent own true e =
 -- ---- the next recorded command is popped
 
 -- what the machine is once it has popped a command
-abbrev popped_to : Setup → StateMap → List RawMessage → Aside → Request → List RawMessage → Point → Machine
+abbrev popped_to : Setup → StateMap → List RawMessage → Aside → Command → List RawMessage → Point → Machine
 popped_to s given written aside r left p = record (machine_at s given written aside (said_by r p)) { commands = left; phase = phase_after left }
 
-reads : (s : Setup) (given : StateMap) (written : List RawMessage) (aside : Aside) (r : Request) (p : Point) (left : List RawMessage) (gives : NotificationHandle → List Answer) → gives (record { 0 = p.derived.counters.handle }) ≡ answer_of r p.derived ∷ []
-    → (o : Option Message) → Leads s given written aside p [] gives (command_used (reads_as (demand_of s r p.derived).ignores_payload (message_of r p.derived.counters.completion) o) (demand_of s r p.derived) (answer_of r p.derived ∷ []) (commanded r p.derived) left p) (handed p (compared (message_of r p.derived.counters.completion) (demand_of s r p.derived).ignores_payload o (popped_to s given written aside r left p)))
+reads : (s : Setup) (given : StateMap) (written : List RawMessage) (aside : Aside) (r : Command) (p : Point) (left : List RawMessage) (gives : NotificationHandle → List Answer) → gives (record { 0 = p.derived.counters.handle }) ≡ answer_of r p.derived ∷ []
+    → (o : Option Message) → Leads s given written aside p [] gives (command_used (reads_as (demand_of s r p.derived).ignores_payload (with_ids p.derived.counters.completion r.message) o) (demand_of s r p.derived) (answer_of r p.derived ∷ []) (commanded r p.derived) left p) (handed p (compared (with_ids p.derived.counters.completion r.message) (demand_of s r p.derived).ignores_payload o (popped_to s given written aside r left p)))
 reads s given written aside r p left gives answer None = (refl, open_after left)
-reads s given written aside r p left gives answer (Some recorded) = by_test (header_equal recorded (message_of r p.derived.counters.completion) (demand_of s r p.derived).ignores_payload)
+reads s given written aside r p left gives answer (Some recorded) = by_test (header_equal recorded (with_ids p.derived.counters.completion r.message) (demand_of s r p.derived).ignores_payload)
   where
     m : Message
-    m = message_of r p.derived.counters.completion
+    m = with_ids p.derived.counters.completion r.message
 
     by_test : (b : Bool) → Leads s given written aside p [] gives (command_used b (demand_of s r p.derived) (answer_of r p.derived ∷ []) (commanded r p.derived) left p) (handed p (if b then Done tt (popped_to s given written aside r left p) else Failed (about_last fault.CommandMismatch (popped_to s given written aside r left p)) (popped_to s given written aside r left p)))
     by_test false = (refl, open_after left)
     by_test true = (ap (λ l. p.answers ++ l) (sym answer), λ i. machine_at s given (sym (append-nil written) i) (record aside { output = sym (append-nil aside.output) i }) (past r (answer_of r p.derived ∷ []) left p))
 
-replays : (s : Setup) (given : StateMap) (written : List RawMessage) (aside : Aside) (r : Request) (p : Point) (c : RawMessage) (left : List RawMessage) (gives : NotificationHandle → List Answer) → gives (record { 0 = p.derived.counters.handle }) ≡ answer_of r p.derived ∷ []
+replays : (s : Setup) (given : StateMap) (written : List RawMessage) (aside : Aside) (r : Command) (p : Point) (c : RawMessage) (left : List RawMessage) (gives : NotificationHandle → List Answer) → gives (record { 0 = p.derived.counters.handle }) ≡ answer_of r p.derived ∷ []
     → Leads s given written aside p [] gives (command_used (stands_for (demand_of s r p.derived) c) (demand_of s r p.derived) (answer_of r p.derived ∷ []) (commanded r p.derived) left p)
-    (handed p (typed c (type_of (message_of r p.derived.counters.completion)) (popped_to s given written aside r left p) >>= λ raw z. compared (message_of r p.derived.counters.completion) (demand_of s r p.derived).ignores_payload (message_in raw.ty raw.body) z))
+    (handed p (typed c (type_of (with_ids p.derived.counters.completion r.message)) (popped_to s given written aside r left p) >>= λ raw z. compared (with_ids p.derived.counters.completion r.message) (demand_of s r p.derived).ignores_payload (message_in raw.ty raw.body) z))
 replays s given written aside r p c left gives answer = by_test (type_number c.ty == type_number (type_of m))
   where
     m : Message
-    m = message_of r p.derived.counters.completion
+    m = with_ids p.derived.counters.completion r.message
 
     e : Demand
     e = demand_of s r p.derived
@@ -130,34 +121,34 @@ replays s given written aside r p c left gives answer = by_test (type_number c.t
 -- ---- the whole event
 
 -- the counters suffice: the command is written or popped
-carries : (s : Setup) (given : StateMap) (written : List RawMessage) (aside : Aside) (r : Request) (p : Point) (gives : NotificationHandle → List Answer) → gives (record { 0 = p.derived.counters.handle }) ≡ answer_of r p.derived ∷ []
-    → (P : Type 0) → (P → p.left ≡ [] → stands_for (demand_of s r p.derived) (stored_form (message_of r p.derived.counters.completion)) ≡ true)
-    → IfDone (handed p (carried_out (message_of r p.derived.counters.completion) (demand_of s r p.derived).ignores_payload (machine_at s given written aside (said_by r p)))) P
+carries : (s : Setup) (given : StateMap) (written : List RawMessage) (aside : Aside) (r : Command) (p : Point) (gives : NotificationHandle → List Answer) → gives (record { 0 = p.derived.counters.handle }) ≡ answer_of r p.derived ∷ []
+    → (P : Type 0) → (P → p.left ≡ [] → stands_for (demand_of s r p.derived) (stored_form (with_ids p.derived.counters.completion r.message)) ≡ true)
+    → IfDone (handed p (carried_out (with_ids p.derived.counters.completion r.message) (demand_of s r p.derived).ignores_payload (machine_at s given written aside (said_by r p)))) P
     → (left : List RawMessage) → p.left ≡ left
     → Leads s given written aside p (supply (Needs (demand_of s r p.derived) (answer_of r p.derived ∷ []) (commanded r p.derived)) left) gives
     (moved (Needs (demand_of s r p.derived) (answer_of r p.derived ∷ []) (commanded r p.derived)) (longer (supply (Needs (demand_of s r p.derived) (answer_of r p.derived ∷ []) (commanded r p.derived)) left) p))
-    (handed p (carried_out (message_of r p.derived.counters.completion) (demand_of s r p.derived).ignores_payload (machine_at s given written aside (said_by r p))))
+    (handed p (carried_out (with_ids p.derived.counters.completion r.message) (demand_of s r p.derived).ignores_payload (machine_at s given written aside (said_by r p))))
 carries s given written aside r p gives answer P own whole [] is =
-    let m = message_of r p.derived.counters.completion in
+    let m = with_ids p.derived.counters.completion r.message in
     let e = demand_of s r p.derived in
     let w = machine_at s given written aside (said_by r p) in
     let next : moved (Needs e (answer_of r p.derived ∷ []) (commanded r p.derived)) (longer (stored_form m ∷ []) p) ≡ command_used (stands_for e (stored_form m)) e (answer_of r p.derived ∷ []) (commanded r p.derived) [] p = ap (λ l. uses_command e (answer_of r p.derived ∷ []) (commanded r p.derived) (l ++ stored_form m ∷ []) (record p { left = l ++ stored_form m ∷ [] })) is in
     let spent = carries_spent m e.ignores_payload w (ap phase_after is) in
     rw (next, spent) (writes s given written aside r p gives answer is (own (subst (λ o. IfDone (handed p o) P) spent whole) is) (stands_for e (stored_form m)) refl)
 carries s given written aside r p gives answer P own whole (c ∷ left) is =
-    let m = message_of r p.derived.counters.completion in
+    let m = with_ids p.derived.counters.completion r.message in
     let e = demand_of s r p.derived in
     let w = machine_at s given written aside (said_by r p) in
     let next : moved (Needs e (answer_of r p.derived ∷ []) (commanded r p.derived)) (longer [] p) ≡ command_used (stands_for e c) e (answer_of r p.derived ∷ []) (commanded r p.derived) left p = ap (moved (Needs e (answer_of r p.derived ∷ []) (commanded r p.derived))) (longer_nothing p) ∙ ap (λ l. uses_command e (answer_of r p.derived ∷ []) (commanded r p.derived) l p) is in
     rw (next, carries_recorded m e.ignores_payload w (ap phase_after is), replays_next m e.ignores_payload c left w is) (replays s given written aside r p c left gives answer)
 
-counts : (s : Setup) (given : StateMap) (written : List RawMessage) (aside : Aside) (r : Request) (p : Point) (gives : NotificationHandle → List Answer) → gives (record { 0 = p.derived.counters.handle }) ≡ answer_of r p.derived ∷ []
-    → (P : Type 0) → (P → p.left ≡ [] → stands_for (demand_of s r p.derived) (stored_form (message_of r p.derived.counters.completion)) ≡ true)
-    → (o : Option NamedFault) → IfDone (counted o r (machine_at s given written aside p)) P
-    → Leads s given written aside p (supply (numbered s r o p.derived) p.left) gives (moved (numbered s r o p.derived) (longer (supply (numbered s r o p.derived) p.left) p)) (counted o r (machine_at s given written aside p))
+counts : (s : Setup) (given : StateMap) (written : List RawMessage) (aside : Aside) (r : Command) (p : Point) (gives : NotificationHandle → List Answer) → gives (record { 0 = p.derived.counters.handle }) ≡ answer_of r p.derived ∷ []
+    → (P : Type 0) → (P → p.left ≡ [] → stands_for (demand_of s r p.derived) (stored_form (with_ids p.derived.counters.completion r.message)) ≡ true)
+    → (o : Option NamedFault) → IfDone (counted o r.message r.unstable (machine_at s given written aside p)) P
+    → Leads s given written aside p (supply (numbered s r o p.derived) p.left) gives (moved (numbered s r o p.derived) (longer (supply (numbered s r o p.derived) p.left) p)) (counted o r.message r.unstable (machine_at s given written aside p))
 counts s given written aside r p gives answer P own (Some name) whole = (refl, open_after p.left)
 counts s given written aside r p gives answer P own None whole =
-    let m = message_of r p.derived.counters.completion in
+    let m = with_ids p.derived.counters.completion r.message in
     let ready = prepares s given written aside r p in
     rw ready (carries s given written aside r p gives answer P own (subst (λ w. IfDone (handed p (carried_out m (demand_of s r p.derived).ignores_payload w)) P) ready whole) p.left refl)
 
@@ -166,13 +157,13 @@ runs_at [] = refl
 runs_at (c ∷ left) = refl
 
 -- a call with a command does what its move leads to
-pub issues : (s : Setup) (given : StateMap) (written : List RawMessage) (aside : Aside) (r : Request) (p : Point) (gives : NotificationHandle → List Answer) → gives (record { 0 = p.derived.counters.handle }) ≡ answer_of r p.derived ∷ []
-    → (P : Type 0) → (P → p.left ≡ [] → stands_for (demand_of s r p.derived) (stored_form (message_of r p.derived.counters.completion)) ≡ true)
-    → IfDone (issued r (machine_at s given written aside p)) P
-    → Leads s given written aside p (supply (requested s r p.derived) p.left) gives (moved (requested s r p.derived) (longer (supply (requested s r p.derived) p.left) p)) (issued r (machine_at s given written aside p))
+pub issues : (s : Setup) (given : StateMap) (written : List RawMessage) (aside : Aside) (r : Command) (p : Point) (gives : NotificationHandle → List Answer) → gives (record { 0 = p.derived.counters.handle }) ≡ answer_of r p.derived ∷ []
+    → (P : Type 0) → (P → p.left ≡ [] → stands_for (demand_of s r p.derived) (stored_form (with_ids p.derived.counters.completion r.message)) ≡ true)
+    → IfDone (issued r.message r.unstable (machine_at s given written aside p)) P
+    → Leads s given written aside p (supply (requested s r p.derived) p.left) gives (moved (requested s r p.derived) (longer (supply (requested s r p.derived) p.left) p)) (issued r.message r.unstable (machine_at s given written aside p))
 unfolding issued
 issues s given written aside r p gives answer P own whole =
     let v = machine_at s given written aside p in
-    let found = missing (ids_of r) 0 (ids_of r) p.derived.counters in
+    let found = missing (ids_of r.message) 0 (ids_of r.message) p.derived.counters in
     let runs = runs_at p.left in
-    rw runs (counts s given written aside r p gives answer P own found (subst (λ b. IfDone (if b then counted found r v else (let w = entered (message_type (command_of r)) (name_of r) v in Failed (about_last (state_fault v.phase) w) w)) P) runs whole))
+    rw runs (counts s given written aside r p gives answer P own found (subst (λ b. IfDone (if b then counted found r.message r.unstable v else (let w = entered (shown_type r.message) (name_of r.message) v in Failed (about_last (state_fault v.phase) w) w)) P) runs whole))

@@ -17,23 +17,25 @@ use Rattle.vm_parts.specs.declared.steps.Step.{Step}
 use Rattle.vm_parts.specs.declared.steps.Step.TheVariants as step
 use Rattle.vm_parts.specs.declared.types.NotificationHandle.{NotificationHandle}
 use Rattle.vm_parts.specs.declared.types.UnresolvedFuture.{UnresolvedFuture}
-use Rattle.vm_parts.specs.declared.values.NonEmptyValue.{NonEmptyValue}
 use Rattle.vm_parts.specs.declared.values.Value.{Value}
 use Rattle.vm_parts.specs.Counting.{missing, missing_signals}
 use Rattle.vm_parts.specs.Deliveries.{id_at, present_for}
-use Rattle.vm_parts.specs.Values.{value_message, value_of}
+use Rattle.vm_parts.specs.Values.{value_of}
 use Rattle.vm_machine.specs.declared.machine.Machine.{Machine}
 use Rattle.vm_machine.specs.declared.phase.Phase.TheVariants.{Closed, Processing, Replaying}
-use Rattle.vm_machine.specs.declared.request.Request.{Request}
-use Rattle.vm_machine.specs.declared.request.Request.TheVariants as request
+use Rattle.vm_machine.specs.declared.asks.Ask.{Ask}
+use Rattle.vm_machine.specs.declared.asks.Ask.TheVariants as ask
+use Rattle.vm_machine.specs.declared.asks.Command.{Command}
+use Rattle.vm_machine.specs.Asks.{ask_of}
+use Rattle.vm_rounds.proofs.Own.{AsksCommand, IsCommand, asks_command, numbered_is}
 use Rattle.vm_machine.specs.Commands.{phase_after}
 use Rattle.vm_machine.specs.Outcomes.{Does, IsStarved, Outcome, Done, Failed}
-use Rattle.vm_machine.specs.Phases.{is_from_v6, is_running}
-use Rattle.vm_machine.specs.Requests.{ids_of, message_of}
-use Rattle.invocation_vm.specs.Calls.{has_metadata, skips_replay}
+use Rattle.vm_machine.specs.Phases.{is_running}
+use Rattle.vm_machine.specs.Requests.{ids_of}
+use Rattle.invocation_vm.specs.Calls.{skips_replay}
 use Rattle.invocation_vm.specs.Frames.{Rest}
 use Rattle.invocation_vm.specs.Views.{View}
-use Rattle.vm_model.specs.Calls.{Setup, Meaning, Derived, Move, awakeable_made, awaiting, call_of, handing, is_awake, making_awakeable, name_in, numbered, ready_in, requested, result_taken, sleeping, value_taken}
+use Rattle.vm_model.specs.Calls.{Setup, Meaning, Derived, Move, asked as asked_move, awakeable_made, awaiting, call_of, commanding, is_awake, making_awakeable, numbered, ready_in, result_taken, value_taken}
 use Rattle.vm_model.specs.Calls.Move.{Answers, Needs, Awaits, Stops}
 use Rattle.vm_model.specs.Journal.{stored_form}
 use Rattle.vm_model.specs.Moves.{Point, move_at, start, supplied, supply}
@@ -49,7 +51,7 @@ use Rattle.vm_rounds.specs.Agreement.{Agrees, Answered, Follows, HasEnded, IsRef
 use Rattle.vm_rounds.specs.Journals.{is_command, setup_for}
 use Rattle.vm_rounds.specs.Record.{Record}
 use Rattle.vm_rounds.specs.Stepping.{Asks, IfWaits, asked, asked_from, future_in, progress_of, settled, with_vm}
-use Rattle.vm_rounds.specs.Steps.{IfDone, IsReadable, Made as IsMade, performed, request_of}
+use Rattle.vm_rounds.specs.Steps.{IfDone, ReadsBack, Made as IsMade, performed}
 use Rattle.vm_rounds.specs.Told.{arrivals, IsKept, IsLive, IsAsleep, RefusesReplay, Replays, Runs, StillAwaits, Wrote, commands_of, handed_out}
 use Rattle.vm_rounds.proofs.Following.{agreeing_follows}
 use Rattle.vm_rounds.proofs.Kept.{dead_same, not_live}
@@ -65,37 +67,13 @@ NeedsCommand (Answers gives d) = Unit {0}
 NeedsCommand Awaits = Unit {0}
 NeedsCommand Stops = Unit {0}
 
-request_needs : (s : Setup) (r : Request) (d : Derived) → is_command (stored_form (message_of r d.counters.completion)) ≡ true
-request_needs s (request.Sleep wake_up_time name) d = refl
-request_needs s (request.Output value options) d = refl
-request_needs s (request.SetState key value name options) d = refl
-request_needs s (request.ClearState key name) d = refl
-request_needs s (request.ClearAllState name) d = refl
-request_needs s (request.CompleteAwakeable id value options) d = refl
-request_needs s (request.CompleteSignal target signal value) d = refl
-request_needs s (request.CancelInvocation target) d = refl
+numbered_needs : (s : Setup) (c : Command) (o : Option NamedFault) (d : Derived) → IsCommand c.message → NeedsCommand (numbered s c o d)
+numbered_needs s c (Some fault) d is = tt
+numbered_needs s c None d is = numbered_is c.message d.counters.completion is
 
-numbered_needs : (s : Setup) (r : Request) (o : Option NamedFault) (d : Derived) → NeedsCommand (numbered s r o d)
-numbered_needs s r (Some fault) d = tt
-numbered_needs s r None d = request_needs s r d
-
-requested_needs : (s : Setup) (r : Request) (d : Derived) → NeedsCommand (requested s r d)
-requested_needs s r d = numbered_needs s r (missing (ids_of r) 0 (ids_of r) d.counters) d
-
-handing_needs : (s : Setup) (value : NonEmptyValue) (r : Request) (d : Derived) → NeedsCommand (handing s value r d)
-handing_needs s value r d = by_tests (has_metadata value) (is_from_v6 s.version)
-  where
-    by_tests : (a b : Bool) → NeedsCommand (cond a (cond b (requested s r d) Stops) (requested s r d))
-    by_tests true true = requested_needs s r d
-    by_tests true false = tt
-    by_tests false b = requested_needs s r d
-
-sleeping_needs : (s : Setup) (millis : ℕ) (name : List ℕ) (d : Derived) → NeedsCommand (sleeping s millis name d)
-sleeping_needs s millis name d = by_test (nat_lt millis 18446744073709551616)
-  where
-    by_test : (b : Bool) → NeedsCommand (cond b (requested s (request.Sleep millis name) d) Stops)
-    by_test true = requested_needs s (request.Sleep millis name) d
-    by_test false = tt
+commanding_needs : (s : Setup) (c : Command) (o : Option NamedFault) (d : Derived) → IsCommand c.message → NeedsCommand (commanding s c o d)
+commanding_needs s c (Some fault) d is = tt
+commanding_needs s c None d is = numbered_needs s c (missing (ids_of c.message) 0 (ids_of c.message) d.counters) d is
 
 awakeable_needs : (s : Setup) (o : Option NamedFault) (d : Derived) → NeedsCommand (awakeable_made s o d)
 awakeable_needs s (Some fault) d = tt
@@ -118,20 +96,16 @@ result_needs h (Some id) (Some result) d = value_needs h id (value_of result) d
 result_needs h (Some id) None d = tt
 result_needs h None o d = tt
 
+asked_needs : (s : Setup) (a : Ask) (d : Derived) → AsksCommand a → NeedsCommand (asked_move s a d)
+asked_needs s (ask.Command c) d is = commanding_needs s c c.refusal d is
+asked_needs s ask.Awakeable d is = making_needs s (skips_replay s.options.journal_replay) d
+asked_needs s (ask.Await future) d is = awaiting_needs (is_awake s future d) d
+asked_needs s (ask.Take handle) d is = result_needs handle (id_at handle.0 d.handles) (present_for s.options.signal_delivery (id_at handle.0 d.handles) (ready_in s d)) d
+asked_needs s (ask.Completed handle) d is = tt
+asked_needs s ask.End d is = tt
+
 call_needs : (s : Setup) (st : Step) (d : Derived) → NeedsCommand (call_of s st d)
-call_needs s (step.Sleep name wake_up_time now) d = sleeping_needs s _ name d
-call_needs s (step.StateSet key value name options) d = requested_needs s (request.SetState key value (name_in name) options) d
-call_needs s (step.StateClear key name) d = requested_needs s (request.ClearState key (name_in name)) d
-call_needs s (step.StateClearAll name) d = requested_needs s (request.ClearAllState (name_in name)) d
-call_needs s step.Awakeable d = making_needs s (skips_replay s.options.journal_replay) d
-call_needs s (step.CompleteAwakeable id value options) d = handing_needs s value (request.CompleteAwakeable id (value_message value) options) d
-call_needs s (step.CompleteSignal target signal value) d = handing_needs s value (request.CompleteSignal target signal (value_message value)) d
-call_needs s (step.CancelInvocation target) d = requested_needs s (request.CancelInvocation target) d
-call_needs s (step.WriteOutput value options) d = handing_needs s value (request.Output (value_message value) options) d
-call_needs s (step.Await future) d = awaiting_needs (is_awake s future d) d
-call_needs s (step.Take handle) d = result_needs handle (id_at handle.0 d.handles) (present_for s.options.signal_delivery (id_at handle.0 d.handles) (ready_in s d)) d
-call_needs s (step.Completed handle) d = tt
-call_needs s step.End d = tt
+call_needs s st d = asked_needs s (ask_of s.version st) d (asks_command s.version st)
 
 -- ---- what is made are commands
 
@@ -191,18 +165,7 @@ asks_next m p answers (Some future) is awaits = sym awaits
 -- the await that waits is the handler's
 future_awaits : (m : Meaning) (p q : Point) (st : Step) → m p.answers ≡ st → q.answers ≡ p.answers ++ [] → StillAwaits m q (future_in st)
 future_awaits m p q (step.Await future) is same = ap m (same ∙ append-nil p.answers) ∙ is
-future_awaits m p q (step.Sleep name wake_up_time now) is same = tt
-future_awaits m p q (step.StateSet key value name options) is same = tt
-future_awaits m p q (step.StateClear key name) is same = tt
-future_awaits m p q (step.StateClearAll name) is same = tt
-future_awaits m p q step.Awakeable is same = tt
-future_awaits m p q (step.CompleteAwakeable id value options) is same = tt
-future_awaits m p q (step.CompleteSignal target signal value) is same = tt
-future_awaits m p q (step.CancelInvocation target) is same = tt
-future_awaits m p q (step.WriteOutput value options) is same = tt
-future_awaits m p q (step.Take handle) is same = tt
-future_awaits m p q (step.Completed handle) is same = tt
-future_awaits m p q step.End is same = tt
+future_awaits m p q st is same = tt
 
 same_awaits : (m : Meaning) (p q : Point) (waiting : Option UnresolvedFuture) → q.answers ≡ p.answers ++ [] → StillAwaits m p waiting → StillAwaits m q waiting
 same_awaits m p q None same a = tt
@@ -360,7 +323,7 @@ asks_keep m version options old result new k live (x, w, does, is, progress) =
     let made : IsMade st x old.vm w = subst (λ q. IsMade q x old.vm w) same does in
     subst (IsKept m version options) (sym is)
     (subst (λ q. IsKept m version options (settled old (future_in q) x w)) (sym same)
-    (replied_keeps m version options old k live w made.0.1 (IsReadable (request_of st) old.vm.machine) st refl x (performed st old.vm.machine) (agreeing_follows s m (handed_out k.journal) k.written old.vm.machine k.at (k.agrees live)) made.0.0 made.1))
+    (replied_keeps m version options old k live w made.0.1 (ReadsBack st old.vm.machine) st refl x (performed st old.vm.machine) (agreeing_follows s m (handed_out k.journal) k.written old.vm.machine k.at (k.agrees live)) made.0.0 made.1))
 
 -- what a step that waits leaves of the record
 settled_waits : (m : Meaning) (version : Version) (options : VMOptions) (old : Record) (future : Option UnresolvedFuture) (w : View) (x : Result Reply Error) → IfWaits (progress_of x) (IsAsleep m version options old.fed old.answers old.taken w)
@@ -379,7 +342,7 @@ module _ (m : Meaning) (version : Version) (options : VMOptions) (old : Record) 
   is_next : asked m old ≡ m k.at.answers
   is_next = asks_next m k.at old.answers old.waiting k.answers k.awaits
 
-  follows_here : (w : View) → IfDone (performed (m k.at.answers) old.vm.machine) (IsReadable (request_of (m k.at.answers)) old.vm.machine) → Follows made_here m (handed_out k.journal) k.written k.at old.vm.machine (performed (m k.at.answers) old.vm.machine)
+  follows_here : (w : View) → IfDone (performed (m k.at.answers) old.vm.machine) (ReadsBack (m k.at.answers) old.vm.machine) → Follows made_here m (handed_out k.journal) k.written k.at old.vm.machine (performed (m k.at.answers) old.vm.machine)
   follows_here w = agreeing_follows made_here m (handed_out k.journal) k.written old.vm.machine k.at (k.agrees live)
 
   -- a step waits only where nothing wakes
@@ -389,7 +352,7 @@ module _ (m : Meaning) (version : Version) (options : VMOptions) (old : Record) 
       subst (λ z. IfWaits z (IsAsleep m version options new.fed new.answers new.taken new.vm)) (sym progress)
       (subst (λ (n : Record). IfWaits (progress_of x) (IsAsleep m version options n.fed n.answers n.taken n.vm)) (sym is)
       (settled_waits m version options old (future_in (asked m old)) w x
-      (replied_waits m version options old k live w made.0.1 (IsReadable (request_of (m k.at.answers)) old.vm.machine) x (performed (m k.at.answers) old.vm.machine) (follows_here w) made.0.0 made.1)))
+      (replied_waits m version options old k live w made.0.1 (ReadsBack (m k.at.answers) old.vm.machine) x (performed (m k.at.answers) old.vm.machine) (follows_here w) made.0.0 made.1)))
 
   -- recorded commands are left at the point
   some_left : old.vm.machine.phase ≡ Replaying → (left : List RawMessage) → k.at.left ≡ left → (c : RawMessage) × (further : List RawMessage) × (k.at.left ≡ c ∷ further)
@@ -405,4 +368,4 @@ module _ (m : Meaning) (version : Version) (options : VMOptions) (old : Record) 
       let some = some_left replaying k.at.left refl in
       subst (λ z. Replays m version options old z new) (sym progress)
       (subst (Replays m version options old (progress_of x)) (sym is)
-      (replied_replays m version options old k live w made.0.1 (IsReadable (request_of (m k.at.answers)) old.vm.machine) (future_in (asked m old)) some.0 some.1 some.2 x (performed (m k.at.answers) old.vm.machine) (follows_here w) made.0.0 made.1))
+      (replied_replays m version options old k live w made.0.1 (ReadsBack (m k.at.answers) old.vm.machine) (future_in (asked m old)) some.0 some.1 some.2 x (performed (m k.at.answers) old.vm.machine) (follows_here w) made.0.0 made.1))

@@ -47,18 +47,7 @@ MakesAttempt alloc options handler (Err refusal) (Err e) = e ≡ refusal
 -- the future of an await
 abbrev pub future_in : Step → Option UnresolvedFuture
 future_in (step.Await future) = Some future
-future_in (step.Sleep name wake_up_time now) = None
-future_in (step.StateSet key value name options) = None
-future_in (step.StateClear key name) = None
-future_in (step.StateClearAll name) = None
-future_in step.Awakeable = None
-future_in (step.CompleteAwakeable id value options) = None
-future_in (step.CompleteSignal target signal value) = None
-future_in (step.CancelInvocation target) = None
-future_in (step.WriteOutput value options) = None
-future_in (step.Take handle) = None
-future_in (step.Completed handle) = None
-future_in step.End = None
+future_in s = None
 
 -- a waiting await is asked again with the same future; else the handler's next step is made
 abbrev pub asked_from : Option UnresolvedFuture → Step → Step

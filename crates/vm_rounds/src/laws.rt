@@ -18,7 +18,7 @@ ghost use Rattle.vm_model.specs.Moves.{Point, later};
 ghost use Rattle.vm_parts.specs.declared.context.StateMap.{StateMap};
 ghost use Rattle.vm_rounds.specs.Agreement.{Agrees, Aside, Follows};
 ghost use Rattle.vm_rounds.specs.Journals.{BeginsOrFails, Started, as_entries, machine_fed, notifications_among, setup_for};
-ghost use Rattle.vm_rounds.specs.Steps.{performed, request_of, IfDone, IsReadable};
+ghost use Rattle.vm_rounds.specs.Steps.{performed, IfDone, ReadsBack};
 ghost use Rattle.vm_rounds.specs.Told.{AnswersAreTold, IsKept, RefusesReplay};
 ghost use Rattle.vm_rounds.specs.declared.progress.Progress.{Progress};
 ghost use Rattle.std.specs.Prelude.{Result};
@@ -38,7 +38,7 @@ ghost use Rattle.vm_parts.specs.declared.types.UnresolvedFuture.{UnresolvedFutur
 /// ends, where no recorded command is left; or the call is refused, where no move leads on. (That a command which was written can
 /// be read back is in the contract of each call.)
 pub fn calls_follow()
-    ensures { (s : Setup) (m : Meaning) (given : StateMap) (written : List RawMessage) (v : Machine) (p : Point) → Agrees s given written v p → IfDone (performed (m p.answers) v) (IsReadable (request_of (m p.answers)) v) → Follows s m given written p v (performed (m p.answers) v) }
+    ensures { (s : Setup) (m : Meaning) (given : StateMap) (written : List RawMessage) (v : Machine) (p : Point) → Agrees s given written v p → IfDone (performed (m p.answers) v) (ReadsBack (m p.answers) v) → Follows s m given written p v (performed (m p.answers) v) }
 {}
 
 /// Frames that come to a machine that agrees with a point are arrivals: the machine then agrees with that point and these

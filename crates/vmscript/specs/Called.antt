@@ -10,10 +10,13 @@ use Rattle.vm_parts.specs.declared.values.ResponseHead.{ResponseHead}
 use Rattle.vm_parts.specs.declared.types.UnresolvedFuture.{UnresolvedFuture}
 use Rattle.vm_parts.specs.declared.types.UnresolvedFuture.TheVariants.{Single}
 use Rattle.vm_machine.specs.declared.machine.Machine.{Machine}
+use Rattle.vm_machine.specs.declared.asks.Command.{Command}
+use Rattle.vm_machine.specs.Asks.{cancel_invocation_command, clear_all_state_command, clear_state_command, complete_awakeable_command, complete_signal_command, output_command, set_state_command, sleep_command}
+use Rattle.vm_machine.specs.Commands.{commanded, unit_of}
 use Rattle.vm_machine.specs.Awaits.{IsReadyAt, is_completed, last_index, state_of, take_step}
 use Rattle.vm_machine.specs.Inputs.{end_step, input_step}
 use Rattle.vm_machine.specs.Outcomes.{Outcome}
-use Rattle.invocation_vm.specs.Calls.{cancel_invocation_step, complete_awakeable_step, complete_signal_step, future_step, name_or_empty, new_awakeable_step, output_step, sleep_step, state_clear_all_step, state_clear_step, state_set_step}
+use Rattle.invocation_vm.specs.Calls.{future_step, name_or_empty, new_awakeable_step}
 use Rattle.invocation_vm.specs.Making.{response_head}
 use Rattle.invocation_vm.specs.Views.{View, Calls, CallsFlat, Leaves, TakesOutput, after_closing, after_error, after_input}
 use Rattle.vmscript.specs.declared.request.Call.{Call}
@@ -67,13 +70,13 @@ pub record TellsReady (machine : Machine) (answer : Reply) : Type 0 where
   pub ready : IsReadyAt machine.failure machine.phase given
   pub told : answer ≡ reply_of reply.Flag given
 
--- a sleep to a time, as far as whole milliseconds go
-abbrev pub Sleeps : List ℕ → ℕ → Reply → View → View → Type 0
-Sleeps name nanos answer old new = Answers reply.Handle (sleep_step (nanos / 1000000) name) answer old new
+-- a call that has a command, and is answered by its handle
+abbrev pub Handles : Command → Reply → View → View → Type 0
+Handles c answer old new = Answers reply.Handle (commanded c) answer old new
 
--- a call that answers nothing
-abbrev pub Acts : (Machine → Outcome Unit) → Reply → View → View → Type 0
-Acts step answer old new = Answers (λ _. reply.Done) step answer old new
+-- a call that has a command, and answers nothing
+abbrev pub Acts : Command → Reply → View → View → Type 0
+Acts c answer old new = Answers (λ _. reply.Done) (λ v. unit_of (commanded c v)) answer old new
 
 -- what a line's call does
 abbrev pub Called : Call → Reply → View → View → Type 0
@@ -90,15 +93,15 @@ Called (call.Completed handle) answer old new = (answer ≡ reply.Flag (is_compl
 Called (call.Take handle) answer old new = Answers reply.Taken (take_step handle.0) answer old new
 Called call.SysInput answer old new = Answers reply.Input input_step answer old new
 Called (call.Set key value name options) answer old new =
-    Acts (state_set_step (string_bytes key) value (name_or_empty name) options) answer old new
-Called (call.Clear key name) answer old new = Acts (state_clear_step (string_bytes key) (name_or_empty name)) answer old new
-Called (call.ClearAll name) answer old new = Acts (state_clear_all_step (name_or_empty name)) answer old new
-Called (call.Sleep name until now) answer old new = Sleeps (string_bytes name) (as_nanos until) answer old new
+    Acts (set_state_command (string_bytes key) value (name_or_empty name) options) answer old new
+Called (call.Clear key name) answer old new = Acts (clear_state_command (string_bytes key) (name_or_empty name)) answer old new
+Called (call.ClearAll name) answer old new = Acts (clear_all_state_command (name_or_empty name)) answer old new
+Called (call.Sleep name until now) answer old new = Handles (sleep_command (as_nanos until / 1000000) (string_bytes name)) answer old new
 Called call.Awakeable answer old new = Answers reply.Awakeable new_awakeable_step answer old new
 Called (call.CompleteAwakeable id value options) answer old new =
-    Acts (complete_awakeable_step (string_bytes id) value options) answer old new
+    Acts (complete_awakeable_command (string_bytes id) value options old.machine.version) answer old new
 Called (call.CompleteSignal target name value) answer old new =
-    Acts (complete_signal_step (string_bytes target) (string_bytes name) value) answer old new
-Called (call.Cancel target) answer old new = Acts (cancel_invocation_step (string_bytes target)) answer old new
-Called (call.WriteOutput value options) answer old new = Acts (output_step value options) answer old new
-Called call.End answer old new = Acts end_step answer old new
+    Acts (complete_signal_command (string_bytes target) (string_bytes name) value old.machine.version) answer old new
+Called (call.Cancel target) answer old new = Acts (cancel_invocation_command (string_bytes target)) answer old new
+Called (call.WriteOutput value options) answer old new = Acts (output_command value options old.machine.version) answer old new
+Called call.End answer old new = Answers (λ _. reply.Done) end_step answer old new
