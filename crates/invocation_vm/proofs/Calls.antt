@@ -1,46 +1,68 @@
 -- What a call does, from what its event gave and what the error rule made of it.
-use Rattle.std.proofs.Common.{◌≡◌, ◌⊎◌, inl, inr, ⊎_elim, ◌∙◌, sym, ap, refl, subst, Option, Some, None, Result, Ok, Err, rules, arith}
-use Rattle.std.specs.Prelude.{OnOk}
+use Rattle.std.proofs.Common.{◌≡◌, ◌⊎◌, inl, inr, ⊎_elim, ◌∙◌, sym, ap, refl, subst, Option, Some, None, Result, Ok, Err, false, true, rules, arith}
+use Rattle.std.specs.Prelude.{OnOk, OnErr, unwrap_or}
+use Rattle.std.proofs.lemmas.Bool.{false≢true}
 use Rattle.journal_protocol.specs.declared.error.Error.{Error}
 use Rattle.journal_protocol.specs.Errors.{no_memory}
 use Rattle.vm_machine.specs.declared.fault.Fault.{Fault}
 use Rattle.vm_machine.specs.declared.fault.Fault.TheVariants as fault
 use Rattle.vm_machine.specs.declared.machine.Machine.{Machine}
 use Rattle.journal_protocol.specs.declared.message.Message.{Message}
+use Rattle.vm_machine.specs.declared.phase.Phase.TheVariants.{Closed}
+use Rattle.vm_machine.specs.Phases.{is_closed}
 use Rattle.vm_machine.specs.Commands.{CanBeRead, unit_of}
 use Rattle.invocation_vm.specs.Calls.{unanswered}
-use Rattle.vm_machine.specs.Outcomes.{Outcome, Done, Failed, Gives, Does, Lives, Settles, settled, called, called_at, IsStarved, starved, ruled, failed, flat, flattened}
+use Rattle.vm_machine.specs.Outcomes.{Outcome, Done, Failed, Gives, Does, Lives, Settles, settled, called, called_at, IsStarved, Lasting, lasting, starved, ruled, failed, flat, flattened}
 
--- the case of want of memory
-starves : {A : Type 0} (o : Outcome A) (old mid new : Machine) → mid.output ≡ old.output → new ≡ starved mid → Does o (Err no_memory) old new
-starves o old mid new g s = inr (record { error = refl; failed = rw s refl; output = rw s g })
+-- a machine that hasn't failed, and finds no memory
+pub starves : (old mid new : Machine) → old.failure ≡ None → lasting mid ≡ lasting old → new ≡ starved mid → IsStarved old no_memory new
+starves old mid new live g s = record {
+  error = refl;
+  failure = ap (λ (m : Machine). m.failure) s ∙ ap (λ (f : Option Error). Some (unwrap_or f no_memory)) (sym live);
+  output = ap (λ (m : Machine). m.output) s ∙ ap (λ (l : Lasting). l.output) g;
+  version = ap (λ (m : Machine). m.version) s ∙ ap (λ (l : Lasting). l.version) g;
+  options = ap (λ (m : Machine). m.options) s ∙ ap (λ (l : Lasting). l.options) g;
+  start = ap (λ (m : Machine). m.start) s ∙ ap (λ (l : Lasting). l.start) g;
+  stays = λ first is. absurd (let z : None ≡ Some first = sym live ∙ is in cc);
+}
 
-pub settles : {A : Type 0} (o : Outcome A) (given : Result A Fault) (r : Result A Error) (old mid new : Machine) → Gives o given old mid → Settles given r mid new → Does (settled o) r old new
-settles o (Ok a) r old mid new g s = rw (s.0, s.1, g) refl
-settles o (Err fault.Memory) r old mid new g s = rw s.0 (starves (settled o) old mid new g s.1)
-settles o (Err (fault.Refused e)) r old mid new g s =
+pub settles : {A : Type 0} (o : Outcome A) (given : Result A Fault) (r : Result A Error) (old mid new : Machine) → old.failure ≡ None → Gives o given old mid → Settles given r mid new → Does (settled o) r old new
+settles o (Ok a) r old mid new live g s = rw (s.0, s.1, g) refl
+settles o (Err fault.Memory) r old mid new live g s = rw s.0 (inr (starves old mid new live g s.1))
+settles o (Err (fault.Refused e)) r old mid new live g s =
     elim s as (λ _. Does (settled o) r old new) [
       | inl h ↦ rw (h.0, h.1, g.0) (inl refl)
-      | inr h ↦ rw h.0 (starves (settled o) old mid new g.1 h.1)
+      | inr h ↦ rw h.0 (inr (starves old mid new live g.1 h.1))
     ]
 
-at_failure : {A : Type 0} (f : Option Error) (o : Outcome A) (r : Result A Error) (old new : Machine) → Lives f (Ok tt) → Does (settled o) r old new → Does (called_at f o old) r old new
-at_failure None o r old new l h = h
-at_failure (Some e) o r old new l h = elim l as (λ _. Does (Failed e old) r old new) [ inl x ↦ cc | inr x ↦ cc ]
+at_failure : {A : Type 0} (f : Option Error) (o : Outcome A) (given : Result A Fault) (r : Result A Error) (old mid new : Machine) → old.failure ≡ f → Lives f (Ok tt) → Gives o given old mid → Settles given r mid new → Does (called_at f o old) r old new
+at_failure None o given r old mid new is l g s = settles o given r old mid new is g s
+at_failure (Some e) o given r old mid new is l g s = elim l as (λ _. Does (Failed e old) r old new) [ inl x ↦ cc | inr x ↦ cc ]
 
 pub does_called : {A : Type 0} (o : Outcome A) (given : Result A Fault) (r : Result A Error) (old mid new : Machine) → Lives old.failure (Ok tt) → Gives o given old mid → Settles given r mid new → Does (called o old) r old new
 unfolding called
-does_called o given r old mid new l g s = at_failure old.failure o r old new l (settles o given r old mid new g s)
+does_called o given r old mid new l g s = at_failure old.failure o given r old mid new refl l g s
 
 err_is_ok : (e : Error) → Err e ≡ Ok (tt {0}) → ⊥
 err_is_ok e h = cc
+
+stays_starved : (e d : Error) (old : Machine) → e ≡ no_memory → old.failure ≡ Some d → IsStarved old e old
+stays_starved e d old error is = record {
+  error = error;
+  failure = is ∙ ap (λ (f : Option Error). Some (unwrap_or f no_memory)) (sym is);
+  output = refl;
+  version = refl;
+  options = refl;
+  start = refl;
+  stays = λ first _. refl;
+}
 
 first_error : {A : Type 0} (f : Option Error) (o : Outcome A) (e : Error) (old : Machine) → old.failure ≡ f → Lives f (Err e) → Does (called_at f o old) (Err e) old old
 first_error None o e old is l = absurd (err_is_ok e l)
 first_error {A = A} (Some d) o e old is l =
     elim l as (λ _. Does {A = A} (Failed d old) (Err e) old old) [
       | inl h ↦ inl (cc)
-      | inr h ↦ inr (record { error = cc; failed = rw is refl; output = refl })
+      | inr h ↦ inr (stays_starved e d old (cc) is)
     ]
 
 pub does_failed : {A : Type 0} (o : Outcome A) (e : Error) (old : Machine) → Lives old.failure (Err e) → Does (called o old) (Err e) old old
@@ -90,3 +112,14 @@ unit_called o r old new h = unit_at old.failure o r old new h
 pub unit_sent : {A : Type 0} (m : Message) (v : Machine) (r : Result A Error) → OnOk r (CanBeRead m v) → OnOk (unanswered r) (CanBeRead m v)
 unit_sent m v (Ok a) h = h
 unit_sent m v (Err e) h = tt
+
+-- ---- calls that take no memory
+
+-- the end of a closed VM
+pub closed_ends : (given : Result Unit Fault) (r : Result Unit Error) (v mid new : Machine) → Settles given r mid new → OnErr given (is_closed v.phase ≡ false) → v.phase ≡ Closed → r ≡ Ok tt
+closed_ends (Ok a) r v mid new s h closed = s.0
+closed_ends (Err e) r v mid new s h closed = absurd (false≢true (sym h ∙ ap is_closed closed))
+
+pub live_answers : (f : Option Error) (e : Error) (r : Result Unit Error) → Lives f (Err e) → f ≡ None → r ≡ Ok tt
+live_answers None e r l is = absurd (err_is_ok e l)
+live_answers (Some d) e r l is = absurd (let z : Some d ≡ None = is in cc)

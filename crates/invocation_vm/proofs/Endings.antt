@@ -39,7 +39,8 @@ use Rattle.invocation_vm.specs.Calls.{CallsCommand, CallsUnit, future_step, new_
 use Rattle.invocation_vm.specs.Endings.{EndsOnceAfter, StaysSo}
 use Rattle.invocation_vm.specs.Frames.{Tail, Rest, Garbage, frames_of}
 use Rattle.invocation_vm.specs.Making.{made}
-use Rattle.invocation_vm.specs.Views.{View, Calls, CallsFlat, Leaves, TakesOutput, after_closing, after_error, after_input, all_received, consumed, has_failed, left_by, left_over, received, spoiled}
+use Rattle.invocation_vm.specs.Views.{View, Calls, CallsFlat, Leaves, TakesOutput, after_closing, after_error, after_input, all_received, brought, consumed, has_failed, left_by, left_over, received, spoiled}
+use Rattle.invocation_vm.proofs.Feeds.{among_failed, among_output}
 
 -- ---- one after another
 
@@ -84,12 +85,15 @@ writes_then u v w a b = record {
 over_failed : (w : Machine) → is_some w.failure ≡ true → is_over w ≡ true
 over_failed w e = rw e refl
 
-starved_writes : (e : Error) (v w : Machine) → IsStarved e v w → Writes v w
-starved_writes e v w s = record {
+quiet_writes : (v w : Machine) → w.output ≡ v.output → is_some w.failure ≡ true → Writes v w
+quiet_writes v w output failed = record {
   messages = [];
-  output = s.output ∙ sym (append-nil v.output);
-  ends_once = subst (λ b. EndsOnce (is_over v) [] b) (sym (over_failed w s.failed)) (nothing_behind (is_over v));
+  output = output ∙ sym (append-nil v.output);
+  ends_once = subst (λ b. EndsOnce (is_over v) [] b) (sym (over_failed w failed)) (nothing_behind (is_over v));
 }
+
+starved_writes : (e : Error) (v w : Machine) → IsStarved v e w → Writes v w
+starved_writes e v w s = quiet_writes v w s.output (ap is_some s.failure)
 
 does_writes : {A : Type 0} (o : Outcome A) (r : Result A Error) (v w : Machine) → EventWrites v o → Does o r v w → Writes v w
 does_writes o (Ok a) v w h d = subst (EventWrites v) d h
@@ -121,9 +125,9 @@ stays old new w taken e = record {
 pub calls_stay : {A : Type 0} (step : Machine → Outcome A) (r : Result A Error) (old new : View) → EventWrites old.machine (called (step old.machine) old.machine) → Calls step r old new → StaysSo old new
 calls_stay step r old new h c = stays old new (does_writes (called (step old.machine) old.machine) r old.machine new.machine h c.0)
 
-pub leaves_stay : (after : View) (r : Result Unit AllocError) (old new : View) → Writes old.machine after.machine → Leaves after r old new → StaysSo old new
-leaves_stay after (Ok t) old new w l = stays old new (subst (λ (x : View). Writes old.machine x.machine) (sym l.ok) w)
-leaves_stay after (Err e) old new w l = stays old new (starved_writes no_memory old.machine new.machine l.err)
+pub leaves_stay : (raws : List RawMessage) (after : View) (r : Result Unit AllocError) (old new : View) → Writes old.machine after.machine → Leaves raws after r old new → StaysSo old new
+leaves_stay raws after (Ok t) old new w l = stays old new (subst (λ (x : View). Writes old.machine x.machine) (sym l.ok) w)
+leaves_stay raws after (Err e) old new w l = stays old new (quiet_writes old.machine new.machine (among_output raws old.machine new.machine l.err) (among_failed raws old.machine new.machine l.err))
 
 -- ---- each call
 
@@ -180,15 +184,15 @@ input_at false v bytes =
     let frames = frames_of (v.undecoded ++ bytes) in
     left_over_writes frames.1 v.machine (all_received frames.0 v.machine) (all_write frames.0 v.machine)
 
-pub bytes_stay : (bytes : List ℕ) (r : Result Unit AllocError) (old new : View) → Leaves (after_input old bytes) r old new → StaysSo old new
-bytes_stay bytes r old new l = leaves_stay (after_input old bytes) r old new (input_at (has_failed old.machine) old bytes) l
+pub bytes_stay : (bytes : List ℕ) (r : Result Unit AllocError) (old new : View) → Leaves (brought old bytes) (after_input old bytes) r old new → StaysSo old new
+bytes_stay bytes r old new l = leaves_stay (brought old bytes) (after_input old bytes) r old new (input_at (has_failed old.machine) old bytes) l
 
-pub closing_stays : (r : Result Unit AllocError) (old new : View) → Leaves (after_closing old) r old new → StaysSo old new
-closing_stays r old new l = leaves_stay (after_closing old) r old new (left_writes (called (close_step old.machine) old.machine) old.machine (close_writes old.machine)) l
+pub closing_stays : (r : Result Unit AllocError) (old new : View) → Leaves [] (after_closing old) r old new → StaysSo old new
+closing_stays r old new l = leaves_stay [] (after_closing old) r old new (left_writes (called (close_step old.machine) old.machine) old.machine (close_writes old.machine)) l
 
-pub error_stays : (e : Error) (relationship : Option CommandRelationship) (r : Result Unit AllocError) (old new : View) → Leaves (after_error old e relationship) r old new → StaysSo old new
+pub error_stays : (e : Error) (relationship : Option CommandRelationship) (r : Result Unit AllocError) (old new : View) → Leaves [] (after_error old e relationship) r old new → StaysSo old new
 error_stays e relationship r old new l =
-    leaves_stay (after_error old e relationship) r old new (left_writes (called (report_step e relationship old.machine) old.machine) old.machine (report_writes e relationship old.machine)) l
+    leaves_stay [] (after_error old e relationship) r old new (left_writes (called (report_step e relationship old.machine) old.machine) old.machine (report_writes e relationship old.machine)) l
 
 -- ---- a new VM, and what is taken
 

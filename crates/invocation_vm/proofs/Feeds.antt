@@ -1,6 +1,6 @@
 -- What the frames that come leave, one after another.
 use Rattle.std.proofs.Common.{◌≡◌, ◌⊎◌, inl, inr, ℕ, ◌<◌, Bool, true, false, List, [], ◌∷◌, length, Option, Some, None, Result, Ok, Err, sym, ap, refl, ◌∙◌, subst, arith, rules}
-use Rattle.std.specs.Prelude.{IsErr, is_some}
+use Rattle.std.specs.Prelude.{IsErr, IsSome, OnErr, is_some, ◌++◌}
 use Rattle.std.proofs.lemmas.Bool.{false≢true}
 use Rattle.std.specs.declared.alloc.AllocError.{AllocError}
 use Rattle.journal_protocol.specs.declared.message.RawMessage.{RawMessage}
@@ -12,9 +12,10 @@ use Rattle.vm_machine.specs.declared.fault.Fault.{Fault}
 use Rattle.vm_machine.specs.declared.fault.Fault.TheVariants as fault
 use Rattle.vm_machine.specs.declared.machine.Machine.{Machine}
 use Rattle.vm_machine.specs.Inputs.{message_step, malformed_step, Quiets}
-use Rattle.vm_machine.specs.Outcomes.{Outcome, Done, Failed, Gives, called, called_at, settled, IsStarved, starved}
+use Rattle.vm_machine.specs.Outcomes.{Outcome, Done, Failed, Gives, called, called_at, lasting, settled, IsStarved, starved}
 use Rattle.invocation_vm.specs.Frames.{frames_of}
-use Rattle.invocation_vm.specs.Views.{View, received, spoiled, all_received, consumed, left_by, Goes, Leaves}
+use Rattle.invocation_vm.specs.Views.{View, received, spoiled, all_received, consumed, left_by, Goes, HaveCome, Leaves, StarvesAmong}
+use Rattle.invocation_vm.proofs.Calls.{starves}
 use Rattle.invocation_vm.proofs.Cuts.{frames_of-next, consumed_failed}
 
 -- no whole frame is there
@@ -40,14 +41,36 @@ err_ok : (e : AllocError) → Err e ≡ Ok (tt {0}) → ⊥
 err_ok e h = cc
 
 -- a quiet call that found no memory
-pub starved_called : (o : Outcome Unit) (given : Result Unit Fault) (e : AllocError) (old mid new : Machine) → Gives o given old mid → Quiets given (Err e) mid new → IsStarved no_memory old new
-starved_called o (Ok a) e old mid new g s = absurd (err_ok e s.0)
-starved_called o (Err fault.Memory) e old mid new g s = record { error = refl; failed = rw s.1 refl; output = rw s.1 g }
-starved_called o (Err (fault.Refused d)) e old mid new g s =
-    elim s as (λ _. IsStarved no_memory old new) [
+pub starved_called : (o : Outcome Unit) (given : Result Unit Fault) (e : AllocError) (old mid new : Machine) → old.failure ≡ None → Gives o given old mid → Quiets given (Err e) mid new → IsStarved old no_memory new
+starved_called o (Ok a) e old mid new l g s = absurd (err_ok e s.0)
+starved_called o (Err fault.Memory) e old mid new l g s = starves old mid new l g s.1
+starved_called o (Err (fault.Refused d)) e old mid new l g s =
+    elim s as (λ _. IsStarved old no_memory new) [
       | inl h ↦ absurd (err_ok e h.0)
-      | inr h ↦ record { error = refl; failed = rw h.1 refl; output = rw h.1 g.1 }
+      | inr h ↦ starves old mid new l g.1 h.1
     ]
+
+-- what became of the frames: nothing was written, and the machine has failed
+pub among_output : (raws : List RawMessage) (old new : Machine) → StarvesAmong raws old new → new.output ≡ old.output
+among_output raws old new s = s.starved.output ∙ s.quiet
+
+pub among_failed : (raws : List RawMessage) (old new : Machine) → StarvesAmong raws old new → IsSome new.failure
+among_failed raws old new s = rw s.starved.failure refl
+
+-- no message came before
+pub none_came : (raws : List RawMessage) (m : Machine) → HaveCome raws raws m m
+none_came raws m = record { before = []; split = refl; machine = refl }
+
+pub among_none : (raws : List RawMessage) (old new : Machine) → old.failure ≡ None → IsStarved old no_memory new → StarvesAmong raws old new
+among_none raws old new live s = record {
+  lives = live;
+  reached = old;
+  left = raws;
+  came = none_came raws old;
+  live = live;
+  quiet = refl;
+  starved = s;
+}
 
 failure_of : (o : Option Error) → is_some o ≡ false → o ≡ None
 failure_of None h = refl
@@ -67,9 +90,18 @@ received_is : (given : Result Unit Fault) (raw : RawMessage) (m mid new : Machin
 unfolding received
 received_is given raw m mid new l g s = left_called (message_step raw m) given m mid new l g s
 
+-- a first frame, before those behind it
+first_of_them : (bytes rest : List ℕ) (raw : RawMessage) → next_of bytes ≡ Whole raw rest → (frames_of bytes).0 ≡ raw ∷ (frames_of rest).0
+first_of_them bytes rest raw h = rw (frames_of-next bytes, h) refl
+
 pub goes_on : (given : Result Unit Fault) (raw : RawMessage) (bytes rest : List ℕ) (m mid new : Machine) → m.failure ≡ None → next_of bytes ≡ Whole raw rest → Gives (message_step raw m) given m mid → Quiets given (Ok tt) mid new → mid.output ≡ m.output → is_some new.failure ≡ false → Goes true (record { undecoded = bytes; machine = m }) (record { undecoded = rest; machine = new })
-goes_on given raw bytes rest m mid new l f g s o h =
-    (failure_of new.failure h, whole_shorter bytes raw rest f, same_output given mid new s h ∙ o, sym (consumed_some bytes rest raw m f ∙ ap (λ (w : Machine). consumed (frames_of rest) w) (received_is given raw m mid new l g s)))
+goes_on given raw bytes rest m mid new l f g s o h = (
+  failure_of new.failure h,
+  whole_shorter bytes raw rest f,
+  same_output given mid new s h ∙ o,
+  sym (consumed_some bytes rest raw m f ∙ ap (λ (w : Machine). consumed (frames_of rest) w) (received_is given raw m mid new l g s)),
+  (raw, first_of_them bytes rest raw f, sym (received_is given raw m mid new l g s)),
+)
 
 failed_at : (o : Option Error) (bytes : List ℕ) (new : Machine) → new.failure ≡ o → is_some o ≡ true → consumed (frames_of bytes) new ≡ record { undecoded = []; machine = new }
 failed_at None bytes new e h = absurd (false≢true h)
@@ -80,10 +112,10 @@ ends given raw bytes rest none m mid new l f g s h n =
     rw n (sym (consumed_some bytes rest raw m f ∙ (ap (λ (w : Machine). consumed (frames_of rest) w) (received_is given raw m mid new l g s) ∙ failed_at new.failure rest new refl h)))
 
 -- a quiet call
-pub leaves_called : (o : Outcome Unit) (given : Result Unit Fault) (r : Result Unit AllocError) (bytes : List ℕ) (old mid new : Machine) → is_some old.failure ≡ false → Gives o given old mid → Quiets given r mid new → Leaves (record { undecoded = bytes; machine = left_by (called o old) }) r (record { undecoded = bytes; machine = old }) (record { undecoded = bytes; machine = new })
+pub leaves_called : (o : Outcome Unit) (given : Result Unit Fault) (r : Result Unit AllocError) (bytes : List ℕ) (old mid new : Machine) → is_some old.failure ≡ false → Gives o given old mid → Quiets given r mid new → Leaves [] (record { undecoded = bytes; machine = left_by (called o old) }) r (record { undecoded = bytes; machine = old }) (record { undecoded = bytes; machine = new })
 leaves_called o given (Ok t) bytes old mid new l g s =
     record { ok = ap (λ (m : Machine). record { undecoded = bytes; machine = m }) (sym (left_called o given old mid new (failure_of old.failure l) g s)); err = tt }
-leaves_called o given (Err e) bytes old mid new l g s = record { ok = tt; err = starved_called o given e old mid new g s }
+leaves_called o given (Err e) bytes old mid new l g s = record { ok = tt; err = among_none [] old new (failure_of old.failure l) (starved_called o given e old mid new (failure_of old.failure l) g s) }
 
 stays_left : {A : Type 0} (f : Option Error) (o : Outcome A) (old : Machine) → is_some f ≡ true → left_by (called_at f o old) ≡ old
 stays_left None o old h = absurd (false≢true h)
@@ -106,3 +138,33 @@ pub ends_in_garbage : (given : Result Unit Fault) (bytes none : List ℕ) (m mid
     → Goes false (record { undecoded = bytes; machine = m }) (record { undecoded = none; machine = new })
 ends_in_garbage given bytes none m mid new l f g s n =
     rw n (sym (consumed_garbage bytes m f ∙ ap (λ (w : Machine). record { undecoded = []; machine = w }) (spoiled_is given m mid new l g s)))
+
+-- ---- messages that have come
+
+received_more : (before : List RawMessage) (raw : RawMessage) (m : Machine) → all_received (before ++ raw ∷ []) m ≡ received raw (all_received before m)
+received_more [] raw m = refl
+received_more (b ∷ before) raw m = received_more before raw (received b m)
+
+append_one : (before : List RawMessage) (raw : RawMessage) (left : List RawMessage) → before ++ raw ∷ left ≡ (before ++ raw ∷ []) ++ left
+append_one [] raw left = refl
+append_one (b ∷ before) raw left = ap (λ (l : List RawMessage). b ∷ l) (append_one before raw left)
+
+-- one message more
+pub came_more : (raws left rest : List RawMessage) (raw : RawMessage) (old reached new : Machine) → HaveCome raws left old reached → left ≡ raw ∷ rest → new ≡ received raw reached → HaveCome raws rest old new
+came_more raws left rest raw old reached new c l r = record {
+  before = c.before ++ raw ∷ [];
+  split = c.split ∙ ap (λ (x : List RawMessage). c.before ++ x) l ∙ append_one c.before raw rest;
+  machine = r ∙ ap (received raw) c.machine ∙ sym (received_more c.before raw old);
+}
+
+-- a closed input
+pub closes_free : (given : Result Unit Fault) (r : Result Unit AllocError) (P : Type 0) (mid new : Machine) → Quiets given r mid new → OnErr given P → OnErr r P
+closes_free (Ok a) r P mid new s h = rw s.0 tt
+closes_free (Err e) (Ok t) P mid new s h = tt
+closes_free (Err e) (Err x) P mid new s h = h
+
+-- bytes for which there is no room
+pub has_no_room : (raws : List RawMessage) (after : View) (e : AllocError) (old new : View) → is_some old.machine.failure ≡ false → new.machine ≡ starved old.machine → Leaves raws after (Err e) old new
+has_no_room raws after e old new l s =
+    let live = failure_of old.machine.failure l in
+    record { ok = tt; err = among_none raws old.machine new.machine live (starves old.machine old.machine new.machine live refl s) }

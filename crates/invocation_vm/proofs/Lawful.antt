@@ -1,8 +1,10 @@
 -- What a sleep does in Processing, and what each call does to a VM that has failed.
-use Rattle.std.proofs.Common.{◌≡◌, inl, inr, ℕ, ◌<◌, Option, Some, None, List, false, min, sym, ap, ◌∙◌, arith}
+use Rattle.std.proofs.Common.{◌≡◌, inl, inr, ℕ, ◌<◌, Option, Some, None, List, false, min, refl, sym, ap, ◌∙◌, arith}
 use Rattle.std.specs.Prelude.{if◌then◌else◌, Result, Ok, Err}
 use Rattle.std.proofs.lemmas.Bool.{lt-ltb}
+use Rattle.std.specs.declared.alloc.AllocError.{AllocError}
 use Rattle.journal_protocol.specs.declared.error.Error.{Error}
+use Rattle.journal_protocol.specs.declared.message.RawMessage.{RawMessage}
 use Rattle.journal_protocol.specs.declared.faults.NamedFault.{NamedFault}
 use Rattle.journal_protocol.specs.declared.faults.NamedFault.TheVariants as fault
 use Rattle.vm_parts.specs.declared.types.NotificationHandle.{NotificationHandle}
@@ -20,7 +22,7 @@ use Rattle.vm_machine.proofs.Replaying.{answers_first}
 use Rattle.vm_machine.specs.Asks.{sleep_command}
 use Rattle.invocation_vm.specs.Calls.{CallsCommand}
 use Rattle.invocation_vm.specs.Sleeps.{MaySleep, sleeping}
-use Rattle.invocation_vm.specs.Views.{View, AnswersFirst, Calls, CallsFlat}
+use Rattle.invocation_vm.specs.Views.{View, AnswersFirst, Calls, CallsFlat, Leaves}
 
 -- ---- a sleep
 
@@ -76,10 +78,10 @@ slept millis name handle old new may b c =
     (ap (λ x. x.0) s.0, viewed old new (sleeping millis name old.machine) s.1 c.0.1)
 
 pub sleep_starved : (millis : ℕ) (name : List ℕ) (e : Error) (old new : View) → MaySleep old.machine → millis < 18446744073709551616
-    → CallsCommand (sleep_command millis name) (Err e) old new → IsStarved e old.machine new.machine
+    → CallsCommand (sleep_command millis name) (Err e) old new → IsStarved old.machine e new.machine
 sleep_starved millis name e old new may b c =
     let given : NotificationHandle = record { 0 = old.machine.counters.handle } in
-    elim c.0.0 as (λ _. IsStarved e old.machine new.machine) [
+    elim c.0.0 as (λ _. IsStarved old.machine e new.machine) [
       | inl x ↦ absurd (not_failed given e (sleeping millis name old.machine) new.machine (sym (sleeps millis name old.machine may b) ∙ x))
       | inr x ↦ x
     ]
@@ -92,17 +94,21 @@ not_done e a v w h = cc
 same_failed : {A : Type 0} (o : Outcome A) (d e : Error) (v w : Machine) → o ≡ Failed d v → o ≡ Failed e w → (e ≡ d) × (w ≡ v)
 same_failed o d e v w h k = (cc, cc)
 
-first_at : {A : Type 0} (o : Outcome A) (r : Result A Error) (e : Error) (old new : View) → o ≡ Failed e old.machine → Does o r old.machine new.machine → new.undecoded ≡ old.undecoded → AnswersFirst e r old new
-first_at o (Ok a) e old new f d u = absurd (not_done e a old.machine new.machine (sym f ∙ d))
-first_at {A = A} o (Err x) e old new f d u =
+first_at : {A : Type 0} (o : Outcome A) (r : Result A Error) (e : Error) (old new : View) → old.machine.failure ≡ Some e → o ≡ Failed e old.machine → Does o r old.machine new.machine → new.undecoded ≡ old.undecoded → AnswersFirst e r old new
+first_at o (Ok a) e old new is f d u = absurd (not_done e a old.machine new.machine (sym f ∙ d))
+first_at {A = A} o (Err x) e old new is f d u =
     elim d as (λ _. AnswersFirst {A = A} e (Err x) old new) [
-      | inl h ↦ (let s = same_failed o e x old.machine new.machine f h in inl (ap (λ y. Err y) s.0, viewed old new old.machine s.1 u))
-      | inr h ↦ inr (ap (λ y. Err y) h.error, h.output)
+      | inl h ↦ (let s = same_failed o e x old.machine new.machine f h in (inl (ap (λ y. Err y) s.0), viewed old new old.machine s.1 u))
+      | inr h ↦ (inr (ap (λ y. Err y) h.error), viewed old new old.machine (h.stays e is) u)
     ]
 
+pub first_fed : (raws : List RawMessage) (after : View) (r : Result Unit AllocError) (e : Error) (old new : View) → old.machine.failure ≡ Some e → Leaves raws after r old new → r ≡ Ok tt
+first_fed raws after (Ok t) e old new is l = refl
+first_fed raws after (Err x) e old new is l = absurd (let z : Some e ≡ None = sym is ∙ l.err.lives in cc)
+
 pub first_answered : {A : Type 0} (step : Machine → Outcome A) (r : Result A Error) (e : Error) (old new : View) → old.machine.failure ≡ Some e → Calls step r old new → AnswersFirst e r old new
-first_answered step r e old new f c = first_at (called (step old.machine) old.machine) r e old new (answers_first (step old.machine) e old.machine f) c.0 c.1
+first_answered step r e old new f c = first_at (called (step old.machine) old.machine) r e old new f (answers_first (step old.machine) e old.machine f) c.0 c.1
 
 pub first_awaited : {A : Type 0} (step : Machine → Outcome (Result A Error)) (r : Result A Error) (e : Error) (old new : View) → old.machine.failure ≡ Some e → CallsFlat step r old new → AnswersFirst e r old new
 first_awaited {A = A} step r e old new f c =
-    first_at (flat (called (step old.machine) old.machine)) r e old new (ap (λ (o : Outcome (Result A Error)). flat o) (answers_first (step old.machine) e old.machine f)) c.0 c.1
+    first_at (flat (called (step old.machine) old.machine)) r e old new f (ap (λ (o : Outcome (Result A Error)). flat o) (answers_first (step old.machine) e old.machine f)) c.0 c.1

@@ -61,10 +61,31 @@ after_closing v = record v { machine = left_by (called (close_step v.machine) v.
 abbrev pub after_error : View → Error → Option CommandRelationship → View
 after_error v e relationship = record v { machine = left_by (called (report_step e relationship v.machine) v.machine) }
 
--- a call that answers nothing but want of memory
-pub record Leaves (after : View) (r : Result Unit AllocError) (old new : View) : Type 0 where
+-- the messages that bytes bring
+abbrev pub brought : View → List ℕ → List RawMessage
+brought v bytes = (frames_of (v.undecoded ++ bytes)).0
+
+-- the first of these messages have come, and these are left
+pub record HaveCome (raws left : List RawMessage) (old reached : Machine) : Type 0 where
+  pub before : List RawMessage
+  pub split : raws ≡ before ++ left
+  pub machine : reached ≡ all_received before old
+
+-- A machine that hasn't failed finds no memory, once the first of these messages have come, by which it hasn't failed and has
+-- written nothing.
+pub record StarvesAmong (raws : List RawMessage) (old new : Machine) : Type 0 where
+  pub lives : old.failure ≡ None
+  pub reached : Machine
+  pub left : List RawMessage
+  pub came : HaveCome raws left old reached
+  pub live : reached.failure ≡ None
+  pub quiet : reached.output ≡ old.output
+  pub starved : IsStarved reached no_memory new
+
+-- a call that answers nothing but want of memory, which brings these messages
+pub record Leaves (raws : List RawMessage) (after : View) (r : Result Unit AllocError) (old new : View) : Type 0 where
   pub ok : OnOk r (new ≡ after)
-  pub err : OnErr r (IsStarved no_memory old.machine new.machine)
+  pub err : OnErr r (StarvesAmong raws old.machine new.machine)
 
 -- A call: the machine does what the step says, and no byte is read.
 abbrev pub Calls : {A : Type 0} → (Machine → Outcome A) → Result A Error → View → View → Type 0
@@ -81,6 +102,7 @@ abbrev pub Goes : Bool → View → View → Type 0
 Goes true old new =
     (new.machine.failure ≡ None) × (length new.undecoded < length old.undecoded) × (new.machine.output ≡ old.machine.output)
     × (consumed (frames_of new.undecoded) new.machine ≡ consumed (frames_of old.undecoded) old.machine)
+    × ((raw : RawMessage) × ((frames_of old.undecoded).0 ≡ raw ∷ (frames_of new.undecoded).0) × (new.machine ≡ received raw old.machine))
 Goes false old new = new ≡ consumed (frames_of old.undecoded) old.machine
 
 -- the output is taken, whole, or nothing is changed
@@ -89,6 +111,6 @@ pub record TakesOutput (r : Result (List ℕ) AllocError) (old new : View) : Typ
   pub ok : OnOk r (new ≡ record old { machine = record old.machine { output = [] } })
   pub err : OnErr r (new ≡ old)
 
--- a failed VM's answer: its first error, and it stays as it is; or it finds no memory, and writes nothing
+-- a failed VM's answer: its first error, or want of memory for it; it stays as it is
 abbrev pub AnswersFirst : {A : Type 0} → Error → Result A Error → View → View → Type 0
-AnswersFirst e r old new = ((r ≡ Err e) × (new ≡ old)) ⊎ ((r ≡ Err no_memory) × (new.machine.output ≡ old.machine.output))
+AnswersFirst e r old new = ((r ≡ Err e) ⊎ (r ≡ Err no_memory)) × (new ≡ old)

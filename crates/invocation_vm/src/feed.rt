@@ -16,7 +16,7 @@ impl CoreVM {
     fn take_frame(&mut self) -> Result<bool, AllocError>
         requires { self.old.machine.failure ≡ None }
         ensures ok { IfOk result (λ more. Goes more (seen self.old) (seen self.new)) }
-        ensures err { OnErr result (IsStarved no_memory self.old.machine self.new.machine) }
+        ensures err { OnErr result (IsStarved self.old.machine no_memory self.new.machine) }
     {
         let next = match self.decoder.next_frame() {
             Ok(next) => next,
@@ -46,7 +46,7 @@ impl CoreVM {
         requires live { self.old.machine.failure ≡ None }
         requires garbage { next_of self.old.decoder ≡ Malformed }
         ensures ok { IfOk result (λ more. Goes more (seen self.old) (seen self.new)) }
-        ensures err { OnErr result (IsStarved no_memory self.old.machine self.new.machine) }
+        ensures err { OnErr result (IsStarved self.old.machine no_memory self.new.machine) }
     {
         let given = self.machine.receive_malformed();
         match self.machine.settle_quietly(given) {
@@ -60,7 +60,7 @@ impl CoreVM {
     /// Takes the whole frames.
     pub(crate) fn consume(&mut self) -> Result<(), AllocError>
         requires { self.old.machine.failure ≡ None }
-        ensures { Leaves (consumed (frames_of self.old.decoder) self.old.machine) result (seen self.old) (seen self.new) }
+        ensures { Leaves (frames_of self.old.decoder).0 (consumed (frames_of self.old.decoder) self.old.machine) result (seen self.old) (seen self.new) }
     {
         'frames: loop {
             match self.take_frame() {

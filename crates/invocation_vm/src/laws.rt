@@ -3,6 +3,7 @@ ghost use Rattle.std.specs.Prelude.{◌≡◌, ◌<◌, ◌^◌, ℕ, false, Lis
 ghost use Rattle.std.proofs.Common.{Global};
 ghost use Rattle.std.specs.declared.alloc.AllocError.{AllocError};
 ghost use Rattle.journal_protocol.specs.declared.error.Error.{Error};
+ghost use Rattle.journal_protocol.specs.declared.message.RawMessage.{RawMessage};
 ghost use Rattle.journal_protocol.specs.declared.version.Version.{Version};
 ghost use Rattle.vm_parts.specs.declared.command_type.CommandRelationship.{CommandRelationship};
 ghost use Rattle.vm_parts.specs.declared.options.VMOptions.{VMOptions};
@@ -23,7 +24,7 @@ ghost use Rattle.invocation_vm.specs.Calls.{CallsCommand, CallsUnit, future_step
 ghost use Rattle.invocation_vm.specs.Endings.{EndsOnceAfter, StaysSo};
 ghost use Rattle.invocation_vm.specs.Making.{made};
 ghost use Rattle.invocation_vm.specs.Sleeps.{MaySleep, sleeping};
-ghost use Rattle.invocation_vm.specs.Views.{View, AnswersFirst, Calls, CallsFlat, Leaves, TakesOutput, after_closing, after_error, after_input};
+ghost use Rattle.invocation_vm.specs.Views.{View, AnswersFirst, Calls, CallsFlat, Leaves, TakesOutput, after_closing, after_error, after_input, brought};
 
 /// Over any list of calls, all output together has at most one Suspension, Error or End, and nothing behind it: that
 /// is so of a new VM, and each call of `VM`, by the clause that it ensures, leaves it so.
@@ -31,9 +32,9 @@ pub fn all_output_ends_once()
     ensures fresh { (alloc : Global) (options : VMOptions) (version : Version) → EndsOnceAfter [] (made alloc options version) }
     ensures taken { (bytes taken : List ℕ) (old new : View) → TakesOutput (Ok bytes) old new → EndsOnceAfter taken old → EndsOnceAfter (taken ++ bytes) new }
     ensures untaken { (e : AllocError) (old new : View) → TakesOutput (Err e) old new → StaysSo old new }
-    ensures bytes { (bytes : List ℕ) (r : Result Unit AllocError) (old new : View) → Leaves (after_input old bytes) r old new → StaysSo old new }
-    ensures closings { (r : Result Unit AllocError) (old new : View) → Leaves (after_closing old) r old new → StaysSo old new }
-    ensures errors { (e : Error) (relationship : Option CommandRelationship) (r : Result Unit AllocError) (old new : View) → Leaves (after_error old e relationship) r old new → StaysSo old new }
+    ensures bytes { (bytes : List ℕ) (r : Result Unit AllocError) (old new : View) → Leaves (brought old bytes) (after_input old bytes) r old new → StaysSo old new }
+    ensures closings { (r : Result Unit AllocError) (old new : View) → Leaves [] (after_closing old) r old new → StaysSo old new }
+    ensures errors { (e : Error) (relationship : Option CommandRelationship) (r : Result Unit AllocError) (old new : View) → Leaves [] (after_error old e relationship) r old new → StaysSo old new }
     ensures awaits { (future : UnresolvedFuture) (r : Result AwaitResponse Error) (old new : View) → CallsFlat (future_step future) r old new → StaysSo old new }
     ensures takes { (handle : ℕ) (r : Result (Option Value) Error) (old new : View) → Calls (take_step handle) r old new → StaysSo old new }
     ensures inputs { (r : Result Input Error) (old new : View) → Calls input_step r old new → StaysSo old new }
@@ -47,11 +48,13 @@ pub fn all_output_ends_once()
 /// id; it fails only where it finds no memory.
 pub fn sleep_is_written()
     ensures slept { (millis : ℕ) (name : List ℕ) (handle : NotificationHandle) (old new : View) → MaySleep old.machine → millis < 2 ^ 64 → CallsCommand (sleep_command millis name) (Ok handle) old new → (handle.0 ≡ old.machine.counters.handle) × (new ≡ record old { machine = sleeping millis name old.machine }) }
-    ensures starved { (millis : ℕ) (name : List ℕ) (e : Error) (old new : View) → MaySleep old.machine → millis < 2 ^ 64 → CallsCommand (sleep_command millis name) (Err e) old new → IsStarved e old.machine new.machine }
+    ensures starved { (millis : ℕ) (name : List ℕ) (e : Error) (old new : View) → MaySleep old.machine → millis < 2 ^ 64 → CallsCommand (sleep_command millis name) (Err e) old new → IsStarved old.machine e new.machine }
 {}
 
-/// A failed VM answers its first error to each call of a `VMResult` and stays as it is.
+/// A failed VM answers its first error to each call of a `VMResult`, or want of memory for it, and stays as it is. Where it is
+/// fed, closed or told of an error, it finds memory, since it takes none.
 pub fn first_error_is_answered<A>()
     ensures calls { (step : Machine → Outcome A) (r : Result A Error) (e : Error) (old new : View) → old.machine.failure ≡ Some e → Calls step r old new → AnswersFirst e r old new }
     ensures awaits { (step : Machine → Outcome (Result A Error)) (r : Result A Error) (e : Error) (old new : View) → old.machine.failure ≡ Some e → CallsFlat step r old new → AnswersFirst e r old new }
+    ensures quiet { (raws : List RawMessage) (after : View) (r : Result Unit AllocError) (e : Error) (old new : View) → old.machine.failure ≡ Some e → Leaves raws after r old new → r ≡ Ok tt }
 {}

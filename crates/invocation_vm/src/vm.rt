@@ -1,12 +1,14 @@
 //! The calls of a VM, each with what it does to the view of it.
-ghost use Rattle.std.specs.Prelude.{◌≡◌, ◌/◌, IfOk, string_bytes, codes};
+ghost use Rattle.std.specs.Prelude.{◌≡◌, ◌/◌, [], IfOk, OnErr, None, Ok, true, string_bytes, codes};
 ghost use Rattle.std.specs.Duration.{as_nanos};
 ghost use Rattle.vm_machine.specs.Asks.{cancel_invocation_command, clear_all_state_command, clear_state_command, complete_awakeable_command, complete_signal_command, output_command, set_state_command, sleep_command};
 ghost use Rattle.vm_machine.specs.Awaits.{IsReadyAt, is_completed, last_index, state_of, take_step};
 ghost use Rattle.vm_machine.specs.Inputs.{end_step, input_step};
+ghost use Rattle.vm_machine.specs.declared.phase.Phase.TheVariants.{Closed};
+ghost use Rattle.vm_machine.specs.Phases.{is_waiting};
 ghost use Rattle.invocation_vm.specs.Calls.{CallsCommand, CallsUnit, future_step, name_or_empty, new_awakeable_step};
 ghost use Rattle.invocation_vm.specs.Making.{Makes, response_head, version_in};
-ghost use Rattle.invocation_vm.specs.Views.{View, Calls, CallsFlat, Leaves, TakesOutput, after_closing, after_error, after_input};
+ghost use Rattle.invocation_vm.specs.Views.{View, Calls, CallsFlat, Leaves, TakesOutput, after_closing, after_error, after_input, brought};
 
 use bytes::Bytes;
 use journal_protocol::{Error, HeaderMap};
@@ -35,11 +37,12 @@ pub trait VM: Sized {
 
     /// The next bytes of the attempt, cut anywhere. What they spell may fail the VM; the answer is Ok then too.
     fn notify_input(&mut self, bytes: Bytes) -> Result<(), AllocError>
-        ensures { Leaves (after_input (view self.old) bytes) result (view self.old) (view self.new) };
+        ensures { Leaves (brought (view self.old) bytes) (after_input (view self.old) bytes) result (view self.old) (view self.new) };
 
-    /// No more bytes are to be waited for.
+    /// No more bytes are to be waited for. Memory is taken only where known entries are missing, for the error.
     fn notify_input_closed(&mut self) -> Result<(), AllocError>
-        ensures { Leaves (after_closing (view self.old)) result (view self.old) (view self.new) };
+        ensures does { Leaves [] (after_closing (view self.old)) result (view self.old) (view self.new) }
+        ensures ample { OnErr result (is_waiting (view self.old).machine.phase ≡ true) };
 
     /// The handler's runner reports an error, which fails the VM; a VM that has failed keeps its first error. Before V7
     /// an error that isn't to be retried becomes UnsupportedFeatureForNegotiatedVersion.
@@ -48,7 +51,7 @@ pub trait VM: Sized {
         error: Error,
         command_relationship: Option<CommandRelationship>,
     ) -> Result<(), AllocError>
-        ensures { Leaves (after_error (view self.old) error command_relationship) result (view self.old) (view self.new) };
+        ensures { Leaves [] (after_error (view self.old) error command_relationship) result (view self.old) (view self.new) };
 
     /// Takes all bytes that wait to be sent, whole frames in order.
     fn take_output(&mut self) -> Result<Bytes, AllocError>
@@ -135,9 +138,10 @@ pub trait VM: Sized {
     fn sys_write_output(&mut self, value: NonEmptyValue, options: PayloadOptions) -> VMResult<()>
         ensures { CallsUnit (output_command value options (view self.old).machine.version) result (view self.old) (view self.new) };
 
-    /// The handler ends; its last call.
+    /// The handler ends; its last call. A closed VM takes no memory for it.
     fn sys_end(&mut self) -> VMResult<()>
-        ensures { Calls end_step result (view self.old) (view self.new) };
+        ensures does { Calls end_step result (view self.old) (view self.new) }
+        ensures ample { (view self.old).machine.failure ≡ None → (view self.old).machine.phase ≡ Closed → result ≡ Ok tt };
 
     fn state(&self) -> State
         ensures { result ≡ state_of (view self.now).machine };

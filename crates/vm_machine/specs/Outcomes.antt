@@ -1,5 +1,5 @@
 -- What an event does to a machine, and what the error rule makes of it. These words are said once, for all events.
-use Rattle.std.specs.Prelude.{◌≡◌, ◌⊎◌, ℕ, Bool, true, false, ◌&&◌, ◌==◌, if◌then◌else◌, [], ◌∷◌, ◌++◌, Option, Some, None, unwrap_or, Result, Ok, Err, IsSome}
+use Rattle.std.specs.Prelude.{◌≡◌, ◌⊎◌, ℕ, Bool, true, false, ◌&&◌, ◌==◌, if◌then◌else◌, List, [], ◌∷◌, ◌++◌, Option, Some, None, unwrap_or, Result, Ok, Err}
 use Rattle.journal_protocol.specs.declared.error.Error.{Error}
 use Rattle.journal_protocol.specs.declared.error.ErrorBehavior.{ErrorBehavior}
 use Rattle.journal_protocol.specs.declared.error.ErrorBehavior.TheVariants.{Retry, Pause, Fail}
@@ -8,8 +8,11 @@ use Rattle.journal_protocol.specs.declared.faults.NamedFault.{NamedFault}
 use Rattle.journal_protocol.specs.declared.message.Message.TheVariants as message
 use Rattle.journal_protocol.specs.Errors.{named_error, no_memory, error_message}
 use Rattle.journal_protocol.specs.Message.{encoding}
+use Rattle.journal_protocol.specs.declared.version.Version.{Version}
+use Rattle.vm_parts.specs.declared.context.StartInfo.{StartInfo}
 use Rattle.vm_parts.specs.declared.options.JournalMismatchRetryBehavior.{JournalMismatchRetryBehavior}
 use Rattle.vm_parts.specs.declared.options.JournalMismatchRetryBehavior.TheVariants as mismatch
+use Rattle.vm_parts.specs.declared.options.VMOptions.{VMOptions}
 use Rattle.vm_machine.specs.declared.fault.Fault.{Fault}
 use Rattle.vm_machine.specs.declared.fault.Fault.TheVariants as fault
 use Rattle.vm_machine.specs.declared.machine.Machine.{Machine}
@@ -26,12 +29,24 @@ abbrev pub ◌>>=◌ : {A B : Type 0} → Outcome A → (A → Machine → Outco
 (Done a v) >>= f = f a v
 (Failed e v) >>= f = Failed e v
 
--- What an inner function answers and leaves: the event's outcome with the output as it was where it failed, or want
--- of memory with the output as it was.
+-- what a refused event leaves as it is before the error rule, and one that finds no memory
+pub record Lasting : Type 0 where
+  pub version : Version
+  pub options : VMOptions
+  pub start : StartInfo
+  pub failure : Option Error
+  pub output : List (List ℕ)
+
+-- these parts of a machine
+abbrev pub lasting : Machine → Lasting
+lasting v = record { version = v.version; options = v.options; start = v.start; failure = v.failure; output = v.output }
+
+-- What an inner function answers and leaves: the event's outcome, or want of memory; where it isn't done, what lasts is as
+-- it was.
 abbrev pub Gives : {A : Type 0} → Outcome A → Result A Fault → Machine → Machine → Type 0
 Gives o (Ok a) old new = o ≡ Done a new
-Gives o (Err (fault.Refused e)) old new = (o ≡ Failed e new) × (new.output ≡ old.output)
-Gives o (Err fault.Memory) old new = new.output ≡ old.output
+Gives o (Err (fault.Refused e)) old new = (o ≡ Failed e new) × (lasting new ≡ lasting old)
+Gives o (Err fault.Memory) old new = lasting new ≡ lasting old
 
 -- a refusal that relates to no command
 abbrev pub refused : {A : Type 0} → NamedFault → Machine → Outcome A
@@ -52,10 +67,14 @@ mismatch_behavior mismatch.FailTerminally = Fail
 mismatch_behavior mismatch.FollowRetryPolicy = Retry
 
 -- From V7 on, the options say what becomes of an invocation whose journal doesn't fit.
-abbrev pub ruled : Machine → Error → Error
-ruled v e =
-    if (e.code == 570) && is_from_v7 v.version then record e { behavior = mismatch_behavior v.options.journal_mismatch_retry_behavior }
+abbrev pub ruled_by : Version → VMOptions → Error → Error
+ruled_by version options e =
+    if (e.code == 570) && is_from_v7 version then record e { behavior = mismatch_behavior options.journal_mismatch_retry_behavior }
     else e
+
+-- the error as the machine's version and options have it
+abbrev pub ruled : Machine → Error → Error
+ruled v e = ruled_by v.version v.options e
 
 -- A machine that failed keeps its first error, and has written it unless it was closed.
 abbrev pub failed : Error → Machine → Machine
@@ -84,16 +103,22 @@ called_at (Some e) o v = Failed e v
 unfoldable pub called : {A : Type 0} → Outcome A → Machine → Outcome A
 called o v = called_at v.failure o v
 
--- Want of memory was answered: the machine has failed, and there is no frame more.
-pub record IsStarved (e : Error) (old new : Machine) : Type 0 where
+-- Want of memory was answered, once this state was reached. The first error is what it was, or else want of memory; there
+-- is no frame more than those of that state; version, options and Start are as they were. A machine that had failed before
+-- stays as it was.
+pub record IsStarved (reached : Machine) (e : Error) (new : Machine) : Type 0 where
   pub error : e ≡ no_memory
-  pub failed : IsSome new.failure
-  pub output : new.output ≡ old.output
+  pub failure : new.failure ≡ Some (unwrap_or reached.failure no_memory)
+  pub output : new.output ≡ reached.output
+  pub version : new.version ≡ reached.version
+  pub options : new.options ≡ reached.options
+  pub start : new.start ≡ reached.start
+  pub stays : (first : Error) → reached.failure ≡ Some first → new ≡ reached
 
 -- A call does what the outcome says, or finds no memory.
 abbrev pub Does : {A : Type 0} → Outcome A → Result A Error → Machine → Machine → Type 0
 Does o (Ok a) old new = o ≡ Done a new
-Does o (Err e) old new = (o ≡ Failed e new) ⊎ IsStarved e old new
+Does o (Err e) old new = (o ≡ Failed e new) ⊎ IsStarved old e new
 
 -- whether a machine may act: a failed one answers its first error
 abbrev pub Lives : Option Error → Result Unit Error → Type 0

@@ -41,6 +41,14 @@ is_closed Replaying = false
 is_closed Processing = false
 is_closed Closed = true
 
+-- known entries are missing
+abbrev pub is_waiting : Phase → Bool
+is_waiting WaitingStart = true
+is_waiting WaitingReplayEntries = true
+is_waiting Replaying = false
+is_waiting Processing = false
+is_waiting Closed = false
+
 -- why a call is refused that may not be made in this phase
 abbrev pub state_fault : Phase → NamedFault
 state_fault WaitingStart = fault.UnexpectedState

@@ -2,7 +2,7 @@
 ghost use Rattle.std.specs.Prelude.{◌≡◌, ◌<◌, ◌+◌, ◌^◌, true, Some, IfOk, OnOk, OnErr};
 ghost use Rattle.journal_protocol.specs.Errors.{named_error};
 ghost use Rattle.journal_protocol.specs.Runs.{IsWhole};
-ghost use Rattle.vm_machine.specs.Outcomes.{Gives, about_last, last_related};
+ghost use Rattle.vm_machine.specs.Outcomes.{Gives, about_last, last_related, lasting};
 ghost use Rattle.vm_machine.specs.Commands.{entered, written, popped, replayed, carried_out, handed_out, checks_are_off, Carries, Issues};
 ghost use Rattle.vm_machine.specs.Phases.{is_processing};
 ghost use Rattle.vm_machine.specs.Requests.{changed, ids_of};
@@ -65,7 +65,7 @@ impl Machine {
     #[tactic(auto, unfolding(crate::specs::Commands::popped))]
     pub fn pop(&mut self, ty: MessageType) -> Result<RawMessage, Fault>
         ensures step { Gives (popped ty self.old) result self.old self.new }
-        ensures quiet { self.new.output ≡ self.old.output }
+        ensures quiet { lasting self.new ≡ lasting self.old }
     {
         let Some(raw) = self.commands.pop() else {
             return Err(Fault::Refused(self.about_last(NamedFault::UnavailableEntry)?));
@@ -102,7 +102,7 @@ impl Machine {
     fn write(&mut self, message: &Message) -> Result<(), AllocError>
         ensures ok { OnOk result (self.new ≡ written message.now self.old) }
         ensures whole { OnOk result (IsWhole message.now) }
-        ensures err { OnErr result (self.new.output ≡ self.old.output) }
+        ensures err { OnErr result (lasting self.new ≡ lasting self.old) }
     {
         let frame = Encoder::new(self.alloc).encode(message)?;
         self.output.push(frame)?;
@@ -127,7 +127,7 @@ impl Machine {
         requires ids { self.old.counters.completion + ids < 2 ^ 32 }
         requires handles { self.old.counters.handle + ids < 2 ^ 32 }
         ensures ok { OnOk result (self.new ≡ handed_out ids self.old) }
-        ensures err { OnErr result (self.new.output ≡ self.old.output) }
+        ensures err { OnErr result (lasting self.new ≡ lasting self.old) }
     {
         for i in 0..ids {
             let id = NotificationId::CompletionId(self.counters.completion + i);
@@ -141,7 +141,7 @@ impl Machine {
     /// What a command changes of the state.
     fn change(&mut self, command: &Message) -> Result<(), AllocError>
         ensures ok { OnOk result (self.new ≡ record self.old { state = changed command.now self.old.state }) }
-        ensures err { OnErr result (self.new.output ≡ self.old.output) }
+        ensures err { OnErr result (lasting self.new ≡ lasting self.old) }
     {
         match command {
             Message::SetState(command) => self.state.set(&command.key, &command.value),

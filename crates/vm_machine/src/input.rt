@@ -1,7 +1,8 @@
 //! The first call of a handler, which reads its input, and the last, which ends it.
-ghost use Rattle.std.specs.Prelude.{◌≡◌, IfOk};
+ghost use Rattle.std.specs.Prelude.{◌≡◌, IfOk, OnErr, false};
 ghost use Rattle.vm_parts.specs.Counting.{missing};
 ghost use Rattle.vm_machine.specs.Outcomes.{Gives};
+ghost use Rattle.vm_machine.specs.Phases.{is_closed};
 ghost use Rattle.vm_machine.specs.Inputs.{input_of, input_counted, input_step, end_step};
 
 use crate::fault::Fault;
@@ -80,7 +81,8 @@ impl Machine {
 
     /// The handler ends.
     pub fn end(&mut self) -> Result<(), Fault>
-        ensures { Gives (end_step self.old) result self.old self.new }
+        ensures does { Gives (end_step self.old) result self.old self.new }
+        ensures ample { OnErr result (is_closed self.old.phase ≡ false) }
     {
         match self.phase {
             Phase::Closed => Ok(()),

@@ -1,8 +1,9 @@
 //! Messages that come in: Start, the recorded commands, notifications, and the closing of the input.
-ghost use Rattle.std.specs.Prelude.{◌≡◌, Some, None, IfOk};
+ghost use Rattle.std.specs.Prelude.{◌≡◌, Some, None, IfOk, OnErr, true};
 ghost use Rattle.journal_protocol.specs.Errors.{named_error};
 ghost use Rattle.vm_machine.specs.declared.fault.Fault.TheVariants.{Refused};
 ghost use Rattle.vm_machine.specs.Outcomes.{Gives};
+ghost use Rattle.vm_machine.specs.Phases.{is_waiting};
 ghost use Rattle.vm_machine.specs.Inputs.{from_version, started, info_of, entries_in, coverage_of, counted_entry, start_step, entry_step, notification_step, message_step, malformed_step, close_step};
 
 use crate::fault::Fault;
@@ -202,7 +203,8 @@ impl Machine {
 
     /// The input is closed.
     pub fn close_input(&mut self) -> Result<(), Fault>
-        ensures { Gives (close_step self.old) result self.old self.new }
+        ensures does { Gives (close_step self.old) result self.old self.new }
+        ensures ample { OnErr result (is_waiting self.old.phase ≡ true) }
     {
         self.input_closed = true;
         match self.phase {

@@ -6,7 +6,7 @@ use Rattle.journal_protocol.specs.declared.message.RawMessage.{RawMessage}
 use Rattle.journal_protocol.specs.declared.notification.Notification.{Notification}
 use Rattle.vm_parts.specs.declared.steps.Answer.{Answer}
 use Rattle.vm_model.specs.Calls.{Setup, Meaning, Derived, Demand, Move}
-use Rattle.vm_model.specs.Calls.Move.{Answers, Needs, Awaits, Stops}
+use Rattle.vm_model.specs.Calls.Move.{Answers, Needs, Awaits, Ends, Refuses}
 use Rattle.vm_model.specs.Journal.{Entry, notifications_in}
 use Rattle.vm_model.specs.Moves.{Point, after, command_used, later, longer, move_at, moved, next, stands_for, start, supplied, supply, uses_arrival, uses_command}
 use Rattle.vm_model.specs.Histories.{History, IsPrefix, IsStuck, Made, OneBegins, Told, Undisturbed}
@@ -30,7 +30,8 @@ moved_answers : (mv : Move) (p q : Point) → moved mv p ≡ Some q → IsPrefix
 moved_answers (Answers gives d) p q h = (gives, ap (λ z. z.answers) (sym (same_Some _ _ h)))
 moved_answers (Needs e gives d) p q h = uses_command_answers e gives d p.left p q h
 moved_answers Awaits p q h = uses_arrival_answers p.queue p q h
-moved_answers Stops p q h = none_some h
+moved_answers Ends p q h = none_some h
+moved_answers (Refuses name) p q h = none_some h
 
 prefix_trans : {A : Type 0} (a b c : List A) → IsPrefix a b → IsPrefix b c → IsPrefix a c
 prefix_trans a b c x y = (x.0 ++ y.0, y.1 ∙ ap (λ l. l ++ y.0) x.1 ∙ append_assoc a x.0 y.0)
@@ -78,7 +79,8 @@ supply_left (Needs e gives d) [] = inr refl
 supply_left (Needs e gives d) (c ∷ left) = inl refl
 supply_left (Answers gives d) left = inl refl
 supply_left Awaits left = inl refl
-supply_left Stops left = inl refl
+supply_left Ends left = inl refl
+supply_left (Refuses name) left = inl refl
 
 pub wrote_left : (s : Setup) (m : Meaning) (n : ℕ) (p : Point) (made : List RawMessage) (q : Point) → Made s m n p made q → (made ≡ []) ⊎ (q.left ≡ [])
 wrote_left s m zero p made q h = inl h.0
@@ -109,7 +111,8 @@ moved_left : (mv : Move) (p q : Point) → moved mv p ≡ Some q → (x : List R
 moved_left (Answers gives d) p q h = ([], ap (λ z. z.left) (same_Some _ _ h))
 moved_left (Needs e gives d) p q h = uses_command_left e gives d p.left p q h
 moved_left Awaits p q h = uses_arrival_left p.queue p q h
-moved_left Stops p q h = none_some h
+moved_left Ends p q h = none_some h
+moved_left (Refuses name) p q h = none_some h
 
 append_none : {A : Type 0} (xs ys : List A) → [] ≡ xs ++ ys → ys ≡ []
 append_none [] ys e = sym e
@@ -144,7 +147,8 @@ nothing_supplied : (mv : Move) (c : RawMessage) (left : List RawMessage) → sup
 nothing_supplied (Answers gives d) c left = refl
 nothing_supplied (Needs e gives d) c left = refl
 nothing_supplied Awaits c left = refl
-nothing_supplied Stops c left = refl
+nothing_supplied Ends c left = refl
+nothing_supplied (Refuses name) c left = refl
 
 -- While recorded commands of a history are left, no call is refused.
 pub none_refused : (s : Setup) (m : Meaning) (journal : List Entry) (delivered : List Notification) (k : ℕ) (written left : List RawMessage) (c : RawMessage) (q : Point) (h : History s m journal) → Made s m k (start s h.input (notifications_in journal ++ delivered) h.rest) written q → q.left ≡ c ∷ left → IsStuck s m q → ⊥

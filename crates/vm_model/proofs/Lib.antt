@@ -8,3 +8,4 @@ pub mod Results
 pub mod Took
 pub mod Sums
 pub mod Rows
+pub mod Refusals

@@ -6,7 +6,7 @@ use Rattle.journal_protocol.specs.declared.message.RawMessage.{RawMessage}
 use Rattle.journal_protocol.specs.declared.notification.Notification.{Notification}
 use Rattle.vm_parts.specs.declared.steps.Answer.{Answer}
 use Rattle.vm_model.specs.Calls.{Setup, Meaning, Derived, Demand, Move}
-use Rattle.vm_model.specs.Calls.Move.{Answers, Needs, Awaits, Stops}
+use Rattle.vm_model.specs.Calls.Move.{Answers, Needs, Awaits, Ends, Refuses}
 use Rattle.vm_model.specs.Moves.{Point, and_then, after, command_used, longer, later, move_at, moved, next, stands_for, supplied, supply, uses_arrival, uses_command}
 use Rattle.vm_model.specs.Histories.{Made}
 use Rattle.vm_model.specs.Journal.{stored_form}
@@ -44,7 +44,8 @@ unfolding mapped
 moved_longer cs (Answers gives d) p q h = ap (mapped (longer cs)) h
 moved_longer cs (Needs e gives d) p q h = uses_command_longer cs e gives d p.left p q h
 moved_longer cs Awaits p q h = uses_arrival_longer cs p.queue p q h
-moved_longer cs Stops p q h = none_some h
+moved_longer cs Ends p q h = none_some h
+moved_longer cs (Refuses name) p q h = none_some h
 
 -- further commands change nothing
 pub next_longer : (s : Setup) (m : Meaning) (cs : List RawMessage) (p q : Point) → next s m p ≡ Some q → next s m (longer cs p) ≡ Some (longer cs q)
@@ -71,7 +72,8 @@ unfolding mapped
 moved_later ns (Answers gives d) p q h = ap (mapped (later ns)) h
 moved_later ns (Needs e gives d) p q h = uses_command_later ns e gives d p.left p q h
 moved_later ns Awaits p q h = uses_arrival_later ns p.queue p q h
-moved_later ns Stops p q h = none_some h
+moved_later ns Ends p q h = none_some h
+moved_later ns (Refuses name) p q h = none_some h
 
 -- later arrivals change nothing
 pub next_later : (s : Setup) (m : Meaning) (ns : List Notification) (p q : Point) → next s m p ≡ Some q → next s m (later ns p) ≡ Some (later ns q)
@@ -126,7 +128,8 @@ made_add s m (suc n) k p made q more r (x, rest, is, moves, further) t =
 split_supply : (mv : Move) (left rest front back : List RawMessage) → front ++ back ≡ supply mv left ++ rest → (front ≡ []) ⊎ ((x : List RawMessage) × (front ≡ supply mv left ++ x) × (x ++ back ≡ rest))
 split_supply (Answers gives d) left rest front back e = inr (front, refl, e)
 split_supply Awaits left rest front back e = inr (front, refl, e)
-split_supply Stops left rest front back e = inr (front, refl, e)
+split_supply Ends left rest front back e = inr (front, refl, e)
+split_supply (Refuses name) left rest front back e = inr (front, refl, e)
 split_supply (Needs demand gives d) (c ∷ left) rest front back e = inr (front, refl, e)
 split_supply (Needs demand gives d) [] rest [] back e = inl refl
 split_supply (Needs demand gives d) [] rest (c ∷ front) back e = inr (front, (cc), (cc))
@@ -156,7 +159,8 @@ moved_spent : (mv : Move) (p q : Point) → moved mv (record p { left = supply m
 moved_spent (Answers gives d) p q h = ap (λ z. z.left) (sym (same_Some _ _ h))
 moved_spent (Needs e gives d) p q h = command_used_spent (stands_for e (stored_form e.command)) e gives d (record p { left = stored_form e.command ∷ [] }) q h
 moved_spent Awaits p q h = uses_arrival_spent p.queue (record p { left = [] }) q refl h
-moved_spent Stops p q h = none_some h
+moved_spent Ends p q h = none_some h
+moved_spent (Refuses name) p q h = none_some h
 
 pub next_spent : (s : Setup) (m : Meaning) (p q : Point) → p.left ≡ [] → next s m (longer (supplied s m p) p) ≡ Some q → q.left ≡ []
 next_spent s m p q e h =
@@ -167,7 +171,8 @@ pub no_supply : (mv : Move) (rest : List RawMessage) → supply mv (supply mv []
 no_supply (Answers gives d) rest = refl
 no_supply (Needs e gives d) rest = refl
 no_supply Awaits rest = refl
-no_supply Stops rest = refl
+no_supply Ends rest = refl
+no_supply (Refuses name) rest = refl
 
 pub made_spent : (s : Setup) (m : Meaning) (n : ℕ) (p : Point) (made : List RawMessage) (q : Point) → p.left ≡ [] → Made s m n p made q → q.left ≡ []
 made_spent s m zero p made q spent h = ap (λ z. z.left) (sym h.1) ∙ spent

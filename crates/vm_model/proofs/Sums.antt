@@ -1,7 +1,6 @@
 -- The numbers that a run has given are the sums over the calls that brought its answers.
-use Rattle.std.proofs.Common.{◌≡◌, ◌⊎◌, ℕ, zero, suc, ◌+◌, Bool, true, false, cond, List, [], ◌∷◌, ◌++◌, Option, Some, None, refl, sym, ap, ◌∙◌, subst, inl, inr, ⊎_elim, append_assoc, append-nil, arith}
+use Rattle.std.proofs.Common.{◌≡◌, ◌⊎◌, ℕ, zero, suc, ◌+◌, Bool, true, false, List, [], ◌∷◌, ◌++◌, Option, Some, None, refl, sym, ap, ◌∙◌, subst, inl, inr, ⊎_elim, append_assoc, append-nil, arith}
 use native.Mathlib.Nat.{add-zero}
-use Rattle.std.specs.Prelude.{nat_lt}
 use Rattle.std.proofs.lemmas.Option.{same_Some}
 use Rattle.journal_protocol.specs.declared.commands.InputCommand.{InputCommand}
 use Rattle.journal_protocol.specs.declared.faults.NamedFault.{NamedFault}
@@ -23,7 +22,7 @@ use Rattle.vm_machine.specs.Asks.{ask_of}
 use Rattle.vm_machine.specs.Requests.{ids_of}
 use Rattle.invocation_vm.specs.Calls.{skips_replay}
 use Rattle.vm_model.specs.Calls.{Setup, Meaning, Derived, Demand, Move, asked, awakeable_made, awaiting, call_of, commanded, commanding, is_awake, making_awakeable, numbered, ready_in, result_taken, value_taken}
-use Rattle.vm_model.specs.Calls.Move.{Answers, Needs, Awaits, Stops}
+use Rattle.vm_model.specs.Calls.Move.{Answers, Needs, Awaits, Ends, Refuses}
 use Rattle.vm_model.specs.Moves.{Point, after, command_used, move_at, moved, next, stands_for, start, uses_arrival, uses_command}
 use Rattle.vm_model.specs.Sums.{calls_after, calls_for, completion_ids, completion_ids_in, handles, signal_ids, signal_ids_in, total}
 use Rattle.vm_model.proofs.Runs.{and_then_some, none_some}
@@ -39,7 +38,8 @@ abbrev GivenAfter : ℕ → ℕ → Derived → Move → Type 0
 GivenAfter ids signals d (Answers gives e) = (a : Answer) × (gives ≡ a ∷ []) × Given ids signals (ids + signals) d e
 GivenAfter ids signals d (Needs demand gives e) = (a : Answer) × (gives ≡ a ∷ []) × Given ids signals (ids + signals) d e
 GivenAfter ids signals d Awaits = Unit {0}
-GivenAfter ids signals d Stops = Unit {0}
+GivenAfter ids signals d Ends = Unit {0}
+GivenAfter ids signals d (Refuses name) = Unit {0}
 
 commanded_given : (c : Command) (d : Derived) → Given (ids_of c.message) 0 (ids_of c.message + 0) d (commanded c d)
 commanded_given c d = record { completion = refl; signal = sym (add-zero d.counters.signal); handle = ap (λ n. d.counters.handle + n) (sym (add-zero (ids_of c.message))) }
@@ -116,7 +116,8 @@ moved_moves ids signals (Answers gives d) p q g m =
     inl (g.0, ap (λ z. z.answers) (sym is) ∙ ap (λ l. p.answers ++ l) g.1, subst (λ z. Given ids signals (ids + signals) p.derived z.derived) is g.2)
 moved_moves ids signals (Needs e gives d) p q g m = uses_moves ids signals e gives d p.left p q g m
 moved_moves ids signals Awaits p q g m = arrival_moves ids signals p.queue p q m
-moved_moves ids signals Stops p q g m = none_some m
+moved_moves ids signals Ends p q g m = none_some m
+moved_moves ids signals (Refuses name) p q g m = none_some m
 
 -- ---- so many moves
 

@@ -1,5 +1,5 @@
 -- Each take of a run took a result that was present.
-use Rattle.std.proofs.Common.{◌≡◌, ℕ, zero, suc, Bool, true, false, cond, is_some, List, [], ◌∷◌, Option, Some, None, refl, ap, subst}
+use Rattle.std.proofs.Common.{◌≡◌, ℕ, zero, suc, Bool, true, false, is_some, List, [], ◌∷◌, Option, Some, None, refl, ap, subst}
 use Rattle.std.proofs.lemmas.Option.{same_Some}
 use Rattle.journal_protocol.specs.declared.commands.InputCommand.{InputCommand}
 use Rattle.journal_protocol.specs.declared.faults.NamedFault.{NamedFault}
@@ -20,7 +20,7 @@ use Rattle.vm_machine.specs.Asks.{ask_of}
 use Rattle.vm_machine.specs.Requests.{ids_of}
 use Rattle.invocation_vm.specs.Calls.{skips_replay}
 use Rattle.vm_model.specs.Calls.{Setup, Meaning, Derived, Demand, Move, asked, awakeable_made, awaiting, commanding, is_awake, making_awakeable, numbered, ready_in, result_taken, value_taken}
-use Rattle.vm_model.specs.Calls.Move.{Answers, Needs, Awaits, Stops}
+use Rattle.vm_model.specs.Calls.Move.{Answers, Needs, Awaits, Ends, Refuses}
 use Rattle.vm_model.specs.Moves.{Point, after, command_used, move_at, moved, next, stands_for, start, uses_arrival, uses_command}
 use Rattle.vm_model.specs.Deliveries.{EachTookAResult}
 use Rattle.vm_model.proofs.Runs.{and_then_some, none_some}
@@ -33,7 +33,8 @@ abbrev TookAfter : Setup → Move → Type 0
 TookAfter s (Answers gives d) = Took s d
 TookAfter s (Needs demand gives d) = Took s d
 TookAfter s Awaits = Unit {0}
-TookAfter s Stops = Unit {0}
+TookAfter s Ends = Unit {0}
+TookAfter s (Refuses name) = Unit {0}
 
 numbered_took : (s : Setup) (c : Command) (o : Option NamedFault) (d : Derived) → Took s d → TookAfter s (numbered s c o d)
 numbered_took s c (Some fault) d h = tt
@@ -88,7 +89,8 @@ moved_took : (s : Setup) (mv : Move) (p q : Point) → Took s p.derived → Took
 moved_took s (Answers gives d) p q h t m = subst (λ z. Took s z.derived) (same_Some _ q m) t
 moved_took s (Needs e gives d) p q h t m = uses_took s e gives d p.left p q t m
 moved_took s Awaits p q h t m = arrival_took s p.queue p q h m
-moved_took s Stops p q h t m = none_some m
+moved_took s Ends p q h t m = none_some m
+moved_took s (Refuses name) p q h t m = none_some m
 
 after_took : (s : Setup) (m : Meaning) (n : ℕ) (p q : Point) → Took s p.derived → after s m n p ≡ Some q → Took s q.derived
 after_took s m zero p q h e = subst (λ z. Took s z.derived) (same_Some _ q e) h

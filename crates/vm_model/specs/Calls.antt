@@ -1,6 +1,7 @@
 -- What comes of each step of a handler, from what is known so far: one row a kind of what steps ask for.
 use Rattle.std.specs.Prelude.{ℕ, ◌+◌, ◌==◌, Bool, true, false, cond, List, [], ◌∷◌, ◌++◌, Option, Some, None}
 use Rattle.journal_protocol.specs.declared.faults.NamedFault.{NamedFault}
+use Rattle.journal_protocol.specs.declared.faults.NamedFault.TheVariants as fault
 use Rattle.journal_protocol.specs.declared.message.Message.{Message}
 use Rattle.journal_protocol.specs.declared.notification.Notification.{Notification}
 use Rattle.journal_protocol.specs.declared.notification.NotificationId.{NotificationId}
@@ -97,12 +98,14 @@ pub record Demand : Type 0 where
   pub ignores_payload : Bool
 
 -- What comes next: an answer with nothing used; an answer once the next command is this; one more arrival is used; or
--- nothing, since the handler ends or its call is refused.
+-- nothing, since the handler ends or its call is refused for this reason: an argument or version check, a kind of number
+-- that ran out, a state key that is no text.
 pub data Move : Type 0 where
   Answers : List Answer → Derived → Move
   Needs : Demand → List Answer → Derived → Move
   Awaits : Move
-  Stops : Move
+  Ends : Move
+  Refuses : NamedFault → Move
 
 -- ---- calls with a command
 
@@ -124,7 +127,7 @@ answer_of c d = command_answer (ids_of c.message) (record { 0 = d.counters.handl
 
 -- a call with a command, by the first kind of number that is missing
 abbrev pub numbered : Setup → Command → Option NamedFault → Derived → Move
-numbered s c (Some fault) d = Stops
+numbered s c (Some name) d = Refuses name
 numbered s c None d = Needs (demand_of s c d) (answer_of c d ∷ []) (commanded c d)
 
 -- a call with a command, where its numbers are left
@@ -133,14 +136,14 @@ requested s c d = numbered s c (missing (ids_of c.message) 0 (ids_of c.message) 
 
 -- a call with a command, unless its arguments refuse it
 abbrev pub commanding : Setup → Command → Option NamedFault → Derived → Move
-commanding s c (Some fault) d = Stops
+commanding s c (Some name) d = Refuses name
 commanding s c None d = requested s c d
 
 -- ---- calls without a command
 
 -- the next handle stands for the next signal id
 abbrev pub awakeable_made : Setup → Option NamedFault → Derived → Move
-awakeable_made s (Some fault) d = Stops
+awakeable_made s (Some name) d = Refuses name
 awakeable_made s None d =
     Answers (answer.Awakeable (record { id = awakeable_id s.identity.id d.counters.signal; handle = record { 0 = d.counters.handle } }) ∷ []) (record d {
       handles = d.handles ++ record { handle = d.counters.handle; id = SignalId d.counters.signal } ∷ [];
@@ -149,7 +152,7 @@ awakeable_made s None d =
 
 -- an awakeable is made, where recorded commands are replayed
 abbrev pub making_awakeable : Setup → Bool → Derived → Move
-making_awakeable s true d = Stops
+making_awakeable s true d = Refuses fault.UnsupportedFeature
 making_awakeable s false d = awakeable_made s (missing_signals 1 1 d.counters) d
 
 -- an await ends once its future is awake
@@ -159,7 +162,7 @@ awaiting false d = Awaits
 
 -- a taken result leaves, and its handle with it, but for the cancel handle; a state key has to be a text
 abbrev pub value_taken : NotificationHandle → NotificationId → Option Value → Derived → Move
-value_taken handle id None d = Stops
+value_taken handle id None d = Refuses fault.StateKeyIsNotUtf8
 value_taken handle id (Some value) d =
     Answers (answer.Taken (Some value) ∷ []) (record d {
       handles = cond (handle.0 == 1) d.handles (unmapped handle.0 d.handles);
@@ -185,7 +188,7 @@ asked s ask.Awakeable d = making_awakeable s (skips_replay s.options.journal_rep
 asked s (ask.Await future) d = awaiting (is_awake s future d) d
 asked s (ask.Take handle) d = taking s handle (id_at handle.0 d.handles) d
 asked s (ask.Completed handle) d = Answers (answer.Completed (has_result_in s handle d) ∷ []) d
-asked s ask.End d = Stops
+asked s ask.End d = Ends
 
 -- what comes of a step
 abbrev pub call_of : Setup → Step → Derived → Move

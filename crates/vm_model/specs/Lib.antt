@@ -4,3 +4,4 @@ pub mod Moves
 pub mod Histories
 pub mod Deliveries
 pub mod Sums
+pub mod Refusals

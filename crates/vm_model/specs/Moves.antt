@@ -19,7 +19,7 @@ use Rattle.vm_parts.specs.Deliveries.{no_results}
 use Rattle.vm_machine.specs.Requests.{changed}
 use Rattle.vm_model.specs.Calls.{Setup, Identity, Meaning, Derived, Demand, Move, call_of}
 use Rattle.vm_model.specs.Calls.Usage.{Used}
-use Rattle.vm_model.specs.Calls.Move.{Answers, Needs, Awaits, Stops}
+use Rattle.vm_model.specs.Calls.Move.{Answers, Needs, Awaits, Ends, Refuses}
 use Rattle.vm_model.specs.Journal.{stored_form}
 
 -- The answers so far, what follows from them, the commands of the calls so far, the arrivals that no await has used,
@@ -68,7 +68,8 @@ abbrev pub moved : Move → Point → Option Point
 moved (Answers gives d) p = Some (record p { answers = p.answers ++ gives; derived = d })
 moved (Needs demand gives d) p = uses_command demand gives d p.left p
 moved Awaits p = uses_arrival p.queue p
-moved Stops p = None
+moved Ends p = None
+moved (Refuses name) p = None
 
 -- what the handler asks for at a point
 abbrev pub move_at : Setup → Meaning → Point → Move
@@ -131,7 +132,8 @@ supply (Needs demand gives d) [] = stored_form demand.command ∷ []
 supply (Needs demand gives d) (c ∷ left) = []
 supply (Answers gives d) left = []
 supply Awaits left = []
-supply Stops left = []
+supply Ends left = []
+supply (Refuses name) left = []
 
 -- where no recorded command is left, the command that the call needs
 abbrev pub supplied : Setup → Meaning → Point → List RawMessage

@@ -3,9 +3,12 @@ ghost use Rattle.std.specs.Prelude.{◌≡◌, ◌⊎◌, ◌∷◌, ◌++◌, L
 ghost use Rattle.journal_protocol.specs.declared.commands.InputCommand.{InputCommand};
 ghost use Rattle.journal_protocol.specs.declared.message.RawMessage.{RawMessage};
 ghost use Rattle.journal_protocol.specs.declared.notification.Notification.{Notification};
-ghost use Rattle.vm_model.specs.Calls.{Setup, Meaning};
+ghost use Rattle.journal_protocol.specs.declared.faults.NamedFault.{NamedFault};
+ghost use Rattle.vm_model.specs.Calls.{Setup, Meaning, Move};
+ghost use Rattle.vm_model.specs.Calls.Move.{Refuses};
+ghost use Rattle.vm_model.specs.Refusals.{IsRefusedFor};
 ghost use Rattle.vm_model.specs.Journal.{Entry, notifications_in};
-ghost use Rattle.vm_model.specs.Moves.{Point, after, later, longer, next, start};
+ghost use Rattle.vm_model.specs.Moves.{Point, after, later, longer, move_at, next, start};
 ghost use Rattle.vm_model.specs.Histories.{History, IsStuck, Made, OneBegins, Told};
 
 /// Later arrivals and further recorded commands change nothing of what a run did.
@@ -30,8 +33,11 @@ pub fn attempts_go_on()
         Made s m k (start s h.input (notifications_in journal ++ delivered) h.rest) written q → q.left ≡ c ∷ left → (r : Point) × (next s m q ≡ Some r) }
 {}
 
-/// On a history no call is refused while recorded commands are left.
+/// On a history no call is refused while recorded commands are left, for whatever reason; where none is left, a call is refused
+/// only for a reason of its own.
 pub fn none_refused()
-    ensures { (s : Setup) (m : Meaning) (journal : List Entry) (delivered : List Notification) (k : ℕ) (written left : List RawMessage) (c : RawMessage) (q : Point) (h : History s m journal) →
+    ensures reasons { (s : Setup) (m : Meaning) (p : Point) (name : NamedFault) → IsRefusedFor (move_at s m p) p.left p.queue name → IsStuck s m p }
+    ensures own { (mv : Move) (queue : List Notification) (name : NamedFault) → IsRefusedFor mv [] queue name → mv ≡ Refuses name }
+    ensures on_histories { (s : Setup) (m : Meaning) (journal : List Entry) (delivered : List Notification) (k : ℕ) (written left : List RawMessage) (c : RawMessage) (q : Point) (h : History s m journal) →
         Made s m k (start s h.input (notifications_in journal ++ delivered) h.rest) written q → q.left ≡ c ∷ left → IsStuck s m q → ⊥ }
 {}

@@ -191,13 +191,13 @@ reads_keep m version options old (Err e) new b live (w, does, is) =
     (λ (x : called (input_step old.vm.machine) old.vm.machine ≡ Failed e w.machine).
     let q = failed_quiet old.vm.machine (input_step old.vm.machine) e w.machine (input_silent old.vm.machine) x in
     dead_same m version options old w (inl b) q.0 q.1)
-    (λ (x : IsStarved e old.vm.machine w.machine). dead_same m version options old w (inl b) (quiet_same old.vm.machine w.machine x.output) x.failed)
+    (λ (x : IsStarved old.vm.machine e w.machine). dead_same m version options old w (inl b) (quiet_same old.vm.machine w.machine x.output) (rw x.failure refl))
     does.0)
 
 -- ---- a step
 
 -- once the handler runs there is an answer
-runs_answered : (m : Meaning) (version : Version) (options : VMOptions) (fed : List Fed) (answers : List Answer) (before : Option UnresolvedFuture) (taken : List (List ℕ)) (v : View) → Runs m version options fed answers before taken v → answers ≢ []
+pub runs_answered : (m : Meaning) (version : Version) (options : VMOptions) (fed : List Fed) (answers : List Answer) (before : Option UnresolvedFuture) (taken : List (List ℕ)) (v : View) → Runs m version options fed answers before taken v → answers ≢ []
 runs_answered m version options fed answers before taken v k none =
     let s = setup_for version options k.journal.start in
     let p = start s k.journal.input (arrivals k.journal) k.journal.rest in

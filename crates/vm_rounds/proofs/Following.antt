@@ -1,6 +1,6 @@
 -- Each call of a handler, in a machine that agrees with a point, does what the moves from there lead to.
-use Rattle.std.proofs.Common.{◌≡◌, ℕ, ◌+◌, Bool, true, false, cond, ◌&&◌, List, [], ◌∷◌, ◌++◌, Option, Some, None, refl, sym, ap, ◌∙◌, subst, append-nil}
-use Rattle.std.specs.Prelude.{if◌then◌else◌, nat_lt, not, ◌/◌, ◌==◌}
+use Rattle.std.proofs.Common.{◌≡◌, ◌+◌, Bool, true, false, cond, List, [], ◌∷◌, ◌++◌, Option, Some, None, refl, sym, ap, ◌∙◌, subst, append-nil}
+use Rattle.std.specs.Prelude.{if◌then◌else◌, ◌==◌}
 use Rattle.journal_protocol.specs.declared.faults.NamedFault.{NamedFault}
 use Rattle.journal_protocol.specs.declared.faults.NamedFault.TheVariants as fault
 use Rattle.journal_protocol.specs.declared.message.RawMessage.{RawMessage}
@@ -36,7 +36,8 @@ use Rattle.vm_machine.specs.Signals.{awakeable_counted, awakeable_id, awakeable_
 use Rattle.invocation_vm.specs.Calls.{skips_replay}
 use Rattle.vm_model.specs.Calls.{Setup, Meaning, Derived, Move, asked, awakeable_made, call_of, commanding, making_awakeable, has_result_in, identity_of, ready_in, result_taken, taking, value_taken}
 use Rattle.vm_model.specs.Calls.Usage.{Taken}
-use Rattle.vm_model.specs.Calls.Move.{Answers, Stops}
+use Rattle.vm_model.specs.Calls.Move.{Answers, Ends, Refuses}
+use Rattle.vm_model.specs.Refusals.{IsRefusedFor}
 use Rattle.vm_model.specs.Moves.{Point, longer, move_at, moved, supply}
 use Rattle.vm_rounds.specs.declared.progress.Reply.TheVariants as reply
 use Rattle.vm_rounds.specs.Agreement.{Agrees, Aside, Follows, machine_at}
@@ -48,21 +49,25 @@ use Rattle.vm_rounds.proofs.Waiting.{awaits_follow}
 
 -- a move that brings no command of its own leads where it leads
 abbrev LeadsOn : {A : Type 0} → Setup → StateMap → List RawMessage → Aside → Point → (A → Answer) → Move → Outcome A → Type 0
-LeadsOn s given written aside p gives mv o = Leads s given written aside p (supply mv p.left) (λ a. gives a ∷ []) (moved mv (longer (supply mv p.left) p)) o
+LeadsOn s given written aside p gives mv o = Leads s given written aside p mv p.left (supply mv p.left) (λ a. gives a ∷ []) (moved mv (longer (supply mv p.left) p)) o
 
 -- an answer with nothing used
 answers : {A : Type 0} (s : Setup) (given : StateMap) (written : List RawMessage) (aside : Aside) (p : Point) (gives : A → Answer) (a : A) (d : Derived) → LeadsOn s given written aside p gives (Answers (gives a ∷ []) d) (Done a (machine_at s given written aside (record p { derived = d })))
 answers s given written aside p gives a d = (refl, λ i. record (machine_at s given (sym (append-nil written) i) (record aside { output = sym (append-nil aside.output) i }) (record p { derived = d })) { commands = sym (append-nil p.left) i; phase = phase_after (sym (append-nil p.left) i) })
 
--- a refusal where there is no move
-refuses : {A : Type 0} (s : Setup) (given : StateMap) (written : List RawMessage) (aside : Aside) (p : Point) (gives : A → Answer) (name : NamedFault) (w : Machine) → w.output ≡ aside.output → w.phase ≡ phase_after p.left → LeadsOn s given written aside p gives Stops (refused name w)
-refuses s given written aside p gives name w output phase = (output, ap is_closed phase ∙ open_after p.left)
+-- a refusal for the call's own reason
+refuses : {A : Type 0} (s : Setup) (given : StateMap) (written : List RawMessage) (aside : Aside) (p : Point) (gives : A → Answer) (name : NamedFault) (w : Machine) → w.output ≡ aside.output → w.phase ≡ phase_after p.left → w.version ≡ s.version → w.options ≡ s.options → LeadsOn s given written aside p gives (Refuses name) (refused name w)
+refuses s given written aside p gives name w output phase version options = record { why = name; related = None; reason = refl; error = refl; output = output; open_yet = ap is_closed phase ∙ open_after p.left; version = version; options = options }
+
+-- it is refused at once
+refuses_here : {A : Type 0} (s : Setup) (given : StateMap) (written : List RawMessage) (aside : Aside) (p : Point) (gives : A → Answer) (name : NamedFault) → LeadsOn s given written aside p gives (Refuses name) (refused name (machine_at s given written aside p))
+refuses_here s given written aside p gives name = refuses s given written aside p gives name (machine_at s given written aside p) refl refl refl refl
 
 -- ---- takes
 
 takes_value : (s : Setup) (given : StateMap) (written : List RawMessage) (aside : Aside) (p : Point) (h : NotificationHandle) (id : NotificationId) (result : NotificationResult) (o : Option Value)
     → LeadsOn s given written aside p answer.Taken (value_taken h id o p.derived) (awaits.value_taken o (record (machine_at s given written aside p) { results = taken_by s.options.signal_delivery h.0 (Some id) (Some result) (machine_at s given written aside p).results }))
-takes_value s given written aside p h id result None = (refl, open_after p.left)
+takes_value s given written aside p h id result None = refuses s given written aside p answer.Taken fault.StateKeyIsNotUtf8 (record (machine_at s given written aside p) { results = taken_by s.options.signal_delivery h.0 (Some id) (Some result) (machine_at s given written aside p).results }) refl refl refl refl
 takes_value s given written aside p h id result (Some value) = answers s given written aside p answer.Taken (Some value) (record p.derived { handles = cond (h.0 == 1) p.derived.handles (unmapped h.0 p.derived.handles); usage = Taken id ∷ p.derived.usage })
 
 takes_result : (s : Setup) (given : StateMap) (written : List RawMessage) (aside : Aside) (p : Point) (h : NotificationHandle) (id : Option NotificationId) (o : Option NotificationResult) → (id ≡ None → o ≡ None)
@@ -84,7 +89,7 @@ takes_follow s given written aside p h =
 -- ---- awakeables
 
 awakeables_follow : (s : Setup) (given : StateMap) (written : List RawMessage) (aside : Aside) (p : Point) → s.identity ≡ identity_of aside.start → (o : Option NamedFault) → LeadsOn s given written aside p answer.Awakeable (awakeable_made s o p.derived) (awakeable_counted o (machine_at s given written aside p))
-awakeables_follow s given written aside p identity (Some name) = (refl, open_after p.left)
+awakeables_follow s given written aside p identity (Some name) = refuses_here s given written aside p answer.Awakeable name
 awakeables_follow s given written aside p identity None = rw identity (answers s given written aside p answer.Awakeable (record { id = awakeable_id aside.start.id p.derived.counters.signal; handle = record { 0 = p.derived.counters.handle } }) (record p.derived {
   handles = p.derived.handles ++ record { handle = p.derived.counters.handle; id = SignalId p.derived.counters.signal } ∷ [];
   counters = record p.derived.counters { signal = p.derived.counters.signal + 1; handle = p.derived.counters.handle + 1 };
@@ -95,7 +100,7 @@ unfolding awakeable_step
 counts_awakeable s given written aside p identity = rw (runs_at p.left) (awakeables_follow s given written aside p identity (missing_signals 1 1 p.derived.counters))
 
 makes_awakeable : (s : Setup) (given : StateMap) (written : List RawMessage) (aside : Aside) (p : Point) → s.identity ≡ identity_of aside.start → (b : Bool) → LeadsOn s given written aside p answer.Awakeable (making_awakeable s b p.derived) (if b then refused fault.UnsupportedFeature (machine_at s given written aside p) else awakeable_step (machine_at s given written aside p))
-makes_awakeable s given written aside p identity true = (refl, open_after p.left)
+makes_awakeable s given written aside p identity true = refuses_here s given written aside p answer.Awakeable fault.UnsupportedFeature
 makes_awakeable s given written aside p identity false = counts_awakeable s given written aside p identity
 
 -- ---- calls with a command
@@ -113,7 +118,7 @@ Reads s given written aside c p = CanBeRead c.message (machine_at s given writte
 -- a call with a command, by why its arguments refuse it
 commands_follow : (s : Setup) (given : StateMap) (written : List RawMessage) (aside : Aside) (p : Point) (c : Command) → IsCommand c.message → (o : Option NamedFault) → IfDone (commanded_unless o c.message c.unstable (machine_at s given written aside p)) (Reads s given written aside c p)
     → LeadsOn s given written aside p (command_answer (ids_of c.message)) (commanding s c o p.derived) (commanded_unless o c.message c.unstable (machine_at s given written aside p))
-commands_follow s given written aside p c command (Some name) own = (refl, open_after p.left)
+commands_follow s given written aside p c command (Some name) own = refuses_here s given written aside p (command_answer (ids_of c.message)) name
 commands_follow s given written aside p c command None own =
     issues s given written aside c p (λ h. command_answer (ids_of c.message) h ∷ []) refl (Reads s given written aside c p) (λ (whole : Reads s given written aside c p) spent. stands_for_itself s c p.derived command (whole (ap (λ l. is_processing (phase_after l)) spent))) own
 
@@ -124,11 +129,14 @@ unfolding called
 ends s m given written aside p is [] e = record { step = is; no_command = e; output = refl; closed = refl }
 ends s m given written aside p is (c ∷ left) e =
     let v = machine_at s given written aside p in
-    let stops : move_at s m p ≡ Stops = ap (λ st. call_of s st p.derived) is in
+    let ends_here : move_at s m p ≡ Ends = ap (λ st. call_of s st p.derived) is in
     record {
       at = p;
       moves = no_move s m p;
-      stuck = ap (λ mv. moved mv (longer (supply mv p.left) p)) stops;
+      why = fault.UnexpectedState;
+      reason = subst (λ (x : Move × List RawMessage). IsRefusedFor x.0 x.1 p.queue fault.UnexpectedState) (λ i. (sym ends_here i, sym e i)) refl;
+      related = None;
+      error = refl;
       none_used = refl;
       output = error_written (ruled v (named_error (state_fault (phase_after (c ∷ left))) None)) v aside.output refl (open_after p.left);
       failure = refl;

@@ -7,7 +7,6 @@ use Rattle.std.specs.declared.alloc.AllocError.{AllocError}
 use Rattle.journal_protocol.specs.declared.error.Error.{Error}
 use Rattle.journal_protocol.specs.declared.message.RawMessage.{RawMessage}
 use Rattle.journal_protocol.specs.declared.version.Version.{Version}
-use Rattle.journal_protocol.specs.Errors.{no_memory}
 use Rattle.vm_parts.specs.declared.options.VMOptions.{VMOptions}
 use Rattle.vm_parts.specs.declared.steps.Answer.{Answer}
 use Rattle.vm_parts.specs.declared.types.UnresolvedFuture.{UnresolvedFuture}
@@ -20,10 +19,11 @@ use Rattle.std.proofs.Common.{Global}
 use Rattle.vm_model.specs.Moves.{Point, later}
 use Rattle.vm_machine.specs.Inputs.{close_step, closed_at, coverage_of, info_of, malformed_step}
 use Rattle.vm_machine.specs.Making.{fresh}
-use Rattle.vm_machine.specs.Outcomes.{IsStarved, called, called_at, settled}
+use Rattle.vm_machine.specs.Outcomes.{called, called_at, settled}
 use Rattle.vm_machine.specs.Phases.{is_running}
 use Rattle.invocation_vm.specs.Frames.{Tail, Rest, Garbage, frames_of}
-use Rattle.invocation_vm.specs.Views.{View, after_closing, after_input, all_received, consumed, has_failed, left_by, left_over, received, spoiled}
+use Rattle.invocation_vm.specs.Views.{StarvesAmong, brought, View, after_closing, after_input, all_received, consumed, has_failed, left_by, left_over, received, spoiled}
+use Rattle.invocation_vm.proofs.Feeds.{among_failed, among_output}
 use Rattle.invocation_vm.proofs.Cuts.{frames_of-append}
 use Rattle.vm_model.specs.Calls.{Meaning, Setup}
 use Rattle.vm_rounds.specs.declared.progress.Fed.{Fed}
@@ -198,8 +198,8 @@ feeds_keep m version options piece old (Ok t) new k does = subst (IsKept m versi
 feeds_keep m version options piece old (Err e) new k does =
     ⊎_elim
     (λ (x : new ≡ record old { starved = true }). subst (IsKept m version options) (sym x) k)
-    (λ (x : (w : View) × IsStarved no_memory old.vm.machine w.machine × (new ≡ with_vm w (kept piece old))).
-    subst (IsKept m version options) (sym x.2) (dead_kept m version options old piece x.0 k (quiet_same old.vm.machine x.0.machine x.1.output) x.1.failed old.vm.machine.failure old.vm.machine.phase))
+    (λ (x : (w : View) × StarvesAmong (brought old.vm piece) old.vm.machine w.machine × (new ≡ with_vm w (kept piece old))).
+    subst (IsKept m version options) (sym x.2) (dead_kept m version options old piece x.0 k (quiet_same old.vm.machine x.0.machine (among_output _ old.vm.machine x.0.machine x.1)) (among_failed _ old.vm.machine x.0.machine x.1) old.vm.machine.failure old.vm.machine.phase))
     does
 
 pub feed_keeps : (m : Meaning) (version : Version) (options : VMOptions) (piece : List ℕ) (old : Record) (result : Result Unit AllocError) (new : Record) → IsKept m version options old → FeedDoes old.starved piece old result new → IsKept m version options new
@@ -350,7 +350,7 @@ closing_keeps m version options r k None is Closed at =
 closes_keep : (m : Meaning) (version : Version) (options : VMOptions) (old : Record) (result : Result Unit AllocError) (new : Record) → IsKept m version options old → Closes old result new → IsKept m version options new
 closes_keep m version options old (Ok t) new k does = subst (IsKept m version options) (sym does) (closing_keeps m version options old k old.vm.machine.failure refl old.vm.machine.phase refl)
 closes_keep m version options old (Err e) new k does =
-    subst (IsKept m version options) (sym does.2) (dead_same m version options old does.0 k (quiet_same old.vm.machine does.0.machine does.1.output) does.1.failed)
+    subst (IsKept m version options) (sym does.2) (dead_same m version options old does.0 k (quiet_same old.vm.machine does.0.machine (among_output [] old.vm.machine does.0.machine does.1)) (among_failed [] old.vm.machine does.0.machine does.1))
 
 pub close_keeps : (m : Meaning) (version : Version) (options : VMOptions) (old : Record) (result : Result Unit AllocError) (new : Record) → IsKept m version options old → CloseDoes old.starved old result new → IsKept m version options new
 close_keeps m version options old result new k does = by_test old.starved does

@@ -1,9 +1,12 @@
 -- An event of a machine that agrees with a point does what the next move does.
 use Rattle.std.proofs.Common.{◌≡◌, ◌⊎◌, ℕ, false, List, [], ◌∷◌, ◌++◌, Option, Some, None, refl, sym, ap, ◌∙◌, subst, inl, inr, append-nil}
 use Rattle.journal_protocol.specs.declared.error.Error.{Error}
+use Rattle.journal_protocol.specs.declared.error.RelatedCommand.{RelatedCommand}
+use Rattle.journal_protocol.specs.declared.faults.NamedFault.{NamedFault}
+use Rattle.journal_protocol.specs.declared.notification.Notification.{Notification}
 use Rattle.journal_protocol.specs.declared.message.Message.TheVariants as message
 use Rattle.journal_protocol.specs.declared.message.RawMessage.{RawMessage}
-use Rattle.journal_protocol.specs.Errors.{error_message}
+use Rattle.journal_protocol.specs.Errors.{error_message, named_error}
 use Rattle.journal_protocol.specs.Message.{encoding}
 use Rattle.vm_parts.specs.declared.context.StateMap.{StateMap}
 use Rattle.vm_parts.specs.declared.steps.Answer.{Answer}
@@ -12,9 +15,10 @@ use Rattle.vm_machine.specs.Outcomes.{Outcome, Done, Failed, called, failed, rul
 use Rattle.vm_machine.specs.Phases.{is_closed}
 use Rattle.vm_machine.specs.Commands.{phase_after}
 use Rattle.vm_model.specs.Calls.{Setup, Meaning, Move, identity_of}
-use Rattle.vm_model.specs.Calls.Move.{Answers, Needs, Awaits, Stops}
+use Rattle.vm_model.specs.Calls.Move.{Answers, Needs, Awaits, Ends, Refuses}
 use Rattle.vm_model.specs.Moves.{Point, longer, move_at, moved, next, supplied, supply}
 use Rattle.vm_model.specs.Histories.{Made}
+use Rattle.vm_model.specs.Refusals.{IsRefusedFor}
 use Rattle.vm_rounds.specs.declared.progress.Reply.TheVariants as reply
 use Rattle.vm_rounds.specs.Agreement.{Aside, Follows, MovesOn, frames_of, machine_at}
 use Rattle.vm_rounds.specs.Steps.{mapped}
@@ -23,12 +27,27 @@ use Rattle.vm_rounds.specs.Steps.{mapped}
 abbrev pub with_frames : List RawMessage → Aside → Aside
 with_frames made aside = record aside { output = aside.output ++ frames_of made }
 
--- An outcome is what a move leads to: the machine at the next point, or a refusal that writes nothing where there is none.
-abbrev pub Leads : {A : Type 0} → Setup → StateMap → List RawMessage → Aside → Point → List RawMessage → (A → List Answer) → Option Point → Outcome A → Type 0
-Leads s given written aside p made gives (Some q) (Done a w) = (q.answers ≡ p.answers ++ gives a) × (w ≡ machine_at s given (written ++ made) (with_frames made aside) q)
-Leads s given written aside p made gives None (Failed e w) = (w.output ≡ aside.output) × (is_closed w.phase ≡ false)
-Leads s given written aside p made gives (Some q) (Failed e w) = ⊥
-Leads s given written aside p made gives None (Done a w) = ⊥
+-- a refusal for a reason, which has written nothing and ends by the error rule of its setup
+pub record Refusing (s : Setup) (before : List (List ℕ)) (queue : List Notification) (mv : Move) (left : List RawMessage) (e : Error) (w : Machine) : Type 0 where
+  pub why : NamedFault
+  pub related : Option RelatedCommand
+  pub reason : IsRefusedFor mv left queue why
+  pub error : e ≡ named_error why related
+  pub output : w.output ≡ before
+  pub open_yet : is_closed w.phase ≡ false
+  pub version : w.version ≡ s.version
+  pub options : w.options ≡ s.options
+
+-- An outcome is what a move leads to: the machine at the next point, or a refusal where there is none.
+abbrev pub Leads : {A : Type 0} → Setup → StateMap → List RawMessage → Aside → Point → Move → List RawMessage → List RawMessage → (A → List Answer) → Option Point → Outcome A → Type 0
+Leads s given written aside p mv left made gives (Some q) (Done a w) = (q.answers ≡ p.answers ++ gives a) × (w ≡ machine_at s given (written ++ made) (with_frames made aside) q)
+Leads s given written aside p mv left made gives None (Failed e w) = Refusing s aside.output p.queue mv left e w
+Leads s given written aside p mv left made gives (Some q) (Failed e w) = ⊥
+Leads s given written aside p mv left made gives None (Done a w) = ⊥
+
+-- the error rule depends on the version and the options alone
+pub same_rule : (v w : Machine) (e : Error) → w.version ≡ v.version → w.options ≡ v.options → ruled w e ≡ ruled v e
+same_rule v w e version options = λ i. ruled (record w { version = version i; options = options i }) e
 
 pub open_after : (left : List RawMessage) → is_closed (phase_after left) ≡ false
 open_after [] = refl
@@ -52,11 +71,12 @@ supplies_behind mv [] = inr refl
 supplies_behind (Needs demand gives d) (c ∷ left) = inl refl
 supplies_behind (Answers gives d) (c ∷ left) = inl refl
 supplies_behind Awaits (c ∷ left) = inl refl
-supplies_behind Stops (c ∷ left) = inl refl
+supplies_behind Ends (c ∷ left) = inl refl
+supplies_behind (Refuses name) (c ∷ left) = inl refl
 
 -- a call whose outcome is what its move leads to
 pub follows_from : {A : Type 0} (s : Setup) (m : Meaning) (given : StateMap) (written : List RawMessage) (aside : Aside) (p : Point) (gives : A → Answer) (mv : Move) (o : Outcome A) → s.identity ≡ identity_of aside.start → move_at s m p ≡ mv
-    → Leads s given written aside p (supply mv p.left) (λ a. gives a ∷ []) (moved mv (longer (supply mv p.left) p)) o → Follows s m given written p (machine_at s given written aside p) (mapped (λ a. reply.Answer (gives a)) (called o (machine_at s given written aside p)))
+    → Leads s given written aside p mv p.left (supply mv p.left) (λ a. gives a ∷ []) (moved mv (longer (supply mv p.left) p)) o → Follows s m given written p (machine_at s given written aside p) (mapped (λ a. reply.Answer (gives a)) (called o (machine_at s given written aside p)))
 unfolding called
 follows_from s m given written aside p gives mv o identity is h = by_cases (moved mv (longer (supply mv p.left) p)) refl o h
   where
@@ -66,7 +86,7 @@ follows_from s m given written aside p gives mv o identity is h = by_cases (move
     leads : (to : Option Point) → moved mv (longer (supply mv p.left) p) ≡ to → next s m (longer (supplied s m p) p) ≡ to
     leads to e = ap (λ l. next s m (longer l p)) supplies ∙ ap (λ x. moved x (longer (supply mv p.left) p)) is ∙ e
 
-    by_cases : (to : Option Point) → moved mv (longer (supply mv p.left) p) ≡ to → (x : Outcome _) → Leads s given written aside p (supply mv p.left) (λ a. gives a ∷ []) to x → Follows s m given written p (machine_at s given written aside p) (mapped (λ a. reply.Answer (gives a)) (called x (machine_at s given written aside p)))
+    by_cases : (to : Option Point) → moved mv (longer (supply mv p.left) p) ≡ to → (x : Outcome _) → Leads s given written aside p mv p.left (supply mv p.left) (λ a. gives a ∷ []) to x → Follows s m given written p (machine_at s given written aside p) (mapped (λ a. reply.Answer (gives a)) (called x (machine_at s given written aside p)))
     by_cases (Some q) e (Done a w) g =
         record {
           at = q;
@@ -76,6 +96,17 @@ follows_from s m given written aside p gives mv o identity is h = by_cases (move
           agrees = record { aside = with_frames (supply mv p.left) aside; machine = g.1; identity = identity };
           output = ap (λ w. w.output) g.1;
         }
-    by_cases None e (Failed f w) g = record { at = p; moves = no_move s m p; stuck = leads None e; none_used = refl; output = error_written (ruled w f) w aside.output g.0 g.1; failure = refl }
+    by_cases None e (Failed f w) g =
+        record {
+          at = p;
+          moves = no_move s m p;
+          why = g.why;
+          reason = subst (λ x. IsRefusedFor x p.left p.queue g.why) (sym is) g.reason;
+          related = g.related;
+          error = same_rule (machine_at s given written aside p) w f g.version g.options ∙ ap (ruled (machine_at s given written aside p)) g.error;
+          none_used = refl;
+          output = error_written (ruled w f) w aside.output g.output g.open_yet;
+          failure = refl;
+        }
     by_cases (Some q) e (Failed f w) g = absurd g
     by_cases None e (Done a w) g = absurd g

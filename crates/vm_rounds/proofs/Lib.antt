@@ -15,3 +15,7 @@ pub mod Kept
 pub mod Stepped
 pub mod Advanced
 pub mod Replayed
+pub mod Blaming
+pub mod Placing
+pub mod Blamed
+pub mod Erring

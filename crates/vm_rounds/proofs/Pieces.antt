@@ -105,7 +105,7 @@ has_more s given aside k raws more m h =
 
 -- ---- pieces
 
-fed_frames : (fed : List Fed) (f : Fed) (v : View) → (frames_of (bytes_fed fed)).1 ≡ Rest v.undecoded → frames_of (bytes_fed (fed ++ f ∷ [])) ≡ (frames_fed fed ++ (frames_of (v.undecoded ++ f.piece)).0, (frames_of (v.undecoded ++ f.piece)).1)
+pub fed_frames : (fed : List Fed) (f : Fed) (v : View) → (frames_of (bytes_fed fed)).1 ≡ Rest v.undecoded → frames_of (bytes_fed (fed ++ f ∷ [])) ≡ (frames_fed fed ++ (frames_of (v.undecoded ++ f.piece)).0, (frames_of (v.undecoded ++ f.piece)).1)
 fed_frames fed f v tail =
     ap frames_of (bytes_behind fed f) ∙ frames_of-append (bytes_fed fed) f.piece
     ∙ ap (λ t. joined (frames_fed fed, t) f.piece) tail

@@ -18,7 +18,7 @@ use Rattle.vm_machine.specs.declared.asks.Command.{Command}
 use Rattle.vm_machine.specs.declared.phase.Phase.TheVariants.{Replaying, Processing}
 use Rattle.vm_machine.specs.Commands.{carried_out, compared, counted, entered, issued, phase_after, popped, popped_from, prepared, replayed, typed, written as wrote}
 use Rattle.vm_machine.specs.Phases.{is_processing, is_running, state_fault}
-use Rattle.vm_machine.specs.Outcomes.{Outcome, Done, Failed, ◌>>=◌, about_last}
+use Rattle.vm_machine.specs.Outcomes.{Outcome, Done, Failed, ◌>>=◌, about_last, last_related}
 use Rattle.vm_machine.specs.Requests.{changed, ids_of, name_of, shown_type, with_ids}
 use Rattle.vm_model.specs.Calls.{Setup, Demand, answer_of, commanded, demand_of, numbered, requested}
 use Rattle.vm_model.specs.Calls.Move.{Needs}
@@ -27,7 +27,9 @@ use Rattle.vm_model.specs.Moves.{Point, changed_by, command_used, longer, moved,
 use Rattle.vm_model.proofs.Runs.{longer_nothing}
 use Rattle.vm_rounds.specs.Agreement.{Aside, is_some_command, machine_at}
 use Rattle.vm_rounds.specs.Steps.{IfDone}
-use Rattle.vm_rounds.proofs.Leading.{Leads, open_after, with_frames}
+use Rattle.vm_model.specs.Refusals.{mismatch}
+use Rattle.vm_model.proofs.Refusals.{reads_otherwise, typed_otherwise}
+use Rattle.vm_rounds.proofs.Leading.{Leads, Refusing, open_after, with_frames}
 
 -- ---- the event, by what is left
 
@@ -74,7 +76,7 @@ handed p o = o >>= λ _ w. Done (record { 0 = p.derived.counters.handle }) w
 
 writes : (s : Setup) (given : StateMap) (written : List RawMessage) (aside : Aside) (r : Command) (p : Point) (gives : NotificationHandle → List Answer) → gives (record { 0 = p.derived.counters.handle }) ≡ answer_of r p.derived ∷ [] → p.left ≡ [] → stands_for (demand_of s r p.derived) (stored_form (with_ids p.derived.counters.completion r.message)) ≡ true
     → (b : Bool) → stands_for (demand_of s r p.derived) (stored_form (with_ids p.derived.counters.completion r.message)) ≡ b
-    → Leads s given written aside p (stored_form (with_ids p.derived.counters.completion r.message) ∷ []) gives (command_used b (demand_of s r p.derived) (answer_of r p.derived ∷ []) (commanded r p.derived) [] p) (handed p (Done tt (wrote (with_ids p.derived.counters.completion r.message) (machine_at s given written aside (said_by r p)))))
+    → Leads s given written aside p (Needs (demand_of s r p.derived) (answer_of r p.derived ∷ []) (commanded r p.derived)) [] (stored_form (with_ids p.derived.counters.completion r.message) ∷ []) gives (command_used b (demand_of s r p.derived) (answer_of r p.derived ∷ []) (commanded r p.derived) [] p) (handed p (Done tt (wrote (with_ids p.derived.counters.completion r.message) (machine_at s given written aside (said_by r p)))))
 writes s given written aside r p gives answer spent own false e = absurd (let z : true ≡ false = sym own ∙ e in cc)
 writes s given written aside r p gives answer spent own true e =
     let m = with_ids p.derived.counters.completion r.message in (
@@ -88,22 +90,28 @@ writes s given written aside r p gives answer spent own true e =
 abbrev popped_to : Setup → StateMap → List RawMessage → Aside → Command → List RawMessage → Point → Machine
 popped_to s given written aside r left p = record (machine_at s given written aside (said_by r p)) { commands = left; phase = phase_after left }
 
-reads : (s : Setup) (given : StateMap) (written : List RawMessage) (aside : Aside) (r : Command) (p : Point) (left : List RawMessage) (gives : NotificationHandle → List Answer) → gives (record { 0 = p.derived.counters.handle }) ≡ answer_of r p.derived ∷ []
-    → (o : Option Message) → Leads s given written aside p [] gives (command_used (reads_as (demand_of s r p.derived).ignores_payload (with_ids p.derived.counters.completion r.message) o) (demand_of s r p.derived) (answer_of r p.derived ∷ []) (commanded r p.derived) left p) (handed p (compared (with_ids p.derived.counters.completion r.message) (demand_of s r p.derived).ignores_payload o (popped_to s given written aside r left p)))
-reads s given written aside r p left gives answer None = (refl, open_after left)
-reads s given written aside r p left gives answer (Some recorded) = by_test (header_equal recorded (with_ids p.derived.counters.completion r.message) (demand_of s r p.derived).ignores_payload)
+-- the next recorded command doesn't stand for the call's
+unlike : (s : Setup) (given : StateMap) (written : List RawMessage) (aside : Aside) (r : Command) (p : Point) (c : RawMessage) (left : List RawMessage) (name : NamedFault) → (stands_for (demand_of s r p.derived) c ≡ false) × (name ≡ mismatch (demand_of s r p.derived) c)
+    → Refusing s aside.output p.queue (Needs (demand_of s r p.derived) (answer_of r p.derived ∷ []) (commanded r p.derived)) (c ∷ left) (about_last name (popped_to s given written aside r left p)) (popped_to s given written aside r left p)
+unlike s given written aside r p c left name reason = record { why = name; related = Some (last_related (popped_to s given written aside r left p)); reason = reason; error = refl; output = refl; open_yet = open_after left; version = refl; options = refl }
+
+reads : (s : Setup) (given : StateMap) (written : List RawMessage) (aside : Aside) (r : Command) (p : Point) (c : RawMessage) (left : List RawMessage) (gives : NotificationHandle → List Answer) → gives (record { 0 = p.derived.counters.handle }) ≡ answer_of r p.derived ∷ []
+    → (type_number c.ty == type_number (type_of (with_ids p.derived.counters.completion r.message))) ≡ true
+    → (o : Option Message) → message_in c.ty c.body ≡ o → Leads s given written aside p (Needs (demand_of s r p.derived) (answer_of r p.derived ∷ []) (commanded r p.derived)) (c ∷ left) [] gives (command_used (reads_as (demand_of s r p.derived).ignores_payload (with_ids p.derived.counters.completion r.message) o) (demand_of s r p.derived) (answer_of r p.derived ∷ []) (commanded r p.derived) left p) (handed p (compared (with_ids p.derived.counters.completion r.message) (demand_of s r p.derived).ignores_payload o (popped_to s given written aside r left p)))
+reads s given written aside r p c left gives answer same None is = unlike s given written aside r p c left fault.BadMessage (reads_otherwise (demand_of s r p.derived) c None same is refl)
+reads s given written aside r p c left gives answer same (Some recorded) is = by_test (header_equal recorded (with_ids p.derived.counters.completion r.message) (demand_of s r p.derived).ignores_payload) refl
   where
     m : Message
     m = with_ids p.derived.counters.completion r.message
 
-    by_test : (b : Bool) → Leads s given written aside p [] gives (command_used b (demand_of s r p.derived) (answer_of r p.derived ∷ []) (commanded r p.derived) left p) (handed p (if b then Done tt (popped_to s given written aside r left p) else Failed (about_last fault.CommandMismatch (popped_to s given written aside r left p)) (popped_to s given written aside r left p)))
-    by_test false = (refl, open_after left)
-    by_test true = (ap (λ l. p.answers ++ l) (sym answer), λ i. machine_at s given (sym (append-nil written) i) (record aside { output = sym (append-nil aside.output) i }) (past r (answer_of r p.derived ∷ []) left p))
+    by_test : (b : Bool) → header_equal recorded m (demand_of s r p.derived).ignores_payload ≡ b → Leads s given written aside p (Needs (demand_of s r p.derived) (answer_of r p.derived ∷ []) (commanded r p.derived)) (c ∷ left) [] gives (command_used b (demand_of s r p.derived) (answer_of r p.derived ∷ []) (commanded r p.derived) left p) (handed p (if b then Done tt (popped_to s given written aside r left p) else Failed (about_last fault.CommandMismatch (popped_to s given written aside r left p)) (popped_to s given written aside r left p)))
+    by_test false other = unlike s given written aside r p c left fault.CommandMismatch (reads_otherwise (demand_of s r p.derived) c (Some recorded) same is other)
+    by_test true equal = (ap (λ l. p.answers ++ l) (sym answer), λ i. machine_at s given (sym (append-nil written) i) (record aside { output = sym (append-nil aside.output) i }) (past r (answer_of r p.derived ∷ []) left p))
 
 replays : (s : Setup) (given : StateMap) (written : List RawMessage) (aside : Aside) (r : Command) (p : Point) (c : RawMessage) (left : List RawMessage) (gives : NotificationHandle → List Answer) → gives (record { 0 = p.derived.counters.handle }) ≡ answer_of r p.derived ∷ []
-    → Leads s given written aside p [] gives (command_used (stands_for (demand_of s r p.derived) c) (demand_of s r p.derived) (answer_of r p.derived ∷ []) (commanded r p.derived) left p)
+    → Leads s given written aside p (Needs (demand_of s r p.derived) (answer_of r p.derived ∷ []) (commanded r p.derived)) (c ∷ left) [] gives (command_used (stands_for (demand_of s r p.derived) c) (demand_of s r p.derived) (answer_of r p.derived ∷ []) (commanded r p.derived) left p)
     (handed p (typed c (type_of (with_ids p.derived.counters.completion r.message)) (popped_to s given written aside r left p) >>= λ raw z. compared (with_ids p.derived.counters.completion r.message) (demand_of s r p.derived).ignores_payload (message_in raw.ty raw.body) z))
-replays s given written aside r p c left gives answer = by_test (type_number c.ty == type_number (type_of m))
+replays s given written aside r p c left gives answer = by_test (type_number c.ty == type_number (type_of m)) refl
   where
     m : Message
     m = with_ids p.derived.counters.completion r.message
@@ -114,9 +122,9 @@ replays s given written aside r p c left gives answer = by_test (type_number c.t
     w : Machine
     w = popped_to s given written aside r left p
 
-    by_test : (b : Bool) → Leads s given written aside p [] gives (command_used (if b then reads_as e.ignores_payload m (message_in c.ty c.body) else false) e (answer_of r p.derived ∷ []) (commanded r p.derived) left p) (handed p ((if b then Done c w else Failed (about_last fault.CommandTypeMismatch w) w) >>= λ raw z. compared m e.ignores_payload (message_in raw.ty raw.body) z))
-    by_test true = reads s given written aside r p left gives answer (message_in c.ty c.body)
-    by_test false = (refl, open_after left)
+    by_test : (b : Bool) → (type_number c.ty == type_number (type_of m)) ≡ b → Leads s given written aside p (Needs e (answer_of r p.derived ∷ []) (commanded r p.derived)) (c ∷ left) [] gives (command_used (if b then reads_as e.ignores_payload m (message_in c.ty c.body) else false) e (answer_of r p.derived ∷ []) (commanded r p.derived) left p) (handed p ((if b then Done c w else Failed (about_last fault.CommandTypeMismatch w) w) >>= λ raw z. compared m e.ignores_payload (message_in raw.ty raw.body) z))
+    by_test true same = reads s given written aside r p c left gives answer same (message_in c.ty c.body) refl
+    by_test false other = unlike s given written aside r p c left fault.CommandTypeMismatch (typed_otherwise e c other)
 
 -- ---- the whole event
 
@@ -125,7 +133,7 @@ carries : (s : Setup) (given : StateMap) (written : List RawMessage) (aside : As
     → (P : Type 0) → (P → p.left ≡ [] → stands_for (demand_of s r p.derived) (stored_form (with_ids p.derived.counters.completion r.message)) ≡ true)
     → IfDone (handed p (carried_out (with_ids p.derived.counters.completion r.message) (demand_of s r p.derived).ignores_payload (machine_at s given written aside (said_by r p)))) P
     → (left : List RawMessage) → p.left ≡ left
-    → Leads s given written aside p (supply (Needs (demand_of s r p.derived) (answer_of r p.derived ∷ []) (commanded r p.derived)) left) gives
+    → Leads s given written aside p (Needs (demand_of s r p.derived) (answer_of r p.derived ∷ []) (commanded r p.derived)) left (supply (Needs (demand_of s r p.derived) (answer_of r p.derived ∷ []) (commanded r p.derived)) left) gives
     (moved (Needs (demand_of s r p.derived) (answer_of r p.derived ∷ []) (commanded r p.derived)) (longer (supply (Needs (demand_of s r p.derived) (answer_of r p.derived ∷ []) (commanded r p.derived)) left) p))
     (handed p (carried_out (with_ids p.derived.counters.completion r.message) (demand_of s r p.derived).ignores_payload (machine_at s given written aside (said_by r p))))
 carries s given written aside r p gives answer P own whole [] is =
@@ -145,8 +153,8 @@ carries s given written aside r p gives answer P own whole (c ∷ left) is =
 counts : (s : Setup) (given : StateMap) (written : List RawMessage) (aside : Aside) (r : Command) (p : Point) (gives : NotificationHandle → List Answer) → gives (record { 0 = p.derived.counters.handle }) ≡ answer_of r p.derived ∷ []
     → (P : Type 0) → (P → p.left ≡ [] → stands_for (demand_of s r p.derived) (stored_form (with_ids p.derived.counters.completion r.message)) ≡ true)
     → (o : Option NamedFault) → IfDone (counted o r.message r.unstable (machine_at s given written aside p)) P
-    → Leads s given written aside p (supply (numbered s r o p.derived) p.left) gives (moved (numbered s r o p.derived) (longer (supply (numbered s r o p.derived) p.left) p)) (counted o r.message r.unstable (machine_at s given written aside p))
-counts s given written aside r p gives answer P own (Some name) whole = (refl, open_after p.left)
+    → Leads s given written aside p (numbered s r o p.derived) p.left (supply (numbered s r o p.derived) p.left) gives (moved (numbered s r o p.derived) (longer (supply (numbered s r o p.derived) p.left) p)) (counted o r.message r.unstable (machine_at s given written aside p))
+counts s given written aside r p gives answer P own (Some name) whole = record { why = name; related = Some _; reason = refl; error = refl; output = refl; open_yet = open_after p.left; version = refl; options = refl }
 counts s given written aside r p gives answer P own None whole =
     let m = with_ids p.derived.counters.completion r.message in
     let ready = prepares s given written aside r p in
@@ -160,7 +168,7 @@ runs_at (c ∷ left) = refl
 pub issues : (s : Setup) (given : StateMap) (written : List RawMessage) (aside : Aside) (r : Command) (p : Point) (gives : NotificationHandle → List Answer) → gives (record { 0 = p.derived.counters.handle }) ≡ answer_of r p.derived ∷ []
     → (P : Type 0) → (P → p.left ≡ [] → stands_for (demand_of s r p.derived) (stored_form (with_ids p.derived.counters.completion r.message)) ≡ true)
     → IfDone (issued r.message r.unstable (machine_at s given written aside p)) P
-    → Leads s given written aside p (supply (requested s r p.derived) p.left) gives (moved (requested s r p.derived) (longer (supply (requested s r p.derived) p.left) p)) (issued r.message r.unstable (machine_at s given written aside p))
+    → Leads s given written aside p (requested s r p.derived) p.left (supply (requested s r p.derived) p.left) gives (moved (requested s r p.derived) (longer (supply (requested s r p.derived) p.left) p)) (issued r.message r.unstable (machine_at s given written aside p))
 unfolding issued
 issues s given written aside r p gives answer P own whole =
     let v = machine_at s given written aside p in

@@ -1,6 +1,6 @@
 -- A step keeps what is kept of an attempt.
 use Rattle.std.proofs.Common.{◌≡◌, ◌≢◌, ◌⊎◌, ℕ, zero, suc, ◌+◌, Bool, true, false, cond, List, [], ◌∷◌, ◌++◌, map, Option, Some, None, Result, Ok, Err, refl, sym, ap, ◌∙◌, subst, inl, inr, ⊎_elim, append-nil}
-use Rattle.std.specs.Prelude.{is_some, nat_lt, OnOk}
+use Rattle.std.specs.Prelude.{is_some, OnOk}
 use Rattle.journal_protocol.specs.declared.error.Error.{Error}
 use Rattle.journal_protocol.specs.declared.faults.NamedFault.{NamedFault}
 use Rattle.journal_protocol.specs.declared.message.Message.{Message}
@@ -36,7 +36,7 @@ use Rattle.invocation_vm.specs.Calls.{skips_replay}
 use Rattle.invocation_vm.specs.Frames.{Rest}
 use Rattle.invocation_vm.specs.Views.{View}
 use Rattle.vm_model.specs.Calls.{Setup, Meaning, Derived, Move, asked as asked_move, awakeable_made, awaiting, call_of, commanding, is_awake, making_awakeable, numbered, ready_in, result_taken, value_taken}
-use Rattle.vm_model.specs.Calls.Move.{Answers, Needs, Awaits, Stops}
+use Rattle.vm_model.specs.Calls.Move.{Answers, Needs, Awaits, Ends, Refuses}
 use Rattle.vm_model.specs.Journal.{stored_form}
 use Rattle.vm_model.specs.Moves.{Point, move_at, start, supplied, supply}
 use Rattle.vm_model.specs.Histories.{Made}
@@ -65,7 +65,8 @@ abbrev NeedsCommand : Move → Type 0
 NeedsCommand (Needs demand gives d) = is_command (stored_form demand.command) ≡ true
 NeedsCommand (Answers gives d) = Unit {0}
 NeedsCommand Awaits = Unit {0}
-NeedsCommand Stops = Unit {0}
+NeedsCommand Ends = Unit {0}
+NeedsCommand (Refuses name) = Unit {0}
 
 numbered_needs : (s : Setup) (c : Command) (o : Option NamedFault) (d : Derived) → IsCommand c.message → NeedsCommand (numbered s c o d)
 numbered_needs s c (Some fault) d is = tt
@@ -119,7 +120,8 @@ supply_made (Needs demand gives d) [] needs = (demand.command ∷ [], record { c
 supply_made (Needs demand gives d) (c ∷ left) needs = ([], record { commands = refl; frames = refl })
 supply_made (Answers gives d) left needs = ([], record { commands = refl; frames = refl })
 supply_made Awaits left needs = ([], record { commands = refl; frames = refl })
-supply_made Stops left needs = ([], record { commands = refl; frames = refl })
+supply_made Ends left needs = ([], record { commands = refl; frames = refl })
+supply_made (Refuses name) left needs = ([], record { commands = refl; frames = refl })
 
 frames_append : (cs ds : List RawMessage) → frames_of (cs ++ ds) ≡ frames_of cs ++ frames_of ds
 frames_append [] ds = refl
@@ -158,7 +160,7 @@ runs_on m version options fed answers waiting to_wait taken v w k live und to gi
 }
 
 -- the step that is asked is the handler's
-asks_next : (m : Meaning) (p : Point) (answers : List Answer) (waiting : Option UnresolvedFuture) → p.answers ≡ answers → StillAwaits m p waiting → asked_from waiting (m answers) ≡ m p.answers
+pub asks_next : (m : Meaning) (p : Point) (answers : List Answer) (waiting : Option UnresolvedFuture) → p.answers ≡ answers → StillAwaits m p waiting → asked_from waiting (m answers) ≡ m p.answers
 asks_next m p answers None is awaits = ap m (sym is)
 asks_next m p answers (Some future) is awaits = sym awaits
 
@@ -224,7 +226,7 @@ module _ (m : Meaning) (version : Version) (options : VMOptions) (r : Record) (k
   replied_keeps P st is (Err e) o f does h =
       ⊎_elim
       (λ (x : o ≡ Failed e w.machine). refused_keeps e (failed_follows P o e f x))
-      (λ (x : IsStarved e r.vm.machine w.machine). dead_same m version options r w (inr k) (quiet_same r.vm.machine w.machine x.output) x.failed)
+      (λ (x : IsStarved r.vm.machine e w.machine). dead_same m version options r w (inr k) (quiet_same r.vm.machine w.machine x.output) (rw x.failure refl))
       does
 
   -- ---- what waits
@@ -289,7 +291,10 @@ module _ (m : Meaning) (version : Version) (options : VMOptions) (r : Record) (k
         recorded = c;
         further = further;
         left = g.none_used ∙ some;
-        stuck = g.stuck;
+        why = g.why;
+        reason = g.reason;
+        related = g.related;
+        error = g.error;
         output = g.output;
         failure = g.failure;
       }
@@ -311,7 +316,7 @@ module _ (m : Meaning) (version : Version) (options : VMOptions) (r : Record) (k
   replied_replays P future c further some (Err e) o f does h =
       ⊎_elim
       (λ (x : o ≡ Failed e w.machine). inr (inr (refuses_there e c further some (failed_follows P o e f x))))
-      (λ (x : IsStarved e r.vm.machine w.machine). inr (inl x))
+      (λ (x : IsStarved r.vm.machine e w.machine). inr (inl x))
       does
 
 -- a step of a handler that runs

@@ -18,12 +18,13 @@ use Rattle.vm_machine.specs.Awaits.{await_step, future_of, pending, suspended, t
 use Rattle.vm_machine.specs.Commands.{phase_after}
 use Rattle.vm_machine.specs.Outcomes.{Done, called, refused, ruled}
 use Rattle.vm_machine.specs.Phases.{state_fault}
-use Rattle.vm_model.specs.Calls.{Setup, Meaning, Usage, awaiting, call_of, identity_of, is_awake, ready_in}
+use Rattle.vm_model.specs.Calls.{Setup, Meaning, Move, Usage, awaiting, call_of, identity_of, is_awake, ready_in}
 use Rattle.vm_model.specs.Calls.Move.{Answers, Awaits}
 use Rattle.vm_model.specs.Calls.Usage.{Used}
 use Rattle.vm_parts.specs.declared.types.NotificationHandle.{NotificationHandle}
-use Rattle.vm_model.specs.Moves.{Point, longer, move_at, moved, next, supplied, supply, uses_arrival}
-use Rattle.vm_model.specs.Histories.{IsStuck, Made}
+use Rattle.vm_model.specs.Moves.{Point, longer, move_at, moved, next, supplied, supply}
+use Rattle.vm_model.specs.Histories.{Made}
+use Rattle.vm_model.specs.Refusals.{IsRefusedFor}
 use Rattle.vm_model.proofs.Runs.{longer_nothing, made_add}
 use Rattle.vm_rounds.specs.Agreement.{Answered, Aside, Follows, MovesOn, Waits, machine_at}
 use Rattle.vm_rounds.specs.Steps.{await_reply, awaited, mapped}
@@ -88,10 +89,9 @@ stands : (s : Setup) (m : Meaning) (p : Point) (h : NotificationHandle) (is : m 
     → r.left ≡ [] → has_result_for (id_at h.0 p.derived.handles) (ready_in s (record p.derived { usage = r.usage })) ≡ false → p.left ≡ [] → Waits s m p (at_usage p r.usage r.left)
 stands s m p h is r none asleep spent = record { moves = waits_at s m p h is r; future = Single h; awaits = is; asleep = asleep; no_arrival = none; none_recorded = spent; no_command = spent }
 
-stuck_at : (s : Setup) (m : Meaning) (q : Point) → move_at s m q ≡ Awaits → q.queue ≡ [] → IsStuck s m q
-stuck_at s m q needs none =
-    let nothing : supplied s m q ≡ [] = ap (λ mv. supply mv q.left) needs in
-    ap (λ l. next s m (longer l q)) nothing ∙ ap (next s m) (longer_nothing q) ∙ ap (λ mv. moved mv q) needs ∙ ap (λ l. uses_arrival l q) none
+-- an await that stays pending while recorded commands are left
+stuck_at : (s : Setup) (m : Meaning) (q : Point) (c : RawMessage) (left : List RawMessage) → move_at s m q ≡ Awaits → q.queue ≡ [] → q.left ≡ c ∷ left → IsRefusedFor (move_at s m q) q.left q.queue fault.UncompletedDoProgressDuringReplay
+stuck_at s m q c left needs none is = subst (λ (x : Move × List RawMessage). IsRefusedFor x.0 x.1 q.queue fault.UncompletedDoProgressDuringReplay) (λ i. (sym needs i, sym is i)) (none, refl)
 
 -- what an await that stays pending does, where the machine agrees with where it stands
 pends : (s : Setup) (m : Meaning) (given : StateMap) (written : List RawMessage) (aside : Aside) (p : Point) (h : NotificationHandle) (is : m p.answers ≡ step.Await (Single h)) (r : Ran s m p (id_at h.0 p.derived.handles) p.derived.usage p.queue) → s.identity ≡ identity_of aside.start
@@ -101,7 +101,7 @@ unfolding called
 pends s m given written aside p h is r identity none asleep (c ∷ left) e =
     let q = at_usage p r.usage r.left in
     let w : Machine = record (machine_at s given written aside q) { phase = phase_after (c ∷ left) } in
-    record { at = q; moves = waits_at s m p h is r; stuck = stuck_at s m q (waits_on s m q (Single h) is asleep) none; none_used = refl; output = error_written (ruled w (named_error fault.UncompletedDoProgressDuringReplay None)) w aside.output refl refl; failure = refl }
+    record { at = q; moves = waits_at s m p h is r; why = fault.UncompletedDoProgressDuringReplay; reason = stuck_at s m q c left (waits_on s m q (Single h) is asleep) none e; related = None; error = refl; none_used = refl; output = error_written (ruled w (named_error fault.UncompletedDoProgressDuringReplay None)) w aside.output refl refl; failure = refl }
 pends s m given written aside p h is r identity none asleep [] e = by_test aside.input_closed refl
   where
     q : Point

@@ -1,11 +1,13 @@
 -- When the machine of an attempt agrees with a point of the handler's run, and what a call then does.
-use Rattle.std.specs.Prelude.{◌≡◌, ◌⊎◌, ℕ, Bool, true, false, List, [], ◌∷◌, ◌++◌, map, Some, None}
+use Rattle.std.specs.Prelude.{◌≡◌, ◌⊎◌, ℕ, Bool, true, false, List, [], ◌∷◌, ◌++◌, map, Option, Some, None}
 use Rattle.std.proofs.Common.{Global}
 use Rattle.journal_protocol.specs.declared.control.Suspension.{Suspension}
 use Rattle.journal_protocol.specs.declared.error.Error.{Error}
+use Rattle.journal_protocol.specs.declared.error.RelatedCommand.{RelatedCommand}
+use Rattle.journal_protocol.specs.declared.faults.NamedFault.{NamedFault}
 use Rattle.journal_protocol.specs.declared.message.Message.TheVariants as message
 use Rattle.journal_protocol.specs.declared.message.RawMessage.{RawMessage}
-use Rattle.journal_protocol.specs.Errors.{error_message}
+use Rattle.journal_protocol.specs.Errors.{error_message, named_error}
 use Rattle.journal_protocol.specs.Message.{encoding, frame}
 use Rattle.vm_parts.specs.declared.context.StartInfo.{StartInfo}
 use Rattle.vm_parts.specs.declared.context.StateMap.{StateMap}
@@ -15,10 +17,11 @@ use Rattle.vm_parts.specs.declared.types.UnresolvedFuture.{UnresolvedFuture}
 use Rattle.vm_machine.specs.declared.machine.Machine.{Machine}
 use Rattle.vm_machine.specs.declared.phase.Phase.TheVariants.{Closed}
 use Rattle.vm_machine.specs.Commands.{phase_after}
-use Rattle.vm_machine.specs.Outcomes.{Outcome, Done, Failed}
+use Rattle.vm_machine.specs.Outcomes.{Outcome, Done, Failed, ruled}
 use Rattle.vm_model.specs.Calls.{Setup, Meaning, identity_of, is_awake, ready_in}
-use Rattle.vm_model.specs.Moves.{Point, changed_by}
-use Rattle.vm_model.specs.Histories.{IsAwaiting, IsStuck, Made}
+use Rattle.vm_model.specs.Moves.{Point, changed_by, move_at}
+use Rattle.vm_model.specs.Histories.{IsAwaiting, Made}
+use Rattle.vm_model.specs.Refusals.{IsRefusedFor}
 use Rattle.vm_rounds.specs.declared.progress.Reply.{Reply}
 use Rattle.vm_rounds.specs.declared.progress.Reply.TheVariants as reply
 
@@ -119,11 +122,14 @@ pub record HasEnded (m : Meaning) (p : Point) (v w : Machine) : Type 0 where
   pub closed : w.phase ≡ Closed
 
 -- A call was refused: the run comes to a point from which no move leads on, no recorded command was used, and one Error is
--- written.
+-- written. The error is that of the reason, by the error rule.
 pub record IsRefused (s : Setup) (m : Meaning) (p : Point) (v : Machine) (e : Error) (w : Machine) : Type 0 where
   pub at : Point
   pub moves : MovesOn s m p [] [] at
-  pub stuck : IsStuck s m at
+  pub why : NamedFault
+  pub reason : IsRefusedFor (move_at s m at) at.left at.queue why
+  pub related : Option RelatedCommand
+  pub error : e ≡ ruled v (named_error why related)
   pub none_used : at.left ≡ p.left
   pub output : w.output ≡ v.output ++ encoding (message.Error (error_message e)) ∷ []
   pub failure : w.failure ≡ Some e

@@ -5,3 +5,4 @@ pub mod Record
 pub mod Stepping
 pub mod Steps
 pub mod Told
+pub mod Blames

@@ -15,8 +15,7 @@ use Rattle.vm_parts.specs.declared.values.Input.{Input}
 use Rattle.vm_machine.specs.declared.phase.Phase.{Phase}
 use Rattle.vm_machine.specs.declared.phase.Phase.TheVariants.{WaitingStart, WaitingReplayEntries, Replaying, Processing, Closed}
 use Rattle.vm_machine.specs.Inputs.{input_step}
-use Rattle.vm_machine.specs.Outcomes.{IsStarved}
-use Rattle.invocation_vm.specs.Views.{View, Calls, after_input, after_closing}
+use Rattle.invocation_vm.specs.Views.{StarvesAmong, brought, View, Calls, after_input, after_closing}
 use Rattle.vm_rounds.specs.declared.progress.Progress.{Progress}
 use Rattle.vm_rounds.specs.declared.progress.Progress.TheVariants as progress
 use Rattle.vm_rounds.specs.declared.progress.Reply.{Reply}
@@ -160,7 +159,7 @@ with_vm w r = record r { vm = w }
 abbrev pub Feeds : List ℕ → Record → Result Unit AllocError → Record → Type 0
 Feeds piece old (Ok t) new = new ≡ with_vm (after_input old.vm piece) (kept piece old)
 Feeds piece old (Err e) new =
-    (new ≡ record old { starved = true }) ⊎ ((w : View) × IsStarved no_memory old.vm.machine w.machine × (new ≡ with_vm w (kept piece old)))
+    (new ≡ record old { starved = true }) ⊎ ((w : View) × StarvesAmong (brought old.vm piece) old.vm.machine w.machine × (new ≡ with_vm w (kept piece old)))
 
 -- what a piece does: nothing after the attempt's own want of memory
 abbrev pub FeedDoes : Bool → List ℕ → Record → Result Unit AllocError → Record → Type 0
@@ -170,7 +169,7 @@ FeedDoes false piece old result new = Feeds piece old result new
 -- the input is closed, or the VM finds no memory
 abbrev pub Closes : Record → Result Unit AllocError → Record → Type 0
 Closes old (Ok t) new = new ≡ record old { closed = true; vm = after_closing old.vm }
-Closes old (Err e) new = (w : View) × IsStarved no_memory old.vm.machine w.machine × (new ≡ record old { closed = true; vm = w })
+Closes old (Err e) new = (w : View) × StarvesAmong [] old.vm.machine w.machine × (new ≡ record old { closed = true; vm = w })
 
 -- what closing the input does
 abbrev pub CloseDoes : Bool → Record → Result Unit AllocError → Record → Type 0

@@ -3,13 +3,15 @@ use Rattle.std.specs.Prelude.{◌≡◌, ◌⊎◌, ℕ, true, false, cond, leng
 use Rattle.std.specs.List.{concat, flat_map}
 use Rattle.journal_protocol.specs.declared.commands.InputCommand.{InputCommand}
 use Rattle.journal_protocol.specs.declared.error.Error.{Error}
+use Rattle.journal_protocol.specs.declared.error.RelatedCommand.{RelatedCommand}
+use Rattle.journal_protocol.specs.declared.faults.NamedFault.{NamedFault}
 use Rattle.journal_protocol.specs.declared.message.Message.{Message}
 use Rattle.journal_protocol.specs.declared.message.Message.TheVariants as message
 use Rattle.journal_protocol.specs.declared.message.RawMessage.{RawMessage}
 use Rattle.journal_protocol.specs.declared.notification.Notification.{Notification}
 use Rattle.journal_protocol.specs.declared.start.Start.{Start}
 use Rattle.journal_protocol.specs.declared.version.Version.{Version}
-use Rattle.journal_protocol.specs.Errors.{error_message}
+use Rattle.journal_protocol.specs.Errors.{error_message, named_error}
 use Rattle.journal_protocol.specs.Message.{encoding}
 use Rattle.journal_protocol.specs.Reading.{start_in}
 use Rattle.vm_parts.specs.declared.context.StateMap.{StateMap}
@@ -25,9 +27,10 @@ use Rattle.vm_machine.specs.Phases.{is_running}
 use Rattle.invocation_vm.specs.Frames.{Rest, frames_of}
 use Rattle.vm_model.specs.Calls.{Meaning, is_awake}
 use Rattle.vm_model.specs.Journal.{input_read_from, stored_form}
-use Rattle.vm_model.specs.Moves.{Point, start}
-use Rattle.vm_model.specs.Histories.{IsStuck, Made, Told}
-use Rattle.vm_machine.specs.Outcomes.{IsStarved}
+use Rattle.vm_model.specs.Moves.{Point, move_at, start}
+use Rattle.vm_model.specs.Histories.{Made, Told}
+use Rattle.vm_model.specs.Refusals.{IsRefusedFor}
+use Rattle.vm_machine.specs.Outcomes.{IsStarved, ruled}
 use Rattle.vm_rounds.specs.declared.progress.Fed.{Fed}
 use Rattle.vm_rounds.specs.declared.progress.Progress.{Progress}
 use Rattle.vm_rounds.specs.declared.progress.Progress.TheVariants as progress
@@ -130,7 +133,7 @@ abbrev pub NothingWakes : Meaning → Version → VMOptions → Record → Type 
 NothingWakes m version options r = IsAsleep m version options r.fed r.answers r.taken r.vm
 
 -- A call is refused while recorded commands are left: the journal tells a point with these answers from which no move leads on,
--- one Error is written, and the VM fails by it.
+-- for this reason; one Error is written, which says so by the error rule, and the VM fails by it.
 pub record RefusesReplay (m : Meaning) (version : Version) (options : VMOptions) (fed : List Fed) (answers_so_far : List Answer) (e : Error) (old new : Machine) : Type 0 where
   pub journal : Journal fed
   pub at : Point
@@ -140,7 +143,10 @@ pub record RefusesReplay (m : Meaning) (version : Version) (options : VMOptions)
   pub recorded : RawMessage
   pub further : List RawMessage
   pub left : at.left ≡ recorded ∷ further
-  pub stuck : IsStuck (setup_for version options journal.start) m at
+  pub why : NamedFault
+  pub reason : IsRefusedFor (move_at (setup_for version options journal.start) m at) at.left at.queue why
+  pub related : Option RelatedCommand
+  pub error : e ≡ ruled old (named_error why related)
   pub output : new.output ≡ old.output ++ encoding (message.Error (error_message e)) ∷ []
   pub failure : new.failure ≡ Some e
 
@@ -153,7 +159,7 @@ Replays m version options old (Ok progress.Suspended) new = ⊥
 Replays m version options old (Ok progress.Ended) new = ⊥
 Replays m version options old (Err e) new =
     (new.starved ≡ true)
-    ⊎ (IsStarved e old.vm.machine new.vm.machine ⊎ RefusesReplay m version options old.fed old.answers e old.vm.machine new.vm.machine)
+    ⊎ (IsStarved old.vm.machine e new.vm.machine ⊎ RefusesReplay m version options old.fed old.answers e old.vm.machine new.vm.machine)
 
 -- the VM can make calls: it has neither failed nor ended, nor is the invocation suspended
 pub record IsLive (v : Machine) : Type 0 where

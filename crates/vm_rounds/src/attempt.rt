@@ -22,19 +22,21 @@ pub struct Attempt<H: Handler> {
 impl<H: Handler> Model for Attempt<H> {
     ghost use Rattle.vm_rounds.specs.Record.{AttemptView};
     ghost use Rattle.vm_rounds.specs.Inside.{the_record};
+    ghost use Rattle.vm_rounds.specs.Blames.{IsBlamed};
     ghost use Rattle.vm_rounds.specs.Told.{IsKept};
 
     ghost Value = { AttemptView H };
 
     ghost view = { λ a. record { handler = a.inner.handler; version = a.version; options = a.options; record_of = the_record a.inner } };
 
-    ghost invariant = { λ a. IsKept (H.meaning a.inner.handler) a.version a.options (the_record a.inner) };
+    ghost invariant = { λ a. IsKept (H.meaning a.inner.handler) a.version a.options (the_record a.inner) × IsBlamed (H.meaning a.inner.handler) a.version a.options (the_record a.inner) };
 }
 
 impl<H: Handler> Attempt<H> {
     ghost use Rattle.std.specs.Prelude.{◌≡◌, ◌⊎◌, [], None};
     ghost use Rattle.invocation_vm.specs.Making.{version_in};
     ghost use Rattle.vm_rounds.specs.Stepping.{MakesAttempt, StepDoes, FeedDoes, CloseDoes, IfWaits, IsReplaying, Takes};
+    ghost use Rattle.vm_rounds.specs.Blames.{Blame, IfError};
     ghost use Rattle.vm_rounds.specs.Told.{AnswersAreTold, NothingWakes, Replays};
 
     /// An attempt for the version that the header `content-type` names; the VM's refusals are its own.
@@ -83,6 +85,9 @@ impl<H: Handler> Attempt<H> {
         ensures waits { self.old.record_of.over ≡ None → IfWaits result (NothingWakes (H.meaning self.old.handler) self.old.version self.old.options self.new.record_of) }
         // While recorded commands are left, the handler's next call is answered, or it is refused where the journal tells no more.
         ensures replays { IsReplaying self.old.record_of → Replays (H.meaning self.old.handler) self.old.version self.old.options self.old.record_of result self.new.record_of }
+        // An error is want of memory, a frame or bytes that were refused, input closed too early, a journal without input, or a call
+        // that was refused: `honest_attempts_fail_by_themselves` says which of these remain.
+        ensures blamed { self.old.record_of.over ≡ None → IfError result (λ e. Blame (H.meaning self.old.handler) self.old.version self.old.options self.new.record_of.fed self.new.record_of.closed self.new.record_of.answers e) }
         ensures handler { self.new.handler ≡ self.old.handler }
         ensures made_for { (self.new.version ≡ self.old.version) × (self.new.options ≡ self.old.options) }
     {

@@ -17,6 +17,7 @@ ghost use Rattle.vm_model.specs.Journal.{input_read_from};
 ghost use Rattle.vm_model.specs.Moves.{Point, later};
 ghost use Rattle.vm_parts.specs.declared.context.StateMap.{StateMap};
 ghost use Rattle.vm_rounds.specs.Agreement.{Agrees, Aside, Follows};
+ghost use Rattle.vm_rounds.specs.Blames.{Blame, FailsAt, IsHonest, IsOwnError};
 ghost use Rattle.vm_rounds.specs.Journals.{BeginsOrFails, Started, as_entries, machine_fed, notifications_among, setup_for};
 ghost use Rattle.vm_rounds.specs.Steps.{performed, IfDone, ReadsBack};
 ghost use Rattle.vm_rounds.specs.Told.{AnswersAreTold, IsKept, RefusesReplay};
@@ -28,7 +29,7 @@ ghost use Rattle.vm_rounds.specs.Stepping.{CloseDoes, FeedDoes, StepDoes, Takes,
 ghost use Rattle.vm_rounds.specs.declared.progress.Fed.{Fed};
 ghost use Rattle.vm_rounds.specs.Record.{Record};
 ghost use Rattle.invocation_vm.specs.Views.{View, after_input};
-ghost use Rattle.std.specs.Prelude.{ℕ, Option};
+ghost use Rattle.std.specs.Prelude.{ℕ, Bool, Option};
 ghost use Rattle.vm_parts.specs.declared.steps.Answer.{Answer};
 ghost use Rattle.vm_parts.specs.declared.types.UnresolvedFuture.{UnresolvedFuture};
 
@@ -42,9 +43,9 @@ pub fn calls_follow()
 {}
 
 /// Frames that come to a machine that agrees with a point are arrivals: the machine then agrees with that point and these
-/// arrivals behind its own; or it has failed.
+/// arrivals behind its own; or it has failed, by the first frame that is refused in the phase in which it comes.
 pub fn frames_arrive()
-    ensures { (s : Setup) (given : StateMap) (written : List RawMessage) (v : Machine) (p : Point) (raws : List RawMessage) → Agrees s given written v p → Agrees s given written (all_received raws v) (later (notifications_among raws) p) ⊎ IsSome (all_received raws v).failure }
+    ensures { (s : Setup) (given : StateMap) (written : List RawMessage) (v : Machine) (p : Point) (raws : List RawMessage) → Agrees s given written v p → Agrees s given written (all_received raws v) (later (notifications_among raws) p) ⊎ FailsAt raws v (all_received raws v) }
 {}
 
 /// A machine that has the whole journal reads its input: where the first command is one, the handler is told it, and the
@@ -54,9 +55,11 @@ pub fn attempts_begin()
 {}
 
 /// Frames that come to a new machine: it has failed; or the first is a Start, and the machine waits for as many of the known
-/// entries as are missing; or the known entries are the journal, and all notifications that came are arrivals.
+/// entries as are missing; or the known entries are the journal, and all notifications that came are arrivals. It fails only by
+/// a frame that is refused in the phase in which it comes: it doesn't decode, its type isn't allowed there, or Start is refused.
 pub fn journals_come()
-    ensures { (alloc : Global) (version : Version) (options : VMOptions) (first : RawMessage) (raws : List RawMessage) → Started alloc version options first raws (all_received (first ∷ raws) (fresh alloc version options)) }
+    ensures fails { (raws : List RawMessage) (v : Machine) → v.failure ≡ None → IsSome (all_received raws v).failure → FailsAt raws v (all_received raws v) }
+    ensures comes { (alloc : Global) (version : Version) (options : VMOptions) (first : RawMessage) (raws : List RawMessage) → Started alloc version options first raws (all_received (first ∷ raws) (fresh alloc version options)) }
 {}
 
 /// What each call of an attempt keeps: before the input, that nothing was answered and no command written; then, that so many
@@ -80,4 +83,11 @@ pub fn histories_are_replayed()
 /// was fed; while recorded commands are left, it has written none.
 pub fn answers_are_told()
     ensures { (m : Meaning) (version : Version) (options : VMOptions) (r : Record) → IsKept m version options r → (r.answers ≡ []) ⊎ AnswersAreTold m version options r }
+{}
+
+/// Where the known entries are a history of the handler and each frame has its place, an error is only: want of memory; input that
+/// was closed while known entries were missing; or, where no recorded command is left, a call's own refusal, for an argument or
+/// version check, a kind of number that ran out, or a state key that is no text.
+pub fn honest_attempts_fail_by_themselves()
+    ensures { (m : Meaning) (version : Version) (options : VMOptions) (fed : List Fed) (closed : Bool) (answers : List Answer) (e : Error) → IsHonest m version options fed → Blame m version options fed closed answers e → IsOwnError m version options fed closed answers e }
 {}

@@ -1,5 +1,5 @@
 -- The call of the VM that a line's call is: one row a call.
-use Rattle.std.specs.Prelude.{◌≡◌, ◌/◌, ℕ, Bool, List, Result, Ok, Err, IfOk, string_bytes}
+use Rattle.std.specs.Prelude.{[], ◌≡◌, ◌/◌, ℕ, Bool, List, Result, Ok, Err, IfOk, string_bytes}
 use Rattle.std.specs.Duration.{as_nanos}
 use Rattle.std.specs.declared.alloc.AllocError.{AllocError}
 use Rattle.journal_protocol.specs.declared.error.Error.{Error}
@@ -18,7 +18,8 @@ use Rattle.vm_machine.specs.Inputs.{end_step, input_step}
 use Rattle.vm_machine.specs.Outcomes.{Outcome}
 use Rattle.invocation_vm.specs.Calls.{future_step, name_or_empty, new_awakeable_step}
 use Rattle.invocation_vm.specs.Making.{response_head}
-use Rattle.invocation_vm.specs.Views.{View, Calls, CallsFlat, Leaves, TakesOutput, after_closing, after_error, after_input}
+use Rattle.invocation_vm.specs.Views.{View, Calls, CallsFlat, Leaves, TakesOutput, after_closing, after_error, after_input, brought}
+use Rattle.journal_protocol.specs.declared.message.RawMessage.{RawMessage}
 use Rattle.vmscript.specs.declared.request.Call.{Call}
 use Rattle.vmscript.specs.declared.request.Call.TheVariants as call
 use Rattle.vmscript.specs.declared.reply.Reply.{Reply}
@@ -47,9 +48,9 @@ pub record Awaits (future : UnresolvedFuture) (answer : Reply) (old new : View) 
   pub told : answer ≡ reply_of reply.Awaited given
 
 -- what comes in: nothing is told but want of memory
-pub record Feeds (after : View) (answer : Reply) (old new : View) : Type 0 where
+pub record Feeds (raws : List RawMessage) (after : View) (answer : Reply) (old new : View) : Type 0 where
   pub given : Result Unit AllocError
-  pub leaves : Leaves after given old new
+  pub leaves : Leaves raws after given old new
   pub told : answer ≡ reply_or_memory (λ _. reply.Done) given
 
 -- the output is taken, and the reply has it
@@ -81,13 +82,13 @@ Acts c answer old new = Answers (λ _. reply.Done) (λ v. unit_of (commanded c v
 -- what a line's call does
 abbrev pub Called : Call → Reply → View → View → Type 0
 Called call.Head answer old new = TellsHead old.machine.version answer × (new ≡ old)
-Called (call.Input bytes) answer old new = Feeds (after_input old bytes) answer old new
-Called call.Close answer old new = Feeds (after_closing old) answer old new
+Called (call.Input bytes) answer old new = Feeds (brought old bytes) (after_input old bytes) answer old new
+Called call.Close answer old new = Feeds [] (after_closing old) answer old new
 Called call.Output answer old new = Drains answer old new
 Called call.Ready answer old new = TellsReady old.machine answer × (new ≡ old)
 Called call.State answer old new = (answer ≡ reply.State (state_of old.machine)) × (new ≡ old)
 Called call.Index answer old new = (answer ≡ reply.Index (last_index old.machine.counters.command)) × (new ≡ old)
-Called (call.Error error relationship) answer old new = Feeds (after_error old error relationship) answer old new
+Called (call.Error error relationship) answer old new = Feeds [] (after_error old error relationship) answer old new
 Called (call.Await handle) answer old new = Awaits (Single handle) answer old new
 Called (call.Completed handle) answer old new = (answer ≡ reply.Flag (is_completed handle.0 old.machine)) × (new ≡ old)
 Called (call.Take handle) answer old new = Answers reply.Taken (take_step handle.0) answer old new

@@ -1,5 +1,5 @@
-use Rattle.vm_rounds.proofs.Arriving.{frames_come}
+use Rattle.vm_rounds.proofs.Blaming.{frames_arrive}
 use Rattle.vm_rounds.proofs.laws.frames_arrive.Goals as goal
 
 pub returns : goal.returns
-returns c = frames_come
+returns c = frames_arrive

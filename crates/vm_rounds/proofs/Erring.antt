@@ -1,0 +1,372 @@
+-- What a step keeps of why an attempt failed, and what its error is.
+use Rattle.std.proofs.Common.{◌≡◌, ◌≢◌, ◌⊎◌, ◌+◌, Bool, true, false, List, [], ◌∷◌, ◌++◌, Option, Some, None, Result, Ok, Err, refl, sym, ap, ◌∙◌, subst, inl, inr, ⊎_elim, append-nil, Global}
+use Rattle.std.specs.Prelude.{◌==◌, if◌then◌else◌, OnOk, unwrap_or}
+use Rattle.std.proofs.lemmas.Option.{same_Some}
+use Rattle.journal_protocol.specs.declared.commands.InputCommand.{InputCommand}
+use Rattle.journal_protocol.specs.declared.error.Error.{Error}
+use Rattle.journal_protocol.specs.declared.faults.NamedFault.{NamedFault}
+use Rattle.journal_protocol.specs.declared.faults.NamedFault.TheVariants as fault
+use Rattle.journal_protocol.specs.declared.message.RawMessage.{RawMessage}
+use Rattle.journal_protocol.specs.declared.types.MessageType.TheVariants as type
+use Rattle.journal_protocol.specs.declared.version.Version.{Version}
+use Rattle.journal_protocol.specs.Errors.{named_error, no_memory}
+use Rattle.journal_protocol.specs.Reading.{input_in}
+use Rattle.journal_protocol.specs.Types.{type_number}
+use Rattle.vm_parts.specs.declared.context.StateMap.{StateMap}
+use Rattle.vm_parts.specs.declared.options.VMOptions.{VMOptions}
+use Rattle.vm_parts.specs.declared.steps.Answer.{Answer}
+use Rattle.vm_parts.specs.declared.types.UnresolvedFuture.{UnresolvedFuture}
+use Rattle.vm_parts.specs.Counting.{missing as lacking}
+use Rattle.vm_machine.specs.declared.machine.Machine.{Machine}
+use Rattle.vm_machine.specs.declared.phase.Phase.{Phase}
+use Rattle.vm_machine.specs.declared.phase.Phase.TheVariants.{WaitingStart, WaitingReplayEntries, Replaying, Processing, Closed}
+use Rattle.vm_machine.specs.Commands.{entered, phase_after, popped, popped_from}
+use Rattle.vm_machine.specs.Inputs.{coverage_of, input_at, input_counted, input_read, input_step}
+use Rattle.vm_machine.specs.Making.{fresh}
+use Rattle.vm_machine.specs.Outcomes.{Does, IsStarved, Outcome, Done, Failed, ◌>>=◌, about_last, called, called_at, failed, ruled, settled}
+use Rattle.vm_machine.specs.Phases.{is_closed, is_running}
+use Rattle.invocation_vm.specs.Views.{View}
+use Rattle.vm_model.specs.Calls.{Setup, Meaning, identity_of}
+use Rattle.vm_model.specs.Journal.{input_read_from}
+use Rattle.vm_model.specs.Moves.{start}
+use Rattle.vm_model.proofs.Runs.{made_add}
+use Rattle.vm_rounds.specs.declared.progress.Fed.{Fed}
+use Rattle.vm_rounds.specs.declared.progress.Progress.{Progress}
+use Rattle.vm_rounds.specs.declared.progress.Progress.TheVariants as progress
+use Rattle.vm_rounds.specs.declared.progress.Reply.{Reply}
+use Rattle.vm_rounds.specs.declared.progress.Reply.TheVariants as reply
+use Rattle.vm_rounds.specs.Agreement.{Agrees, Answered, Follows, IsRefused, StillAgrees}
+use Rattle.vm_rounds.specs.Blames.{Blame, BlamedAt, IfError, IsBlamed, LacksInput, RefusedCall, first_input}
+use Rattle.vm_rounds.specs.Blames.Blame.{Memory, NoInput, Call}
+use Rattle.vm_rounds.specs.Journals.{BeginsOrFails, HasAll, StillWaits, commands_among, machine_fed, missing, notifications_among, setup_for}
+use Rattle.vm_rounds.specs.Record.{Record}
+use Rattle.vm_rounds.specs.Stepping.{Advances, Asks, LacksMemory, Reads, StepAt, StepDoes, StepFrom, StepUnless, asked, future_in, progress_of}
+use Rattle.vm_rounds.specs.Stepping as stepping
+use Rattle.vm_rounds.specs.Steps.{IfDone, ReadsBack, performed}
+use Rattle.vm_rounds.specs.Steps as steps
+use Rattle.vm_rounds.specs.Told.{BeforeInput, Begun, Comes, IsKept, IsLive, Runs, arrivals, frames_fed, handed_out}
+use Rattle.vm_rounds.proofs.Advanced.{runs_answered}
+use Rattle.vm_rounds.proofs.Beginning.{input_begins}
+use Rattle.vm_rounds.proofs.Blamed.{alive_blamed, over_blamed}
+use Rattle.vm_rounds.proofs.Following.{agreeing_follows}
+use Rattle.vm_rounds.proofs.Pieces.{agrees_running}
+use Rattle.vm_rounds.proofs.Stepped.{asks_next}
+
+none_some : {A : Type 0} (e : Error) → None ≡ Some e → A
+none_some e h = absurd (cc)
+
+-- a call that failed has failed the machine, which hadn't
+called_failed : {A : Type 0} (v : Machine) (o : Outcome A) (e : Error) (w : Machine) → v.failure ≡ None → called o v ≡ Failed e w → (w.failure ≡ Some e) × ((d : Error) × (u : Machine) × (o ≡ Failed d u))
+unfolding called
+called_failed {A} v o e w live is = by_outcome o (ap (λ f. called_at f o v) (sym live) ∙ is)
+  where
+    by_outcome : (q : Outcome A) → settled q ≡ Failed e w → (w.failure ≡ Some e) × ((d : Error) × (u : Machine) × (q ≡ Failed d u))
+    by_outcome (Done a x) h = absurd (cc)
+    by_outcome (Failed d x) h = (let at : failed (ruled x d) x ≡ w = cc in let same : ruled x d ≡ e = cc in ap (λ (z : Machine). z.failure) (sym at) ∙ ap (λ y. Some y) same, (d, x, refl))
+
+called_done : {A : Type 0} (v : Machine) (o : Outcome A) (a : A) (w : Machine) → v.failure ≡ None → called o v ≡ Done a w → o ≡ Done a w
+unfolding called
+called_done {A} v o a w live is = by_outcome o (ap (λ f. called_at f o v) (sym live) ∙ is)
+  where
+    by_outcome : (q : Outcome A) → settled q ≡ Done a w → q ≡ Done a w
+    by_outcome (Done b x) h = h
+    by_outcome (Failed e x) h = absurd (cc)
+
+-- a machine whose only failure is this error, and the reason for it
+error_blamed : (m : Meaning) (version : Version) (options : VMOptions) (over : Option Progress) (fed : List Fed) (closed : Bool) (answers : List Answer) (w : Machine) (e : Error) → w.failure ≡ Some e → Blame m version options fed closed answers e → BlamedAt m version options over fed closed answers w
+error_blamed m version options over fed closed answers w e is b = record {
+  open_yet = λ going none. none_some e (sym none ∙ is);
+  blame = λ going d some. subst (Blame m version options fed closed answers) (same_Some e d (sym is ∙ some)) b;
+}
+
+-- ---- the input is read
+
+-- an event that is done leaves the machine alive and open
+abbrev Opens : {A : Type 0} → Machine → Outcome A → Type 0
+Opens v (Done a w) = (w.failure ≡ v.failure) × (is_closed w.phase ≡ false)
+Opens v (Failed e w) = Unit {0}
+
+open_phase : (left : List RawMessage) → is_closed (phase_after left) ≡ false
+open_phase [] = refl
+open_phase (c ∷ left) = refl
+
+read_opens : (o : Option InputCommand) (v w : Machine) → w.failure ≡ v.failure → is_closed w.phase ≡ false → Opens v (input_read o w)
+read_opens None v w f p = tt
+read_opens (Some c) v w f p = (f, p)
+
+popped_opens : (commands : List RawMessage) (v w : Machine) → w.failure ≡ v.failure → Opens v (popped_from commands type.InputCommand w >>= λ raw u. input_read (input_in raw.body) u)
+popped_opens [] v w f = tt
+popped_opens (raw ∷ rest) v w f = by_test (type_number raw.ty == type_number type.InputCommand)
+  where
+    u : Machine
+    u = record w { commands = rest; phase = phase_after rest }
+
+    by_test : (b : Bool) → Opens v ((if b then Done raw u else Failed (about_last fault.CommandTypeMismatch u) u) >>= λ raw u. input_read (input_in raw.body) u)
+    by_test true = read_opens (input_in raw.body) v u f (open_phase rest)
+    by_test false = tt
+
+counted_opens : (o : Option NamedFault) (v : Machine) → Opens v (input_counted o v)
+unfolding popped
+counted_opens (Some name) v = tt
+counted_opens None v = popped_opens v.commands v (entered type.InputCommand [] v) refl
+
+input_opens : (v : Machine) → Opens v (input_step v)
+unfolding input_step
+input_opens v = by_phase v.phase
+  where
+    by_phase : (ph : Phase) → Opens v (input_at ph v)
+    by_phase WaitingStart = tt
+    by_phase WaitingReplayEntries = tt
+    by_phase Replaying = counted_opens (lacking 0 0 0 v.counters) v
+    by_phase Processing = tt
+    by_phase Closed = tt
+
+-- an input that isn't read: the journal has none
+read_lacks : (version : Version) (options : VMOptions) (fed : List Fed) (v : Machine) (b : Begun version options fed v) (h : HasAll (setup_for version options b.start) (record { entries = b.state; coverage = coverage_of b.start.partial }) b.aside b.start.known_entries [] [] b.others v)
+    → (d : Error) (u : Machine) → input_step v ≡ Failed d u → (cs : List RawMessage) → commands_among h.entries ≡ cs → LacksInput (frames_fed fed)
+read_lacks version options fed v b h d u is cs e = record {
+  first = b.first_frame;
+  entries = h.entries;
+  others = h.others;
+  is = b.frames ∙ ap (λ l. b.first_frame ∷ l) h.split;
+  start = b.start;
+  reads = b.reads_start;
+  count = h.count;
+  none = ap first_input e ∙ none_in cs e;
+}
+  where
+    s : Setup
+    s = setup_for version options b.start
+
+    given : StateMap
+    given = record { entries = b.state; coverage = coverage_of b.start.partial }
+
+    none_in : (cs : List RawMessage) → commands_among h.entries ≡ cs → first_input cs ≡ None
+    none_in [] e = refl
+    none_in (first ∷ rest) e =
+        let at : v ≡ machine_fed s given (missing 0 b.aside) (first ∷ rest) (notifications_among b.others) Replaying = h.machine ∙ λ j. machine_fed s given (missing 0 b.aside) (e j) (notifications_among b.others) Replaying in
+        by_input (input_read_from first) refl (subst (BeginsOrFails s given (missing 0 b.aside) rest (notifications_among b.others) (input_read_from first)) (sym (ap input_step at) ∙ is) (input_begins s given (missing 0 b.aside) first rest (notifications_among b.others) (ap identity_of (sym b.of_start))))
+      where
+        by_input : (o : Option InputCommand) → input_read_from first ≡ o → BeginsOrFails s given (missing 0 b.aside) rest (notifications_among b.others) o (Failed d u) → input_read_from first ≡ None
+        by_input None reads g = reads
+        by_input (Some c) reads g = absurd g
+
+waits_not : {A : Type 0} (v : Machine) → is_running v.phase ≡ true → is_running v.phase ≡ false → A
+waits_not v runs not_yet = absurd (let z : true ≡ false = sym runs ∙ not_yet in cc)
+
+input_lacks : (version : Version) (options : VMOptions) (fed : List Fed) (v : Machine) → is_running v.phase ≡ true → (d : Error) (u : Machine) → input_step v ≡ Failed d u → Comes version options fed v → LacksInput (frames_fed fed)
+input_lacks version options fed v runs d u is =
+    ⊎_elim
+    (λ (x : (frames_fed fed ≡ []) × ((alloc : Global) × (v ≡ fresh alloc version options))). waits_not v runs (ap (λ (z : Machine). is_running z.phase) x.1.1))
+    (λ (b : Begun version options fed v).
+    ⊎_elim
+    (λ (x : StillWaits (setup_for version options b.start) (record { entries = b.state; coverage = coverage_of b.start.partial }) b.aside b.start.known_entries [] [] b.others v). waits_not v runs (ap (λ (z : Machine). is_running z.phase) x.machine))
+    (λ (x : HasAll (setup_for version options b.start) (record { entries = b.state; coverage = coverage_of b.start.partial }) b.aside b.start.known_entries [] [] b.others v). read_lacks version options fed v b x d u is (commands_among x.entries) refl)
+    b.waits)
+
+reads_blamed : (m : Meaning) (version : Version) (options : VMOptions) (old : Record) (result : Result Progress Error) (new : Record) → BeforeInput version options old.fed old.answers old.waiting old.taken old.vm → IsLive old.vm.machine → Reads old result new → IsBlamed m version options new
+reads_blamed m version options old (Ok made) new b live (stepped, (i, w, does, is)) =
+    let o = subst (Opens old.vm.machine) (called_done old.vm.machine (input_step old.vm.machine) i w.machine live.failure does.0) (input_opens old.vm.machine) in
+    subst (IsBlamed m version options) (sym is) (alive_blamed m version options _ _ _ _ w.machine (o.0 ∙ live.failure) (λ closed. let z : false ≡ true = sym o.1 ∙ ap is_closed closed in absurd (cc)))
+reads_blamed m version options old (Err e) new b live (w, does, is) =
+    subst (IsBlamed m version options) (sym is)
+    (⊎_elim
+    (λ (x : called (input_step old.vm.machine) old.vm.machine ≡ Failed e w.machine).
+    let f = called_failed old.vm.machine (input_step old.vm.machine) e w.machine live.failure x in
+    error_blamed m version options _ _ _ _ w.machine e f.0 (NoInput (input_lacks version options old.fed old.vm.machine live.phase f.1.0 f.1.1 f.1.2 (b.comes live.failure))))
+    (λ (x : IsStarved old.vm.machine e w.machine). starves m version options old w e live.failure x)
+    does.0)
+  where
+    starves : (m : Meaning) (version : Version) (options : VMOptions) (r : Record) (w : View) (e : Error) → r.vm.machine.failure ≡ None → IsStarved r.vm.machine e w.machine → BlamedAt m version options r.over r.fed r.closed r.answers w.machine
+    starves m version options r w e live x = error_blamed m version options _ _ _ _ w.machine no_memory (x.failure ∙ ap (λ (f : Option Error). Some (unwrap_or f no_memory)) live) (Memory refl)
+
+-- ---- the handler's call
+
+module _ (m : Meaning) (version : Version) (options : VMOptions) (r : Record) (k : Runs m version options r.fed r.answers r.waiting r.taken r.vm) (live : IsLive r.vm.machine) (w : View) where
+  abbrev s : Setup
+  s = setup_for version options k.journal.start
+
+  abbrev Following : Outcome Reply → Type 0
+  Following = Follows s m (handed_out k.journal) k.written k.at r.vm.machine
+
+  -- a machine that agrees is alive, and open
+  agreeing_blamed : (over : Option Progress) (answers : List Answer) (written : List RawMessage) (q : _) → Agrees s (handed_out k.journal) written w.machine q → BlamedAt m version options over r.fed r.closed answers w.machine
+  agreeing_blamed over answers written q a = alive_blamed m version options over r.fed r.closed answers w.machine (ap (λ (z : Machine). z.failure) a.machine) (λ closed. absurd (let z : false ≡ true = sym (ap is_running closed) ∙ agrees_running s (handed_out k.journal) written w.machine q a in cc))
+
+  refused_call : (e : Error) → IsRefused s m k.at r.vm.machine e w.machine → RefusedCall m version options r.fed r.answers e
+  refused_call e g =
+      let a = k.agrees live in
+      record {
+        journal = k.journal;
+        written = k.written ++ [];
+        at = g.at;
+        moves = k.moves + g.moves.moves;
+        made = made_add s m k.moves g.moves.moves (start s k.journal.input (arrivals k.journal) k.journal.rest) k.written k.at [] g.at k.run g.moves.run;
+        answers = g.moves.answers ∙ append-nil k.at.answers ∙ k.answers;
+        why = g.why;
+        reason = g.reason;
+        related = g.related;
+        error = g.error ∙ ap (λ (z : Machine). ruled z (named_error g.why g.related)) a.machine;
+      }
+
+  done_here : (P : Type 0) (o : Outcome Reply) (a : Reply) → (IfDone o P → Following o) → o ≡ Done a w.machine → P → Following (Done a w.machine)
+  done_here P o a follows is h = subst Following is (follows (subst (λ q. IfDone q P) (sym is) h))
+
+  failed_here : (P : Type 0) (o : Outcome Reply) (e : Error) → (IfDone o P → Following o) → o ≡ Failed e w.machine → Following (Failed e w.machine)
+  failed_here P o e follows is = subst Following is (follows (subst (λ q. IfDone q P) (sym is) tt))
+
+  replied_blamed : (P : Type 0) (future : Option UnresolvedFuture) → (x : Result Reply Error) → (o : Outcome Reply) → (IfDone o P → Following o) → Does o x r.vm.machine w.machine → OnOk x P → IsBlamed m version options (stepping.settled r future x w)
+  replied_blamed P future (Ok (reply.Answer a)) o f does h =
+      let g : Answered s m (handed_out k.journal) k.written k.at r.vm.machine a w.machine = done_here P o (reply.Answer a) f does h in
+      agreeing_blamed r.over (r.answers ++ a ∷ []) (k.written ++ g.made) g.at g.agrees
+  replied_blamed P future (Ok (reply.Waiting input run)) o f does h =
+      let g : StillAgrees s m (handed_out k.journal) k.written k.at r.vm.machine w.machine = done_here P o (reply.Waiting input run) f does h in
+      agreeing_blamed r.over r.answers k.written g.at g.agrees
+  replied_blamed P future (Ok reply.Suspended) o f does h = over_blamed m version options progress.Suspended _ _ _ _
+  replied_blamed P future (Ok reply.Ended) o f does h = over_blamed m version options progress.Ended _ _ _ _
+  replied_blamed P future (Err e) o f does h =
+      ⊎_elim
+      (λ (x : o ≡ Failed e w.machine).
+      let g : IsRefused s m k.at r.vm.machine e w.machine = failed_here P o e f x in
+      error_blamed m version options r.over r.fed r.closed r.answers w.machine e g.failure (Call (refused_call e g)))
+      (λ (x : IsStarved r.vm.machine e w.machine). error_blamed m version options r.over r.fed r.closed r.answers w.machine no_memory (x.failure ∙ ap (λ (f : Option Error). Some (unwrap_or f no_memory)) live.failure) (Memory refl))
+      does
+
+asks_blamed : (m : Meaning) (version : Version) (options : VMOptions) (old : Record) (result : Result Progress Error) (new : Record) (k : Runs m version options old.fed old.answers old.waiting old.taken old.vm) → IsLive old.vm.machine → Asks m old result new → IsBlamed m version options new
+asks_blamed m version options old result new k live (x, w, does, is, made) =
+    let st = m k.at.answers in
+    let same : asked m old ≡ st = asks_next m k.at old.answers old.waiting k.answers k.awaits in
+    let did : steps.Made st x old.vm w = subst (λ q. steps.Made q x old.vm w) same does in
+    subst (IsBlamed m version options) (sym is)
+    (replied_blamed m version options old k live w (ReadsBack st old.vm.machine) (future_in (asked m old)) x (performed st old.vm.machine)
+    (agreeing_follows (setup_for version options k.journal.start) m (handed_out k.journal) k.written old.vm.machine k.at (k.agrees live)) did.0.0 did.1)
+
+-- ---- a step
+
+advances_blamed : (m : Meaning) (version : Version) (options : VMOptions) (old : Record) (result : Result Progress Error) (new : Record) → IsKept m version options old → IsBlamed m version options old → IsLive old.vm.machine → Advances m old result new → IsBlamed m version options new
+advances_blamed m version options old result new k b live =
+    ⊎_elim
+    (λ (x : LacksMemory old result new). subst (IsBlamed m version options) (sym x.1) b)
+    (λ (o : ((old.answers ≡ []) × Reads old result new) ⊎ ((old.answers ≢ []) × Asks m old result new)).
+    ⊎_elim
+    (λ (x : (old.answers ≡ []) × Reads old result new).
+    ⊎_elim
+    (λ (y : BeforeInput version options old.fed old.answers old.waiting old.taken old.vm). reads_blamed m version options old result new y live x.1)
+    (λ (y : Runs m version options old.fed old.answers old.waiting old.taken old.vm). absurd (runs_answered m version options old.fed old.answers old.waiting old.taken old.vm y x.0))
+    k)
+    (λ (x : (old.answers ≢ []) × Asks m old result new).
+    ⊎_elim
+    (λ (y : BeforeInput version options old.fed old.answers old.waiting old.taken old.vm). absurd (x.0 y.answers))
+    (λ (y : Runs m version options old.fed old.answers old.waiting old.taken old.vm). asks_blamed m version options old result new y live x.1)
+    k)
+    o)
+
+step_at : (m : Meaning) (version : Version) (options : VMOptions) (old : Record) (result : Result Progress Error) (new : Record) → IsKept m version options old → IsBlamed m version options old → old.vm.machine.failure ≡ None → (ph : Phase) → old.vm.machine.phase ≡ ph → StepAt ph m old result new → IsBlamed m version options new
+step_at m version options old result new k b live WaitingStart at d = subst (IsBlamed m version options) (sym d.1) b
+step_at m version options old result new k b live WaitingReplayEntries at d = subst (IsBlamed m version options) (sym d.1) b
+step_at m version options old result new k b live Closed at d = subst (IsBlamed m version options) (sym d.1) b
+step_at m version options old result new k b live Replaying at d = advances_blamed m version options old result new k b (record { failure = live; phase = ap is_running at }) d
+step_at m version options old result new k b live Processing at d = advances_blamed m version options old result new k b (record { failure = live; phase = ap is_running at }) d
+
+step_unless : (m : Meaning) (version : Version) (options : VMOptions) (old : Record) (result : Result Progress Error) (new : Record) → IsKept m version options old → IsBlamed m version options old → (f : Option Error) → old.vm.machine.failure ≡ f → (over : Option Progress) → StepUnless f over m old result new → IsBlamed m version options new
+step_unless m version options old result new k b (Some e) is over d = subst (IsBlamed m version options) (sym d.1) b
+step_unless m version options old result new k b None is (Some made) d = subst (IsBlamed m version options) (sym d.1) b
+step_unless m version options old result new k b None is None d = step_at m version options old result new k b is old.vm.machine.phase refl d
+
+pub step_blames : (m : Meaning) (version : Version) (options : VMOptions) (old : Record) (result : Result Progress Error) (new : Record) → IsKept m version options old → IsBlamed m version options old → StepDoes m old result new → IsBlamed m version options new
+step_blames m version options old result new k b does = by_test old.starved does
+  where
+    by_test : (t : Bool) → StepFrom t m old result new → IsBlamed m version options new
+    by_test true d = subst (IsBlamed m version options) (sym d.1) b
+    by_test false d = step_unless m version options old result new k b old.vm.machine.failure refl old.over d
+
+-- ---- the error of a step
+
+-- an error of a step is want of memory, or the failure of its VM
+abbrev Errs : Record → Result Progress Error → Record → Type 0
+Errs old result new = IfError result (λ e. (e ≡ no_memory) ⊎ ((new.vm.machine.failure ≡ Some e) × (new.over ≡ old.over)))
+
+lacks_errs : (old : Record) (result : Result Progress Error) (new : Record) → result ≡ Err no_memory → Errs old result new
+lacks_errs old result new is = subst (λ x. Errs old x new) (sym is) (inl refl)
+
+made_errs : (old : Record) (made : Progress) (result : Result Progress Error) (new : Record) → result ≡ Ok made → Errs old result new
+made_errs old made result new is = subst (λ x. Errs old x new) (sym is) tt
+
+reads_errs : (old : Record) (result : Result Progress Error) (new : Record) → old.vm.machine.failure ≡ None → Reads old result new → Errs old result new
+reads_errs old (Ok made) new live d = tt
+reads_errs old (Err e) new live (w, does, is) =
+    ⊎_elim
+    (λ (x : called (input_step old.vm.machine) old.vm.machine ≡ Failed e w.machine). inr (ap (λ (z : Record). z.vm.machine.failure) is ∙ (called_failed old.vm.machine (input_step old.vm.machine) e w.machine live x).0, ap (λ (z : Record). z.over) is))
+    (λ (x : IsStarved old.vm.machine e w.machine). inl x.error)
+    does.0
+
+replied_errs : (m : Meaning) (version : Version) (options : VMOptions) (old : Record) (k : Runs m version options old.fed old.answers old.waiting old.taken old.vm) (live : IsLive old.vm.machine) (w : View) (new : Record)
+    → (P : Type 0) → (future : Option UnresolvedFuture) → (x : Result Reply Error) → new ≡ stepping.settled old future x w → (o : Outcome Reply) → (IfDone o P → Follows (setup_for version options k.journal.start) m (handed_out k.journal) k.written k.at old.vm.machine o) → Does o x old.vm.machine w.machine → Errs old (progress_of x) new
+replied_errs m version options old k live w new P future (Ok (reply.Answer a)) is o f does = tt
+replied_errs m version options old k live w new P future (Ok (reply.Waiting input run)) is o f does = tt
+replied_errs m version options old k live w new P future (Ok reply.Suspended) is o f does = tt
+replied_errs m version options old k live w new P future (Ok reply.Ended) is o f does = tt
+replied_errs m version options old k live w new P future (Err e) is o f does =
+    ⊎_elim
+    (λ (x : o ≡ Failed e w.machine).
+    let g : IsRefused (setup_for version options k.journal.start) m k.at old.vm.machine e w.machine = failed_here m version options old k live w P o e f x in
+    inr (ap (λ (z : Record). z.vm.machine.failure) is ∙ g.failure, ap (λ (z : Record). z.over) is))
+    (λ (x : IsStarved old.vm.machine e w.machine). inl x.error)
+    does
+
+asks_errs : (m : Meaning) (version : Version) (options : VMOptions) (old : Record) (result : Result Progress Error) (new : Record) (k : Runs m version options old.fed old.answers old.waiting old.taken old.vm) → IsLive old.vm.machine → Asks m old result new → Errs old result new
+asks_errs m version options old result new k live (x, w, does, is, made) =
+    let st = m k.at.answers in
+    let same : asked m old ≡ st = asks_next m k.at old.answers old.waiting k.answers k.awaits in
+    let did : steps.Made st x old.vm w = subst (λ q. steps.Made q x old.vm w) same does in
+    subst (λ z. Errs old z new) (sym made)
+    (replied_errs m version options old k live w new (ReadsBack st old.vm.machine) (future_in (asked m old)) x is (performed st old.vm.machine)
+    (agreeing_follows (setup_for version options k.journal.start) m (handed_out k.journal) k.written old.vm.machine k.at (k.agrees live)) did.0.0)
+
+advances_errs : (m : Meaning) (version : Version) (options : VMOptions) (old : Record) (result : Result Progress Error) (new : Record) → IsKept m version options old → IsLive old.vm.machine → Advances m old result new → Errs old result new
+advances_errs m version options old result new k live =
+    ⊎_elim
+    (λ (x : LacksMemory old result new). lacks_errs old result new x.0)
+    (λ (o : ((old.answers ≡ []) × Reads old result new) ⊎ ((old.answers ≢ []) × Asks m old result new)).
+    ⊎_elim
+    (λ (x : (old.answers ≡ []) × Reads old result new). reads_errs old result new live.failure x.1)
+    (λ (x : (old.answers ≢ []) × Asks m old result new).
+    ⊎_elim
+    (λ (y : BeforeInput version options old.fed old.answers old.waiting old.taken old.vm). absurd (x.0 y.answers))
+    (λ (y : Runs m version options old.fed old.answers old.waiting old.taken old.vm). asks_errs m version options old result new y live x.1)
+    k)
+    o)
+
+errs_at : (m : Meaning) (version : Version) (options : VMOptions) (old : Record) (result : Result Progress Error) (new : Record) → IsKept m version options old → IsBlamed m version options old → old.over ≡ None → old.vm.machine.failure ≡ None → (ph : Phase) → old.vm.machine.phase ≡ ph → StepAt ph m old result new → Errs old result new
+errs_at m version options old result new k b going live WaitingStart at d = made_errs old progress.NotReady result new d.0
+errs_at m version options old result new k b going live WaitingReplayEntries at d = made_errs old progress.NotReady result new d.0
+errs_at m version options old result new k b going live Closed at d = absurd (b.open_yet going live at)
+errs_at m version options old result new k b going live Replaying at d = advances_errs m version options old result new k (record { failure = live; phase = ap is_running at }) d
+errs_at m version options old result new k b going live Processing at d = advances_errs m version options old result new k (record { failure = live; phase = ap is_running at }) d
+
+errs_unless : (m : Meaning) (version : Version) (options : VMOptions) (old : Record) (result : Result Progress Error) (new : Record) → IsKept m version options old → IsBlamed m version options old → old.over ≡ None → (f : Option Error) → old.vm.machine.failure ≡ f → (over : Option Progress) → StepUnless f over m old result new → Errs old result new
+errs_unless m version options old result new k b going (Some e) is over d =
+    ⊎_elim
+    (λ (x : result ≡ Err e). subst (λ z. Errs old z new) (sym x) (inr (ap (λ (z : Record). z.vm.machine.failure) d.1 ∙ is, ap (λ (z : Record). z.over) d.1)))
+    (λ (x : result ≡ Err no_memory). lacks_errs old result new x)
+    d.0
+errs_unless m version options old result new k b going None is (Some made) d = made_errs old made result new d.0
+errs_unless m version options old result new k b going None is None d = errs_at m version options old result new k b going is old.vm.machine.phase refl d
+
+step_errs : (m : Meaning) (version : Version) (options : VMOptions) (old : Record) (result : Result Progress Error) (new : Record) → IsKept m version options old → IsBlamed m version options old → old.over ≡ None → StepDoes m old result new → Errs old result new
+step_errs m version options old result new k b going does = by_test old.starved does
+  where
+    by_test : (t : Bool) → StepFrom t m old result new → Errs old result new
+    by_test true d = lacks_errs old result new d.0
+    by_test false d = errs_unless m version options old result new k b going old.vm.machine.failure refl old.over d
+
+-- An error of a step has a reason, unless the attempt was over.
+pub step_blame : (m : Meaning) (version : Version) (options : VMOptions) (old : Record) (result : Result Progress Error) (new : Record) → IsKept m version options old → IsBlamed m version options old → StepDoes m old result new → old.over ≡ None → IfError result (λ e. Blame m version options new.fed new.closed new.answers e)
+step_blame m version options old result new k b does going = by_result result (step_errs m version options old result new k b going does)
+  where
+    after : IsBlamed m version options new
+    after = step_blames m version options old result new k b does
+
+    by_result : (x : Result Progress Error) → Errs old x new → IfError x (λ e. Blame m version options new.fed new.closed new.answers e)
+    by_result (Ok made) h = tt
+    by_result (Err e) h = ⊎_elim (λ (x : e ≡ no_memory). Memory x) (λ (x : (new.vm.machine.failure ≡ Some e) × (new.over ≡ old.over)). after.blame (x.1 ∙ going) e x.0) h

@@ -1,0 +1,194 @@
+-- Why an attempt failed.
+use Rattle.std.specs.Prelude.{◌≡◌, ◌≢◌, ◌⊎◌, ℕ, ◌+◌, ◌<◌, ◌≤◌, ◌==◌, Bool, true, false, if◌then◌else◌, length, List, [], ◌∷◌, ◌++◌, Option, Some, None, Result, Ok, Err}
+use Rattle.journal_protocol.specs.declared.commands.InputCommand.{InputCommand}
+use Rattle.journal_protocol.specs.declared.error.Error.{Error}
+use Rattle.journal_protocol.specs.declared.error.RelatedCommand.{RelatedCommand}
+use Rattle.journal_protocol.specs.declared.faults.NamedFault.{NamedFault}
+use Rattle.journal_protocol.specs.declared.faults.NamedFault.TheVariants as fault
+use Rattle.journal_protocol.specs.declared.message.RawMessage.{RawMessage}
+use Rattle.journal_protocol.specs.declared.notification.Notification.{Notification}
+use Rattle.journal_protocol.specs.declared.start.Start.{Start}
+use Rattle.journal_protocol.specs.declared.version.Version.{Version}
+use Rattle.journal_protocol.specs.Errors.{named_error, no_memory}
+use Rattle.journal_protocol.specs.Reading.{notification_in, start_in}
+use Rattle.journal_protocol.specs.Types.{type_number}
+use Rattle.vm_parts.specs.declared.options.VMOptions.{VMOptions}
+use Rattle.vm_parts.specs.declared.steps.Answer.{Answer}
+use Rattle.vm_machine.specs.declared.machine.Machine.{Machine}
+use Rattle.vm_machine.specs.declared.phase.Phase.{Phase}
+use Rattle.vm_machine.specs.declared.phase.Phase.TheVariants.{WaitingStart, WaitingReplayEntries, Replaying, Processing, Closed}
+use Rattle.vm_machine.specs.Inputs.{entries_in}
+use Rattle.vm_machine.specs.Outcomes.{ruled, ruled_by}
+use Rattle.invocation_vm.specs.Frames.{Garbage, frames_of}
+use Rattle.invocation_vm.specs.Views.{all_received}
+use Rattle.vm_model.specs.Calls.{Meaning}
+use Rattle.vm_model.specs.Calls.Move.{Refuses}
+use Rattle.vm_model.specs.Histories.{History, Made}
+use Rattle.vm_model.specs.Journal.{input_read_from}
+use Rattle.vm_model.specs.Moves.{Point, move_at, start}
+use Rattle.vm_model.specs.Refusals.{IsRefusedFor}
+use Rattle.vm_rounds.specs.declared.progress.Fed.{Fed}
+use Rattle.vm_rounds.specs.declared.progress.Progress.{Progress}
+use Rattle.vm_rounds.specs.Journals.{as_entries, commands_among, is_command, is_notification, setup_for}
+use Rattle.vm_rounds.specs.Record.{Record}
+use Rattle.vm_rounds.specs.Told.{Journal, arrivals, bytes_fed, frames_fed}
+
+-- ---- frames
+
+-- why a Start is refused: a state key is no text, or it tells of no entry
+abbrev pub refused_start : Start → Option (List (List ℕ × Option (List ℕ))) → Option NamedFault
+refused_start st None = Some fault.BadEagerStateKey
+refused_start st (Some entries) = if st.known_entries == 0 then Some fault.KnownEntriesIsZero else None
+
+-- why a body is refused as a Start
+abbrev pub start_fault : Option Start → Option NamedFault
+start_fault None = Some fault.BadMessage
+start_fault (Some st) = refused_start st (entries_in st.state)
+
+-- why a body is refused as a notification
+abbrev pub notification_fault : Option Notification → Option NamedFault
+notification_fault None = Some fault.BadMessage
+notification_fault (Some n) = None
+
+-- why a frame is refused in this phase, by whether it is a Start, a command or a notification
+abbrev pub fault_by : Phase → RawMessage → Bool → Bool → Bool → Option NamedFault
+fault_by WaitingStart raw true b c = start_fault (start_in raw.body)
+fault_by phase raw true b c = Some fault.UnexpectedInputMessage
+fault_by WaitingReplayEntries raw false true c = None
+fault_by phase raw false true c = Some fault.UnexpectedEntryMessage
+fault_by WaitingStart raw false false true = Some fault.UnexpectedState
+fault_by Closed raw false false true = None
+fault_by phase raw false false true = notification_fault (notification_in raw.body)
+fault_by phase raw false false false = Some fault.UnexpectedInputMessage
+
+-- why a frame is refused in this phase, if it is
+abbrev pub frame_fault : Phase → RawMessage → Option NamedFault
+frame_fault phase raw = fault_by phase raw (type_number raw.ty == 1) (is_command raw) (is_notification raw)
+
+-- The first of the frames that is refused in the phase in which it comes; the machine has failed for that reason.
+pub record FailsAt (raws : List RawMessage) (v m : Machine) : Type 0 where
+  pub before : List RawMessage
+  pub raw : RawMessage
+  pub behind : List RawMessage
+  pub split : raws ≡ before ++ raw ∷ behind
+  pub live : (all_received before v).failure ≡ None
+  pub why : NamedFault
+  pub reason : frame_fault (all_received before v).phase raw ≡ Some why
+  pub failure : m.failure ≡ Some (ruled v (named_error why None))
+
+-- a Start came, and so many frames behind it
+pub record Began (frames : List RawMessage) (count : ℕ → ℕ → Type 0) : Type 0 where
+  pub first : RawMessage
+  pub others : List RawMessage
+  pub is : frames ≡ first ∷ others
+  pub start : Start
+  pub reads : start_in first.body ≡ Some start
+  pub counts : count (length others) start.known_entries
+
+-- In which phase a frame comes behind these, while so many known entries are missing: Start comes first, the known entries
+-- then, and others behind them.
+abbrev pub Place : Phase → ℕ → List RawMessage → Type 0
+Place WaitingStart k frames = frames ≡ []
+Place WaitingReplayEntries k frames = Began frames (λ n known. (n + k ≡ known) × (0 < k))
+Place Replaying k frames = Began frames (λ n known. known ≤ n)
+Place Processing k frames = Began frames (λ n known. known ≤ n)
+Place Closed k frames = ⊥
+
+-- one of the frames that were fed is refused in its place
+pub record BadFrame (version : Version) (options : VMOptions) (frames : List RawMessage) (e : Error) : Type 0 where
+  pub before : List RawMessage
+  pub raw : RawMessage
+  pub behind : List RawMessage
+  pub split : frames ≡ before ++ raw ∷ behind
+  pub phase : Phase
+  pub missing : ℕ
+  pub place : Place phase missing before
+  pub why : NamedFault
+  pub reason : frame_fault phase raw ≡ Some why
+  pub error : e ≡ ruled_by version options (named_error why None)
+
+-- known entries are missing
+abbrev pub IsShort : List RawMessage → Type 0
+IsShort frames = (frames ≡ []) ⊎ Began frames (λ n known. n < known)
+
+-- ---- calls
+
+-- the input that the first of some commands is
+abbrev pub first_input : List RawMessage → Option InputCommand
+first_input [] = None
+first_input (c ∷ cs) = input_read_from c
+
+-- the known entries have come, and the first command among them is no input
+pub record LacksInput (frames : List RawMessage) : Type 0 where
+  pub first : RawMessage
+  pub entries : List RawMessage
+  pub others : List RawMessage
+  pub is : frames ≡ first ∷ (entries ++ others)
+  pub start : Start
+  pub reads : start_in first.body ≡ Some start
+  pub count : length entries ≡ start.known_entries
+  pub none : first_input (commands_among entries) ≡ None
+
+-- the handler's call was refused for this reason, at a point with these answers
+pub record RefusedCall (m : Meaning) (version : Version) (options : VMOptions) (fed : List Fed) (answers_so_far : List Answer) (e : Error) : Type 0 where
+  pub journal : Journal fed
+  pub written : List RawMessage
+  pub at : Point
+  pub moves : ℕ
+  pub made : Made (setup_for version options journal.start) m moves (start (setup_for version options journal.start) journal.input (arrivals journal) journal.rest) written at
+  pub answers : at.answers ≡ answers_so_far
+  pub why : NamedFault
+  pub reason : IsRefusedFor (move_at (setup_for version options journal.start) m at) at.left at.queue why
+  pub related : Option RelatedCommand
+  pub error : e ≡ ruled_by version options (named_error why related)
+
+-- ---- why an attempt failed
+
+-- Memory was lacking; a frame was refused, or bytes were no frame; the input was closed while known entries were missing; the
+-- journal has no input; or the handler's call was refused.
+pub data Blame (m : Meaning) (version : Version) (options : VMOptions) (fed : List Fed) (closed : Bool) (answers : List Answer) (e : Error) : Type 0 where
+  Memory : e ≡ no_memory → Blame m version options fed closed answers e
+  Frame : BadFrame version options (frames_fed fed) e → Blame m version options fed closed answers e
+  NoFrame : (frames_of (bytes_fed fed)).1 ≡ Garbage → e ≡ ruled_by version options (named_error fault.BadMessage None) → Blame m version options fed closed answers e
+  ClosedEarly : closed ≡ true → IsShort (frames_fed fed) → e ≡ ruled_by version options (named_error fault.InputClosedWhileWaitingEntries None) → Blame m version options fed closed answers e
+  NoInput : LacksInput (frames_fed fed) → Blame m version options fed closed answers e
+  Call : RefusedCall m version options fed answers e → Blame m version options fed closed answers e
+
+-- As long as an attempt is not over, its VM isn't closed, and has failed only for such a reason.
+pub record BlamedAt (m : Meaning) (version : Version) (options : VMOptions) (over : Option Progress) (fed : List Fed) (closed : Bool) (answers : List Answer) (v : Machine) : Type 0 where
+  pub open_yet : over ≡ None → v.failure ≡ None → v.phase ≢ Closed
+  pub blame : over ≡ None → (e : Error) → v.failure ≡ Some e → Blame m version options fed closed answers e
+
+-- the same of a record
+abbrev pub IsBlamed : Meaning → Version → VMOptions → Record → Type 0
+IsBlamed m version options r = BlamedAt m version options r.over r.fed r.closed r.answers r.vm.machine
+
+-- where a step answers an error
+abbrev pub IfError : Result Progress Error → (Error → Type 0) → Type 0
+IfError (Ok progress) P = Unit {0}
+IfError (Err e) P = P e
+
+-- ---- honest attempts
+
+-- Each frame has its place and is whole there, no bytes are garbage, and the known entries are a history of the handler.
+pub record IsHonest (m : Meaning) (version : Version) (options : VMOptions) (fed : List Fed) : Type 0 where
+  pub frames : (before : List RawMessage) (raw : RawMessage) (behind : List RawMessage) (phase : Phase) (k : ℕ) → frames_fed fed ≡ before ++ raw ∷ behind → Place phase k before → frame_fault phase raw ≡ None
+  pub whole : (frames_of (bytes_fed fed)).1 ≢ Garbage
+  pub history : (first : RawMessage) (entries others : List RawMessage) (st : Start) → frames_fed fed ≡ first ∷ (entries ++ others) → start_in first.body ≡ Some st → length entries ≡ st.known_entries → History (setup_for version options st) m (as_entries entries)
+
+-- the call was refused for a reason of its own: an argument or version check, numbers that ran out, a state key that is no text
+pub record RefusedItself (m : Meaning) (version : Version) (options : VMOptions) (fed : List Fed) (answers_so_far : List Answer) (e : Error) : Type 0 where
+  pub journal : Journal fed
+  pub at : Point
+  pub answers : at.answers ≡ answers_so_far
+  pub none_recorded : at.left ≡ []
+  pub why : NamedFault
+  pub reason : move_at (setup_for version options journal.start) m at ≡ Refuses why
+  pub related : Option RelatedCommand
+  pub error : e ≡ ruled_by version options (named_error why related)
+
+-- what an error of an honest attempt is
+abbrev pub IsOwnError : Meaning → Version → VMOptions → List Fed → Bool → List Answer → Error → Type 0
+IsOwnError m version options fed closed answers e =
+    (e ≡ no_memory)
+    ⊎ (((closed ≡ true) × IsShort (frames_fed fed) × (e ≡ ruled_by version options (named_error fault.InputClosedWhileWaitingEntries None))) ⊎ RefusedItself m version options fed answers e)
