@@ -4,6 +4,7 @@ use Rattle.std.specs.Prelude.{OnOk, OnErr, unwrap_or}
 use Rattle.std.proofs.lemmas.Bool.{false≢true}
 use Rattle.journal_protocol.specs.declared.error.Error.{Error}
 use Rattle.journal_protocol.specs.Errors.{no_memory}
+use Rattle.vm_parts.specs.declared.context.Counters.{Counters}
 use Rattle.vm_machine.specs.declared.fault.Fault.{Fault}
 use Rattle.vm_machine.specs.declared.fault.Fault.TheVariants as fault
 use Rattle.vm_machine.specs.declared.machine.Machine.{Machine}
@@ -15,7 +16,7 @@ use Rattle.invocation_vm.specs.Calls.{unanswered}
 use Rattle.vm_machine.specs.Outcomes.{Outcome, Done, Failed, Gives, Does, Lives, Settles, settled, called, called_at, IsStarved, Lasting, lasting, starved, ruled, failed, flat, flattened}
 
 -- a machine that hasn't failed, and finds no memory
-pub starves : (old mid new : Machine) → old.failure ≡ None → lasting mid ≡ lasting old → new ≡ starved mid → IsStarved old no_memory new
+pub starves : (old mid new : Machine) → old.failure ≡ None → lasting mid ≡ lasting old → new ≡ starved old.counters mid → IsStarved old no_memory new
 starves old mid new live g s = record {
   error = refl;
   failure = ap (λ (m : Machine). m.failure) s ∙ ap (λ (f : Option Error). Some (unwrap_or f no_memory)) (sym live);
@@ -23,10 +24,11 @@ starves old mid new live g s = record {
   version = ap (λ (m : Machine). m.version) s ∙ ap (λ (l : Lasting). l.version) g;
   options = ap (λ (m : Machine). m.options) s ∙ ap (λ (l : Lasting). l.options) g;
   start = ap (λ (m : Machine). m.start) s ∙ ap (λ (l : Lasting). l.start) g;
+  counters = ap (λ (m : Machine). m.counters) s;
   stays = λ first is. absurd (let z : None ≡ Some first = sym live ∙ is in cc);
 }
 
-pub settles : {A : Type 0} (o : Outcome A) (given : Result A Fault) (r : Result A Error) (old mid new : Machine) → old.failure ≡ None → Gives o given old mid → Settles given r mid new → Does (settled o) r old new
+pub settles : {A : Type 0} (o : Outcome A) (given : Result A Fault) (r : Result A Error) (old mid new : Machine) → old.failure ≡ None → Gives o given old mid → Settles old.counters given r mid new → Does (settled o) r old new
 settles o (Ok a) r old mid new live g s = rw (s.0, s.1, g) refl
 settles o (Err fault.Memory) r old mid new live g s = rw s.0 (inr (starves old mid new live g s.1))
 settles o (Err (fault.Refused e)) r old mid new live g s =
@@ -35,11 +37,11 @@ settles o (Err (fault.Refused e)) r old mid new live g s =
       | inr h ↦ rw h.0 (inr (starves old mid new live g.1 h.1))
     ]
 
-at_failure : {A : Type 0} (f : Option Error) (o : Outcome A) (given : Result A Fault) (r : Result A Error) (old mid new : Machine) → old.failure ≡ f → Lives f (Ok tt) → Gives o given old mid → Settles given r mid new → Does (called_at f o old) r old new
+at_failure : {A : Type 0} (f : Option Error) (o : Outcome A) (given : Result A Fault) (r : Result A Error) (old mid new : Machine) → old.failure ≡ f → Lives f (Ok tt) → Gives o given old mid → Settles old.counters given r mid new → Does (called_at f o old) r old new
 at_failure None o given r old mid new is l g s = settles o given r old mid new is g s
 at_failure (Some e) o given r old mid new is l g s = elim l as (λ _. Does (Failed e old) r old new) [ inl x ↦ cc | inr x ↦ cc ]
 
-pub does_called : {A : Type 0} (o : Outcome A) (given : Result A Fault) (r : Result A Error) (old mid new : Machine) → Lives old.failure (Ok tt) → Gives o given old mid → Settles given r mid new → Does (called o old) r old new
+pub does_called : {A : Type 0} (o : Outcome A) (given : Result A Fault) (r : Result A Error) (old mid new : Machine) → Lives old.failure (Ok tt) → Gives o given old mid → Settles old.counters given r mid new → Does (called o old) r old new
 unfolding called
 does_called o given r old mid new l g s = at_failure old.failure o given r old mid new refl l g s
 
@@ -54,6 +56,7 @@ stays_starved e d old error is = record {
   version = refl;
   options = refl;
   start = refl;
+  counters = refl;
   stays = λ first _. refl;
 }
 
@@ -80,10 +83,10 @@ pub flattens_call : {A : Type 0} (o : Outcome (Result A Error)) (r : Result (Res
 flattens_call {A = A} o r s old new d e = subst (λ (x : Result A Error). Does (flat (called o old)) x old new) (sym e) (flattens (called o old) r old new d)
 
 -- where a call is answered, its event was
-pub settles_sent : {A : Type 0} (m : Message) (v : Machine) (given : Result A Fault) (r : Result A Error) (mid new : Machine) → Settles given r mid new → OnOk given (CanBeRead m v) → OnOk r (CanBeRead m v)
-settles_sent m v (Ok a) r mid new s h = rw s.0 h
-settles_sent m v (Err fault.Memory) r mid new s h = rw s.0 tt
-settles_sent m v (Err (fault.Refused e)) r mid new s h =
+pub settles_sent : {A : Type 0} (m : Message) (v : Machine) (given : Result A Fault) (r : Result A Error) (before : Counters) (mid new : Machine) → Settles before given r mid new → OnOk given (CanBeRead m v) → OnOk r (CanBeRead m v)
+settles_sent m v (Ok a) r before mid new s h = rw s.0 h
+settles_sent m v (Err fault.Memory) r before mid new s h = rw s.0 tt
+settles_sent m v (Err (fault.Refused e)) r before mid new s h =
     elim s as (λ _. OnOk r (CanBeRead m v)) [ inl x ↦ rw x.0 tt | inr x ↦ rw x.0 tt ]
 
 -- ---- a call that answers nothing
@@ -116,9 +119,9 @@ unit_sent m v (Err e) h = tt
 -- ---- calls that take no memory
 
 -- the end of a closed VM
-pub closed_ends : (given : Result Unit Fault) (r : Result Unit Error) (v mid new : Machine) → Settles given r mid new → OnErr given (is_closed v.phase ≡ false) → v.phase ≡ Closed → r ≡ Ok tt
-closed_ends (Ok a) r v mid new s h closed = s.0
-closed_ends (Err e) r v mid new s h closed = absurd (false≢true (sym h ∙ ap is_closed closed))
+pub closed_ends : (given : Result Unit Fault) (r : Result Unit Error) (v : Machine) (before : Counters) (mid new : Machine) → Settles before given r mid new → OnErr given (is_closed v.phase ≡ false) → v.phase ≡ Closed → r ≡ Ok tt
+closed_ends (Ok a) r v before mid new s h closed = s.0
+closed_ends (Err e) r v before mid new s h closed = absurd (false≢true (sym h ∙ ap is_closed closed))
 
 pub live_answers : (f : Option Error) (e : Error) (r : Result Unit Error) → Lives f (Err e) → f ≡ None → r ≡ Ok tt
 live_answers None e r l is = absurd (err_is_ok e l)

@@ -8,6 +8,7 @@ use Rattle.journal_protocol.specs.declared.error.Error.{Error}
 use Rattle.journal_protocol.specs.Errors.{no_memory}
 use Rattle.journal_protocol.specs.Frames.{NextFrame, Whole, Partial, Malformed, next_of}
 use Rattle.journal_protocol.proofs.Cuts.{whole_shorter}
+use Rattle.vm_parts.specs.declared.context.Counters.{Counters}
 use Rattle.vm_machine.specs.declared.fault.Fault.{Fault}
 use Rattle.vm_machine.specs.declared.fault.Fault.TheVariants as fault
 use Rattle.vm_machine.specs.declared.machine.Machine.{Machine}
@@ -27,7 +28,7 @@ pub consumed_some : (bytes rest : List ℕ) (raw : RawMessage) (m : Machine) →
 consumed_some bytes rest raw m h = rw (frames_of-next bytes, h) refl
 
 -- the machine that a quiet call leaves
-pub left_called : (o : Outcome Unit) (given : Result Unit Fault) (old mid new : Machine) → old.failure ≡ None → Gives o given old mid → Quiets given (Ok tt) mid new → left_by (called o old) ≡ new
+pub left_called : (o : Outcome Unit) (given : Result Unit Fault) (old mid new : Machine) → old.failure ≡ None → Gives o given old mid → Quiets old.counters given (Ok tt) mid new → left_by (called o old) ≡ new
 unfolding called
 left_called o (Ok a) old mid new l g s = rw (l, g, s.1) refl
 left_called o (Err fault.Memory) old mid new l g s = absurd (false≢true s.0)
@@ -41,7 +42,7 @@ err_ok : (e : AllocError) → Err e ≡ Ok (tt {0}) → ⊥
 err_ok e h = cc
 
 -- a quiet call that found no memory
-pub starved_called : (o : Outcome Unit) (given : Result Unit Fault) (e : AllocError) (old mid new : Machine) → old.failure ≡ None → Gives o given old mid → Quiets given (Err e) mid new → IsStarved old no_memory new
+pub starved_called : (o : Outcome Unit) (given : Result Unit Fault) (e : AllocError) (old mid new : Machine) → old.failure ≡ None → Gives o given old mid → Quiets old.counters given (Err e) mid new → IsStarved old no_memory new
 starved_called o (Ok a) e old mid new l g s = absurd (err_ok e s.0)
 starved_called o (Err fault.Memory) e old mid new l g s = starves old mid new l g s.1
 starved_called o (Err (fault.Refused d)) e old mid new l g s =
@@ -77,16 +78,16 @@ failure_of None h = refl
 failure_of (Some e) h = cc
 
 -- where a quiet call leaves no failure, it has written nothing
-same_output : (given : Result Unit Fault) (mid new : Machine) → Quiets given (Ok tt) mid new → is_some new.failure ≡ false → new.output ≡ mid.output
-same_output (Ok a) mid new s h = rw s.1 refl
-same_output (Err fault.Memory) mid new s h = absurd (false≢true s.0)
-same_output (Err (fault.Refused e)) mid new s h =
+same_output : (given : Result Unit Fault) (before : Counters) (mid new : Machine) → Quiets before given (Ok tt) mid new → is_some new.failure ≡ false → new.output ≡ mid.output
+same_output (Ok a) before mid new s h = rw s.1 refl
+same_output (Err fault.Memory) before mid new s h = absurd (false≢true s.0)
+same_output (Err (fault.Refused e)) before mid new s h =
     elim s as (λ _. new.output ≡ mid.output) [
       | inl k ↦ absurd (false≢true (sym h ∙ rw k.1 refl))
       | inr k ↦ absurd (false≢true k.0)
     ]
 
-received_is : (given : Result Unit Fault) (raw : RawMessage) (m mid new : Machine) → m.failure ≡ None → Gives (message_step raw m) given m mid → Quiets given (Ok tt) mid new → received raw m ≡ new
+received_is : (given : Result Unit Fault) (raw : RawMessage) (m mid new : Machine) → m.failure ≡ None → Gives (message_step raw m) given m mid → Quiets m.counters given (Ok tt) mid new → received raw m ≡ new
 unfolding received
 received_is given raw m mid new l g s = left_called (message_step raw m) given m mid new l g s
 
@@ -94,11 +95,11 @@ received_is given raw m mid new l g s = left_called (message_step raw m) given m
 first_of_them : (bytes rest : List ℕ) (raw : RawMessage) → next_of bytes ≡ Whole raw rest → (frames_of bytes).0 ≡ raw ∷ (frames_of rest).0
 first_of_them bytes rest raw h = rw (frames_of-next bytes, h) refl
 
-pub goes_on : (given : Result Unit Fault) (raw : RawMessage) (bytes rest : List ℕ) (m mid new : Machine) → m.failure ≡ None → next_of bytes ≡ Whole raw rest → Gives (message_step raw m) given m mid → Quiets given (Ok tt) mid new → mid.output ≡ m.output → is_some new.failure ≡ false → Goes true (record { undecoded = bytes; machine = m }) (record { undecoded = rest; machine = new })
+pub goes_on : (given : Result Unit Fault) (raw : RawMessage) (bytes rest : List ℕ) (m mid new : Machine) → m.failure ≡ None → next_of bytes ≡ Whole raw rest → Gives (message_step raw m) given m mid → Quiets m.counters given (Ok tt) mid new → mid.output ≡ m.output → is_some new.failure ≡ false → Goes true (record { undecoded = bytes; machine = m }) (record { undecoded = rest; machine = new })
 goes_on given raw bytes rest m mid new l f g s o h = (
   failure_of new.failure h,
   whole_shorter bytes raw rest f,
-  same_output given mid new s h ∙ o,
+  same_output given m.counters mid new s h ∙ o,
   sym (consumed_some bytes rest raw m f ∙ ap (λ (w : Machine). consumed (frames_of rest) w) (received_is given raw m mid new l g s)),
   (raw, first_of_them bytes rest raw f, sym (received_is given raw m mid new l g s)),
 )
@@ -107,12 +108,12 @@ failed_at : (o : Option Error) (bytes : List ℕ) (new : Machine) → new.failur
 failed_at None bytes new e h = absurd (false≢true h)
 failed_at (Some e) bytes new i h = consumed_failed (frames_of bytes) new e i
 
-pub ends : (given : Result Unit Fault) (raw : RawMessage) (bytes rest none : List ℕ) (m mid new : Machine) → m.failure ≡ None → next_of bytes ≡ Whole raw rest → Gives (message_step raw m) given m mid → Quiets given (Ok tt) mid new → is_some new.failure ≡ true → none ≡ [] → Goes false (record { undecoded = bytes; machine = m }) (record { undecoded = none; machine = new })
+pub ends : (given : Result Unit Fault) (raw : RawMessage) (bytes rest none : List ℕ) (m mid new : Machine) → m.failure ≡ None → next_of bytes ≡ Whole raw rest → Gives (message_step raw m) given m mid → Quiets m.counters given (Ok tt) mid new → is_some new.failure ≡ true → none ≡ [] → Goes false (record { undecoded = bytes; machine = m }) (record { undecoded = none; machine = new })
 ends given raw bytes rest none m mid new l f g s h n =
     rw n (sym (consumed_some bytes rest raw m f ∙ (ap (λ (w : Machine). consumed (frames_of rest) w) (received_is given raw m mid new l g s) ∙ failed_at new.failure rest new refl h)))
 
 -- a quiet call
-pub leaves_called : (o : Outcome Unit) (given : Result Unit Fault) (r : Result Unit AllocError) (bytes : List ℕ) (old mid new : Machine) → is_some old.failure ≡ false → Gives o given old mid → Quiets given r mid new → Leaves [] (record { undecoded = bytes; machine = left_by (called o old) }) r (record { undecoded = bytes; machine = old }) (record { undecoded = bytes; machine = new })
+pub leaves_called : (o : Outcome Unit) (given : Result Unit Fault) (r : Result Unit AllocError) (bytes : List ℕ) (old mid new : Machine) → is_some old.failure ≡ false → Gives o given old mid → Quiets old.counters given r mid new → Leaves [] (record { undecoded = bytes; machine = left_by (called o old) }) r (record { undecoded = bytes; machine = old }) (record { undecoded = bytes; machine = new })
 leaves_called o given (Ok t) bytes old mid new l g s =
     record { ok = ap (λ (m : Machine). record { undecoded = bytes; machine = m }) (sym (left_called o given old mid new (failure_of old.failure l) g s)); err = tt }
 leaves_called o given (Err e) bytes old mid new l g s = record { ok = tt; err = among_none [] old new (failure_of old.failure l) (starved_called o given e old mid new (failure_of old.failure l) g s) }
@@ -130,11 +131,11 @@ stays_called o old h = stays_left old.failure o old h
 pub consumed_garbage : (bytes : List ℕ) (m : Machine) → next_of bytes ≡ Malformed → consumed (frames_of bytes) m ≡ record { undecoded = []; machine = spoiled m }
 consumed_garbage bytes m h = rw (frames_of-next bytes, h) refl
 
-spoiled_is : (given : Result Unit Fault) (m mid new : Machine) → m.failure ≡ None → Gives (malformed_step m) given m mid → Quiets given (Ok tt) mid new → spoiled m ≡ new
+spoiled_is : (given : Result Unit Fault) (m mid new : Machine) → m.failure ≡ None → Gives (malformed_step m) given m mid → Quiets m.counters given (Ok tt) mid new → spoiled m ≡ new
 unfolding spoiled
 spoiled_is given m mid new l g s = left_called (malformed_step m) given m mid new l g s
 
-pub ends_in_garbage : (given : Result Unit Fault) (bytes none : List ℕ) (m mid new : Machine) → m.failure ≡ None → next_of bytes ≡ Malformed → Gives (malformed_step m) given m mid → Quiets given (Ok tt) mid new → none ≡ []
+pub ends_in_garbage : (given : Result Unit Fault) (bytes none : List ℕ) (m mid new : Machine) → m.failure ≡ None → next_of bytes ≡ Malformed → Gives (malformed_step m) given m mid → Quiets m.counters given (Ok tt) mid new → none ≡ []
     → Goes false (record { undecoded = bytes; machine = m }) (record { undecoded = none; machine = new })
 ends_in_garbage given bytes none m mid new l f g s n =
     rw n (sym (consumed_garbage bytes m f ∙ ap (λ (w : Machine). record { undecoded = []; machine = w }) (spoiled_is given m mid new l g s)))
@@ -158,13 +159,13 @@ came_more raws left rest raw old reached new c l r = record {
 }
 
 -- a closed input
-pub closes_free : (given : Result Unit Fault) (r : Result Unit AllocError) (P : Type 0) (mid new : Machine) → Quiets given r mid new → OnErr given P → OnErr r P
-closes_free (Ok a) r P mid new s h = rw s.0 tt
-closes_free (Err e) (Ok t) P mid new s h = tt
-closes_free (Err e) (Err x) P mid new s h = h
+pub closes_free : (given : Result Unit Fault) (r : Result Unit AllocError) (P : Type 0) (before : Counters) (mid new : Machine) → Quiets before given r mid new → OnErr given P → OnErr r P
+closes_free (Ok a) r P before mid new s h = rw s.0 tt
+closes_free (Err e) (Ok t) P before mid new s h = tt
+closes_free (Err e) (Err x) P before mid new s h = h
 
 -- bytes for which there is no room
-pub has_no_room : (raws : List RawMessage) (after : View) (e : AllocError) (old new : View) → is_some old.machine.failure ≡ false → new.machine ≡ starved old.machine → Leaves raws after (Err e) old new
+pub has_no_room : (raws : List RawMessage) (after : View) (e : AllocError) (old new : View) → is_some old.machine.failure ≡ false → new.machine ≡ starved old.machine.counters old.machine → Leaves raws after (Err e) old new
 has_no_room raws after e old new l s =
     let live = failure_of old.machine.failure l in
     record { ok = tt; err = among_none raws old.machine new.machine live (starves old.machine old.machine new.machine live refl s) }

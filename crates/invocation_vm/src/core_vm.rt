@@ -64,8 +64,9 @@ impl CoreVM {
         if let Err(error) = self.machine.live() {
             return Err(error);
         }
+        let before = self.machine.counters;
         let given = self.machine.command(command);
-        self.machine.settle(given)
+        self.machine.settle(before, given)
     }
 
     /// What a step asks for.
@@ -97,8 +98,9 @@ impl CoreVM {
             return Err(error);
         }
         let UnresolvedFuture::Single(handle) = future;
+        let before = self.machine.counters;
         let given = self.machine.await_one(handle);
-        self.machine.settle(given)
+        self.machine.settle(before, given)
     }
 
     /// The bytes that wait to be sent, which stay there.
@@ -152,7 +154,8 @@ impl VM for CoreVM {
         match self.decoder.push(bytes) {
             Ok(()) => {}
             Err(error) => {
-                let _ = self.machine.starve();
+                let before = self.machine.counters;
+                let _ = self.machine.starve(before);
                 return Err(error);
             }
         }
@@ -163,8 +166,9 @@ impl VM for CoreVM {
         if self.machine.has_failed() {
             return Ok(());
         }
+        let before = self.machine.counters;
         let given = self.machine.close_input();
-        self.machine.settle_quietly(given)
+        self.machine.settle_quietly(before, given)
     }
 
     fn notify_error(
@@ -175,8 +179,9 @@ impl VM for CoreVM {
         if self.machine.has_failed() {
             return Ok(());
         }
+        let before = self.machine.counters;
         let given = self.machine.report(error, command_relationship);
-        self.machine.settle_quietly(given)
+        self.machine.settle_quietly(before, given)
     }
 
     fn take_output(&mut self) -> Result<Bytes, AllocError> {
@@ -204,16 +209,18 @@ impl VM for CoreVM {
         if let Err(error) = self.machine.live() {
             return Err(error);
         }
+        let before = self.machine.counters;
         let given = self.machine.take(handle);
-        self.machine.settle(given)
+        self.machine.settle(before, given)
     }
 
     fn sys_input(&mut self) -> VMResult<Input> {
         if let Err(error) = self.machine.live() {
             return Err(error);
         }
+        let before = self.machine.counters;
         let given = self.machine.input();
-        self.machine.settle(given)
+        self.machine.settle(before, given)
     }
 
     fn sys_sleep(
@@ -250,8 +257,9 @@ impl VM for CoreVM {
         if let Err(error) = self.machine.live() {
             return Err(error);
         }
+        let before = self.machine.counters;
         let given = make_awakeable(&mut self.machine);
-        self.machine.settle(given)
+        self.machine.settle(before, given)
     }
 
     fn sys_complete_awakeable(
@@ -288,8 +296,9 @@ impl VM for CoreVM {
         if let Err(error) = self.machine.live() {
             return Err(error);
         }
+        let before = self.machine.counters;
         let given = self.machine.end();
-        self.machine.settle(given)
+        self.machine.settle(before, given)
     }
 
     fn state(&self) -> State {

@@ -21,7 +21,8 @@ impl CoreVM {
         let next = match self.decoder.next_frame() {
             Ok(next) => next,
             Err(Fault::Memory) => {
-                let _ = self.machine.starve();
+                let before = self.machine.counters;
+                let _ = self.machine.starve(before);
                 return Err(AllocError);
             }
             Err(Fault::Malformed) => return self.take_garbage(),
@@ -29,8 +30,9 @@ impl CoreVM {
         let Some(raw) = next else {
             return Ok(false);
         };
+        let before = self.machine.counters;
         let given = self.machine.receive(raw);
-        match self.machine.settle_quietly(given) {
+        match self.machine.settle_quietly(before, given) {
             Ok(()) => {}
             Err(error) => return Err(error),
         }
@@ -48,8 +50,9 @@ impl CoreVM {
         ensures ok { IfOk result (λ more. Goes more (seen self.old) (seen self.new)) }
         ensures err { OnErr result (IsStarved self.old.machine no_memory self.new.machine) }
     {
+        let before = self.machine.counters;
         let given = self.machine.receive_malformed();
-        match self.machine.settle_quietly(given) {
+        match self.machine.settle_quietly(before, given) {
             Ok(()) => {}
             Err(error) => return Err(error),
         }

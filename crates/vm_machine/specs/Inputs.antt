@@ -15,6 +15,7 @@ use Rattle.journal_protocol.specs.declared.version.Version.{Version}
 use Rattle.journal_protocol.specs.Message.{encoding}
 use Rattle.journal_protocol.specs.Reading.{start_in, input_in, notification_in}
 use Rattle.journal_protocol.specs.Types.{type_number}
+use Rattle.vm_parts.specs.declared.context.Counters.{Counters}
 use Rattle.vm_parts.specs.declared.context.StartInfo.{StartInfo}
 use Rattle.vm_parts.specs.declared.context.StateCoverage.{StateCoverage}
 use Rattle.vm_parts.specs.declared.context.StateCoverage.TheVariants.{Partial, Complete}
@@ -196,9 +197,9 @@ end_step v = end_at v.phase v
 
 -- ---- calls that answer nothing but want of memory
 
--- what the error rule leaves of an inner function's answer
-abbrev pub Quiets : Result Unit Fault → Result Unit AllocError → Machine → Machine → Type 0
-Quiets (Ok a) r old new = (r ≡ Ok tt) × (new ≡ old)
-Quiets (Err stopped.Memory) r old new = IsErr r × (new ≡ starved old)
-Quiets (Err (stopped.Refused e)) r old new =
-    ((r ≡ Ok tt) × (new ≡ failed (ruled old e) old)) ⊎ (IsErr r × (new ≡ starved old))
+-- what the error rule leaves of an inner function's answer, in a call that began with these counters
+abbrev pub Quiets : Counters → Result Unit Fault → Result Unit AllocError → Machine → Machine → Type 0
+Quiets before (Ok a) r old new = (r ≡ Ok tt) × (new ≡ old)
+Quiets before (Err stopped.Memory) r old new = IsErr r × (new ≡ starved before old)
+Quiets before (Err (stopped.Refused e)) r old new =
+    ((r ≡ Ok tt) × (new ≡ failed (ruled old e) old)) ⊎ (IsErr r × (new ≡ starved before old))

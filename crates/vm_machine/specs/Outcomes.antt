@@ -9,6 +9,7 @@ use Rattle.journal_protocol.specs.declared.message.Message.TheVariants as messag
 use Rattle.journal_protocol.specs.Errors.{named_error, no_memory, error_message}
 use Rattle.journal_protocol.specs.Message.{encoding}
 use Rattle.journal_protocol.specs.declared.version.Version.{Version}
+use Rattle.vm_parts.specs.declared.context.Counters.{Counters}
 use Rattle.vm_parts.specs.declared.context.StartInfo.{StartInfo}
 use Rattle.vm_parts.specs.declared.options.JournalMismatchRetryBehavior.{JournalMismatchRetryBehavior}
 use Rattle.vm_parts.specs.declared.options.JournalMismatchRetryBehavior.TheVariants as mismatch
@@ -85,9 +86,9 @@ failed e v =
       output_ended = true;
     }
 
--- a machine that found no memory
-abbrev pub starved : Machine → Machine
-starved v = record v { failure = Some no_memory; output_ended = true }
+-- a machine that found no memory: its counters are those that it had before
+abbrev pub starved : Counters → Machine → Machine
+starved before v = record v { failure = Some no_memory; output_ended = true; counters = before }
 
 -- an outcome after the error rule
 abbrev pub settled : {A : Type 0} → Outcome A → Outcome A
@@ -104,8 +105,8 @@ unfoldable pub called : {A : Type 0} → Outcome A → Machine → Outcome A
 called o v = called_at v.failure o v
 
 -- Want of memory was answered, once this state was reached. The first error is what it was, or else want of memory; there
--- is no frame more than those of that state; version, options and Start are as they were. A machine that had failed before
--- stays as it was.
+-- is no frame more than those of that state; version, options, Start and counters are as they were. A machine that had failed
+-- before stays as it was.
 pub record IsStarved (reached : Machine) (e : Error) (new : Machine) : Type 0 where
   pub error : e ≡ no_memory
   pub failure : new.failure ≡ Some (unwrap_or reached.failure no_memory)
@@ -113,6 +114,7 @@ pub record IsStarved (reached : Machine) (e : Error) (new : Machine) : Type 0 wh
   pub version : new.version ≡ reached.version
   pub options : new.options ≡ reached.options
   pub start : new.start ≡ reached.start
+  pub counters : new.counters ≡ reached.counters
   pub stays : (first : Error) → reached.failure ≡ Some first → new ≡ reached
 
 -- A call does what the outcome says, or finds no memory.
@@ -125,12 +127,12 @@ abbrev pub Lives : Option Error → Result Unit Error → Type 0
 Lives None r = r ≡ Ok tt
 Lives (Some e) r = (r ≡ Err e) ⊎ (r ≡ Err no_memory)
 
--- what the error rule leaves of an inner function's answer
-abbrev pub Settles : {A : Type 0} → Result A Fault → Result A Error → Machine → Machine → Type 0
-Settles (Ok a) r old new = (r ≡ Ok a) × (new ≡ old)
-Settles (Err fault.Memory) r old new = (r ≡ Err no_memory) × (new ≡ starved old)
-Settles (Err (fault.Refused e)) r old new =
-    ((r ≡ Err (ruled old e)) × (new ≡ failed (ruled old e) old)) ⊎ ((r ≡ Err no_memory) × (new ≡ starved old))
+-- what the error rule leaves of an inner function's answer, in a call that began with these counters
+abbrev pub Settles : {A : Type 0} → Counters → Result A Fault → Result A Error → Machine → Machine → Type 0
+Settles before (Ok a) r old new = (r ≡ Ok a) × (new ≡ old)
+Settles before (Err fault.Memory) r old new = (r ≡ Err no_memory) × (new ≡ starved before old)
+Settles before (Err (fault.Refused e)) r old new =
+    ((r ≡ Err (ruled old e)) × (new ≡ failed (ruled old e) old)) ⊎ ((r ≡ Err no_memory) × (new ≡ starved before old))
 
 -- an answer that is an error, though the machine didn't fail
 abbrev pub flat : {A : Type 0} → Outcome (Result A Error) → Outcome A

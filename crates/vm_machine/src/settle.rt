@@ -12,7 +12,7 @@ use crate::phase::is_from_v7;
 use bytes::Bytes;
 use journal_protocol::{Encoder, Error, ErrorBehavior, Message, NamedFault};
 use std::alloc::{AllocError, Global};
-use vm_parts::JournalMismatchRetryBehavior;
+use vm_parts::{Counters, JournalMismatchRetryBehavior};
 
 fn mismatch_behavior(option: JournalMismatchRetryBehavior) -> ErrorBehavior
     ensures { result ≡ mismatch_behavior option }
@@ -84,41 +84,46 @@ impl Machine {
         Ok(())
     }
 
-    /// Fails for want of memory.
-    pub fn starve(&mut self) -> Error
-        ensures state { self.new ≡ starved self.old }
+    /// Fails for want of memory, with the counters that the call began with.
+    pub fn starve(&mut self, before: Counters) -> Error
+        ensures state { self.new ≡ starved before self.old }
         ensures error { result ≡ no_memory }
     {
+        self.counters = before;
         self.failure = Some(Error::named(NamedFault::Memory, None));
         self.output_ended = true;
         Error::named(NamedFault::Memory, None)
     }
 
-    /// Ends an event by the error rule.
-    pub fn settle<T: Drop>(&mut self, given: Result<T, Fault>) -> Result<T, Error>
-        ensures { Settles given result self.old self.new }
+    /// Ends an event by the error rule, in a call that began with these counters.
+    pub fn settle<T: Drop>(&mut self, before: Counters, given: Result<T, Fault>) -> Result<T, Error>
+        ensures { Settles before given result self.old self.new }
     {
         match given {
             Ok(answer) => Ok(answer),
-            Err(Fault::Memory) => Err(self.starve()),
+            Err(Fault::Memory) => Err(self.starve(before)),
             Err(Fault::Refused(error)) => {
                 let error = self.rule(error);
                 match self.fail(&error) {
                     Ok(()) => Err(error),
-                    Err(_) => Err(self.starve()),
+                    Err(_) => Err(self.starve(before)),
                 }
             }
         }
     }
 
-    /// Ends an event of a call that answers nothing but want of memory.
-    pub fn settle_quietly(&mut self, given: Result<(), Fault>) -> Result<(), AllocError>
-        ensures { Quiets given result self.old self.new }
+    /// As `settle`, of a call that answers nothing but want of memory.
+    pub fn settle_quietly(
+        &mut self,
+        before: Counters,
+        given: Result<(), Fault>,
+    ) -> Result<(), AllocError>
+        ensures { Quiets before given result self.old self.new }
     {
         match given {
             Ok(()) => Ok(()),
             Err(Fault::Memory) => {
-                let _ = self.starve();
+                let _ = self.starve(before);
                 Err(AllocError)
             }
             Err(Fault::Refused(error)) => {
@@ -126,7 +131,7 @@ impl Machine {
                 match self.fail(&error) {
                     Ok(()) => Ok(()),
                     Err(_) => {
-                        let _ = self.starve();
+                        let _ = self.starve(before);
                         Err(AllocError)
                     }
                 }
