@@ -80,7 +80,9 @@ impl CoreVM {
     pub fn command(&mut self, mut command: Command) -> VMResult<NotificationHandle>
         ensures { CallsCommand command result (seen self.old) (seen self.new) }
     {
-        self.call(&mut command)
+        let given = self.call(&mut command);
+        drop(command);
+        given
     }
 
     /// A call that has a command and answers nothing.

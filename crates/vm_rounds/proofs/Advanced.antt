@@ -43,7 +43,8 @@ use Rattle.vm_rounds.specs.Record.{Record}
 use Rattle.vm_rounds.specs.Stepping.{Advances, Asks, IfWaits, IsReplaying, LacksMemory, Reads, StepAt, StepDoes, StepFrom, StepUnless, fresh_record}
 use Rattle.vm_rounds.specs.Told.{AnswersAreTold, BeforeInput, Begun, Comes, IsKept, IsLive, IsAsleep, Quiet, Replays, Runs, StillAwaits, Wrote, arrivals, bytes_fed, frames_fed}
 use Rattle.vm_rounds.proofs.Beginning.{input_begins}
-use Rattle.vm_rounds.proofs.Kept.{dead_same}
+use Rattle.vm_rounds.proofs.Kept.{KeptBy, Lasts, Reading, dead_same}
+use Rattle.vm_rounds.proofs.Lasting.{runs_last}
 use Rattle.vm_rounds.proofs.Pieces.{agrees_running}
 use Rattle.vm_rounds.proofs.Quiet.{Silent, error_quiet, quiet_same, wrote_quiet}
 use Rattle.vm_rounds.proofs.Stepped.{asks_keep, asks_replay, asks_wait}
@@ -123,9 +124,13 @@ no_command_reads : {A : Type 0} (s : Setup) (given : StateMap) (aside : Aside) (
 unfolding input_step popped
 no_command_reads s given aside ns i w is = absurd (cc)
 
+-- the handler runs, and nothing was written
+abbrev pub Begins : Meaning → Version → VMOptions → List Fed → List Answer → Option UnresolvedFuture → List (List ℕ) → View → Type 0
+Begins m version options fed answers waiting taken v = (k : Runs m version options fed answers waiting taken v) × (k.written ≡ [])
+
 read_begins : (m : Meaning) (version : Version) (options : VMOptions) (fed : List Fed) (before : Option UnresolvedFuture) (taken : List (List ℕ)) (v w : View) (b : Begun version options fed v.machine) (h : HasAll (setup_for version options b.start) (record { entries = b.state; coverage = coverage_of b.start.partial }) b.aside b.start.known_entries [] [] b.others v.machine)
     → (i : Input) → input_step v.machine ≡ Done i w.machine → before ≡ None → Wrote taken v.machine.output [] → (frames_of (bytes_fed fed)).1 ≡ Rest w.undecoded
-    → (cs : List RawMessage) → commands_among h.entries ≡ cs → Runs m version options fed (answer.Input i ∷ []) before taken w
+    → (cs : List RawMessage) → commands_among h.entries ≡ cs → Begins m version options fed (answer.Input i ∷ []) before taken w
 read_begins m version options fed before taken v w b h i is none wrote tail [] e =
     let s = setup_for version options b.start in
     let given : StateMap = record { entries = b.state; coverage = coverage_of b.start.partial } in
@@ -137,41 +142,43 @@ read_begins m version options fed before taken v w b h i is none wrote tail (fir
     let at : v.machine ≡ machine_fed s given (missing 0 b.aside) (first ∷ rest) ns Replaying = h.machine ∙ λ j. machine_fed s given (missing 0 b.aside) (e j) ns Replaying in
     by_input (input_read_from first) refl (subst (BeginsOrFails s given (missing 0 b.aside) rest ns (input_read_from first)) (sym (ap input_step at) ∙ is) (input_begins s given (missing 0 b.aside) first rest ns (ap identity_of (sym b.of_start))))
   where
-    by_input : (o : Option InputCommand) → input_read_from first ≡ o → BeginsOrFails (setup_for version options b.start) (record { entries = b.state; coverage = coverage_of b.start.partial }) (missing 0 b.aside) rest (notifications_among b.others) o (Done i w.machine) → Runs m version options fed (answer.Input i ∷ []) before taken w
+    by_input : (o : Option InputCommand) → input_read_from first ≡ o → BeginsOrFails (setup_for version options b.start) (record { entries = b.state; coverage = coverage_of b.start.partial }) (missing 0 b.aside) rest (notifications_among b.others) o (Done i w.machine) → Begins m version options fed (answer.Input i ∷ []) before taken w
     by_input None reads g = absurd g
     by_input (Some c) reads g =
         let s = setup_for version options b.start in
-        let agrees = subst (λ l. Agrees s (record { entries = b.state; coverage = coverage_of b.start.partial }) [] w.machine (start s c (notifications_among l) rest)) h.split g.1.0 in
-        record {
-          journal = record {
-            first_frame = b.first_frame;
-            entries = h.entries;
-            others = h.others;
-            frames = b.frames ∙ ap (λ l. b.first_frame ∷ l) h.split;
-            start = b.start;
-            reads_start = b.reads_start;
-            count = h.count;
-            state = b.state;
-            reads_state = b.reads_state;
-            first = first;
-            rest = rest;
-            commands = e;
-            input = c;
-            reads_input = reads;
-          };
-          written = [];
-          wrote = wrote_quiet taken v.machine w.machine [] (quiet_same v.machine w.machine (g.1.1 ∙ sym (ap (λ (z : Machine). z.output) h.machine))) wrote;
-          at = start s c (notifications_among (h.entries ++ h.others)) rest;
-          moves = 0;
-          run = (refl, refl);
-          answers = ap (λ x. answer.Input x ∷ []) (sym g.0);
-          awaits = subst (StillAwaits m (start s c (notifications_among (h.entries ++ h.others)) rest)) (sym none) tt;
-          agrees = λ _. agrees;
-          phase = λ _. inl (agrees_running s (record { entries = b.state; coverage = coverage_of b.start.partial }) [] w.machine (start s c (notifications_among (h.entries ++ h.others)) rest) agrees);
-          tail = λ _. tail;
-        }
+        let agrees = subst (λ l. Agrees s (record { entries = b.state; coverage = coverage_of b.start.partial }) [] w.machine (start s c (notifications_among l) rest)) h.split g.1.0 in (
+          record {
+            journal = record {
+              first_frame = b.first_frame;
+              entries = h.entries;
+              others = h.others;
+              frames = b.frames ∙ ap (λ l. b.first_frame ∷ l) h.split;
+              start = b.start;
+              reads_start = b.reads_start;
+              count = h.count;
+              state = b.state;
+              reads_state = b.reads_state;
+              first = first;
+              rest = rest;
+              commands = e;
+              input = c;
+              reads_input = reads;
+            };
+            written = [];
+            wrote = wrote_quiet taken v.machine w.machine [] (quiet_same v.machine w.machine (g.1.1 ∙ sym (ap (λ (z : Machine). z.output) h.machine))) wrote;
+            at = start s c (notifications_among (h.entries ++ h.others)) rest;
+            moves = 0;
+            run = (refl, refl);
+            answers = ap (λ x. answer.Input x ∷ []) (sym g.0);
+            awaits = subst (StillAwaits m (start s c (notifications_among (h.entries ++ h.others)) rest)) (sym none) tt;
+            agrees = λ _. agrees;
+            phase = λ _. inl (agrees_running s (record { entries = b.state; coverage = coverage_of b.start.partial }) [] w.machine (start s c (notifications_among (h.entries ++ h.others)) rest) agrees);
+            tail = λ _. tail;
+          },
+          refl,
+        )
 
-reads_done : (m : Meaning) (version : Version) (options : VMOptions) (fed : List Fed) (before : Option UnresolvedFuture) (taken : List (List ℕ)) (v w : View) (i : Input) → Comes version options fed v.machine → input_step v.machine ≡ Done i w.machine → before ≡ None → Wrote taken v.machine.output [] → (frames_of (bytes_fed fed)).1 ≡ Rest w.undecoded → Runs m version options fed (answer.Input i ∷ []) before taken w
+reads_done : (m : Meaning) (version : Version) (options : VMOptions) (fed : List Fed) (before : Option UnresolvedFuture) (taken : List (List ℕ)) (v w : View) (i : Input) → Comes version options fed v.machine → input_step v.machine ≡ Done i w.machine → before ≡ None → Wrote taken v.machine.output [] → (frames_of (bytes_fed fed)).1 ≡ Rest w.undecoded → Begins m version options fed (answer.Input i ∷ []) before taken w
 reads_done m version options fed before taken v w i comes is none wrote tail =
     ⊎_elim
     (λ (x : (frames_fed fed ≡ []) × ((alloc : Global) × (v.machine ≡ fresh alloc version options))). waits_reads v.machine i w.machine (ap (λ (z : Machine). is_running z.phase) x.1.1) is)
@@ -181,18 +188,6 @@ reads_done m version options fed before taken v w i comes is none wrote tail =
     (λ (x : HasAll (setup_for version options b.start) (record { entries = b.state; coverage = coverage_of b.start.partial }) b.aside b.start.known_entries [] [] b.others v.machine). read_begins m version options fed before taken v w b x i is none wrote tail (commands_among x.entries) refl)
     b.waits)
     comes
-
-reads_keep : (m : Meaning) (version : Version) (options : VMOptions) (old : Record) (result : Result Progress Error) (new : Record) → BeforeInput version options old.fed old.answers old.waiting old.taken old.vm → old.vm.machine.failure ≡ None → Reads old result new → IsKept m version options new
-reads_keep m version options old (Ok progress) new b live (stepped, (i, w, does, is)) =
-    subst (IsKept m version options) (sym is) (inr (reads_done m version options old.fed old.waiting old.taken old.vm w i (b.comes live) (done_of old.vm.machine (input_step old.vm.machine) i w.machine live does.0) b.waits_not b.wrote (b.tail live ∙ ap Rest (sym does.1))))
-reads_keep m version options old (Err e) new b live (w, does, is) =
-    subst (IsKept m version options) (sym is)
-    (⊎_elim
-    (λ (x : called (input_step old.vm.machine) old.vm.machine ≡ Failed e w.machine).
-    let q = failed_quiet old.vm.machine (input_step old.vm.machine) e w.machine (input_silent old.vm.machine) x in
-    dead_same m version options old w (inl b) q.0 q.1)
-    (λ (x : IsStarved old.vm.machine e w.machine). dead_same m version options old w (inl b) (quiet_same old.vm.machine w.machine x.output) (rw x.failure refl))
-    does.0)
 
 -- ---- a step
 
@@ -205,42 +200,66 @@ runs_answered m version options fed answers before taken v k none =
     let z : [] ≡ answer.Input (told_input s.identity k.journal.input) ∷ a.0 = sym none ∙ sym k.answers ∙ a.1 in
     cc
 
-advances_keep : (m : Meaning) (version : Version) (options : VMOptions) (old : Record) (result : Result Progress Error) (new : Record) → IsKept m version options old → IsLive old.vm.machine → Advances m old result new → IsKept m version options new
-advances_keep m version options old result new k live =
-    ⊎_elim
-    (λ (x : LacksMemory old result new). subst (IsKept m version options) (sym x.1) k)
-    (λ (o : ((old.answers ≡ []) × Reads old result new) ⊎ ((old.answers ≢ []) × Asks m old result new)).
-    ⊎_elim
-    (λ (x : (old.answers ≡ []) × Reads old result new).
-    ⊎_elim
-    (λ (b : BeforeInput version options old.fed old.answers old.waiting old.taken old.vm). reads_keep m version options old result new b live.failure x.1)
-    (λ (b : Runs m version options old.fed old.answers old.waiting old.taken old.vm). absurd (runs_answered m version options old.fed old.answers old.waiting old.taken old.vm b x.0))
-    k)
-    (λ (x : (old.answers ≢ []) × Asks m old result new).
-    ⊎_elim
-    (λ (b : BeforeInput version options old.fed old.answers old.waiting old.taken old.vm). absurd (x.0 b.answers))
-    (λ (b : Runs m version options old.fed old.answers old.waiting old.taken old.vm). asks_keep m version options old result new b live x.1)
-    k)
-    o)
+-- What is told of a handler that runs is kept by each step, where reading the input gives it, and each call keeps it.
+module _ (R : Reading) (l : Lasts R) (m : Meaning) (version : Version) (options : VMOptions)
+    (reads : (fed : List Fed) (answers : List Answer) (waiting : Option UnresolvedFuture) (taken : List (List ℕ)) (v : View) → Begins m version options fed answers waiting taken v → R fed answers waiting taken v)
+    (answered : (fed : List Fed) (answers : List Answer) (waiting : Option UnresolvedFuture) (taken : List (List ℕ)) (v : View) → R fed answers waiting taken v → answers ≢ [])
+    (asks : (old : Record) (result : Result Progress Error) (new : Record) → R old.fed old.answers old.waiting old.taken old.vm → IsLive old.vm.machine → Asks m old result new → KeptBy R version options new) where
+  abbrev Kept : Record → Type 0
+  Kept = KeptBy R version options
 
-step_at : (m : Meaning) (version : Version) (options : VMOptions) (old : Record) (result : Result Progress Error) (new : Record) → IsKept m version options old → old.vm.machine.failure ≡ None → (ph : Phase) → old.vm.machine.phase ≡ ph → StepAt ph m old result new → IsKept m version options new
-step_at m version options old result new k live WaitingStart at d = subst (IsKept m version options) (sym d.1) k
-step_at m version options old result new k live WaitingReplayEntries at d = subst (IsKept m version options) (sym d.1) k
-step_at m version options old result new k live Closed at d = subst (IsKept m version options) (sym d.1) k
-step_at m version options old result new k live Replaying at d = advances_keep m version options old result new k (record { failure = live; phase = ap is_running at }) d
-step_at m version options old result new k live Processing at d = advances_keep m version options old result new k (record { failure = live; phase = ap is_running at }) d
+  reads_keep : (old : Record) (result : Result Progress Error) (new : Record) → BeforeInput version options old.fed old.answers old.waiting old.taken old.vm → old.vm.machine.failure ≡ None → Reads old result new → Kept new
+  reads_keep old (Ok progress) new b live (stepped, (i, w, does, is)) =
+      subst Kept (sym is) (inr (reads old.fed (answer.Input i ∷ []) old.waiting old.taken w (reads_done m version options old.fed old.waiting old.taken old.vm w i (b.comes live) (done_of old.vm.machine (input_step old.vm.machine) i w.machine live does.0) b.waits_not b.wrote (b.tail live ∙ ap Rest (sym does.1)))))
+  reads_keep old (Err e) new b live (w, does, is) =
+      subst Kept (sym is)
+      (⊎_elim
+      (λ (x : called (input_step old.vm.machine) old.vm.machine ≡ Failed e w.machine).
+      let q = failed_quiet old.vm.machine (input_step old.vm.machine) e w.machine (input_silent old.vm.machine) x in
+      dead_same R l version options old w (inl b) q.0 q.1)
+      (λ (x : IsStarved old.vm.machine e w.machine). dead_same R l version options old w (inl b) (quiet_same old.vm.machine w.machine x.output) (rw x.failure refl))
+      does.0)
 
-step_unless : (m : Meaning) (version : Version) (options : VMOptions) (old : Record) (result : Result Progress Error) (new : Record) → IsKept m version options old → (f : Option Error) → old.vm.machine.failure ≡ f → (over : Option Progress) → StepUnless f over m old result new → IsKept m version options new
-step_unless m version options old result new k (Some e) is over d = subst (IsKept m version options) (sym d.1) k
-step_unless m version options old result new k None is (Some made) d = subst (IsKept m version options) (sym d.1) k
-step_unless m version options old result new k None is None d = step_at m version options old result new k is old.vm.machine.phase refl d
+  advances_keep : (old : Record) (result : Result Progress Error) (new : Record) → Kept old → IsLive old.vm.machine → Advances m old result new → Kept new
+  advances_keep old result new k live =
+      ⊎_elim
+      (λ (x : LacksMemory old result new). subst Kept (sym x.1) k)
+      (λ (o : ((old.answers ≡ []) × Reads old result new) ⊎ ((old.answers ≢ []) × Asks m old result new)).
+      ⊎_elim
+      (λ (x : (old.answers ≡ []) × Reads old result new).
+      ⊎_elim
+      (λ (b : BeforeInput version options old.fed old.answers old.waiting old.taken old.vm). reads_keep old result new b live.failure x.1)
+      (λ (b : R old.fed old.answers old.waiting old.taken old.vm). absurd (answered old.fed old.answers old.waiting old.taken old.vm b x.0))
+      k)
+      (λ (x : (old.answers ≢ []) × Asks m old result new).
+      ⊎_elim
+      (λ (b : BeforeInput version options old.fed old.answers old.waiting old.taken old.vm). absurd (x.0 b.answers))
+      (λ (b : R old.fed old.answers old.waiting old.taken old.vm). asks old result new b live x.1)
+      k)
+      o)
 
+  step_at : (old : Record) (result : Result Progress Error) (new : Record) → Kept old → old.vm.machine.failure ≡ None → (ph : Phase) → old.vm.machine.phase ≡ ph → StepAt ph m old result new → Kept new
+  step_at old result new k live WaitingStart at d = subst Kept (sym d.1) k
+  step_at old result new k live WaitingReplayEntries at d = subst Kept (sym d.1) k
+  step_at old result new k live Closed at d = subst Kept (sym d.1) k
+  step_at old result new k live Replaying at d = advances_keep old result new k (record { failure = live; phase = ap is_running at }) d
+  step_at old result new k live Processing at d = advances_keep old result new k (record { failure = live; phase = ap is_running at }) d
+
+  step_unless : (old : Record) (result : Result Progress Error) (new : Record) → Kept old → (f : Option Error) → old.vm.machine.failure ≡ f → (over : Option Progress) → StepUnless f over m old result new → Kept new
+  step_unless old result new k (Some e) is over d = subst Kept (sym d.1) k
+  step_unless old result new k None is (Some made) d = subst Kept (sym d.1) k
+  step_unless old result new k None is None d = step_at old result new k is old.vm.machine.phase refl d
+
+  pub steps_keep : (old : Record) (result : Result Progress Error) (new : Record) → Kept old → StepDoes m old result new → Kept new
+  steps_keep old result new k does = by_test old.starved does
+    where
+      by_test : (b : Bool) → StepFrom b m old result new → Kept new
+      by_test true d = subst Kept (sym d.1) k
+      by_test false d = step_unless old result new k old.vm.machine.failure refl old.over d
+
+-- the run of a handler is kept by each step
 pub step_keeps : (m : Meaning) (version : Version) (options : VMOptions) (old : Record) (result : Result Progress Error) (new : Record) → IsKept m version options old → StepDoes m old result new → IsKept m version options new
-step_keeps m version options old result new k does = by_test old.starved does
-  where
-    by_test : (b : Bool) → StepFrom b m old result new → IsKept m version options new
-    by_test true d = subst (IsKept m version options) (sym d.1) k
-    by_test false d = step_unless m version options old result new k old.vm.machine.failure refl old.over d
+step_keeps m version options = steps_keep (Runs m version options) (runs_last m version options) m version options (λ fed answers waiting taken v k. k.0) (runs_answered m version options) (asks_keep m version options)
 
 -- ---- a step that waits
 
@@ -252,7 +271,7 @@ error_waits : (P : Type 0) (result : Result Progress Error) (e : Error) → resu
 error_waits P result e is = subst (λ z. IfWaits z P) (sym is) tt
 
 -- the handler runs, as it was answered
-runs_of : (m : Meaning) (version : Version) (options : VMOptions) (r : Record) → IsKept m version options r → r.answers ≢ [] → Runs m version options r.fed r.answers r.waiting r.taken r.vm
+pub runs_of : (m : Meaning) (version : Version) (options : VMOptions) (r : Record) → IsKept m version options r → r.answers ≢ [] → Runs m version options r.fed r.answers r.waiting r.taken r.vm
 runs_of m version options r k some =
     ⊎_elim
     (λ (b : BeforeInput version options r.fed r.answers r.waiting r.taken r.vm). absurd (some b.answers))
@@ -314,20 +333,27 @@ step_replays m version options old result new k is does =
 
 -- ---- a new attempt, and what is told
 
-pub made_kept : (m : Meaning) (alloc : Global) (version : Version) (options : VMOptions) → IsKept m version options (fresh_record (made alloc options version))
+-- nothing was answered or written yet
+abbrev pub IsNew : Version → VMOptions → Record → Type 0
+IsNew version options r = BeforeInput version options r.fed r.answers r.waiting r.taken r.vm
+
+pub made_new : (alloc : Global) (version : Version) (options : VMOptions) → IsNew version options (fresh_record (made alloc options version))
 unfolding frames_of
-made_kept m alloc version options = inl (record {
+made_new alloc version options = record {
   answers = refl;
   waits_not = refl;
   wrote = record { messages = []; output = refl; commands = refl };
   comes = λ _. inl (refl, (alloc, refl));
   tail = λ _. refl;
-})
+}
+
+pub made_kept : (m : Meaning) (alloc : Global) (version : Version) (options : VMOptions) → IsKept m version options (fresh_record (made alloc options version))
+made_kept m alloc version options = inl (made_new alloc version options)
 
 -- the attempt that is made
-pub new_kept : {S : Type 0} (m : Meaning) (alloc : Global) (options : VMOptions) (wanted : Result Version Error) (view : S → View) (vm : S) → Makes alloc options wanted view (Ok vm) → IsKept m (view vm).machine.version options (fresh_record (view vm))
-new_kept m alloc options (Ok version) view vm is = subst (λ (x : View). IsKept m x.machine.version options (fresh_record x)) (sym is) (made_kept m alloc version options)
-new_kept m alloc options (Err refusal) view vm is = absurd is
+pub new_is_new : {S : Type 0} (alloc : Global) (options : VMOptions) (wanted : Result Version Error) (view : S → View) (vm : S) → Makes alloc options wanted view (Ok vm) → IsNew (view vm).machine.version options (fresh_record (view vm))
+new_is_new alloc options (Ok version) view vm is = subst (λ (x : View). IsNew x.machine.version options (fresh_record x)) (sym is) (made_new alloc version options)
+new_is_new alloc options (Err refusal) view vm is = absurd is
 
 pub kept_told : (m : Meaning) (version : Version) (options : VMOptions) (r : Record) → IsKept m version options r → (r.answers ≡ []) ⊎ AnswersAreTold m version options r
 kept_told m version options r =

@@ -24,12 +24,12 @@ use Rattle.vm_rounds.specs.declared.progress.Fed.{Fed}
 use Rattle.vm_rounds.specs.declared.progress.Progress.{Progress}
 use Rattle.vm_rounds.specs.Record.{Record}
 use Rattle.vm_rounds.specs.Stepping.{CloseDoes, Closes, FeedDoes, Feeds, Takes, fresh_record, kept, kept_at, with_vm}
-use Rattle.vm_rounds.specs.Told.{BeforeInput, IsKept, Runs, bytes_fed, frames_fed}
+use Rattle.vm_rounds.specs.Told.{BeforeInput, Came, HasCome, Premises, arrivals_of, bytes_fed, frames_fed}
 use Rattle.vm_rounds.specs.Blames.{BadFrame, Blame, BlamedAt, FailsAt, IsBlamed, IsShort, Place}
 use Rattle.vm_rounds.specs.Blames.Blame.{Memory, Frame, NoFrame, ClosedEarly, NoInput, Call}
 use Rattle.vm_rounds.proofs.Blaming.{frames_fit}
 use Rattle.vm_rounds.proofs.Pieces.{fed_frames}
-use Rattle.vm_rounds.proofs.Placing.{bad_frame, kept_stands, place_all}
+use Rattle.vm_rounds.proofs.Placing.{bad_frame, come_stands, place_all}
 
 -- ---- want of memory, and a VM that stays as it is
 
@@ -68,11 +68,11 @@ placed_open Closed k F p = absurd p
 -- ---- a piece
 
 -- what stands behind the last frame
-kept_tail : (m : Meaning) (version : Version) (options : VMOptions) (r : Record) → IsKept m version options r → (live : r.vm.machine.failure ≡ None) → r.vm.machine.phase ≢ Closed → (frames_of (bytes_fed r.fed)).1 ≡ Rest r.vm.undecoded
-kept_tail m version options r k live open_yet =
+come_tail : (version : Version) (options : VMOptions) (r : Record) → HasCome version options r → (live : r.vm.machine.failure ≡ None) → r.vm.machine.phase ≢ Closed → (frames_of (bytes_fed r.fed)).1 ≡ Rest r.vm.undecoded
+come_tail version options r k live open_yet =
     ⊎_elim
     (λ (b : BeforeInput version options r.fed r.answers r.waiting r.taken r.vm). b.tail live)
-    (λ (b : Runs m version options r.fed r.answers r.waiting r.taken r.vm). b.tail (record { failure = live; phase = ⊎_elim (λ x. x) (λ (x : r.vm.machine.phase ≡ Closed). absurd (open_yet x)) (b.phase live) }))
+    (λ (b : Came version options r.fed r.answers r.taken r.vm). b.tail (record { failure = live; phase = ⊎_elim (λ x. x) (λ (x : r.vm.machine.phase ≡ Closed). absurd (open_yet x)) (b.phase live) }))
     k
 
 spoils : (v : Machine) → v.failure ≡ None → (spoiled v).failure ≡ Some (ruled v (named_error fault.BadMessage None))
@@ -83,10 +83,10 @@ spoils_not : (v : Machine) (e : Error) → v.failure ≡ Some e → spoiled v �
 unfolding spoiled called
 spoils_not v e is = ap (λ f. left_by (called_at f (malformed_step v) v)) is
 
-piece_blamed : (m : Meaning) (version : Version) (options : VMOptions) (r : Record) (f : Fed) → IsKept m version options r → r.vm.machine.failure ≡ None → r.vm.machine.phase ≢ Closed → BlamedAt m version options r.over (r.fed ++ f ∷ []) r.closed r.answers (after_input r.vm f.piece).machine
+piece_blamed : (m : Meaning) (version : Version) (options : VMOptions) (r : Record) (f : Fed) → HasCome version options r → r.vm.machine.failure ≡ None → r.vm.machine.phase ≢ Closed → BlamedAt m version options r.over (r.fed ++ f ∷ []) r.closed r.answers (after_input r.vm f.piece).machine
 piece_blamed m version options r f k live open_yet =
-    let stands = kept_stands m version options r k live open_yet in
-    let frames = fed_frames r.fed f r.vm (kept_tail m version options r k live open_yet) in
+    let stands = come_stands version options r k live open_yet in
+    let frames = fed_frames r.fed f r.vm (come_tail version options r k live open_yet) in
     let came = frames_of (r.vm.undecoded ++ f.piece) in
     subst B (sym (ap (λ (o : Option Error). (if is_some o then r.vm else consumed came r.vm.machine).machine) live))
     (⊎_elim
@@ -116,7 +116,7 @@ piece_blamed m version options r f k live open_yet =
     bad (Rest bytes) w x p made frames = failed_frame w x p made frames
     bad Garbage w x p made frames = subst B (sym (spoils_not w _ x.failure)) (failed_frame w x p made frames)
 
-pieces_blamed : (m : Meaning) (version : Version) (options : VMOptions) (r : Record) (piece : List ℕ) → IsKept m version options r → IsBlamed m version options r → (over : Option Progress) → r.over ≡ over → (o : Option Error) → r.vm.machine.failure ≡ o → (ph : Phase) → r.vm.machine.phase ≡ ph → IsBlamed m version options (with_vm (after_input r.vm piece) (kept_at o ph piece r))
+pieces_blamed : (m : Meaning) (version : Version) (options : VMOptions) (r : Record) (piece : List ℕ) → HasCome version options r → IsBlamed m version options r → (over : Option Progress) → r.over ≡ over → (o : Option Error) → r.vm.machine.failure ≡ o → (ph : Phase) → r.vm.machine.phase ≡ ph → IsBlamed m version options (with_vm (after_input r.vm piece) (kept_at o ph piece r))
 pieces_blamed m version options r piece k b (Some p) over o is ph at = subst (λ x. BlamedAt m version options x (kept_at o ph piece r).fed (kept_at o ph piece r).closed (kept_at o ph piece r).answers (after_input r.vm piece).machine) (sym over ∙ sym (same_over o ph)) (over_blamed m version options p _ _ _ _)
   where
     same_over : (o : Option Error) (ph : Phase) → (kept_at o ph piece r).over ≡ r.over
@@ -133,7 +133,7 @@ pieces_blamed m version options r piece k b None over None is Replaying at = pie
 pieces_blamed m version options r piece k b None over None is Processing at = piece_blamed m version options r _ k is (b.open_yet over is)
 pieces_blamed m version options r piece k b None over None is Closed at = absurd (b.open_yet over is at)
 
-feeds_blamed : (m : Meaning) (version : Version) (options : VMOptions) (piece : List ℕ) (old : Record) (result : Result Unit AllocError) (new : Record) → IsKept m version options old → IsBlamed m version options old → Feeds piece old result new → IsBlamed m version options new
+feeds_blamed : (m : Meaning) (version : Version) (options : VMOptions) (piece : List ℕ) (old : Record) (result : Result Unit AllocError) (new : Record) → HasCome version options old → IsBlamed m version options old → Feeds piece old result new → IsBlamed m version options new
 feeds_blamed m version options piece old (Ok t) new k b does = subst (IsBlamed m version options) (sym does) (pieces_blamed m version options old piece k b old.over refl old.vm.machine.failure refl old.vm.machine.phase refl)
 feeds_blamed m version options piece old (Err e) new k b does =
     ⊎_elim
@@ -142,7 +142,7 @@ feeds_blamed m version options piece old (Err e) new k b does =
     subst (IsBlamed m version options) (sym x.2) (starved_blamed m version options _ _ _ _ x.1.reached x.0.machine x.1.live x.1.starved))
     does
 
-pub feed_blames : (m : Meaning) (version : Version) (options : VMOptions) (piece : List ℕ) (old : Record) (result : Result Unit AllocError) (new : Record) → IsKept m version options old → IsBlamed m version options old → FeedDoes old.starved piece old result new → IsBlamed m version options new
+pub feed_blames : (m : Meaning) (version : Version) (options : VMOptions) (piece : List ℕ) (old : Record) (result : Result Unit AllocError) (new : Record) → HasCome version options old → IsBlamed m version options old → FeedDoes old.starved piece old result new → IsBlamed m version options new
 feed_blames m version options piece old result new k b does = by_test old.starved does
   where
     by_test : (t : Bool) → FeedDoes t piece old result new → IsBlamed m version options new
@@ -174,18 +174,18 @@ known_missing F k b = inr (record { first = b.first; others = b.others; is = b.i
     fewer : (n known : ℕ) → n + k ≡ known → 0 < k → n < known
     fewer n known e h = omega (arith, e, h)
 
-close_at : (m : Meaning) (version : Version) (options : VMOptions) (r : Record) → IsKept m version options r → IsBlamed m version options r → (over : Option Progress) → r.over ≡ over → (o : Option Error) → r.vm.machine.failure ≡ o → (ph : Phase) → r.vm.machine.phase ≡ ph → BlamedAt m version options r.over r.fed true r.answers (after_closing r.vm).machine
+close_at : (m : Meaning) (version : Version) (options : VMOptions) (r : Record) → HasCome version options r → IsBlamed m version options r → (over : Option Progress) → r.over ≡ over → (o : Option Error) → r.vm.machine.failure ≡ o → (ph : Phase) → r.vm.machine.phase ≡ ph → BlamedAt m version options r.over r.fed true r.answers (after_closing r.vm).machine
 close_at m version options r k b (Some p) over o is ph at = subst (λ x. BlamedAt m version options x r.fed true r.answers (after_closing r.vm).machine) (sym over) (over_blamed m version options p _ _ _ _)
 close_at m version options r k b None over (Some e) is ph at = subst (BlamedAt m version options r.over r.fed true r.answers) (closing_not r.vm e is) (record { open_yet = b.open_yet; blame = λ going d some. closed_blame m version options r.fed r.closed r.answers d (b.blame going d some) })
 close_at m version options r k b None over None is WaitingStart at =
-    let stands = kept_stands m version options r k is (b.open_yet over is) in
+    let stands = come_stands version options r k is (b.open_yet over is) in
     subst (BlamedAt m version options r.over r.fed true r.answers) (closing_at r.vm is WaitingStart at)
     (record {
       open_yet = λ going none. none_some _ (sym none);
       blame = λ going e some. ClosedEarly refl (inl (subst (λ ph. Place ph r.vm.machine.entries_missing (frames_fed r.fed)) at stands.0)) (sym (same_Some _ e some) ∙ λ i. ruled_by (stands.1.0 i) (stands.1.1 i) (named_error fault.InputClosedWhileWaitingEntries None));
     })
 close_at m version options r k b None over None is WaitingReplayEntries at =
-    let stands = kept_stands m version options r k is (b.open_yet over is) in
+    let stands = come_stands version options r k is (b.open_yet over is) in
     subst (BlamedAt m version options r.over r.fed true r.answers) (closing_at r.vm is WaitingReplayEntries at)
     (record {
       open_yet = λ going none. none_some _ (sym none);
@@ -195,11 +195,11 @@ close_at m version options r k b None over None is Replaying at = subst (BlamedA
 close_at m version options r k b None over None is Processing at = subst (BlamedAt m version options r.over r.fed true r.answers) (closing_at r.vm is Processing at) (alive_blamed m version options r.over r.fed true r.answers _ is (b.open_yet over is))
 close_at m version options r k b None over None is Closed at = absurd (b.open_yet over is at)
 
-closes_blamed : (m : Meaning) (version : Version) (options : VMOptions) (old : Record) (result : Result Unit AllocError) (new : Record) → IsKept m version options old → IsBlamed m version options old → Closes old result new → IsBlamed m version options new
+closes_blamed : (m : Meaning) (version : Version) (options : VMOptions) (old : Record) (result : Result Unit AllocError) (new : Record) → HasCome version options old → IsBlamed m version options old → Closes old result new → IsBlamed m version options new
 closes_blamed m version options old (Ok t) new k b does = subst (IsBlamed m version options) (sym does) (close_at m version options old k b old.over refl old.vm.machine.failure refl old.vm.machine.phase refl)
 closes_blamed m version options old (Err e) new k b does = subst (IsBlamed m version options) (sym does.2) (starved_blamed m version options _ _ _ _ does.1.reached does.0.machine does.1.live does.1.starved)
 
-pub close_blames : (m : Meaning) (version : Version) (options : VMOptions) (old : Record) (result : Result Unit AllocError) (new : Record) → IsKept m version options old → IsBlamed m version options old → CloseDoes old.starved old result new → IsBlamed m version options new
+pub close_blames : (m : Meaning) (version : Version) (options : VMOptions) (old : Record) (result : Result Unit AllocError) (new : Record) → HasCome version options old → IsBlamed m version options old → CloseDoes old.starved old result new → IsBlamed m version options new
 close_blames m version options old result new k b does = by_test old.starved does
   where
     by_test : (t : Bool) → CloseDoes t old result new → IsBlamed m version options new

@@ -35,7 +35,7 @@ use Rattle.vm_rounds.specs.declared.progress.Progress.{Progress}
 use Rattle.vm_rounds.specs.declared.progress.Progress.TheVariants as progress
 use Rattle.vm_rounds.specs.declared.progress.Reply.{Reply}
 use Rattle.vm_rounds.specs.declared.progress.Reply.TheVariants as reply
-use Rattle.vm_rounds.specs.Agreement.{Agrees, Answered, Follows, IsRefused, StillAgrees}
+use Rattle.vm_rounds.specs.Agreement.{Follows, IsRefused}
 use Rattle.vm_rounds.specs.Blames.{Blame, BlamedAt, IfError, IsBlamed, LacksInput, RefusedCall, first_input}
 use Rattle.vm_rounds.specs.Blames.Blame.{Memory, NoInput, Call}
 use Rattle.vm_rounds.specs.Journals.{BeginsOrFails, HasAll, StillWaits, commands_among, machine_fed, missing, notifications_among, setup_for}
@@ -44,12 +44,12 @@ use Rattle.vm_rounds.specs.Stepping.{Advances, Asks, LacksMemory, Reads, StepAt,
 use Rattle.vm_rounds.specs.Stepping as stepping
 use Rattle.vm_rounds.specs.Steps.{IfDone, ReadsBack, performed}
 use Rattle.vm_rounds.specs.Steps as steps
-use Rattle.vm_rounds.specs.Told.{BeforeInput, Begun, Comes, IsKept, IsLive, Runs, arrivals, frames_fed, handed_out}
-use Rattle.vm_rounds.proofs.Advanced.{runs_answered}
+use Rattle.vm_rounds.specs.Told.{BeforeInput, Begun, Came, Comes, HasCome, IsKeptUnder, IsLive, Premises, Runs, arrivals_of, begun, frames_fed, handed_out}
+use Rattle.vm_rounds.proofs.Advanced.{runs_of}
 use Rattle.vm_rounds.proofs.Beginning.{input_begins}
 use Rattle.vm_rounds.proofs.Blamed.{alive_blamed, over_blamed}
 use Rattle.vm_rounds.proofs.Following.{agreeing_follows}
-use Rattle.vm_rounds.proofs.Pieces.{agrees_running}
+use Rattle.vm_rounds.proofs.Sending.{IsLeft, step_leaves}
 use Rattle.vm_rounds.proofs.Stepped.{asks_next}
 
 none_some : {A : Type 0} (e : Error) → None ≡ Some e → A
@@ -183,17 +183,7 @@ reads_blamed m version options old (Err e) new b live (w, does, is) =
 -- ---- the handler's call
 
 module _ (m : Meaning) (version : Version) (options : VMOptions) (r : Record) (k : Runs m version options r.fed r.answers r.waiting r.taken r.vm) (live : IsLive r.vm.machine) (w : View) where
-  abbrev s : Setup
-  s = setup_for version options k.journal.start
-
-  abbrev Following : Outcome Reply → Type 0
-  Following = Follows s m (handed_out k.journal) k.written k.at r.vm.machine
-
-  -- a machine that agrees is alive, and open
-  agreeing_blamed : (over : Option Progress) (answers : List Answer) (written : List RawMessage) (q : _) → Agrees s (handed_out k.journal) written w.machine q → BlamedAt m version options over r.fed r.closed answers w.machine
-  agreeing_blamed over answers written q a = alive_blamed m version options over r.fed r.closed answers w.machine (ap (λ (z : Machine). z.failure) a.machine) (λ closed. absurd (let z : false ≡ true = sym (ap is_running closed) ∙ agrees_running s (handed_out k.journal) written w.machine q a in cc))
-
-  refused_call : (e : Error) → IsRefused s m k.at r.vm.machine e w.machine → RefusedCall m version options r.fed r.answers e
+  refused_call : (e : Error) → IsRefused (setup_for version options k.journal.start) m k.at r.vm.machine e w.machine → RefusedCall m version options r.fed r.answers e
   refused_call e g =
       let a = k.agrees live in
       record {
@@ -201,7 +191,7 @@ module _ (m : Meaning) (version : Version) (options : VMOptions) (r : Record) (k
         written = k.written ++ [];
         at = g.at;
         moves = k.moves + g.moves.moves;
-        made = made_add s m k.moves g.moves.moves (start s k.journal.input (arrivals k.journal) k.journal.rest) k.written k.at [] g.at k.run g.moves.run;
+        made = made_add (setup_for version options k.journal.start) m k.moves g.moves.moves (begun version options k.journal) k.written k.at [] g.at k.run g.moves.run;
         answers = g.moves.answers ∙ append-nil k.at.answers ∙ k.answers;
         why = g.why;
         reason = g.reason;
@@ -209,42 +199,41 @@ module _ (m : Meaning) (version : Version) (options : VMOptions) (r : Record) (k
         error = g.error ∙ ap (λ (z : Machine). ruled z (named_error g.why g.related)) a.machine;
       }
 
-  done_here : (P : Type 0) (o : Outcome Reply) (a : Reply) → (IfDone o P → Following o) → o ≡ Done a w.machine → P → Following (Done a w.machine)
-  done_here P o a follows is h = subst Following is (follows (subst (λ q. IfDone q P) (sym is) h))
+  -- the handler's call was refused
+  call_refused : (e : Error) → performed (asked m r) r.vm.machine ≡ Failed e w.machine → RefusedCall m version options r.fed r.answers e
+  call_refused e is =
+      let st = m k.at.answers in
+      let same : asked m r ≡ st = asks_next m k.at r.answers r.waiting k.answers k.awaits in
+      let s = setup_for version options k.journal.start in
+      let at : performed st r.vm.machine ≡ Failed e w.machine = ap (λ q. performed q r.vm.machine) (sym same) ∙ is in
+      let readable = ReadsBack st r.vm.machine in
+      refused_call e
+      (subst (Follows s m (handed_out k.journal) k.written k.at r.vm.machine) at
+      (agreeing_follows s m (handed_out k.journal) k.written r.vm.machine k.at (k.agrees live) (subst (λ o. IfDone o readable) (sym at) tt)))
 
-  failed_here : (P : Type 0) (o : Outcome Reply) (e : Error) → (IfDone o P → Following o) → o ≡ Failed e w.machine → Following (Failed e w.machine)
-  failed_here P o e follows is = subst Following is (follows (subst (λ q. IfDone q P) (sym is) tt))
+asks_blamed : (m : Meaning) (version : Version) (options : VMOptions) (old : Record) (result : Result Progress Error) (new : Record) → (Premises options (arrivals_of old.fed) → Runs m version options old.fed old.answers old.waiting old.taken old.vm) → IsLive old.vm.machine → Asks m old result new → IsBlamed m version options new
+asks_blamed m version options old result new runs live (x, w, does, is, made) = subst (IsBlamed m version options) (sym is) (by_reply x (step_leaves (asked m old) old.vm.machine live x w.machine does.0.0 does.1) does.0.0)
+  where
+    -- a VM whose handler runs
+    running : (answers : List Answer) → w.machine.failure ≡ old.vm.machine.failure → is_running w.machine.phase ≡ true → BlamedAt m version options old.over old.fed old.closed answers w.machine
+    running answers failure at = alive_blamed m version options old.over old.fed old.closed answers w.machine (failure ∙ live.failure) (λ closed. absurd (let z : false ≡ true = sym (ap is_running closed) ∙ at in cc))
 
-  replied_blamed : (P : Type 0) (future : Option UnresolvedFuture) → (x : Result Reply Error) → (o : Outcome Reply) → (IfDone o P → Following o) → Does o x r.vm.machine w.machine → OnOk x P → IsBlamed m version options (stepping.settled r future x w)
-  replied_blamed P future (Ok (reply.Answer a)) o f does h =
-      let g : Answered s m (handed_out k.journal) k.written k.at r.vm.machine a w.machine = done_here P o (reply.Answer a) f does h in
-      agreeing_blamed r.over (r.answers ++ a ∷ []) (k.written ++ g.made) g.at g.agrees
-  replied_blamed P future (Ok (reply.Waiting input run)) o f does h =
-      let g : StillAgrees s m (handed_out k.journal) k.written k.at r.vm.machine w.machine = done_here P o (reply.Waiting input run) f does h in
-      agreeing_blamed r.over r.answers k.written g.at g.agrees
-  replied_blamed P future (Ok reply.Suspended) o f does h = over_blamed m version options progress.Suspended _ _ _ _
-  replied_blamed P future (Ok reply.Ended) o f does h = over_blamed m version options progress.Ended _ _ _ _
-  replied_blamed P future (Err e) o f does h =
-      ⊎_elim
-      (λ (x : o ≡ Failed e w.machine).
-      let g : IsRefused s m k.at r.vm.machine e w.machine = failed_here P o e f x in
-      error_blamed m version options r.over r.fed r.closed r.answers w.machine e g.failure (Call (refused_call e g)))
-      (λ (x : IsStarved r.vm.machine e w.machine). error_blamed m version options r.over r.fed r.closed r.answers w.machine no_memory (x.failure ∙ ap (λ (f : Option Error). Some (unwrap_or f no_memory)) live.failure) (Memory refl))
-      does
-
-asks_blamed : (m : Meaning) (version : Version) (options : VMOptions) (old : Record) (result : Result Progress Error) (new : Record) (k : Runs m version options old.fed old.answers old.waiting old.taken old.vm) → IsLive old.vm.machine → Asks m old result new → IsBlamed m version options new
-asks_blamed m version options old result new k live (x, w, does, is, made) =
-    let st = m k.at.answers in
-    let same : asked m old ≡ st = asks_next m k.at old.answers old.waiting k.answers k.awaits in
-    let did : steps.Made st x old.vm w = subst (λ q. steps.Made q x old.vm w) same does in
-    subst (IsBlamed m version options) (sym is)
-    (replied_blamed m version options old k live w (ReadsBack st old.vm.machine) (future_in (asked m old)) x (performed st old.vm.machine)
-    (agreeing_follows (setup_for version options k.journal.start) m (handed_out k.journal) k.written old.vm.machine k.at (k.agrees live)) did.0.0 did.1)
+    by_reply : (x : Result Reply Error) → IsLeft old.vm.machine x w.machine → Does (performed (asked m old) old.vm.machine) x old.vm.machine w.machine → IsBlamed m version options (stepping.settled old (future_in (asked m old)) x w)
+    by_reply (Ok (reply.Answer a)) h d = running (old.answers ++ a ∷ []) h.failure h.left
+    by_reply (Ok (reply.Waiting input run)) h d = running old.answers h.failure h.left
+    by_reply (Ok reply.Suspended) h d = over_blamed m version options progress.Suspended _ _ _ _
+    by_reply (Ok reply.Ended) h d = over_blamed m version options progress.Ended _ _ _ _
+    by_reply (Err e) h d =
+        error_blamed m version options old.over old.fed old.closed old.answers w.machine e h.1
+        (⊎_elim
+        (λ (y : performed (asked m old) old.vm.machine ≡ Failed e w.machine). Call (λ p. call_refused m version options old (runs p) live w e y))
+        (λ (y : IsStarved old.vm.machine e w.machine). Memory y.error)
+        d)
 
 -- ---- a step
 
-advances_blamed : (m : Meaning) (version : Version) (options : VMOptions) (old : Record) (result : Result Progress Error) (new : Record) → IsKept m version options old → IsBlamed m version options old → IsLive old.vm.machine → Advances m old result new → IsBlamed m version options new
-advances_blamed m version options old result new k b live =
+advances_blamed : (m : Meaning) (version : Version) (options : VMOptions) (old : Record) (result : Result Progress Error) (new : Record) → HasCome version options old → IsKeptUnder m version options old → IsBlamed m version options old → IsLive old.vm.machine → Advances m old result new → IsBlamed m version options new
+advances_blamed m version options old result new k u b live =
     ⊎_elim
     (λ (x : LacksMemory old result new). subst (IsBlamed m version options) (sym x.1) b)
     (λ (o : ((old.answers ≡ []) × Reads old result new) ⊎ ((old.answers ≢ []) × Asks m old result new)).
@@ -252,33 +241,29 @@ advances_blamed m version options old result new k b live =
     (λ (x : (old.answers ≡ []) × Reads old result new).
     ⊎_elim
     (λ (y : BeforeInput version options old.fed old.answers old.waiting old.taken old.vm). reads_blamed m version options old result new y live x.1)
-    (λ (y : Runs m version options old.fed old.answers old.waiting old.taken old.vm). absurd (runs_answered m version options old.fed old.answers old.waiting old.taken old.vm y x.0))
+    (λ (y : Came version options old.fed old.answers old.taken old.vm). absurd (y.answered x.0))
     k)
-    (λ (x : (old.answers ≢ []) × Asks m old result new).
-    ⊎_elim
-    (λ (y : BeforeInput version options old.fed old.answers old.waiting old.taken old.vm). absurd (x.0 y.answers))
-    (λ (y : Runs m version options old.fed old.answers old.waiting old.taken old.vm). asks_blamed m version options old result new y live x.1)
-    k)
+    (λ (x : (old.answers ≢ []) × Asks m old result new). asks_blamed m version options old result new (λ p. runs_of m version options old (u p) x.0) live x.1)
     o)
 
-step_at : (m : Meaning) (version : Version) (options : VMOptions) (old : Record) (result : Result Progress Error) (new : Record) → IsKept m version options old → IsBlamed m version options old → old.vm.machine.failure ≡ None → (ph : Phase) → old.vm.machine.phase ≡ ph → StepAt ph m old result new → IsBlamed m version options new
-step_at m version options old result new k b live WaitingStart at d = subst (IsBlamed m version options) (sym d.1) b
-step_at m version options old result new k b live WaitingReplayEntries at d = subst (IsBlamed m version options) (sym d.1) b
-step_at m version options old result new k b live Closed at d = subst (IsBlamed m version options) (sym d.1) b
-step_at m version options old result new k b live Replaying at d = advances_blamed m version options old result new k b (record { failure = live; phase = ap is_running at }) d
-step_at m version options old result new k b live Processing at d = advances_blamed m version options old result new k b (record { failure = live; phase = ap is_running at }) d
+step_at : (m : Meaning) (version : Version) (options : VMOptions) (old : Record) (result : Result Progress Error) (new : Record) → HasCome version options old → IsKeptUnder m version options old → IsBlamed m version options old → old.vm.machine.failure ≡ None → (ph : Phase) → old.vm.machine.phase ≡ ph → StepAt ph m old result new → IsBlamed m version options new
+step_at m version options old result new k u b live WaitingStart at d = subst (IsBlamed m version options) (sym d.1) b
+step_at m version options old result new k u b live WaitingReplayEntries at d = subst (IsBlamed m version options) (sym d.1) b
+step_at m version options old result new k u b live Closed at d = subst (IsBlamed m version options) (sym d.1) b
+step_at m version options old result new k u b live Replaying at d = advances_blamed m version options old result new k u b (record { failure = live; phase = ap is_running at }) d
+step_at m version options old result new k u b live Processing at d = advances_blamed m version options old result new k u b (record { failure = live; phase = ap is_running at }) d
 
-step_unless : (m : Meaning) (version : Version) (options : VMOptions) (old : Record) (result : Result Progress Error) (new : Record) → IsKept m version options old → IsBlamed m version options old → (f : Option Error) → old.vm.machine.failure ≡ f → (over : Option Progress) → StepUnless f over m old result new → IsBlamed m version options new
-step_unless m version options old result new k b (Some e) is over d = subst (IsBlamed m version options) (sym d.1) b
-step_unless m version options old result new k b None is (Some made) d = subst (IsBlamed m version options) (sym d.1) b
-step_unless m version options old result new k b None is None d = step_at m version options old result new k b is old.vm.machine.phase refl d
+step_unless : (m : Meaning) (version : Version) (options : VMOptions) (old : Record) (result : Result Progress Error) (new : Record) → HasCome version options old → IsKeptUnder m version options old → IsBlamed m version options old → (f : Option Error) → old.vm.machine.failure ≡ f → (over : Option Progress) → StepUnless f over m old result new → IsBlamed m version options new
+step_unless m version options old result new k u b (Some e) is over d = subst (IsBlamed m version options) (sym d.1) b
+step_unless m version options old result new k u b None is (Some made) d = subst (IsBlamed m version options) (sym d.1) b
+step_unless m version options old result new k u b None is None d = step_at m version options old result new k u b is old.vm.machine.phase refl d
 
-pub step_blames : (m : Meaning) (version : Version) (options : VMOptions) (old : Record) (result : Result Progress Error) (new : Record) → IsKept m version options old → IsBlamed m version options old → StepDoes m old result new → IsBlamed m version options new
-step_blames m version options old result new k b does = by_test old.starved does
+pub step_blames : (m : Meaning) (version : Version) (options : VMOptions) (old : Record) (result : Result Progress Error) (new : Record) → HasCome version options old → IsKeptUnder m version options old → IsBlamed m version options old → StepDoes m old result new → IsBlamed m version options new
+step_blames m version options old result new k u b does = by_test old.starved does
   where
     by_test : (t : Bool) → StepFrom t m old result new → IsBlamed m version options new
     by_test true d = subst (IsBlamed m version options) (sym d.1) b
-    by_test false d = step_unless m version options old result new k b old.vm.machine.failure refl old.over d
+    by_test false d = step_unless m version options old result new k u b old.vm.machine.failure refl old.over d
 
 -- ---- the error of a step
 
@@ -300,72 +285,55 @@ reads_errs old (Err e) new live (w, does, is) =
     (λ (x : IsStarved old.vm.machine e w.machine). inl x.error)
     does.0
 
-replied_errs : (m : Meaning) (version : Version) (options : VMOptions) (old : Record) (k : Runs m version options old.fed old.answers old.waiting old.taken old.vm) (live : IsLive old.vm.machine) (w : View) (new : Record)
-    → (P : Type 0) → (future : Option UnresolvedFuture) → (x : Result Reply Error) → new ≡ stepping.settled old future x w → (o : Outcome Reply) → (IfDone o P → Follows (setup_for version options k.journal.start) m (handed_out k.journal) k.written k.at old.vm.machine o) → Does o x old.vm.machine w.machine → Errs old (progress_of x) new
-replied_errs m version options old k live w new P future (Ok (reply.Answer a)) is o f does = tt
-replied_errs m version options old k live w new P future (Ok (reply.Waiting input run)) is o f does = tt
-replied_errs m version options old k live w new P future (Ok reply.Suspended) is o f does = tt
-replied_errs m version options old k live w new P future (Ok reply.Ended) is o f does = tt
-replied_errs m version options old k live w new P future (Err e) is o f does =
-    ⊎_elim
-    (λ (x : o ≡ Failed e w.machine).
-    let g : IsRefused (setup_for version options k.journal.start) m k.at old.vm.machine e w.machine = failed_here m version options old k live w P o e f x in
-    inr (ap (λ (z : Record). z.vm.machine.failure) is ∙ g.failure, ap (λ (z : Record). z.over) is))
-    (λ (x : IsStarved old.vm.machine e w.machine). inl x.error)
-    does
+asks_errs : (m : Meaning) (old : Record) (result : Result Progress Error) (new : Record) → IsLive old.vm.machine → Asks m old result new → Errs old result new
+asks_errs m old result new live (x, w, does, is, made) = subst (λ z. Errs old z new) (sym made) (by_reply x (step_leaves (asked m old) old.vm.machine live x w.machine does.0.0 does.1) is)
+  where
+    by_reply : (x : Result Reply Error) → IsLeft old.vm.machine x w.machine → new ≡ stepping.settled old (future_in (asked m old)) x w → Errs old (progress_of x) new
+    by_reply (Ok (reply.Answer a)) h at = tt
+    by_reply (Ok (reply.Waiting input run)) h at = tt
+    by_reply (Ok reply.Suspended) h at = tt
+    by_reply (Ok reply.Ended) h at = tt
+    by_reply (Err e) h at = inr (ap (λ (z : Record). z.vm.machine.failure) at ∙ h.1, ap (λ (z : Record). z.over) at)
 
-asks_errs : (m : Meaning) (version : Version) (options : VMOptions) (old : Record) (result : Result Progress Error) (new : Record) (k : Runs m version options old.fed old.answers old.waiting old.taken old.vm) → IsLive old.vm.machine → Asks m old result new → Errs old result new
-asks_errs m version options old result new k live (x, w, does, is, made) =
-    let st = m k.at.answers in
-    let same : asked m old ≡ st = asks_next m k.at old.answers old.waiting k.answers k.awaits in
-    let did : steps.Made st x old.vm w = subst (λ q. steps.Made q x old.vm w) same does in
-    subst (λ z. Errs old z new) (sym made)
-    (replied_errs m version options old k live w new (ReadsBack st old.vm.machine) (future_in (asked m old)) x is (performed st old.vm.machine)
-    (agreeing_follows (setup_for version options k.journal.start) m (handed_out k.journal) k.written old.vm.machine k.at (k.agrees live)) did.0.0)
-
-advances_errs : (m : Meaning) (version : Version) (options : VMOptions) (old : Record) (result : Result Progress Error) (new : Record) → IsKept m version options old → IsLive old.vm.machine → Advances m old result new → Errs old result new
-advances_errs m version options old result new k live =
+advances_errs : (m : Meaning) (old : Record) (result : Result Progress Error) (new : Record) → IsLive old.vm.machine → Advances m old result new → Errs old result new
+advances_errs m old result new live =
     ⊎_elim
     (λ (x : LacksMemory old result new). lacks_errs old result new x.0)
     (λ (o : ((old.answers ≡ []) × Reads old result new) ⊎ ((old.answers ≢ []) × Asks m old result new)).
     ⊎_elim
     (λ (x : (old.answers ≡ []) × Reads old result new). reads_errs old result new live.failure x.1)
-    (λ (x : (old.answers ≢ []) × Asks m old result new).
-    ⊎_elim
-    (λ (y : BeforeInput version options old.fed old.answers old.waiting old.taken old.vm). absurd (x.0 y.answers))
-    (λ (y : Runs m version options old.fed old.answers old.waiting old.taken old.vm). asks_errs m version options old result new y live x.1)
-    k)
+    (λ (x : (old.answers ≢ []) × Asks m old result new). asks_errs m old result new live x.1)
     o)
 
-errs_at : (m : Meaning) (version : Version) (options : VMOptions) (old : Record) (result : Result Progress Error) (new : Record) → IsKept m version options old → IsBlamed m version options old → old.over ≡ None → old.vm.machine.failure ≡ None → (ph : Phase) → old.vm.machine.phase ≡ ph → StepAt ph m old result new → Errs old result new
-errs_at m version options old result new k b going live WaitingStart at d = made_errs old progress.NotReady result new d.0
-errs_at m version options old result new k b going live WaitingReplayEntries at d = made_errs old progress.NotReady result new d.0
-errs_at m version options old result new k b going live Closed at d = absurd (b.open_yet going live at)
-errs_at m version options old result new k b going live Replaying at d = advances_errs m version options old result new k (record { failure = live; phase = ap is_running at }) d
-errs_at m version options old result new k b going live Processing at d = advances_errs m version options old result new k (record { failure = live; phase = ap is_running at }) d
+errs_at : (m : Meaning) (version : Version) (options : VMOptions) (old : Record) (result : Result Progress Error) (new : Record) → IsBlamed m version options old → old.over ≡ None → old.vm.machine.failure ≡ None → (ph : Phase) → old.vm.machine.phase ≡ ph → StepAt ph m old result new → Errs old result new
+errs_at m version options old result new b going live WaitingStart at d = made_errs old progress.NotReady result new d.0
+errs_at m version options old result new b going live WaitingReplayEntries at d = made_errs old progress.NotReady result new d.0
+errs_at m version options old result new b going live Closed at d = absurd (b.open_yet going live at)
+errs_at m version options old result new b going live Replaying at d = advances_errs m old result new (record { failure = live; phase = ap is_running at }) d
+errs_at m version options old result new b going live Processing at d = advances_errs m old result new (record { failure = live; phase = ap is_running at }) d
 
-errs_unless : (m : Meaning) (version : Version) (options : VMOptions) (old : Record) (result : Result Progress Error) (new : Record) → IsKept m version options old → IsBlamed m version options old → old.over ≡ None → (f : Option Error) → old.vm.machine.failure ≡ f → (over : Option Progress) → StepUnless f over m old result new → Errs old result new
-errs_unless m version options old result new k b going (Some e) is over d =
+errs_unless : (m : Meaning) (version : Version) (options : VMOptions) (old : Record) (result : Result Progress Error) (new : Record) → IsBlamed m version options old → old.over ≡ None → (f : Option Error) → old.vm.machine.failure ≡ f → (over : Option Progress) → StepUnless f over m old result new → Errs old result new
+errs_unless m version options old result new b going (Some e) is over d =
     ⊎_elim
     (λ (x : result ≡ Err e). subst (λ z. Errs old z new) (sym x) (inr (ap (λ (z : Record). z.vm.machine.failure) d.1 ∙ is, ap (λ (z : Record). z.over) d.1)))
     (λ (x : result ≡ Err no_memory). lacks_errs old result new x)
     d.0
-errs_unless m version options old result new k b going None is (Some made) d = made_errs old made result new d.0
-errs_unless m version options old result new k b going None is None d = errs_at m version options old result new k b going is old.vm.machine.phase refl d
+errs_unless m version options old result new b going None is (Some made) d = made_errs old made result new d.0
+errs_unless m version options old result new b going None is None d = errs_at m version options old result new b going is old.vm.machine.phase refl d
 
-step_errs : (m : Meaning) (version : Version) (options : VMOptions) (old : Record) (result : Result Progress Error) (new : Record) → IsKept m version options old → IsBlamed m version options old → old.over ≡ None → StepDoes m old result new → Errs old result new
-step_errs m version options old result new k b going does = by_test old.starved does
+step_errs : (m : Meaning) (version : Version) (options : VMOptions) (old : Record) (result : Result Progress Error) (new : Record) → IsBlamed m version options old → old.over ≡ None → StepDoes m old result new → Errs old result new
+step_errs m version options old result new b going does = by_test old.starved does
   where
     by_test : (t : Bool) → StepFrom t m old result new → Errs old result new
     by_test true d = lacks_errs old result new d.0
-    by_test false d = errs_unless m version options old result new k b going old.vm.machine.failure refl old.over d
+    by_test false d = errs_unless m version options old result new b going old.vm.machine.failure refl old.over d
 
 -- An error of a step has a reason, unless the attempt was over.
-pub step_blame : (m : Meaning) (version : Version) (options : VMOptions) (old : Record) (result : Result Progress Error) (new : Record) → IsKept m version options old → IsBlamed m version options old → StepDoes m old result new → old.over ≡ None → IfError result (λ e. Blame m version options new.fed new.closed new.answers e)
-step_blame m version options old result new k b does going = by_result result (step_errs m version options old result new k b going does)
+pub step_blame : (m : Meaning) (version : Version) (options : VMOptions) (old : Record) (result : Result Progress Error) (new : Record) → HasCome version options old → IsKeptUnder m version options old → IsBlamed m version options old → StepDoes m old result new → old.over ≡ None → IfError result (λ e. Blame m version options new.fed new.closed new.answers e)
+step_blame m version options old result new k u b does going = by_result result (step_errs m version options old result new b going does)
   where
     after : IsBlamed m version options new
-    after = step_blames m version options old result new k b does
+    after = step_blames m version options old result new k u b does
 
     by_result : (x : Result Progress Error) → Errs old x new → IfError x (λ e. Blame m version options new.fed new.closed new.answers e)
     by_result (Ok made) h = tt

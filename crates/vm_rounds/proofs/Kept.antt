@@ -49,37 +49,6 @@ before_dead version options fed to answers waiting taken v w b q dead = record {
   tail = λ alive. not_failed w.machine dead alive;
 }
 
-runs_dead : (m : Meaning) (version : Version) (options : VMOptions) (fed to : List Fed) (G : List RawMessage) → frames_fed to ≡ frames_fed fed ++ G → (answers : List Answer) (waiting : Option UnresolvedFuture) (taken : List (List ℕ)) (v w : View) → Runs m version options fed answers waiting taken v → Quiet v.machine w.machine → IsSome w.machine.failure → Runs m version options to answers waiting taken w
-runs_dead m version options fed to G frames answers waiting taken v w k q dead = record {
-  journal = journal_to fed to G frames k.journal;
-  written = k.written;
-  wrote = wrote_quiet taken v.machine w.machine k.written q k.wrote;
-  at = later (notifications_among G) k.at;
-  moves = k.moves;
-  run = run_to (setup_for version options k.journal.start) m fed k.journal G k.moves k.written k.at k.run;
-  answers = k.answers;
-  awaits = still_awaits m k.at (notifications_among G) waiting k.awaits;
-  agrees = λ alive. not_failed w.machine dead alive.failure;
-  phase = λ alive. not_failed w.machine dead alive;
-  tail = λ alive. not_failed w.machine dead alive.failure;
-}
-
-pub dead_same : (m : Meaning) (version : Version) (options : VMOptions) (r : Record) (w : View) → IsKept m version options r → Quiet r.vm.machine w.machine → IsSome w.machine.failure → IsKept m version options (with_vm w r)
-dead_same m version options r w k q dead =
-    ⊎_elim
-    (λ (b : BeforeInput version options r.fed r.answers r.waiting r.taken r.vm). inl (before_dead version options r.fed r.fed r.answers r.waiting r.taken r.vm w b q dead))
-    (λ (b : Runs m version options r.fed r.answers r.waiting r.taken r.vm). inr (runs_dead m version options r.fed r.fed [] (sym (append-nil (frames_fed r.fed))) r.answers r.waiting r.taken r.vm w b q dead))
-    k
-
-dead_more : (m : Meaning) (version : Version) (options : VMOptions) (r : Record) (f : Fed) (w : View) → IsKept m version options r → Quiet r.vm.machine w.machine → IsSome w.machine.failure → IsKept m version options (record r { fed = r.fed ++ f ∷ []; vm = w })
-dead_more m version options r f w k q dead =
-    let more = more_frames (frames_of (bytes_fed r.fed)) f.piece in
-    let frames : frames_fed (r.fed ++ f ∷ []) ≡ frames_fed r.fed ++ more.0 = ap (λ l. (frames_of l).0) (bytes_behind r.fed f) ∙ ap (λ p. p.0) (frames_of-append (bytes_fed r.fed) f.piece) ∙ more.1 in
-    ⊎_elim
-    (λ (b : BeforeInput version options r.fed r.answers r.waiting r.taken r.vm). inl (before_dead version options r.fed (r.fed ++ f ∷ []) r.answers r.waiting r.taken r.vm w b q dead))
-    (λ (b : Runs m version options r.fed r.answers r.waiting r.taken r.vm). inr (runs_dead m version options r.fed (r.fed ++ f ∷ []) more.0 frames r.answers r.waiting r.taken r.vm w b q dead))
-    k
-
 -- ---- a VM that is closed
 
 closed_by : (raw : RawMessage) (v : Machine) (a b c : Bool) → (left_by (settled (message_by raw Closed v a b c))).phase ≡ v.phase
@@ -115,7 +84,7 @@ closed_left : (t : Tail) (v : Machine) → v.phase ≡ Closed → (left_over t v
 closed_left (Rest bytes) v closed = closed
 closed_left Garbage v closed = closed_spoiled v closed
 
-closed_input : (v : View) (bytes : List ℕ) → v.machine.phase ≡ Closed → (after_input v bytes).machine.phase ≡ Closed
+pub closed_input : (v : View) (bytes : List ℕ) → v.machine.phase ≡ Closed → (after_input v bytes).machine.phase ≡ Closed
 closed_input v bytes closed = by_test (has_failed v.machine)
   where
     by_test : (b : Bool) → (if b then v else consumed (frames_of (v.undecoded ++ bytes)) v.machine).machine.phase ≡ Closed
@@ -138,76 +107,11 @@ open_before {A} version options fed v c closed =
     b.waits)
     c
 
--- a run whose VM is closed, and stays so
-pub runs_closed : (m : Meaning) (version : Version) (options : VMOptions) (fed : List Fed) (answers : List Answer) (waiting : Option UnresolvedFuture) (taken : List (List ℕ)) (v w : View) → Runs m version options fed answers waiting taken v → Quiet v.machine w.machine → w.machine.phase ≡ Closed → Runs m version options fed answers waiting taken w
-runs_closed m version options fed answers waiting taken v w k q closed = record {
-  journal = k.journal;
-  written = k.written;
-  wrote = wrote_quiet taken v.machine w.machine k.written q k.wrote;
-  at = k.at;
-  moves = k.moves;
-  run = k.run;
-  answers = k.answers;
-  awaits = k.awaits;
-  agrees = λ live. not_live w.machine closed live;
-  phase = λ alive. inr closed;
-  tail = λ live. not_live w.machine closed live;
-}
-
--- ---- a piece
-
--- a piece that is kept
-piece_kept : (m : Meaning) (version : Version) (options : VMOptions) (r : Record) (f : Fed) → IsKept m version options r → r.vm.machine.failure ≡ None → r.vm.machine.phase ≢ Closed → IsKept m version options (record r { fed = r.fed ++ f ∷ []; vm = after_input r.vm f.piece })
-piece_kept m version options r f k live open_yet =
-    ⊎_elim
-    (λ (b : BeforeInput version options r.fed r.answers r.waiting r.taken r.vm). inl (before_fed version options r.fed r.answers r.waiting r.taken r.vm f b live))
-    (λ (b : Runs m version options r.fed r.answers r.waiting r.taken r.vm).
-    inr (running_fed m version options r.fed r.answers r.waiting r.taken r.vm f b (record { failure = live; phase = ⊎_elim (λ (x : is_running r.vm.machine.phase ≡ true). x) (λ (x : r.vm.machine.phase ≡ Closed). absurd (open_yet x)) (b.phase live) })))
-    k
-
--- a piece for a VM that is closed
-piece_closed : (m : Meaning) (version : Version) (options : VMOptions) (r : Record) (piece : List ℕ) → IsKept m version options r → r.vm.machine.failure ≡ None → r.vm.machine.phase ≡ Closed → IsKept m version options (with_vm (after_input r.vm piece) r)
-piece_closed m version options r piece k live closed =
-    ⊎_elim
-    (λ (b : BeforeInput version options r.fed r.answers r.waiting r.taken r.vm). open_before version options r.fed r.vm.machine (b.comes live) closed)
-    (λ (b : Runs m version options r.fed r.answers r.waiting r.taken r.vm). inr (runs_closed m version options r.fed r.answers r.waiting r.taken r.vm (after_input r.vm piece) b (input_quiet r.vm piece) (closed_input r.vm piece closed)))
-    k
+-- ---- a piece that is dropped
 
 -- a piece for a VM that has failed
 piece_dropped : (v : View) (piece : List ℕ) (e : Error) → v.machine.failure ≡ Some e → after_input v piece ≡ v
 piece_dropped v piece e is = ap (λ o. if is_some o then v else consumed (frames_of (v.undecoded ++ piece)) v.machine) is
-
-piece_comes : (m : Meaning) (version : Version) (options : VMOptions) (r : Record) (piece : List ℕ) → IsKept m version options r → (o : Option Error) → r.vm.machine.failure ≡ o → (ph : Phase) → r.vm.machine.phase ≡ ph → IsKept m version options (with_vm (after_input r.vm piece) (kept_at o ph piece r))
-piece_comes m version options r piece k (Some e) is ph at = subst (λ w. IsKept m version options (with_vm w r)) (sym (piece_dropped r.vm piece e is)) k
-piece_comes m version options r piece k None is WaitingStart at = piece_kept m version options r _ k is (λ c. let z : WaitingStart ≡ Closed = sym at ∙ c in cc)
-piece_comes m version options r piece k None is WaitingReplayEntries at = piece_kept m version options r _ k is (λ c. let z : WaitingReplayEntries ≡ Closed = sym at ∙ c in cc)
-piece_comes m version options r piece k None is Replaying at = piece_kept m version options r _ k is (λ c. let z : Replaying ≡ Closed = sym at ∙ c in cc)
-piece_comes m version options r piece k None is Processing at = piece_kept m version options r _ k is (λ c. let z : Processing ≡ Closed = sym at ∙ c in cc)
-piece_comes m version options r piece k None is Closed at = piece_closed m version options r piece k is at
-
-dead_kept : (m : Meaning) (version : Version) (options : VMOptions) (r : Record) (piece : List ℕ) (w : View) → IsKept m version options r → Quiet r.vm.machine w.machine → IsSome w.machine.failure → (o : Option Error) (ph : Phase) → IsKept m version options (with_vm w (kept_at o ph piece r))
-dead_kept m version options r piece w k q dead (Some e) ph = dead_same m version options r w k q dead
-dead_kept m version options r piece w k q dead None WaitingStart = dead_more m version options r _ w k q dead
-dead_kept m version options r piece w k q dead None WaitingReplayEntries = dead_more m version options r _ w k q dead
-dead_kept m version options r piece w k q dead None Replaying = dead_more m version options r _ w k q dead
-dead_kept m version options r piece w k q dead None Processing = dead_more m version options r _ w k q dead
-dead_kept m version options r piece w k q dead None Closed = dead_same m version options r w k q dead
-
-feeds_keep : (m : Meaning) (version : Version) (options : VMOptions) (piece : List ℕ) (old : Record) (result : Result Unit AllocError) (new : Record) → IsKept m version options old → Feeds piece old result new → IsKept m version options new
-feeds_keep m version options piece old (Ok t) new k does = subst (IsKept m version options) (sym does) (piece_comes m version options old piece k old.vm.machine.failure refl old.vm.machine.phase refl)
-feeds_keep m version options piece old (Err e) new k does =
-    ⊎_elim
-    (λ (x : new ≡ record old { starved = true }). subst (IsKept m version options) (sym x) k)
-    (λ (x : (w : View) × StarvesAmong (brought old.vm piece) old.vm.machine w.machine × (new ≡ with_vm w (kept piece old))).
-    subst (IsKept m version options) (sym x.2) (dead_kept m version options old piece x.0 k (quiet_same old.vm.machine x.0.machine (among_output _ old.vm.machine x.0.machine x.1)) (among_failed _ old.vm.machine x.0.machine x.1) old.vm.machine.failure old.vm.machine.phase))
-    does
-
-pub feed_keeps : (m : Meaning) (version : Version) (options : VMOptions) (piece : List ℕ) (old : Record) (result : Result Unit AllocError) (new : Record) → IsKept m version options old → FeedDoes old.starved piece old result new → IsKept m version options new
-feed_keeps m version options piece old result new k does = by_test old.starved does
-  where
-    by_test : (b : Bool) → FeedDoes b piece old result new → IsKept m version options new
-    by_test true d = subst (IsKept m version options) (sym d.1) k
-    by_test false d = feeds_keep m version options piece old result new k d
 
 -- ---- the output is taken
 
@@ -227,7 +131,7 @@ with_aside version options fed v w b aside is waits = record {
   waits = waits;
 }
 
-takes_wrote : (taken output : List (List ℕ)) (written : List RawMessage) → Wrote taken output written → Wrote (taken ++ concat output ∷ []) [] written
+pub takes_wrote : (taken output : List (List ℕ)) (written : List RawMessage) → Wrote taken output written → Wrote (taken ++ concat output ∷ []) [] written
 takes_wrote taken output written w = record {
   messages = w.messages;
   output = append-nil (concat (taken ++ concat output ∷ [])) ∙ concat-append taken (concat output ∷ []) ∙ ap (λ l. concat taken ++ l) (append-nil (concat output)) ∙ w.output;
@@ -254,12 +158,6 @@ comes_closed version options fed v runs =
     (λ (x : HasAll (setup_for version options b.start) (record { entries = b.state; coverage = coverage_of b.start.partial }) b.aside b.start.known_entries [] [] b.others v). inr (record { entries = x.entries; others = x.others; split = x.split; count = x.count; machine = ap (λ (w : Machine). record w { input_closed = true }) x.machine }))
     b.waits)))
 
-agrees_emptied : (s : Setup) (given : StateMap) (written : List RawMessage) (v : Machine) (p : Point) → Agrees s given written v p → Agrees s given written (record v { output = [] }) p
-agrees_emptied s given written v p a = record { aside = record a.aside { output = [] }; machine = ap (λ (w : Machine). record w { output = [] }) a.machine; identity = a.identity }
-
-agrees_closed : (s : Setup) (given : StateMap) (written : List RawMessage) (v : Machine) (p : Point) → Agrees s given written v p → Agrees s given written (record v { input_closed = true }) p
-agrees_closed s given written v p a = record { aside = record a.aside { input_closed = true }; machine = ap (λ (w : Machine). record w { input_closed = true }) a.machine; identity = a.identity }
-
 before_takes : (version : Version) (options : VMOptions) (fed : List Fed) (answers : List Answer) (waiting : Option UnresolvedFuture) (taken : List (List ℕ)) (v : View) → BeforeInput version options fed answers waiting taken v → BeforeInput version options fed answers waiting (taken ++ concat v.machine.output ∷ []) (emptied v)
 before_takes version options fed answers waiting taken v b = record {
   answers = b.answers;
@@ -268,30 +166,6 @@ before_takes version options fed answers waiting taken v b = record {
   comes = λ alive. comes_emptied version options fed v.machine (b.comes alive);
   tail = b.tail;
 }
-
-runs_takes : (m : Meaning) (version : Version) (options : VMOptions) (fed : List Fed) (answers : List Answer) (waiting : Option UnresolvedFuture) (taken : List (List ℕ)) (v : View) → Runs m version options fed answers waiting taken v → Runs m version options fed answers waiting (taken ++ concat v.machine.output ∷ []) (emptied v)
-runs_takes m version options fed answers waiting taken v k = record {
-  journal = k.journal;
-  written = k.written;
-  wrote = takes_wrote taken v.machine.output k.written k.wrote;
-  at = k.at;
-  moves = k.moves;
-  run = k.run;
-  answers = k.answers;
-  awaits = k.awaits;
-  agrees = λ live. agrees_emptied (setup_for version options k.journal.start) (handed_out k.journal) k.written v.machine k.at (k.agrees (record { failure = live.failure; phase = live.phase }));
-  phase = k.phase;
-  tail = λ live. k.tail (record { failure = live.failure; phase = live.phase });
-}
-
-pub take_keeps : (m : Meaning) (version : Version) (options : VMOptions) (old : Record) (result : Result (List ℕ) AllocError) (new : Record) → IsKept m version options old → Takes old result new → IsKept m version options new
-take_keeps m version options old (Ok bytes) new k does =
-    subst (IsKept m version options) (sym does.1)
-    (⊎_elim
-    (λ (b : BeforeInput version options old.fed old.answers old.waiting old.taken old.vm). inl (before_takes version options old.fed old.answers old.waiting old.taken old.vm b))
-    (λ (b : Runs m version options old.fed old.answers old.waiting old.taken old.vm). inr (runs_takes m version options old.fed old.answers old.waiting old.taken old.vm b))
-    k)
-take_keeps m version options old (Err e) new k does = subst (IsKept m version options) (sym does) k
 
 -- ---- the input is closed
 
@@ -304,57 +178,139 @@ before_closes version options fed answers waiting taken v b live runs = record {
   tail = b.tail;
 }
 
-runs_closes : (m : Meaning) (version : Version) (options : VMOptions) (fed : List Fed) (answers : List Answer) (waiting : Option UnresolvedFuture) (taken : List (List ℕ)) (v : View) → Runs m version options fed answers waiting taken v → Runs m version options fed answers waiting taken (record v { machine = record v.machine { input_closed = true } })
-runs_closes m version options fed answers waiting taken v k = record {
-  journal = k.journal;
-  written = k.written;
-  wrote = record { messages = k.wrote.messages; output = k.wrote.output; commands = k.wrote.commands };
-  at = k.at;
-  moves = k.moves;
-  run = k.run;
-  answers = k.answers;
-  awaits = k.awaits;
-  agrees = λ live. agrees_closed (setup_for version options k.journal.start) (handed_out k.journal) k.written v.machine k.at (k.agrees (record { failure = live.failure; phase = live.phase }));
-  phase = k.phase;
-  tail = λ live. k.tail (record { failure = live.failure; phase = live.phase });
-}
-
 closing_dropped : (v : View) (e : Error) → v.machine.failure ≡ Some e → v ≡ after_closing v
 unfolding called
 closing_dropped v e is = λ i. record v { machine = left_by (called_at (sym is i) (close_step v.machine) v.machine) }
-
-closing_runs : (m : Meaning) (version : Version) (options : VMOptions) (r : Record) → IsKept m version options r → r.vm.machine.failure ≡ None → is_running r.vm.machine.phase ≡ true → IsKept m version options (with_vm (record r.vm { machine = record r.vm.machine { input_closed = true } }) r)
-closing_runs m version options r k live runs =
-    ⊎_elim
-    (λ (b : BeforeInput version options r.fed r.answers r.waiting r.taken r.vm). inl (before_closes version options r.fed r.answers r.waiting r.taken r.vm b live runs))
-    (λ (b : Runs m version options r.fed r.answers r.waiting r.taken r.vm). inr (runs_closes m version options r.fed r.answers r.waiting r.taken r.vm b))
-    k
 
 -- closing is noted where the handler runs or the VM is closed, and fails a VM that waits
 closing_notes : (v : View) → v.machine.failure ≡ None → (ph : Phase) → v.machine.phase ≡ ph → (left_by (settled (closed_at ph (record v.machine { input_closed = true })))) ≡ (after_closing v).machine
 unfolding called
 closing_notes v live ph at = λ i. left_by (called_at (sym live i) (closed_at (sym at i) (record v.machine { input_closed = true })) v.machine)
 
-closing_keeps : (m : Meaning) (version : Version) (options : VMOptions) (r : Record) → IsKept m version options r → (o : Option Error) → r.vm.machine.failure ≡ o → (ph : Phase) → r.vm.machine.phase ≡ ph → IsKept m version options (with_vm (after_closing r.vm) r)
-closing_keeps m version options r k (Some e) is ph at = subst (λ w. IsKept m version options (with_vm w r)) (closing_dropped r.vm e is) k
-closing_keeps m version options r k None is WaitingStart at = dead_same m version options r (after_closing r.vm) k (closing_quiet r.vm) (ap (λ w. is_some w.failure) (sym (closing_notes r.vm is WaitingStart at)))
-closing_keeps m version options r k None is WaitingReplayEntries at = dead_same m version options r (after_closing r.vm) k (closing_quiet r.vm) (ap (λ w. is_some w.failure) (sym (closing_notes r.vm is WaitingReplayEntries at)))
-closing_keeps m version options r k None is Replaying at = subst (λ w. IsKept m version options (with_vm (record r.vm { machine = w }) r)) (closing_notes r.vm is Replaying at) (closing_runs m version options r k is (ap is_running at))
-closing_keeps m version options r k None is Processing at = subst (λ w. IsKept m version options (with_vm (record r.vm { machine = w }) r)) (closing_notes r.vm is Processing at) (closing_runs m version options r k is (ap is_running at))
-closing_keeps m version options r k None is Closed at =
-    ⊎_elim
-    (λ (b : BeforeInput version options r.fed r.answers r.waiting r.taken r.vm). open_before version options r.fed r.vm.machine (b.comes is) at)
-    (λ (b : Runs m version options r.fed r.answers r.waiting r.taken r.vm). inr (runs_closed m version options r.fed r.answers r.waiting r.taken r.vm (after_closing r.vm) b (closing_quiet r.vm) (ap (λ w. w.phase) (sym (closing_notes r.vm is Closed at)) ∙ at)))
-    k
+-- ---- what each call keeps
 
-closes_keep : (m : Meaning) (version : Version) (options : VMOptions) (old : Record) (result : Result Unit AllocError) (new : Record) → IsKept m version options old → Closes old result new → IsKept m version options new
-closes_keep m version options old (Ok t) new k does = subst (IsKept m version options) (sym does) (closing_keeps m version options old k old.vm.machine.failure refl old.vm.machine.phase refl)
-closes_keep m version options old (Err e) new k does =
-    subst (IsKept m version options) (sym does.2) (dead_same m version options old does.0 k (quiet_same old.vm.machine does.0.machine (among_output [] old.vm.machine does.0.machine does.1)) (among_failed [] old.vm.machine does.0.machine does.1))
+-- what is told of an attempt once its handler has read the input, by what was fed, answered, awaited and taken, and the VM
+abbrev pub Reading : Type 1
+Reading = List Fed → List Answer → Option UnresolvedFuture → List (List ℕ) → View → Type 0
 
-pub close_keeps : (m : Meaning) (version : Version) (options : VMOptions) (old : Record) (result : Result Unit AllocError) (new : Record) → IsKept m version options old → CloseDoes old.starved old result new → IsKept m version options new
-close_keeps m version options old result new k does = by_test old.starved does
-  where
-    by_test : (b : Bool) → CloseDoes b old result new → IsKept m version options new
-    by_test true d = subst (IsKept m version options) (sym d.1) k
-    by_test false d = closes_keep m version options old result new k d
+-- the handler hasn't read its input, or this holds
+abbrev pub KeptBy : Reading → Version → VMOptions → Record → Type 0
+KeptBy R version options r = BeforeInput version options r.fed r.answers r.waiting r.taken r.vm ⊎ R r.fed r.answers r.waiting r.taken r.vm
+
+-- It lasts: where the VM has failed or is closed, with further input, where the output is taken, and where the input is closed.
+pub record Lasts (R : Reading) : Type 0 where
+  pub dead : (fed to : List Fed) (G : List RawMessage) → frames_fed to ≡ frames_fed fed ++ G → (answers : List Answer) (waiting : Option UnresolvedFuture) (taken : List (List ℕ)) (v w : View) → R fed answers waiting taken v → Quiet v.machine w.machine → IsSome w.machine.failure → R to answers waiting taken w
+  pub closed : (fed : List Fed) (answers : List Answer) (waiting : Option UnresolvedFuture) (taken : List (List ℕ)) (v w : View) → R fed answers waiting taken v → Quiet v.machine w.machine → w.machine.phase ≡ Closed → R fed answers waiting taken w
+  pub more : (fed : List Fed) (answers : List Answer) (waiting : Option UnresolvedFuture) (taken : List (List ℕ)) (v : View) (f : Fed) → R fed answers waiting taken v → IsLive v.machine → R (fed ++ f ∷ []) answers waiting taken (after_input v f.piece)
+  pub takes : (fed : List Fed) (answers : List Answer) (waiting : Option UnresolvedFuture) (taken : List (List ℕ)) (v : View) → R fed answers waiting taken v → R fed answers waiting (taken ++ concat v.machine.output ∷ []) (emptied v)
+  pub closes : (fed : List Fed) (answers : List Answer) (waiting : Option UnresolvedFuture) (taken : List (List ℕ)) (v : View) → R fed answers waiting taken v → R fed answers waiting taken (record v { machine = record v.machine { input_closed = true } })
+  pub phase : (fed : List Fed) (answers : List Answer) (waiting : Option UnresolvedFuture) (taken : List (List ℕ)) (v : View) → R fed answers waiting taken v → v.machine.failure ≡ None → (is_running v.machine.phase ≡ true) ⊎ (v.machine.phase ≡ Closed)
+
+module _ (R : Reading) (l : Lasts R) (version : Version) (options : VMOptions) where
+  abbrev Kept : Record → Type 0
+  Kept = KeptBy R version options
+
+  pub dead_same : (r : Record) (w : View) → Kept r → Quiet r.vm.machine w.machine → IsSome w.machine.failure → Kept (with_vm w r)
+  dead_same r w k q dead =
+      ⊎_elim
+      (λ (b : BeforeInput version options r.fed r.answers r.waiting r.taken r.vm). inl (before_dead version options r.fed r.fed r.answers r.waiting r.taken r.vm w b q dead))
+      (λ (b : R r.fed r.answers r.waiting r.taken r.vm). inr (l.dead r.fed r.fed [] (sym (append-nil (frames_fed r.fed))) r.answers r.waiting r.taken r.vm w b q dead))
+      k
+
+  dead_more : (r : Record) (f : Fed) (w : View) → Kept r → Quiet r.vm.machine w.machine → IsSome w.machine.failure → Kept (record r { fed = r.fed ++ f ∷ []; vm = w })
+  dead_more r f w k q dead =
+      let more = more_frames (frames_of (bytes_fed r.fed)) f.piece in
+      let frames : frames_fed (r.fed ++ f ∷ []) ≡ frames_fed r.fed ++ more.0 = ap (λ l. (frames_of l).0) (bytes_behind r.fed f) ∙ ap (λ p. p.0) (frames_of-append (bytes_fed r.fed) f.piece) ∙ more.1 in
+      ⊎_elim
+      (λ (b : BeforeInput version options r.fed r.answers r.waiting r.taken r.vm). inl (before_dead version options r.fed (r.fed ++ f ∷ []) r.answers r.waiting r.taken r.vm w b q dead))
+      (λ (b : R r.fed r.answers r.waiting r.taken r.vm). inr (l.dead r.fed (r.fed ++ f ∷ []) more.0 frames r.answers r.waiting r.taken r.vm w b q dead))
+      k
+
+  -- a piece that is kept
+  piece_kept : (r : Record) (f : Fed) → Kept r → r.vm.machine.failure ≡ None → r.vm.machine.phase ≢ Closed → Kept (record r { fed = r.fed ++ f ∷ []; vm = after_input r.vm f.piece })
+  piece_kept r f k live open_yet =
+      ⊎_elim
+      (λ (b : BeforeInput version options r.fed r.answers r.waiting r.taken r.vm). inl (before_fed version options r.fed r.answers r.waiting r.taken r.vm f b live))
+      (λ (b : R r.fed r.answers r.waiting r.taken r.vm).
+      inr (l.more r.fed r.answers r.waiting r.taken r.vm f b (record { failure = live; phase = ⊎_elim (λ (x : is_running r.vm.machine.phase ≡ true). x) (λ (x : r.vm.machine.phase ≡ Closed). absurd (open_yet x)) (l.phase r.fed r.answers r.waiting r.taken r.vm b live) })))
+      k
+
+  -- a piece for a VM that is closed
+  piece_closed : (r : Record) (piece : List ℕ) → Kept r → r.vm.machine.failure ≡ None → r.vm.machine.phase ≡ Closed → Kept (with_vm (after_input r.vm piece) r)
+  piece_closed r piece k live closed =
+      ⊎_elim
+      (λ (b : BeforeInput version options r.fed r.answers r.waiting r.taken r.vm). open_before version options r.fed r.vm.machine (b.comes live) closed)
+      (λ (b : R r.fed r.answers r.waiting r.taken r.vm). inr (l.closed r.fed r.answers r.waiting r.taken r.vm (after_input r.vm piece) b (input_quiet r.vm piece) (closed_input r.vm piece closed)))
+      k
+
+  piece_comes : (r : Record) (piece : List ℕ) → Kept r → (o : Option Error) → r.vm.machine.failure ≡ o → (ph : Phase) → r.vm.machine.phase ≡ ph → Kept (with_vm (after_input r.vm piece) (kept_at o ph piece r))
+  piece_comes r piece k (Some e) is ph at = subst (λ w. Kept (with_vm w r)) (sym (piece_dropped r.vm piece e is)) k
+  piece_comes r piece k None is WaitingStart at = piece_kept r _ k is (λ c. let z : WaitingStart ≡ Closed = sym at ∙ c in cc)
+  piece_comes r piece k None is WaitingReplayEntries at = piece_kept r _ k is (λ c. let z : WaitingReplayEntries ≡ Closed = sym at ∙ c in cc)
+  piece_comes r piece k None is Replaying at = piece_kept r _ k is (λ c. let z : Replaying ≡ Closed = sym at ∙ c in cc)
+  piece_comes r piece k None is Processing at = piece_kept r _ k is (λ c. let z : Processing ≡ Closed = sym at ∙ c in cc)
+  piece_comes r piece k None is Closed at = piece_closed r piece k is at
+
+  dead_kept : (r : Record) (piece : List ℕ) (w : View) → Kept r → Quiet r.vm.machine w.machine → IsSome w.machine.failure → (o : Option Error) (ph : Phase) → Kept (with_vm w (kept_at o ph piece r))
+  dead_kept r piece w k q dead (Some e) ph = dead_same r w k q dead
+  dead_kept r piece w k q dead None WaitingStart = dead_more r _ w k q dead
+  dead_kept r piece w k q dead None WaitingReplayEntries = dead_more r _ w k q dead
+  dead_kept r piece w k q dead None Replaying = dead_more r _ w k q dead
+  dead_kept r piece w k q dead None Processing = dead_more r _ w k q dead
+  dead_kept r piece w k q dead None Closed = dead_same r w k q dead
+
+  feeds_keep : (piece : List ℕ) (old : Record) (result : Result Unit AllocError) (new : Record) → Kept old → Feeds piece old result new → Kept new
+  feeds_keep piece old (Ok t) new k does = subst Kept (sym does) (piece_comes old piece k old.vm.machine.failure refl old.vm.machine.phase refl)
+  feeds_keep piece old (Err e) new k does =
+      ⊎_elim
+      (λ (x : new ≡ record old { starved = true }). subst Kept (sym x) k)
+      (λ (x : (w : View) × StarvesAmong (brought old.vm piece) old.vm.machine w.machine × (new ≡ with_vm w (kept piece old))).
+      subst Kept (sym x.2) (dead_kept old piece x.0 k (quiet_same old.vm.machine x.0.machine (among_output _ old.vm.machine x.0.machine x.1)) (among_failed _ old.vm.machine x.0.machine x.1) old.vm.machine.failure old.vm.machine.phase))
+      does
+
+  pub feed_keeps : (piece : List ℕ) (old : Record) (result : Result Unit AllocError) (new : Record) → Kept old → FeedDoes old.starved piece old result new → Kept new
+  feed_keeps piece old result new k does = by_test old.starved does
+    where
+      by_test : (b : Bool) → FeedDoes b piece old result new → Kept new
+      by_test true d = subst Kept (sym d.1) k
+      by_test false d = feeds_keep piece old result new k d
+
+  pub take_keeps : (old : Record) (result : Result (List ℕ) AllocError) (new : Record) → Kept old → Takes old result new → Kept new
+  take_keeps old (Ok bytes) new k does =
+      subst Kept (sym does.1)
+      (⊎_elim
+      (λ (b : BeforeInput version options old.fed old.answers old.waiting old.taken old.vm). inl (before_takes version options old.fed old.answers old.waiting old.taken old.vm b))
+      (λ (b : R old.fed old.answers old.waiting old.taken old.vm). inr (l.takes old.fed old.answers old.waiting old.taken old.vm b))
+      k)
+  take_keeps old (Err e) new k does = subst Kept (sym does) k
+
+  closing_runs : (r : Record) → Kept r → r.vm.machine.failure ≡ None → is_running r.vm.machine.phase ≡ true → Kept (with_vm (record r.vm { machine = record r.vm.machine { input_closed = true } }) r)
+  closing_runs r k live runs =
+      ⊎_elim
+      (λ (b : BeforeInput version options r.fed r.answers r.waiting r.taken r.vm). inl (before_closes version options r.fed r.answers r.waiting r.taken r.vm b live runs))
+      (λ (b : R r.fed r.answers r.waiting r.taken r.vm). inr (l.closes r.fed r.answers r.waiting r.taken r.vm b))
+      k
+
+  closing_keeps : (r : Record) → Kept r → (o : Option Error) → r.vm.machine.failure ≡ o → (ph : Phase) → r.vm.machine.phase ≡ ph → Kept (with_vm (after_closing r.vm) r)
+  closing_keeps r k (Some e) is ph at = subst (λ w. Kept (with_vm w r)) (closing_dropped r.vm e is) k
+  closing_keeps r k None is WaitingStart at = dead_same r (after_closing r.vm) k (closing_quiet r.vm) (ap (λ w. is_some w.failure) (sym (closing_notes r.vm is WaitingStart at)))
+  closing_keeps r k None is WaitingReplayEntries at = dead_same r (after_closing r.vm) k (closing_quiet r.vm) (ap (λ w. is_some w.failure) (sym (closing_notes r.vm is WaitingReplayEntries at)))
+  closing_keeps r k None is Replaying at = subst (λ w. Kept (with_vm (record r.vm { machine = w }) r)) (closing_notes r.vm is Replaying at) (closing_runs r k is (ap is_running at))
+  closing_keeps r k None is Processing at = subst (λ w. Kept (with_vm (record r.vm { machine = w }) r)) (closing_notes r.vm is Processing at) (closing_runs r k is (ap is_running at))
+  closing_keeps r k None is Closed at =
+      ⊎_elim
+      (λ (b : BeforeInput version options r.fed r.answers r.waiting r.taken r.vm). open_before version options r.fed r.vm.machine (b.comes is) at)
+      (λ (b : R r.fed r.answers r.waiting r.taken r.vm). inr (l.closed r.fed r.answers r.waiting r.taken r.vm (after_closing r.vm) b (closing_quiet r.vm) (ap (λ w. w.phase) (sym (closing_notes r.vm is Closed at)) ∙ at)))
+      k
+
+  closes_keep : (old : Record) (result : Result Unit AllocError) (new : Record) → Kept old → Closes old result new → Kept new
+  closes_keep old (Ok t) new k does = subst Kept (sym does) (closing_keeps old k old.vm.machine.failure refl old.vm.machine.phase refl)
+  closes_keep old (Err e) new k does =
+      subst Kept (sym does.2) (dead_same old does.0 k (quiet_same old.vm.machine does.0.machine (among_output [] old.vm.machine does.0.machine does.1)) (among_failed [] old.vm.machine does.0.machine does.1))
+
+  pub close_keeps : (old : Record) (result : Result Unit AllocError) (new : Record) → Kept old → CloseDoes old.starved old result new → Kept new
+  close_keeps old result new k does = by_test old.starved does
+    where
+      by_test : (b : Bool) → CloseDoes b old result new → Kept new
+      by_test true d = subst Kept (sym d.1) k
+      by_test false d = closes_keep old result new k d

@@ -10,10 +10,14 @@ pub mod Arriving
 pub mod Beginning
 pub mod Entries
 pub mod Quiet
+pub mod Sending
 pub mod Pieces
 pub mod Kept
+pub mod Lasting
 pub mod Stepped
 pub mod Advanced
+pub mod Coming
+pub mod Under
 pub mod Replayed
 pub mod Blaming
 pub mod Placing

@@ -114,10 +114,10 @@ pub not_failed : {A : Type 0} (m : Machine) → IsSome m.failure → m.failure �
 not_failed m some none = absurd (let z : false ≡ true = ap is_some (sym none) ∙ some in cc)
 
 -- these frames were taken in
-record Took (fed : List Fed) (f : Fed) (v w : View) (G : List RawMessage) : Type 0 where
-  frames : frames_fed (fed ++ f ∷ []) ≡ frames_fed fed ++ G
-  machine : w.machine ≡ all_received G v.machine
-  alive : w.machine.failure ≡ None
+pub record Took (fed : List Fed) (f : Fed) (v w : View) (G : List RawMessage) : Type 0 where
+  pub frames : frames_fed (fed ++ f ∷ []) ≡ frames_fed fed ++ G
+  pub machine : w.machine ≡ all_received G v.machine
+  pub alive : w.machine.failure ≡ None
 
 -- a Start came, and then other frames
 started_as : (version : Version) (options : VMOptions) (alloc : Global) (fed : List Fed) (v : Machine) (first : RawMessage) (raws : List RawMessage) → frames_fed fed ≡ first ∷ raws → v.failure ≡ None → v ≡ all_received (first ∷ raws) (fresh alloc version options)
@@ -193,7 +193,7 @@ comes_more version options fed f v w G t =
     (λ (x : Begun version options fed v.machine). inr (begun_more version options fed f v w G t x))
 
 -- what a piece makes of a VM
-took_in : (fed : List Fed) (f : Fed) (v : View) → v.machine.failure ≡ None → (frames_of (bytes_fed fed)).1 ≡ Rest v.undecoded → (after_input v f.piece).machine.failure ≡ None
+pub took_in : (fed : List Fed) (f : Fed) (v : View) → v.machine.failure ≡ None → (frames_of (bytes_fed fed)).1 ≡ Rest v.undecoded → (after_input v f.piece).machine.failure ≡ None
     → Took fed f v (after_input v f.piece) (frames_of (v.undecoded ++ f.piece)).0 × ((frames_of (bytes_fed (fed ++ f ∷ []))).1 ≡ Rest (after_input v f.piece).undecoded)
 took_in fed f v live tail alive =
     let w = after_input v f.piece in

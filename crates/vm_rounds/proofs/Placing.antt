@@ -17,16 +17,14 @@ use Rattle.vm_machine.specs.declared.machine.Machine.{Machine}
 use Rattle.vm_machine.specs.declared.phase.Phase.{Phase}
 use Rattle.vm_machine.specs.declared.phase.Phase.TheVariants.{WaitingStart, WaitingReplayEntries, Replaying, Processing, Closed}
 use Rattle.vm_machine.specs.Inputs.{counted_entry, coverage_of, entries_in, info_of, queued, started, started_with}
-use Rattle.vm_machine.specs.Commands.{phase_after}
 use Rattle.vm_machine.specs.Making.{fresh}
 use Rattle.vm_machine.specs.Outcomes.{Done, refused, ruled, settled}
 use Rattle.vm_machine.specs.Phases.{is_running}
 use Rattle.invocation_vm.specs.Views.{all_received, left_by, received}
-use Rattle.vm_model.specs.Calls.{Meaning}
 use Rattle.vm_rounds.specs.Journals.{HasAll, StillWaits, is_command, is_notification, setup_for}
 use Rattle.vm_rounds.specs.Record.{Record}
 use Rattle.vm_rounds.specs.declared.progress.Fed.{Fed}
-use Rattle.vm_rounds.specs.Told.{BeforeInput, Begun, Comes, IsKept, Runs, frames_fed}
+use Rattle.vm_rounds.specs.Told.{BeforeInput, Begun, Came, Comes, HasCome, frames_fed}
 use Rattle.vm_rounds.specs.Blames.{BadFrame, Began, FailsAt, Place, frame_fault}
 use Rattle.vm_rounds.proofs.Arriving.{failed_stays}
 use Rattle.vm_rounds.proofs.Blaming.{one_comes}
@@ -161,20 +159,22 @@ comes_stands version options fed v =
     (λ (x : (frames_fed fed ≡ []) × ((alloc : Global) × (v ≡ fresh alloc version options))). subst (StandsIn version options (frames_fed fed)) (sym x.1.1) (x.0, (refl, refl)))
     (λ (b : Begun version options fed v). begun_stands version options fed v b)
 
-behind_place : (left : List RawMessage) (k : ℕ) (F : List RawMessage) → Began F (λ n known. known ≤ n) → Place (phase_after left) k F
-behind_place [] k F b = b
-behind_place (c ∷ left) k F b = b
+running_place : (ph : Phase) (k : ℕ) (F : List RawMessage) → is_running ph ≡ true → Began F (λ n known. known ≤ n) → Place ph k F
+running_place WaitingStart k F runs b = absurd (cc)
+running_place WaitingReplayEntries k F runs b = absurd (cc)
+running_place Replaying k F runs b = b
+running_place Processing k F runs b = b
+running_place Closed k F runs b = absurd (cc)
 
-pub kept_stands : (m : Meaning) (version : Version) (options : VMOptions) (r : Record) → IsKept m version options r → r.vm.machine.failure ≡ None → r.vm.machine.phase ≢ Closed → StandsIn version options (frames_fed r.fed) r.vm.machine
-kept_stands m version options r k live open_yet =
+-- where the VM of an attempt stands, as long as it is alive and open
+pub come_stands : (version : Version) (options : VMOptions) (r : Record) → HasCome version options r → r.vm.machine.failure ≡ None → r.vm.machine.phase ≢ Closed → StandsIn version options (frames_fed r.fed) r.vm.machine
+come_stands version options r k live open_yet =
     ⊎_elim
     (λ (b : BeforeInput version options r.fed r.answers r.waiting r.taken r.vm). comes_stands version options r.fed r.vm.machine (b.comes live))
-    (λ (b : Runs m version options r.fed r.answers r.waiting r.taken r.vm).
+    (λ (b : Came version options r.fed r.answers r.taken r.vm).
     let runs : is_running r.vm.machine.phase ≡ true = ⊎_elim (λ (x : is_running r.vm.machine.phase ≡ true). x) (λ (x : r.vm.machine.phase ≡ Closed). absurd (open_yet x)) (b.phase live) in
-    let a = b.agrees (record { failure = live; phase = runs }) in
     let j = b.journal in
-    subst (StandsIn version options (frames_fed r.fed)) (sym a.machine)
-    (behind_place b.at.left a.aside.entries_missing (frames_fed r.fed) (record { first = j.first_frame; others = j.entries ++ j.others; is = j.frames; start = j.start; reads = j.reads_start; counts = enough (length j.entries) (length j.others) (length (j.entries ++ j.others)) j.start.known_entries j.count (length-append j.entries j.others) }), (refl, refl)))
+    (running_place r.vm.machine.phase r.vm.machine.entries_missing (frames_fed r.fed) runs (record { first = j.first_frame; others = j.entries ++ j.others; is = j.frames; start = j.start; reads = j.reads_start; counts = enough (length j.entries) (length j.others) (length (j.entries ++ j.others)) j.start.known_entries j.count (length-append j.entries j.others) }), b.made_for (record { failure = live; phase = runs })))
     k
   where
     enough : (a c n known : ℕ) → a ≡ known → n ≡ a + c → known ≤ n

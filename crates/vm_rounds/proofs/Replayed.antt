@@ -17,7 +17,10 @@ use Rattle.vm_model.specs.Histories.{History, Made}
 use Rattle.vm_model.proofs.Compared.{none_refused}
 use Rattle.vm_model.proofs.Refusals.{own_reason, refused_stuck}
 use Rattle.vm_model.specs.Refusals.{IsRefusedFor}
-use Rattle.vm_rounds.specs.Blames.{Blame, IsHonest, IsOwnError, first_input}
+use Rattle.std.specs.Prelude.{Result, Ok, Err}
+use Rattle.vm_rounds.specs.Record.{Record}
+use Rattle.vm_rounds.specs.declared.progress.Progress.{Progress}
+use Rattle.vm_rounds.specs.Blames.{RefusedCall, Blame, IfError, IsHonest, IsOwnError, first_input}
 use Rattle.vm_rounds.specs.Blames.Blame.{Memory, Frame, NoFrame, ClosedEarly, NoInput, Call}
 use Rattle.vm_rounds.specs.declared.progress.Fed.{Fed}
 use Rattle.vm_rounds.specs.Journals.{as_entries, commands_among, is_command, is_notification, notifications_among, notified_by, recorded_by, setup_for, told_by}
@@ -96,8 +99,11 @@ honest_fails m version options fed closed answers e honest (Frame x) = absurd (l
 honest_fails m version options fed closed answers e honest (NoFrame x y) = absurd (honest.whole x)
 honest_fails m version options fed closed answers e honest (ClosedEarly x y z) = inr (inl (x, y, z))
 honest_fails m version options fed closed answers e honest (NoInput x) = absurd (no_input (setup_for version options x.start) m x.entries (honest.history x.first x.entries x.others x.start x.is x.reads x.count) x.none)
-honest_fails m version options fed closed answers e honest (Call x) = by_left x.at.left refl
+honest_fails m version options fed closed answers e honest (Call refuses) = by_left x.at.left refl
   where
+    x : RefusedCall m version options fed answers e
+    x = refuses honest.premises
+
     by_left : (left : List RawMessage) → x.at.left ≡ left → IsOwnError m version options fed closed answers e
     by_left [] is = inr (inr (record {
       journal = x.journal;
@@ -110,3 +116,8 @@ honest_fails m version options fed closed answers e honest (Call x) = by_left x.
       error = x.error;
     }))
     by_left (c ∷ further) is = absurd (history_refuses m version options fed x.journal x.moves x.written x.at x.made c further is x.why x.reason (honest.history x.journal.first_frame x.journal.entries x.journal.others x.journal.start x.journal.frames x.journal.reads_start x.journal.count))
+
+-- the error of a step of an honest attempt
+pub honest_errs : (m : Meaning) (version : Version) (options : VMOptions) (r : Record) (result : Result Progress Error) → IsHonest m version options r.fed → IfError result (λ e. Blame m version options r.fed r.closed r.answers e) → IfError result (λ e. IsOwnError m version options r.fed r.closed r.answers e)
+honest_errs m version options r (Ok progress) honest b = tt
+honest_errs m version options r (Err e) honest b = honest_fails m version options r.fed r.closed r.answers e honest b

@@ -55,6 +55,7 @@ use Rattle.vm_rounds.specs.Steps.{IfDone, ReadsBack, Made as IsMade, performed}
 use Rattle.vm_rounds.specs.Told.{arrivals, IsKept, IsLive, IsAsleep, RefusesReplay, Replays, Runs, StillAwaits, Wrote, commands_of, handed_out}
 use Rattle.vm_rounds.proofs.Following.{agreeing_follows}
 use Rattle.vm_rounds.proofs.Kept.{dead_same, not_live}
+use Rattle.vm_rounds.proofs.Lasting.{runs_last}
 use Rattle.vm_rounds.proofs.Leading.{no_move}
 use Rattle.vm_rounds.proofs.Pieces.{agrees_running}
 use Rattle.vm_rounds.proofs.Quiet.{commands_append, map_append, quiet_same, wrote_more}
@@ -206,7 +207,7 @@ module _ (m : Meaning) (version : Version) (options : VMOptions) (r : Record) (k
       (runs_on m version options r.fed r.answers r.waiting r.waiting r.taken r.vm w k live und k.at [] [] (no_move s m k.at) (message.End ∷ []) refl f.output k.awaits (λ alive. not_live w.machine f.closed alive) (λ _. inr f.closed))
 
   refused_keeps : (e : Error) → IsRefused s m k.at r.vm.machine e w.machine → IsKept m version options (with_vm w r)
-  refused_keeps e f = dead_same m version options r w (inr k) (record { messages = message.Error (error_message e) ∷ []; output = f.output; commands = refl }) (ap is_some f.failure)
+  refused_keeps e f = dead_same (Runs m version options) (runs_last m version options) version options r w (inr k) (record { messages = message.Error (error_message e) ∷ []; output = f.output; commands = refl }) (ap is_some f.failure)
 
   abbrev Following : Outcome Reply → Type 0
   Following = Follows s m (handed_out k.journal) k.written k.at r.vm.machine
@@ -226,7 +227,7 @@ module _ (m : Meaning) (version : Version) (options : VMOptions) (r : Record) (k
   replied_keeps P st is (Err e) o f does h =
       ⊎_elim
       (λ (x : o ≡ Failed e w.machine). refused_keeps e (failed_follows P o e f x))
-      (λ (x : IsStarved r.vm.machine e w.machine). dead_same m version options r w (inr k) (quiet_same r.vm.machine w.machine x.output) (rw x.failure refl))
+      (λ (x : IsStarved r.vm.machine e w.machine). dead_same (Runs m version options) (runs_last m version options) version options r w (inr k) (quiet_same r.vm.machine w.machine x.output) (rw x.failure refl))
       does
 
   -- ---- what waits

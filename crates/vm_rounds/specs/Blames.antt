@@ -25,13 +25,13 @@ use Rattle.vm_model.specs.Calls.{Meaning}
 use Rattle.vm_model.specs.Calls.Move.{Refuses}
 use Rattle.vm_model.specs.Histories.{History, Made}
 use Rattle.vm_model.specs.Journal.{input_read_from}
-use Rattle.vm_model.specs.Moves.{Point, move_at, start}
+use Rattle.vm_model.specs.Moves.{Point, move_at}
 use Rattle.vm_model.specs.Refusals.{IsRefusedFor}
 use Rattle.vm_rounds.specs.declared.progress.Fed.{Fed}
 use Rattle.vm_rounds.specs.declared.progress.Progress.{Progress}
 use Rattle.vm_rounds.specs.Journals.{as_entries, commands_among, is_command, is_notification, setup_for}
 use Rattle.vm_rounds.specs.Record.{Record}
-use Rattle.vm_rounds.specs.Told.{Journal, arrivals, bytes_fed, frames_fed}
+use Rattle.vm_rounds.specs.Told.{Journal, Premises, arrivals_of, begun, bytes_fed, frames_fed}
 
 -- ---- frames
 
@@ -135,7 +135,7 @@ pub record RefusedCall (m : Meaning) (version : Version) (options : VMOptions) (
   pub written : List RawMessage
   pub at : Point
   pub moves : ℕ
-  pub made : Made (setup_for version options journal.start) m moves (start (setup_for version options journal.start) journal.input (arrivals journal) journal.rest) written at
+  pub made : Made (setup_for version options journal.start) m moves (begun version options journal) written at
   pub answers : at.answers ≡ answers_so_far
   pub why : NamedFault
   pub reason : IsRefusedFor (move_at (setup_for version options journal.start) m at) at.left at.queue why
@@ -152,7 +152,7 @@ pub data Blame (m : Meaning) (version : Version) (options : VMOptions) (fed : Li
   NoFrame : (frames_of (bytes_fed fed)).1 ≡ Garbage → e ≡ ruled_by version options (named_error fault.BadMessage None) → Blame m version options fed closed answers e
   ClosedEarly : closed ≡ true → IsShort (frames_fed fed) → e ≡ ruled_by version options (named_error fault.InputClosedWhileWaitingEntries None) → Blame m version options fed closed answers e
   NoInput : LacksInput (frames_fed fed) → Blame m version options fed closed answers e
-  Call : RefusedCall m version options fed answers e → Blame m version options fed closed answers e
+  Call : (Premises options (arrivals_of fed) → RefusedCall m version options fed answers e) → Blame m version options fed closed answers e
 
 -- As long as an attempt is not over, its VM isn't closed, and has failed only for such a reason.
 pub record BlamedAt (m : Meaning) (version : Version) (options : VMOptions) (over : Option Progress) (fed : List Fed) (closed : Bool) (answers : List Answer) (v : Machine) : Type 0 where
@@ -170,8 +170,10 @@ IfError (Err e) P = P e
 
 -- ---- honest attempts
 
--- Each frame has its place and is whole there, no bytes are garbage, and the known entries are a history of the handler.
+-- Each frame has its place and is whole there, no bytes are garbage, the known entries are a history of the handler, and the
+-- premises hold.
 pub record IsHonest (m : Meaning) (version : Version) (options : VMOptions) (fed : List Fed) : Type 0 where
+  pub premises : Premises options (arrivals_of fed)
   pub frames : (before : List RawMessage) (raw : RawMessage) (behind : List RawMessage) (phase : Phase) (k : ℕ) → frames_fed fed ≡ before ++ raw ∷ behind → Place phase k before → frame_fault phase raw ≡ None
   pub whole : (frames_of (bytes_fed fed)).1 ≢ Garbage
   pub history : (first : RawMessage) (entries others : List RawMessage) (st : Start) → frames_fed fed ≡ first ∷ (entries ++ others) → start_in first.body ≡ Some st → length entries ≡ st.known_entries → History (setup_for version options st) m (as_entries entries)

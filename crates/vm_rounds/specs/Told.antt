@@ -1,6 +1,6 @@
 -- What the record of an attempt tells of its handler's run.
-use Rattle.std.specs.Prelude.{◌≡◌, ◌⊎◌, ℕ, true, false, cond, length, List, [], ◌∷◌, ◌++◌, map, Option, Some, None, Result, Ok, Err}
-use Rattle.std.specs.List.{concat, flat_map}
+use Rattle.std.specs.Prelude.{◌≡◌, ◌≢◌, ◌⊎◌, ℕ, true, false, cond, length, List, [], ◌∷◌, ◌++◌, map, Option, Some, None, Result, Ok, Err}
+use Rattle.std.specs.List.{AllByRecursion, concat, flat_map}
 use Rattle.journal_protocol.specs.declared.commands.InputCommand.{InputCommand}
 use Rattle.journal_protocol.specs.declared.error.Error.{Error}
 use Rattle.journal_protocol.specs.declared.error.RelatedCommand.{RelatedCommand}
@@ -9,12 +9,17 @@ use Rattle.journal_protocol.specs.declared.message.Message.{Message}
 use Rattle.journal_protocol.specs.declared.message.Message.TheVariants as message
 use Rattle.journal_protocol.specs.declared.message.RawMessage.{RawMessage}
 use Rattle.journal_protocol.specs.declared.notification.Notification.{Notification}
+use Rattle.journal_protocol.specs.declared.notification.NotificationId.{NotificationId}
+use Rattle.journal_protocol.specs.declared.notification.NotificationId.TheVariants.{CompletionId, SignalId, SignalName}
 use Rattle.journal_protocol.specs.declared.start.Start.{Start}
 use Rattle.journal_protocol.specs.declared.version.Version.{Version}
 use Rattle.journal_protocol.specs.Errors.{error_message, named_error}
 use Rattle.journal_protocol.specs.Message.{encoding}
 use Rattle.journal_protocol.specs.Reading.{start_in}
+use Rattle.journal_protocol.specs.Runs.{IsWhole}
 use Rattle.vm_parts.specs.declared.context.StateMap.{StateMap}
+use Rattle.vm_parts.specs.declared.options.JournalReplay.TheVariants.{Enabled}
+use Rattle.vm_parts.specs.declared.options.SignalDelivery.TheVariants.{Queued}
 use Rattle.vm_parts.specs.declared.options.VMOptions.{VMOptions}
 use Rattle.vm_parts.specs.declared.steps.Step.TheVariants as step
 use Rattle.vm_parts.specs.declared.types.UnresolvedFuture.{UnresolvedFuture}
@@ -28,7 +33,7 @@ use Rattle.invocation_vm.specs.Frames.{Rest, frames_of}
 use Rattle.vm_model.specs.Calls.{Meaning, is_awake}
 use Rattle.vm_model.specs.Journal.{input_read_from, stored_form}
 use Rattle.vm_model.specs.Moves.{Point, move_at, start}
-use Rattle.vm_model.specs.Histories.{Made, Told}
+use Rattle.vm_model.specs.Histories.{Made, Told, behind}
 use Rattle.vm_model.specs.Refusals.{IsRefusedFor}
 use Rattle.vm_machine.specs.Outcomes.{IsStarved, ruled}
 use Rattle.vm_rounds.specs.declared.progress.Fed.{Fed}
@@ -90,9 +95,41 @@ pub record Journal (fed : List Fed) : Type 0 where
 abbrev pub arrivals : {fed : List Fed} → Journal fed → List Notification
 arrivals j = notifications_among (j.entries ++ j.others)
 
+-- the same, read from what was fed: the notifications behind the first frame
+abbrev pub arrivals_of : List Fed → List Notification
+arrivals_of fed = notifications_among (behind (frames_fed fed))
+
 -- the state that Start handed out
 abbrev pub handed_out : {fed : List Fed} → Journal fed → StateMap
 handed_out j = record { entries = j.state; coverage = coverage_of j.start.partial }
+
+-- What an attempt begins with: the point after the input, with all arrivals, and the recorded commands behind the input.
+abbrev pub begun : {fed : List Fed} → Version → VMOptions → Journal fed → Point
+begun version options j = start (setup_for version options j.start) j.input (arrivals j) j.rest
+
+-- ---- what is asked of the options and of the runtime
+
+-- no notification has this id
+abbrev pub IsAbsent : NotificationId → List Notification → Type 0
+IsAbsent id [] = Unit {0}
+IsAbsent id (n ∷ ns) = (n.id ≢ id) × IsAbsent id ns
+
+-- a completion has no other result among these; a signal may be delivered again
+abbrev pub HasNoOther : NotificationId → List Notification → Type 0
+HasNoOther (CompletionId id) ns = IsAbsent (CompletionId id) ns
+HasNoOther (SignalId id) ns = Unit {0}
+HasNoOther (SignalName name) ns = Unit {0}
+
+-- no completion has two results
+abbrev pub CompleteOnce : List Notification → Type 0
+CompleteOnce [] = Unit {0}
+CompleteOnce (n ∷ ns) = HasNoOther n.id ns × CompleteOnce ns
+
+-- Recorded commands are replayed, signals queue, and no completion has two results among the arrivals.
+pub record Premises (options : VMOptions) (ns : List Notification) : Type 0 where
+  pub replays : options.journal_replay ≡ Enabled
+  pub queues : options.signal_delivery ≡ Queued
+  pub once : CompleteOnce ns
 
 -- ---- the answers
 
@@ -110,7 +147,7 @@ pub record AnswersAreTold (m : Meaning) (version : Version) (options : VMOptions
   pub told : Tells m version options journal written at
   pub answers : at.answers ≡ r.answers
   pub moves : ℕ
-  pub made : Made (setup_for version options journal.start) m moves (start (setup_for version options journal.start) journal.input (arrivals journal) journal.rest) written at
+  pub made : Made (setup_for version options journal.start) m moves (begun version options journal) written at
   pub in_order : (written ≡ []) ⊎ (at.left ≡ [])
 
 -- An await waits rightly: with all arrivals that were fed, its future is awake at no point that the journal tells with these
@@ -138,7 +175,7 @@ pub record RefusesReplay (m : Meaning) (version : Version) (options : VMOptions)
   pub journal : Journal fed
   pub at : Point
   pub moves : ℕ
-  pub made : Made (setup_for version options journal.start) m moves (start (setup_for version options journal.start) journal.input (arrivals journal) journal.rest) [] at
+  pub made : Made (setup_for version options journal.start) m moves (begun version options journal) [] at
   pub answers : at.answers ≡ answers_so_far
   pub recorded : RawMessage
   pub further : List RawMessage
@@ -179,10 +216,26 @@ pub record Runs (m : Meaning) (version : Version) (options : VMOptions) (fed : L
   pub wrote : Wrote taken vm.machine.output written
   pub at : Point
   pub moves : ℕ
-  pub run : Made (setup_for version options journal.start) m moves (start (setup_for version options journal.start) journal.input (arrivals journal) journal.rest) written at
+  pub run : Made (setup_for version options journal.start) m moves (begun version options journal) written at
   pub answers : at.answers ≡ answers_so_far
   pub awaits : StillAwaits m at waiting
   pub agrees : IsLive vm.machine → Agrees (setup_for version options journal.start) (handed_out journal) written vm.machine at
+  pub phase : vm.machine.failure ≡ None → (is_running vm.machine.phase ≡ true) ⊎ (vm.machine.phase ≡ Closed)
+  pub tail : IsLive vm.machine → (frames_of (bytes_fed fed)).1 ≡ Rest vm.undecoded
+
+-- a command that can be read back
+abbrev pub IsWholeCommand : RawMessage → Type 0
+IsWholeCommand c = (m : Message) × (c ≡ stored_form m) × IsWhole m
+
+-- The handler has read its input, which the journal begins with. What was written are the frames of messages, and each command
+-- among them can be read back. The VM was made for this version and these options; it runs, or it is closed or has failed.
+pub record Came (version : Version) (options : VMOptions) (fed : List Fed) (answers_so_far : List Answer) (taken : List (List ℕ)) (vm : View) : Type 0 where
+  pub journal : Journal fed
+  pub answered : answers_so_far ≢ []
+  pub written : List RawMessage
+  pub wrote : Wrote taken vm.machine.output written
+  pub whole : AllByRecursion IsWholeCommand written
+  pub made_for : IsLive vm.machine → (vm.machine.version ≡ version) × (vm.machine.options ≡ options)
   pub phase : vm.machine.failure ≡ None → (is_running vm.machine.phase ≡ true) ⊎ (vm.machine.phase ≡ Closed)
   pub tail : IsLive vm.machine → (frames_of (bytes_fed fed)).1 ≡ Rest vm.undecoded
 
@@ -212,6 +265,14 @@ pub record BeforeInput (version : Version) (options : VMOptions) (fed : List Fed
   pub comes : vm.machine.failure ≡ None → Comes version options fed vm.machine
   pub tail : vm.machine.failure ≡ None → (frames_of (bytes_fed fed)).1 ≡ Rest vm.undecoded
 
--- what each call of an attempt keeps
+-- what came and what was written, whatever the options are and whatever comes
+abbrev pub HasCome : Version → VMOptions → Record → Type 0
+HasCome version options r = BeforeInput version options r.fed r.answers r.waiting r.taken r.vm ⊎ Came version options r.fed r.answers r.taken r.vm
+
+-- what each call of an attempt keeps of its handler's run
 abbrev pub IsKept : Meaning → Version → VMOptions → Record → Type 0
 IsKept m version options r = BeforeInput version options r.fed r.answers r.waiting r.taken r.vm ⊎ Runs m version options r.fed r.answers r.waiting r.taken r.vm
+
+-- the same, under the premises
+abbrev pub IsKeptUnder : Meaning → Version → VMOptions → Record → Type 0
+IsKeptUnder m version options r = Premises options (arrivals_of r.fed) → IsKept m version options r

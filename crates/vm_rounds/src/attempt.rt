@@ -23,21 +23,21 @@ impl<H: Handler> Model for Attempt<H> {
     ghost use Rattle.vm_rounds.specs.Record.{AttemptView};
     ghost use Rattle.vm_rounds.specs.Inside.{the_record};
     ghost use Rattle.vm_rounds.specs.Blames.{IsBlamed};
-    ghost use Rattle.vm_rounds.specs.Told.{IsKept};
+    ghost use Rattle.vm_rounds.specs.Told.{HasCome, IsKeptUnder};
 
     ghost Value = { AttemptView H };
 
     ghost view = { λ a. record { handler = a.inner.handler; version = a.version; options = a.options; record_of = the_record a.inner } };
 
-    ghost invariant = { λ a. IsKept (H.meaning a.inner.handler) a.version a.options (the_record a.inner) × IsBlamed (H.meaning a.inner.handler) a.version a.options (the_record a.inner) };
+    ghost invariant = { λ a. HasCome a.version a.options (the_record a.inner) × IsBlamed (H.meaning a.inner.handler) a.version a.options (the_record a.inner) × IsKeptUnder (H.meaning a.inner.handler) a.version a.options (the_record a.inner) };
 }
 
 impl<H: Handler> Attempt<H> {
     ghost use Rattle.std.specs.Prelude.{◌≡◌, ◌⊎◌, [], None};
     ghost use Rattle.invocation_vm.specs.Making.{version_in};
     ghost use Rattle.vm_rounds.specs.Stepping.{MakesAttempt, StepDoes, FeedDoes, CloseDoes, IfWaits, IsReplaying, Takes};
-    ghost use Rattle.vm_rounds.specs.Blames.{Blame, IfError};
-    ghost use Rattle.vm_rounds.specs.Told.{AnswersAreTold, NothingWakes, Replays};
+    ghost use Rattle.vm_rounds.specs.Blames.{Blame, IfError, IsHonest, IsOwnError};
+    ghost use Rattle.vm_rounds.specs.Told.{AnswersAreTold, HasCome, NothingWakes, Premises, Replays, arrivals_of};
 
     /// An attempt for the version that the header `content-type` names; the VM's refusals are its own.
     pub fn new<M: HeaderMap>(
@@ -81,13 +81,17 @@ impl<H: Handler> Attempt<H> {
     /// Asks the handler, and the VM, for one answer more.
     pub fn step(&mut self) -> VMResult<Progress>
         ensures does { StepDoes (H.meaning self.old.handler) self.old.record_of result self.new.record_of }
-        // It waits or is suspended only where no number of the arrivals wakes the handler's await.
-        ensures waits { self.old.record_of.over ≡ None → IfWaits result (NothingWakes (H.meaning self.old.handler) self.old.version self.old.options self.new.record_of) }
-        // While recorded commands are left, the handler's next call is answered, or it is refused where the journal tells no more.
-        ensures replays { IsReplaying self.old.record_of → Replays (H.meaning self.old.handler) self.old.version self.old.options self.old.record_of result self.new.record_of }
+        // Under the premises it waits or is suspended only where no number of the arrivals wakes the handler's await.
+        ensures waits { self.old.record_of.over ≡ None → Premises self.old.options (arrivals_of self.old.record_of.fed) → IfWaits result (NothingWakes (H.meaning self.old.handler) self.old.version self.old.options self.new.record_of) }
+        // Under the premises, while recorded commands are left, the handler's next call is answered, or it is refused where the journal
+        // tells no more.
+        ensures replays { IsReplaying self.old.record_of → Premises self.old.options (arrivals_of self.old.record_of.fed) → Replays (H.meaning self.old.handler) self.old.version self.old.options self.old.record_of result self.new.record_of }
         // An error is want of memory, a frame or bytes that were refused, input closed too early, a journal without input, or a call
-        // that was refused: `honest_attempts_fail_by_themselves` says which of these remain.
+        // that was refused.
         ensures blamed { self.old.record_of.over ≡ None → IfError result (λ e. Blame (H.meaning self.old.handler) self.old.version self.old.options self.new.record_of.fed self.new.record_of.closed self.new.record_of.answers e) }
+        // Where the bytes are an honest attempt's over a history of the handler, an error is only want of memory, input that was closed
+        // too early, or a call's own refusal, where no recorded command is left.
+        ensures honest { self.old.record_of.over ≡ None → IsHonest (H.meaning self.old.handler) self.old.version self.old.options self.new.record_of.fed → IfError result (λ e. IsOwnError (H.meaning self.old.handler) self.old.version self.old.options self.new.record_of.fed self.new.record_of.closed self.new.record_of.answers e) }
         ensures handler { self.new.handler ≡ self.old.handler }
         ensures made_for { (self.new.version ≡ self.old.version) × (self.new.options ≡ self.old.options) }
     {
@@ -106,8 +110,11 @@ impl<H: Handler> Attempt<H> {
     /// The answers so far; the first is the input. They are those of a point that the attempt's journal tells.
     pub fn answers(&self) -> &[Answer]
         ensures answers { result.now ≡ self.now.record_of.answers }
-        // The journal is what was fed, followed by the commands that were written; none is written while recorded ones are left.
-        ensures told { (self.now.record_of.answers ≡ []) ⊎ AnswersAreTold (H.meaning self.now.handler) self.now.version self.now.options self.now.record_of }
+        // Before the input nothing is answered and no command written; then each command that was written can be read back.
+        ensures came { HasCome self.now.version self.now.options self.now.record_of }
+        // Under the premises the journal, which is what was fed, followed by the commands that were written, tells them; no command is
+        // written while recorded ones are left.
+        ensures told { Premises self.now.options (arrivals_of self.now.record_of.fed) → (self.now.record_of.answers ≡ []) ⊎ AnswersAreTold (H.meaning self.now.handler) self.now.version self.now.options self.now.record_of }
     {
         self.inner.answers.as_slice()
     }

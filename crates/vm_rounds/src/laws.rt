@@ -20,7 +20,7 @@ ghost use Rattle.vm_rounds.specs.Agreement.{Agrees, Aside, Follows};
 ghost use Rattle.vm_rounds.specs.Blames.{Blame, FailsAt, IsHonest, IsOwnError};
 ghost use Rattle.vm_rounds.specs.Journals.{BeginsOrFails, Started, as_entries, machine_fed, notifications_among, setup_for};
 ghost use Rattle.vm_rounds.specs.Steps.{performed, IfDone, ReadsBack};
-ghost use Rattle.vm_rounds.specs.Told.{AnswersAreTold, IsKept, RefusesReplay};
+ghost use Rattle.vm_rounds.specs.Told.{AnswersAreTold, HasCome, IsKeptUnder, Premises, RefusesReplay, arrivals_of};
 ghost use Rattle.vm_rounds.specs.declared.progress.Progress.{Progress};
 ghost use Rattle.std.specs.Prelude.{Result};
 ghost use Rattle.journal_protocol.specs.declared.error.Error.{Error};
@@ -62,15 +62,25 @@ pub fn journals_come()
     ensures comes { (alloc : Global) (version : Version) (options : VMOptions) (first : RawMessage) (raws : List RawMessage) → Started alloc version options first raws (all_received (first ∷ raws) (fresh alloc version options)) }
 {}
 
-/// What each call of an attempt keeps: before the input, that nothing was answered and no command written; then, that so many
-/// moves of the handler's run lead to its answers and made what was written, and that the machine agrees with that point as
-/// long as it can make calls.
+/// What each call of an attempt keeps, whatever the options are and whatever comes: before the input nothing was answered and no
+/// command written; then each command that was written can be read back.
+pub fn attempts_write()
+    ensures made { (alloc : Global) (version : Version) (options : VMOptions) → HasCome version options (fresh_record (made alloc options version)) }
+    ensures fed { (version : Version) (options : VMOptions) (piece : List ℕ) (old : Record) (result : Result Unit AllocError) (new : Record) → HasCome version options old → FeedDoes old.starved piece old result new → HasCome version options new }
+    ensures closed { (version : Version) (options : VMOptions) (old : Record) (result : Result Unit AllocError) (new : Record) → HasCome version options old → CloseDoes old.starved old result new → HasCome version options new }
+    ensures taken { (version : Version) (options : VMOptions) (old : Record) (result : Result (List ℕ) AllocError) (new : Record) → HasCome version options old → Takes old result new → HasCome version options new }
+    ensures stepped { (m : Meaning) (version : Version) (options : VMOptions) (old : Record) (result : Result Progress Error) (new : Record) → HasCome version options old → StepDoes m old result new → HasCome version options new }
+{}
+
+/// What each call of an attempt keeps under the premises: recorded commands are replayed, signals queue, and no completion has two
+/// results among the arrivals. So many moves of the handler's run lead to its answers and made what was written, and the machine
+/// agrees with that point as long as it can make calls.
 pub fn attempts_keep()
-    ensures made { (m : Meaning) (alloc : Global) (version : Version) (options : VMOptions) → IsKept m version options (fresh_record (made alloc options version)) }
-    ensures fed { (m : Meaning) (version : Version) (options : VMOptions) (piece : List ℕ) (old : Record) (result : Result Unit AllocError) (new : Record) → IsKept m version options old → FeedDoes old.starved piece old result new → IsKept m version options new }
-    ensures closed { (m : Meaning) (version : Version) (options : VMOptions) (old : Record) (result : Result Unit AllocError) (new : Record) → IsKept m version options old → CloseDoes old.starved old result new → IsKept m version options new }
-    ensures taken { (m : Meaning) (version : Version) (options : VMOptions) (old : Record) (result : Result (List ℕ) AllocError) (new : Record) → IsKept m version options old → Takes old result new → IsKept m version options new }
-    ensures stepped { (m : Meaning) (version : Version) (options : VMOptions) (old : Record) (result : Result Progress Error) (new : Record) → IsKept m version options old → StepDoes m old result new → IsKept m version options new }
+    ensures made { (m : Meaning) (alloc : Global) (version : Version) (options : VMOptions) → IsKeptUnder m version options (fresh_record (made alloc options version)) }
+    ensures fed { (m : Meaning) (version : Version) (options : VMOptions) (piece : List ℕ) (old : Record) (result : Result Unit AllocError) (new : Record) → IsKeptUnder m version options old → FeedDoes old.starved piece old result new → IsKeptUnder m version options new }
+    ensures closed { (m : Meaning) (version : Version) (options : VMOptions) (old : Record) (result : Result Unit AllocError) (new : Record) → IsKeptUnder m version options old → CloseDoes old.starved old result new → IsKeptUnder m version options new }
+    ensures taken { (m : Meaning) (version : Version) (options : VMOptions) (old : Record) (result : Result (List ℕ) AllocError) (new : Record) → IsKeptUnder m version options old → Takes old result new → IsKeptUnder m version options new }
+    ensures stepped { (m : Meaning) (version : Version) (options : VMOptions) (old : Record) (result : Result Progress Error) (new : Record) → IsKeptUnder m version options old → StepDoes m old result new → IsKeptUnder m version options new }
 {}
 
 /// Where the known entries are a history of the handler, no call is refused while recorded commands are left: no mismatch, no
@@ -79,10 +89,10 @@ pub fn histories_are_replayed()
     ensures { (m : Meaning) (version : Version) (options : VMOptions) (fed : List Fed) (answers : List Answer) (e : Error) (old new : Machine) (refusal : RefusesReplay m version options fed answers e old new) → History (setup_for version options refusal.journal.start) m (as_entries refusal.journal.entries) → ⊥ }
 {}
 
-/// The answers of an attempt are those of a point that its journal tells, followed by what it wrote, with the arrivals that it
+/// Under the premises the answers of an attempt are those of a point that its journal tells, followed by what it wrote, with the arrivals that it
 /// was fed; while recorded commands are left, it has written none.
 pub fn answers_are_told()
-    ensures { (m : Meaning) (version : Version) (options : VMOptions) (r : Record) → IsKept m version options r → (r.answers ≡ []) ⊎ AnswersAreTold m version options r }
+    ensures { (m : Meaning) (version : Version) (options : VMOptions) (r : Record) → IsKeptUnder m version options r → Premises options (arrivals_of r.fed) → (r.answers ≡ []) ⊎ AnswersAreTold m version options r }
 {}
 
 /// Where the known entries are a history of the handler and each frame has its place, an error is only: want of memory; input that

@@ -11,7 +11,7 @@ mod progress;
 pub use attempt::Attempt;
 pub use handler::Handler;
 pub use laws::{
-    answers_are_told, attempts_begin, attempts_keep, calls_follow, frames_arrive,
+    answers_are_told, attempts_begin, attempts_keep, attempts_write, calls_follow, frames_arrive,
     histories_are_replayed, honest_attempts_fail_by_themselves, journals_come,
 };
 pub use progress::{Fed, Progress};

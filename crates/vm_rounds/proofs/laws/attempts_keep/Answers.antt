@@ -1,18 +1,18 @@
-use Rattle.vm_rounds.proofs.Advanced.{made_kept, step_keeps}
-use Rattle.vm_rounds.proofs.Kept.{close_keeps, feed_keeps, take_keeps}
+use Rattle.vm_rounds.proofs.Advanced.{made_kept}
+use Rattle.vm_rounds.proofs.Under.{close_under, feed_under, step_under, take_under}
 use Rattle.vm_rounds.proofs.laws.attempts_keep.Goals as goal
 
 pub returns-clause-made : goal.returns-clause-made
-returns-clause-made c = made_kept
+returns-clause-made c = λ m alloc version options p. made_kept m alloc version options
 
 pub returns-clause-fed : goal.returns-clause-fed
-returns-clause-fed c = feed_keeps
+returns-clause-fed c = feed_under
 
 pub returns-clause-closed : goal.returns-clause-closed
-returns-clause-closed c = close_keeps
+returns-clause-closed c = close_under
 
 pub returns-clause-taken : goal.returns-clause-taken
-returns-clause-taken c = take_keeps
+returns-clause-taken c = take_under
 
 pub returns-clause-stepped : goal.returns-clause-stepped
-returns-clause-stepped c = step_keeps
+returns-clause-stepped c = step_under

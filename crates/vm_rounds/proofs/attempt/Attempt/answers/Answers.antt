@@ -2,7 +2,10 @@ use Rattle.vm_rounds.specs.Inside.{the_record}
 use Rattle.vm_rounds.proofs.Advanced.{kept_told}
 use Rattle.vm_rounds.proofs.attempt.Attempt.answers.Goals as goal
 
+pub returns-clause-came : goal.returns-clause-came
+returns-clause-came g c = rw (← c.self.view_is) c.self.invariant.0
+
 pub returns-clause-told : goal.returns-clause-told
 returns-clause-told g c =
     let a = c.self.inside in
-    rw (← c.self.view_is) (kept_told (g.H.Handler.meaning a.inner.handler) a.version a.options (the_record a.inner) c.self.invariant.0)
+    rw (← c.self.view_is) (λ p. kept_told (g.H.Handler.meaning a.inner.handler) a.version a.options (the_record a.inner) (c.self.invariant.2 p))
