@@ -46,7 +46,9 @@ fn suspension_frame(alloc: Global, id: Option<NotificationId>) -> Result<Bytes, 
 {
     let future = future_of(alloc, id)?;
     let message = Message::Suspension(Suspension { future });
-    Encoder::new(alloc).encode(&message)
+    let frame = Encoder::new(alloc).encode(&message);
+    drop(message);
+    frame
 }
 
 impl Machine {

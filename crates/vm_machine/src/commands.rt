@@ -93,7 +93,9 @@ impl Machine {
                 return Err(Fault::Refused(self.about_last(NamedFault::BadMessage)?));
             }
         };
-        if !header_eq(&recorded, message, ignore_payloads) {
+        let equal = header_eq(&recorded, message, ignore_payloads);
+        drop(recorded);
+        if !equal {
             return Err(Fault::Refused(self.about_last(NamedFault::CommandMismatch)?));
         }
         Ok(())

@@ -29,7 +29,9 @@ fn error_frame(alloc: Global, error: &Error) -> Result<Bytes, AllocError>
     ensures { IfOk result (λ frame. frame ≡ encoding (message.Error (error_message error.now))) }
 {
     let message = Message::Error(error.to_message(alloc)?);
-    Encoder::new(alloc).encode(&message)
+    let frame = Encoder::new(alloc).encode(&message);
+    drop(message);
+    frame
 }
 
 impl Machine {

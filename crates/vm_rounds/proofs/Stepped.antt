@@ -47,7 +47,7 @@ use Rattle.vm_rounds.specs.declared.progress.Fed.{Fed}
 use Rattle.vm_rounds.specs.declared.progress.Progress.{Progress}
 use Rattle.vm_rounds.specs.declared.progress.Reply.{Reply}
 use Rattle.vm_rounds.specs.declared.progress.Reply.TheVariants as reply
-use Rattle.vm_rounds.specs.Agreement.{Agrees, Answered, Follows, HasEnded, IsRefused, IsSuspended, MovesOn, StillAgrees, Waits, frames_of}
+use Rattle.vm_rounds.specs.Agreement.{Agrees, Answered, Follows, HasEnded, IsRefused, IsSuspended, MovesOn, StillAgrees, Waits, frames_of, suspended_on}
 use Rattle.vm_rounds.specs.Journals.{is_command, setup_for}
 use Rattle.vm_rounds.specs.Record.{Record}
 use Rattle.vm_rounds.specs.Stepping.{Asks, IfWaits, asked, asked_from, future_in, progress_of, settled, with_vm}
@@ -198,7 +198,7 @@ module _ (m : Meaning) (version : Version) (options : VMOptions) (r : Record) (k
   suspended_keeps : IsSuspended s m k.at r.vm.machine w.machine → Runs m version options r.fed r.answers r.waiting r.taken w
   suspended_keeps f =
       no_answer r.waiting
-      (runs_on m version options r.fed r.answers r.waiting r.waiting r.taken r.vm w k live und f.at [] [] f.waits.moves (message.Suspension f.suspension ∷ []) refl f.output (same_awaits m k.at f.at r.waiting f.waits.moves.answers k.awaits)
+      (runs_on m version options r.fed r.answers r.waiting r.waiting r.taken r.vm w k live und f.at [] [] f.waits.moves (message.Suspension (suspended_on f.waits.future f.at.derived) ∷ []) refl f.output (same_awaits m k.at f.at r.waiting f.waits.moves.answers k.awaits)
       (λ alive. not_live w.machine f.closed alive) (λ _. inr f.closed))
 
   ended_keeps : HasEnded m k.at r.vm.machine w.machine → Runs m version options r.fed r.answers r.waiting r.taken w
@@ -259,7 +259,7 @@ module _ (m : Meaning) (version : Version) (options : VMOptions) (r : Record) (k
       waits_so g.at g.waits [] refl (g.output ∙ sym (append-nil r.vm.machine.output))
   replied_waits P (Ok reply.Suspended) o f does h =
       let g : IsSuspended s m k.at r.vm.machine w.machine = done_follows P o reply.Suspended f does h in
-      waits_so g.at g.waits (message.Suspension g.suspension ∷ []) refl g.output
+      waits_so g.at g.waits (message.Suspension (suspended_on g.waits.future g.at.derived) ∷ []) refl g.output
   replied_waits P (Ok reply.Ended) o f does h = tt
   replied_waits P (Err e) o f does h = tt
 

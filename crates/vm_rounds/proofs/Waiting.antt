@@ -97,7 +97,7 @@ stuck_at s m q c left needs none is = subst (λ (x : Move × List RawMessage). I
 pends : (s : Setup) (m : Meaning) (given : StateMap) (written : List RawMessage) (aside : Aside) (p : Point) (h : NotificationHandle) (is : m p.answers ≡ step.Await (Single h)) (r : Ran s m p (id_at h.0 p.derived.handles) p.derived.usage p.queue) → s.identity ≡ identity_of aside.start
     → r.left ≡ [] → has_result_for (id_at h.0 p.derived.handles) (ready_in s (record p.derived { usage = r.usage })) ≡ false → (left : List RawMessage) → p.left ≡ left
     → Follows s m given written p (machine_at s given written aside p) (mapped await_reply (called (pending h.0 (record (machine_at s given written aside (at_usage p r.usage r.left)) { phase = phase_after left })) (machine_at s given written aside p)))
-unfolding called
+unfolding called stands
 pends s m given written aside p h is r identity none asleep (c ∷ left) e =
     let q = at_usage p r.usage r.left in
     let w : Machine = record (machine_at s given written aside q) { phase = phase_after (c ∷ left) } in
@@ -111,7 +111,7 @@ pends s m given written aside p h is r identity none asleep [] e = by_test aside
     w = record (machine_at s given written aside q) { phase = phase_after [] }
 
     by_test : (b : Bool) → aside.input_closed ≡ b → Follows s m given written p (machine_at s given written aside p) (mapped await_reply (called (if b then Done (Err (named_error fault.Suspended None)) (suspended (future_of (id_at h.0 w.results.handles)) w) else Done (Ok (WaitingExternalProgress true false)) w) (machine_at s given written aside p)))
-    by_test true closed = record { at = q; waits = stands s m p h is r none asleep e; suspension = record { future = future_of (id_at h.0 w.results.handles) }; output = refl; closed = refl }
+    by_test true closed = record { at = q; waits = stands s m p h is r none asleep e; output = refl; closed = refl }
     by_test false closed = record { at = q; waits = stands s m p h is r none asleep e; agrees = record { aside = aside; machine = λ i. record (machine_at s given written aside q) { phase = phase_after (sym e i) }; identity = identity }; output = refl }
 
 -- an await that wakes

@@ -14,11 +14,14 @@ use Rattle.vm_parts.specs.declared.context.StateMap.{StateMap}
 use Rattle.vm_parts.specs.declared.steps.Answer.{Answer}
 use Rattle.vm_parts.specs.declared.steps.Step.TheVariants as step
 use Rattle.vm_parts.specs.declared.types.UnresolvedFuture.{UnresolvedFuture}
+use Rattle.vm_parts.specs.declared.types.UnresolvedFuture.TheVariants.{Single}
+use Rattle.vm_parts.specs.Deliveries.{id_at}
 use Rattle.vm_machine.specs.declared.machine.Machine.{Machine}
 use Rattle.vm_machine.specs.declared.phase.Phase.TheVariants.{Closed}
+use Rattle.vm_machine.specs.Awaits.{future_of}
 use Rattle.vm_machine.specs.Commands.{phase_after}
 use Rattle.vm_machine.specs.Outcomes.{Outcome, Done, Failed, ruled}
-use Rattle.vm_model.specs.Calls.{Setup, Meaning, identity_of, is_awake, ready_in}
+use Rattle.vm_model.specs.Calls.{Setup, Meaning, Derived, identity_of, is_awake, ready_in}
 use Rattle.vm_model.specs.Moves.{Point, changed_by, move_at}
 use Rattle.vm_model.specs.Histories.{IsAwaiting, Made}
 use Rattle.vm_model.specs.Refusals.{IsRefusedFor}
@@ -106,12 +109,15 @@ pub record StillAgrees (s : Setup) (m : Meaning) (given : StateMap) (written : L
   pub agrees : Agrees s given written w at
   pub output : w.output ≡ v.output
 
--- it waits, and the invocation is suspended: one Suspension is written
+-- what a suspension on this future waits for
+abbrev pub suspended_on : UnresolvedFuture → Derived → Suspension
+suspended_on (Single handle) d = record { future = future_of (id_at handle.0 d.handles) }
+
+-- it waits, and the invocation is suspended: one Suspension is written, on what the future waits for
 pub record IsSuspended (s : Setup) (m : Meaning) (p : Point) (v w : Machine) : Type 0 where
   pub at : Point
   pub waits : Waits s m p at
-  pub suspension : Suspension
-  pub output : w.output ≡ v.output ++ encoding (message.Suspension suspension) ∷ []
+  pub output : w.output ≡ v.output ++ encoding (message.Suspension (suspended_on waits.future at.derived)) ∷ []
   pub closed : w.phase ≡ Closed
 
 -- the handler ends where no recorded command is left: one End is written
