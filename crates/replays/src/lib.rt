@@ -19,6 +19,8 @@ pub mod keeper;
 mod mismatches;
 pub mod napper;
 #[cfg(test)]
+mod program;
+#[cfg(test)]
 mod runs;
 #[cfg(test)]
 mod starvation;

@@ -1,15 +1,9 @@
 //! `vmrun`: runs one attempt of a handler over the journal on standard input, and writes what the attempt sends.
 #![tactic(auto)]
 
-pub mod content_type;
-pub mod exit_status;
-pub mod run;
-pub mod sleeper;
-#[cfg(test)]
-mod tests;
-
-use exit_status::ExitStatus;
-use run::run;
+use runner::exit_status::ExitStatus;
+use runner::run::run;
+use runner::streams::Plain;
 use std::env::{self, Env};
 use std::io;
 use std::process::ExitCode;
@@ -35,14 +29,15 @@ fn arguments(rt: &(impl Env + AllocGlobal)) -> io::Result<Option<(String, String
 fn main(rt: HostRuntime) -> ExitCode {
     let status = match arguments(&rt) {
         Ok(Some((content_type, handler))) => {
-            let mut writer = io::writer(&rt);
+            let mut writer = Plain(io::writer(&rt));
             run(
                 rt.alloc(),
                 content_type.as_str(),
                 handler.as_str(),
-                &mut rt.reader(),
+                &mut Plain(rt.reader()),
                 &mut writer,
             )
+            .status()
         }
         Ok(None) => ExitStatus::Usage,
         Err(_) => ExitStatus::Failed,

@@ -1,0 +1,43 @@
+//! The headers of a request that has a content type and nothing else.
+ghost use Rattle.std.specs.Prelude.{◌≡◌, Some};
+ghost use Rattle.invocation_vm.specs.Making.{version_in};
+
+use journal_protocol::{Error, HeaderMap, NamedFault, Version};
+use std::convert::Infallible;
+
+/// A request's content type.
+#[derive(Clone, Copy, Debug)]
+pub struct ContentType<'a>(pub &'a str);
+
+impl ContentType<'_> {
+    /// The version that it names; those before V5 are not supported.
+    pub fn version(&self) -> Result<Version, Error>
+        ensures { result ≡ version_in (Some (Some self.now.0.now)) }
+    {
+        let Some(version) = Version::of_content_type(self.0) else {
+            return Err(Error::named(NamedFault::BadContentType, None));
+        };
+        match version {
+            Version::V1 | Version::V2 | Version::V3 | Version::V4 => {
+                Err(Error::named(NamedFault::UnsupportedMediaType, None))
+            }
+            _ => Ok(version),
+        }
+    }
+}
+
+impl HeaderMap for ContentType<'_> {
+    type Error = Infallible;
+
+    ghost use Rattle.runner.specs.ContentTypes.{found};
+
+    ghost found = { λ headers name. found headers.0.now name };
+
+    fn extract(&self, name: &str) -> Result<Option<&str>, Infallible> {
+        if name == "content-type" {
+            Ok(Some(self.0))
+        } else {
+            Ok(None)
+        }
+    }
+}

@@ -1,4 +1,0 @@
-pub mod ContentTypes
-pub mod Runs
-pub mod Sleeper
-pub mod Statuses
