@@ -1,22 +1,8 @@
 //! `frames`: a stream of frames as lines that people read, and such lines as a stream of frames.
 #![tactic(auto)]
 
-pub mod choices;
-pub mod entry;
-pub mod exit_status;
-pub mod forms;
-pub mod future;
-pub mod message;
-pub mod run;
-#[cfg(test)]
-mod tests;
-#[cfg(test)]
-mod tests_changes;
-pub mod type_names;
-pub mod value;
-
-use exit_status::ExitStatus;
-use run::{decode, encode};
+use frame_lines::exit_status::ExitStatus;
+use frame_lines::run::{decode, encode};
 use std::env::{self, Env};
 use std::io;
 use std::process::ExitCode;

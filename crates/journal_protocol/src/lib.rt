@@ -26,10 +26,6 @@ mod signals;
 mod start;
 mod state;
 mod stream;
-#[cfg(test)]
-mod tests;
-#[cfg(test)]
-mod tests_short;
 mod types;
 mod version;
 

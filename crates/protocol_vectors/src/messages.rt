@@ -1,0 +1,680 @@
+// The bytes of each message, written out by hand from the layout; the names that others read; and that each
+// call succeeds where there is memory.
+use bytes::Bytes;
+use journal_protocol::{
+    Decoder, Encoder, Error, ErrorBehavior, Future, FutureKind, FutureNode, Message, MessageType,
+    NamedFault, RawMessage, RelatedCommand, Said, Version, header_eq, messages_of,
+};
+use std::alloc::{AllocError, Global};
+use std::str::FromStr;
+use std::test::Fail;
+use std::time::Duration;
+use wire::{Fault, Items, Text, copy_of, is_same, whole};
+
+// A function that owns a message does little else: each `?` behind it drops every kind of message once more.
+
+/// The one frame of a stream.
+fn frame_of(alloc: Global, stream: Bytes) -> Result<RawMessage, Fail> {
+    let mut decoder = Decoder::new(alloc);
+    decoder.push(stream)?;
+    let raw = decoder.next()?.ok_or("a part of a frame")?;
+    if decoder.next()?.is_some() {
+        return Err(Fail::from("two frames"));
+    }
+    Ok(raw)
+}
+
+/// How a message is printed, and its frame.
+fn spelled(alloc: Global, message: &Message) -> Result<(String, Bytes), AllocError> {
+    let text = format!(in alloc; "{message:?}")?;
+    let frame = Encoder::new(alloc).encode(message)?;
+    Ok((text, frame))
+}
+
+/// How the message of a frame is printed, and its frame again.
+fn decoded(alloc: Global, raw: &RawMessage) -> Result<(String, Bytes), Fail> {
+    let message = raw.decode(alloc)?;
+    spelled(alloc, &message).map_err(Fail::from)
+}
+
+/// What is wrong with a frame: an error of the decoder, or of the body.
+fn error_of(alloc: Global, frame: &'static [u8]) -> Result<Option<Error>, Fail> {
+    let mut decoder = Decoder::new(alloc);
+    decoder.push(Bytes::from_static(frame))?;
+    Ok(match decoder.next() {
+        Err(e) => Some(e),
+        Ok(None) => None,
+        Ok(Some(raw)) => raw.decode(alloc).err(),
+    })
+}
+
+/// A frame, and its message as `Debug` shows it.
+static SPELLED: [(&[u8], &str); 15] = [
+    (
+        b"\0\x01\0\0\0\0\0\0\0\x66\
+            \0\0\0\0\0\0\0\x03\xffbc\
+            \0\0\0\0\0\0\0\x03inv\
+            \0\0\0\0\0\0\0\x01k\
+            \0\0\0\x03\
+            \0\0\0\0\0\0\0\x01\0\0\0\0\0\0\0\x01a\0\0\0\0\0\0\0\x01v\
+            \x01\
+            \0\0\0\x07\
+            \0\0\0\0\0\0\x0f\xa0\
+            \x80\0\0\0\0\0\0\x01\
+            \x01\0\0\0\0\0\0\0\x01s\
+            \0\
+            \x01\0\0\0\0\0\0\0\0",
+        "Start(Start { id: b\"\\xffbc\", debug_id: Text { inner: \"inv\" }, \
+        key: Text { inner: \"k\" }, known_entries: 3, state: Items { items: [(b\"a\", b\"v\")] }, \
+        partial: true, retry_count: 7, duration: 4000, random_seed: 9223372036854775809, \
+        scope: Some(Text { inner: \"s\" }), limit_key: None, \
+        idempotency_key: Some(Text { inner: \"\" }) })",
+    ),
+    (
+        b"\0\x02\0\0\0\0\0\0\0\x7e\
+            \0\
+            \0\0\0\0\0\0\0\x01\0\0\0\x01\
+            \0\0\0\0\0\0\0\x01\0\0\0\x11\
+            \0\0\0\0\0\0\0\x01\0\0\0\0\0\0\0\x03foo\
+            \0\0\0\0\0\0\0\x02\
+            \x01\0\0\0\0\0\0\0\x02\0\0\0\x02\0\0\0\x03\0\0\0\0\0\0\0\0\0\0\0\0\0\0\0\0\0\0\0\0\0\0\0\0\
+            \x04\0\0\0\0\0\0\0\0\0\0\0\0\0\0\0\0\0\0\0\0\0\0\0\0\0\0\0\0\0\0\0\0",
+        "Suspension(Suspension { future: Future { nodes: Items { items: [\
+        FutureNode { kind: FirstCompleted, waiting_completions: Items { items: [1] }, \
+        waiting_signals: Items { items: [17] }, \
+        waiting_named_signals: Items { items: [Text { inner: \"foo\" }] }, nested: 2 }, \
+        FutureNode { kind: AllCompleted, waiting_completions: Items { items: [2, 3] }, \
+        waiting_signals: Items { items: [] }, waiting_named_signals: Items { items: [] }, \
+        nested: 0 }, \
+        FutureNode { kind: Unknown, waiting_completions: Items { items: [] }, \
+        waiting_signals: Items { items: [] }, waiting_named_signals: Items { items: [] }, \
+        nested: 0 }] } } })",
+    ),
+    (
+        b"\0\x02\0\0\0\0\0\0\0\x42\
+            \x02\0\0\0\0\0\0\0\0\0\0\0\0\0\0\0\0\0\0\0\0\0\0\0\0\0\0\0\0\0\0\0\x01\
+            \x03\0\0\0\0\0\0\0\0\0\0\0\0\0\0\0\0\0\0\0\0\0\0\0\0\0\0\0\0\0\0\0\0",
+        "Suspension(Suspension { future: Future { nodes: Items { items: [\
+        FutureNode { kind: FirstSucceededOrAllFailed, waiting_completions: Items { items: [] }, \
+        waiting_signals: Items { items: [] }, waiting_named_signals: Items { items: [] }, \
+        nested: 1 }, \
+        FutureNode { kind: AllSucceededOrFirstFailed, waiting_completions: Items { items: [] }, \
+        waiting_signals: Items { items: [] }, waiting_named_signals: Items { items: [] }, \
+        nested: 0 }] } } })",
+    ),
+    (
+        b"\0\x03\0\0\0\0\0\0\0\x36\
+            \0\0\x02\x3a\
+            \0\0\0\0\0\0\0\x02no\
+            \0\0\0\0\0\0\0\x02at\
+            \x01\
+            \x01\0\0\0\x01\
+            \x01\0\0\0\x12\
+            \x01\0\0\0\0\0\0\0\x01n\
+            \x01\0\0\0\0\0\0\x03\xe8",
+        "Error(ErrorMessage { code: 570, message: Text { inner: \"no\" }, \
+        stacktrace: Text { inner: \"at\" }, behavior: Pause, index: Some(1), ty: Some(18), \
+        name: Some(Text { inner: \"n\" }), delay: Some(1000) })",
+    ),
+    (
+        b"\0\x03\0\0\0\0\0\0\0\x19\
+            \0\0\x01\xf4\
+            \0\0\0\0\0\0\0\0\
+            \0\0\0\0\0\0\0\0\
+            \x02\
+            \0\0\0\0",
+        "Error(ErrorMessage { code: 500, message: Text { inner: \"\" }, \
+        stacktrace: Text { inner: \"\" }, behavior: Fail, index: None, ty: None, name: None, \
+        delay: None })",
+    ),
+    (b"\0\x04\0\0\0\0\0\0\0\0", "End"),
+    (
+        b"\0\x0a\0\0\0\0\0\0\0\x26\
+            \0\0\0\0\0\0\0\x01\0\0\0\0\0\0\0\x01k\0\0\0\0\0\0\0\x01v\
+            \0\0\0\0\0\0\0\x04Till",
+        "Input(InputCommand { headers: Items { items: [Header { key: Text { inner: \"k\" }, \
+        value: Text { inner: \"v\" } }] }, value: b\"Till\" })",
+    ),
+    (
+        NAP,
+        "Sleep(SleepCommand { wake_up_time: 1721123699086, result_completion_id: 1, \
+        name: Text { inner: \"nap\" } })",
+    ),
+    (
+        b"\0\x1d\0\0\0\0\0\0\0\x0b\
+            \0\0\0\0\0\0\0\0\x02ok",
+        "Output(OutputCommand { result: Value(b\"ok\") })",
+    ),
+    (
+        b"\0\x1d\0\0\0\0\0\0\0\x30\
+            \x01\0\0\x01\x99\
+            \0\0\0\0\0\0\0\x09cancelled\
+            \0\0\0\0\0\0\0\x01\0\0\0\0\0\0\0\x01a\0\0\0\0\0\0\0\x01b",
+        "Output(OutputCommand { result: Failure(Failure { code: 409, \
+        message: Text { inner: \"cancelled\" }, metadata: Items { items: [(Text { inner: \"a\" }, \
+        Text { inner: \"b\" })] } }) })",
+    ),
+    (
+        b"\0\x1e\0\0\0\0\0\0\0\x06\
+            \0\0\0\0\x01\
+            \0",
+        "Notification(Notification { id: CompletionId(1), result: Void })",
+    ),
+    (
+        b"\0\x1e\0\0\0\0\0\0\0\x0f\
+            \x01\0\0\0\x11\
+            \x01\0\0\0\0\0\0\0\x01v",
+        "Notification(Notification { id: SignalId(17), result: Value(b\"v\") })",
+    ),
+    (
+        b"\0\x1e\0\0\0\0\0\0\0\x21\
+            \x02\0\0\0\0\0\0\0\x03foo\
+            \x02\0\0\x01\x99\0\0\0\0\0\0\0\0\0\0\0\0\0\0\0\0",
+        "Notification(Notification { id: SignalName(Text { inner: \"foo\" }), \
+        result: Failure(Failure { code: 409, message: Text { inner: \"\" }, \
+        metadata: Items { items: [] } }) })",
+    ),
+    (
+        b"\0\x1e\0\0\0\0\0\0\0\x21\
+            \0\0\0\x01\x02\
+            \x03\0\0\0\0\0\0\0\x02\0\0\0\0\0\0\0\x01a\0\0\0\0\0\0\0\x02bc",
+        "Notification(Notification { id: CompletionId(258), \
+        result: StateKeys(Items { items: [b\"a\", b\"bc\"] }) })",
+    ),
+    (
+        b"\0\x1e\0\0\0\0\0\0\0\x11\
+            \0\0\0\0\x03\
+            \x04\0\0\0\0\0\0\0\x03inv",
+        "Notification(Notification { id: CompletionId(3), \
+        result: InvocationId(Text { inner: \"inv\" }) })",
+    ),
+];
+
+const NAP: &[u8] = b"\0\x12\0\0\0\0\0\0\0\x17\
+    \0\0\x01\x90\xba\xf7\x79\x8e\
+    \0\0\0\x01\
+    \0\0\0\0\0\0\0\x03nap";
+
+#[test]
+fn spells_each_message(rt: HostRuntime) -> Result<(), Fail> {
+    let alloc = rt.alloc();
+    for (frame, shown) in &SPELLED {
+        let raw = frame_of(alloc, Bytes::from_static(frame))?;
+        let (text, again) = decoded(alloc, &raw)?;
+        assert_eq!(rt; text.as_str(), *shown);
+        assert_eq!(rt; again.as_slice(), *frame);
+    }
+    Ok(())
+}
+
+#[test]
+fn reads_a_stream_byte_by_byte(rt: HostRuntime) -> Result<(), Fail> {
+    let alloc = rt.alloc();
+    let stream = b"\0\x1d\0\0\0\0\0\0\0\x0b\0\0\0\0\0\0\0\0\x02ok\0\x04\0\0\0\0\0\0\0\0";
+    let mut pieces = Vec::new(alloc);
+    for byte in stream {
+        pieces.push(Bytes::copy_from_slice(alloc, &[*byte])?)?;
+    }
+    let messages = messages_of(alloc, pieces.as_slice())?;
+    let text = format!(in alloc; "{messages:?}")?;
+    assert_eq!(rt;
+        text.as_str(),
+        "[Output(OutputCommand { result: Value(b\"ok\") }), End]"
+    );
+    Ok(())
+}
+
+/// What is no frame or no body, and why.
+static REFUSED: [(&[u8], &str); 17] = [
+    (b"\0\0", "type 0"),
+    (b"\0\x1f", "type 31"),
+    (b"\x01\x04\0\0\0\0\0\0\0\0", "type 260"),
+    (
+        b"\0\x04\0\0\0\0\0\0\0\x01\0",
+        "a byte left over behind nothing",
+    ),
+    (
+        b"\0\x1e\0\0\0\0\0\0\0\x07\0\0\0\0\x01\0\0",
+        "a byte left over",
+    ),
+    (b"\0\x1e\0\0\0\0\0\0\0\x05\0\0\0\0\x01", "a byte too few"),
+    (b"\0\x1e\0\0\0\0\0\0\0\x06\x03\0\0\0\x01\0", "no such id"),
+    (
+        b"\0\x1e\0\0\0\0\0\0\0\x06\0\0\0\0\x01\x05",
+        "no such result",
+    ),
+    (
+        b"\0\x1d\0\0\0\0\0\0\0\x0b\0\0\0\0\0\0\0\0\x03ab",
+        "a value that is cut off",
+    ),
+    (
+        b"\0\x12\0\0\0\0\0\0\0\x15\0\0\0\0\0\0\0\0\0\0\0\x01\0\0\0\0\0\0\0\x01\xff",
+        "a name that is no text",
+    ),
+    (
+        b"\0\x03\0\0\0\0\0\0\0\x19\0\0\x01\xf4\0\0\0\0\0\0\0\0\0\0\0\0\0\0\0\0\0\x02\0\0\0",
+        "a flag that is 2",
+    ),
+    (
+        b"\0\x03\0\0\0\0\0\0\0\x19\0\0\x01\xf4\0\0\0\0\0\0\0\0\0\0\0\0\0\0\0\0\x03\0\0\0\0",
+        "no such behaviour",
+    ),
+    (
+        b"\0\x0a\0\0\0\0\0\0\0\x08\x7f\xff\xff\xff\xff\xff\xff\xff",
+        "headers that are not there",
+    ),
+    (
+        b"\0\x1d\0\0\0\0\0\0\0\x09\0\xff\xff\xff\xff\xff\xff\xff\xff",
+        "a value that is not there",
+    ),
+    (
+        b"\0\x02\0\0\0\0\0\0\0\x21\
+            \x04\0\0\0\0\0\0\0\0\0\0\0\0\0\0\0\0\0\0\0\0\0\0\0\0\xff\xff\xff\xff\xff\xff\xff\xff",
+        "more nested futures than bytes",
+    ),
+    (
+        b"\0\x02\0\0\0\0\0\0\0\x42\
+            \x04\0\0\0\0\0\0\0\0\0\0\0\0\0\0\0\0\0\0\0\0\0\0\0\0\xff\xff\xff\xff\xff\xff\xff\xff\
+            \x04\0\0\0\0\0\0\0\0\0\0\0\0\0\0\0\0\0\0\0\0\0\0\0\0\xff\xff\xff\xff\xff\xff\xff\xff",
+        "more nested futures than a number counts",
+    ),
+    (
+        b"\0\x02\0\0\0\0\0\0\0\x42\
+            \x04\0\0\0\0\0\0\0\0\0\0\0\0\0\0\0\0\0\0\0\0\0\0\0\0\0\0\0\0\0\0\0\0\
+            \x04\0\0\0\0\0\0\0\0\0\0\0\0\0\0\0\0\0\0\0\0\0\0\0\0\0\0\0\0\0\0\0\0",
+        "a future left over",
+    ),
+];
+
+#[test]
+fn refuses_what_is_no_message(rt: HostRuntime) -> Result<(), Fail> {
+    for (frame, what) in &REFUSED {
+        let error = error_of(rt.alloc(), frame)?.ok_or(*what)?;
+        assert_eq!(rt; error.code(), 571, "{what}");
+        assert_eq!(rt; error.message(), "BadMessage", "{what}");
+    }
+    Ok(())
+}
+
+#[test]
+fn waits_for_the_longest_body(rt: HostRuntime) -> Result<(), Fail> {
+    let mut decoder = Decoder::new(rt.alloc());
+    decoder.push(Bytes::from_static(b"\0\x0a\xff\xff\xff\xff\xff\xff\xff\xff"))?;
+    assert!(rt; decoder.next()?.is_none());
+    Ok(())
+}
+
+/// How deep the futures of the tests nest.
+const DEPTH: usize = 100_000;
+
+/// The bytes of a suspension on a future that nests as deep, where the deepest is of a kind: a kind and four counts
+/// each.
+fn deep_body(alloc: Global, kind: u8) -> Result<Bytes, AllocError> {
+    let mut body = Vec::new(alloc);
+    for _ in 1..DEPTH {
+        body.push(4)?;
+        body.extend_from_slice(&[0; 24])?;
+        body.extend_from_slice(&1u64.to_be_bytes())?;
+    }
+    body.push(kind)?;
+    body.extend_from_slice(&[0; 32])?;
+    Bytes::copy_from_slice(alloc, body.as_slice())
+}
+
+fn deep_frame(alloc: Global, kind: u8) -> Result<Bytes, AllocError> {
+    let body = deep_body(alloc, kind)?;
+    let mut frame = Vec::new(alloc);
+    frame.extend_from_slice(&[0, 2])?;
+    frame.extend_from_slice(&(body.len() as u64).to_be_bytes())?;
+    frame.extend_from_slice(body.as_slice())?;
+    Bytes::copy_from_slice(alloc, frame.as_slice())
+}
+
+fn is_alike(alloc: Global, message: &Message, raw: &RawMessage) -> Result<bool, Fail> {
+    let other = raw.decode(alloc)?;
+    Ok(header_eq(&other, message, false))
+}
+
+/// Whether two frames have one message for replay.
+fn are_alike(alloc: Global, a: &RawMessage, b: &RawMessage) -> Result<bool, Fail> {
+    let message = a.decode(alloc)?;
+    is_alike(alloc, &message, b)
+}
+
+fn encoded_again(alloc: Global, raw: &RawMessage) -> Result<Bytes, Fail> {
+    let message = raw.decode(alloc)?;
+    Encoder::new(alloc).encode(&message).map_err(Fail::from)
+}
+
+#[test]
+fn nests_deeply(rt: HostRuntime) -> Result<(), Fail> {
+    let alloc = rt.alloc();
+    let frame = deep_frame(alloc, 4)?;
+    let raw = frame_of(alloc, frame.clone()?)?;
+    assert!(rt; encoded_again(alloc, &raw)?.as_slice() == frame.as_slice());
+    assert!(rt; are_alike(alloc, &raw, &raw)?);
+    let other = frame_of(alloc, deep_frame(alloc, 3)?)?;
+    assert!(rt; !are_alike(alloc, &raw, &other)?);
+    Ok(())
+}
+
+#[test]
+fn refuses_a_deep_future_that_is_cut_off(rt: HostRuntime) -> Result<(), Fail> {
+    let alloc = rt.alloc();
+    let mut body = deep_body(alloc, 4)?;
+    let future = whole::<Future>(alloc, &body)?;
+    assert!(rt; is_same(&future, &future.clone()?));
+    assert_eq!(rt; future.nodes().len(), DEPTH);
+    let least = body.len().min(33);
+    body.truncate(body.len() - least);
+    assert!(rt; matches!(whole::<Future>(alloc, &body), Err(Fault::Malformed)));
+    Ok(())
+}
+
+/// A node in which so many futures nest.
+fn node(alloc: Global, nested: u64) -> FutureNode {
+    FutureNode {
+        kind: FutureKind::Unknown,
+        waiting_completions: Items::new(alloc),
+        waiting_signals: Items::new(alloc),
+        waiting_named_signals: Items::new(alloc),
+        nested,
+    }
+}
+
+/// Whether nodes in which so many futures nest are a future.
+fn is_future(alloc: Global, nested: &[u64]) -> Result<bool, AllocError> {
+    let mut nodes = Items::new(alloc);
+    for n in nested {
+        nodes.push(node(alloc, *n))?;
+    }
+    Ok(Future::from_nodes(nodes).is_some())
+}
+
+#[test]
+fn takes_whole_futures(rt: HostRuntime) -> Result<(), Fail> {
+    let alloc = rt.alloc();
+    assert!(rt; is_future(alloc, &[0])?);
+    assert!(rt; is_future(alloc, &[2, 1, 0, 0])?);
+    assert!(rt; !is_future(alloc, &[])?, "no node");
+    assert!(rt; !is_future(alloc, &[1])?, "a nested one is missing");
+    assert!(rt; !is_future(alloc, &[0, 0])?, "one is left over");
+    assert!(rt;
+        !is_future(alloc, &[u64::MAX, u64::MAX])?,
+        "more than there can be"
+    );
+    let one = Future::waiting(
+        alloc,
+        FutureKind::Unknown,
+        Items::new(alloc),
+        Items::new(alloc),
+        Items::new(alloc),
+    )?;
+    assert_eq!(rt; one.nodes().len(), 1);
+    Ok(())
+}
+
+#[test]
+fn knows_its_versions(rt: HostRuntime) -> Result<(), Fail> {
+    let versions = [
+        ("application/vnd.restate.invocation.v1", Version::V1),
+        ("application/vnd.restate.invocation.v2", Version::V2),
+        ("application/vnd.restate.invocation.v3", Version::V3),
+        ("application/vnd.restate.invocation.v4", Version::V4),
+        ("application/vnd.restate.invocation.v5", Version::V5),
+        ("application/vnd.restate.invocation.v6", Version::V6),
+        ("application/vnd.restate.invocation.v7", Version::V7),
+        ("application/vnd.restate.invocation.v8", Version::V8),
+    ];
+    for (text, version) in versions {
+        assert_eq!(rt; Version::from_str(text)?, version);
+        assert_eq!(rt; version.content_type(), text);
+    }
+    assert!(rt; Version::V4 < Version::minimum_supported_version());
+    assert_eq!(rt; Version::maximum_supported_version(), Version::V8);
+    Ok(())
+}
+
+#[test]
+fn refuses_other_versions(rt: HostRuntime) -> Result<(), Fail> {
+    let texts = [
+        "",
+        "application/vnd.restate.invocation.v",
+        "application/vnd.restate.invocation.v9",
+        "application/vnd.restate.invocation.v77",
+        "Application/vnd.restate.invocation.v7",
+        "application/vnd.restate.invocation.V7",
+        "application/vnd.restate.invocation.v7; charset=utf-8",
+        " application/vnd.restate.invocation.v7",
+    ];
+    for text in texts {
+        let error = Version::from_str(text).err().ok_or("read")?;
+        assert_eq!(rt; error.code(), 415, "{text}");
+        assert_eq!(rt; error.message(), "BadContentType", "{text}");
+    }
+    Ok(())
+}
+
+static FAULTS: [(NamedFault, u16, &str); 39] = [
+    (NamedFault::BadRequest, 400, "BAD_REQUEST"),
+    (NamedFault::MissingContentType, 415, "MISSING_CONTENT_TYPE"),
+    (NamedFault::BadContentType, 415, "BadContentType"),
+    (
+        NamedFault::UnsupportedMediaType,
+        415,
+        "UNSUPPORTED_MEDIA_TYPE",
+    ),
+    (
+        NamedFault::CommandTypeMismatch,
+        570,
+        "CommandTypeMismatchError",
+    ),
+    (NamedFault::CommandMismatch, 570, "CommandMismatchError"),
+    (
+        NamedFault::UncompletedDoProgressDuringReplay,
+        570,
+        "UncompletedDoProgressDuringReplay",
+    ),
+    (NamedFault::UnsupportedFeature, 573, "UNSUPPORTED_FEATURE"),
+    (
+        NamedFault::UnsupportedFeatureForNegotiatedVersion,
+        573,
+        "UnsupportedFeatureForNegotiatedVersion",
+    ),
+    (NamedFault::Closed, 598, "ClosedError"),
+    (NamedFault::Suspended, 599, "SUSPENDED"),
+    (NamedFault::Memory, 500, ""),
+    (
+        NamedFault::EmptyIdempotencyKey,
+        500,
+        "EMPTY_IDEMPOTENCY_KEY",
+    ),
+    (NamedFault::EmptyScope, 500, "EMPTY_SCOPE"),
+    (NamedFault::EmptyLimitKey, 500, "EMPTY_LIMIT_KEY"),
+    (NamedFault::OutOfBoundsDuration, 500, "OutOfBoundsDuration"),
+    (
+        NamedFault::ExhaustedCompletionIds,
+        500,
+        "exhausted: completion ids",
+    ),
+    (NamedFault::ExhaustedSignalIds, 500, "exhausted: signal ids"),
+    (NamedFault::ExhaustedHandles, 500, "exhausted: handles"),
+    (
+        NamedFault::ExhaustedCommandIndexes,
+        500,
+        "exhausted: command indexes",
+    ),
+    (
+        NamedFault::ExhaustedEphemeralIds,
+        500,
+        "exhausted: ephemeral ids",
+    ),
+    (NamedFault::NoPendingRun, 500, "no pending run"),
+    (NamedFault::BadMessage, 571, "BadMessage"),
+    (NamedFault::BadEagerStateKey, 571, "BadEagerStateKeyError"),
+    (NamedFault::KnownEntriesIsZero, 571, "KNOWN_ENTRIES_IS_ZERO"),
+    (
+        NamedFault::UnexpectedEntryMessage,
+        571,
+        "UNEXPECTED_ENTRY_MESSAGE",
+    ),
+    (NamedFault::UnexpectedState, 571, "UnexpectedStateError"),
+    (
+        NamedFault::UnexpectedInputMessage,
+        571,
+        "UNEXPECTED_INPUT_MESSAGE",
+    ),
+    (
+        NamedFault::InputClosedWhileWaitingEntries,
+        571,
+        "INPUT_CLOSED_WHILE_WAITING_ENTRIES",
+    ),
+    (NamedFault::UnavailableEntry, 571, "UnavailableEntryError"),
+    (NamedFault::EmptyGetEagerState, 571, "EMPTY_GET_EAGER_STATE"),
+    (
+        NamedFault::EmptyGetEagerStateKeys,
+        571,
+        "EMPTY_GET_EAGER_STATE_KEYS",
+    ),
+    (
+        NamedFault::BadProposeRunCompletionAck,
+        571,
+        "BadProposeRunCompletionAck",
+    ),
+    (
+        NamedFault::InputClosedWhileWaitingEphemeralNotifications,
+        571,
+        "INPUT_CLOSED_WHILE_WAITING_EPHEMERAL_NOTIFICATIONS",
+    ),
+    (
+        NamedFault::EphemeralCommandDuringReplay,
+        571,
+        "EPHEMERAL_COMMAND_DURING_REPLAY",
+    ),
+    (
+        NamedFault::EphemeralStateGetWithClosedInput,
+        571,
+        "EphemeralStateGetWithClosedInput",
+    ),
+    (
+        NamedFault::EmptyGetStateEphemeralNotification,
+        571,
+        "EMPTY_GET_STATE_EPHEMERAL_NOTIFICATION",
+    ),
+    (
+        NamedFault::UnexpectedInvocationIdResult,
+        571,
+        "unexpected result for an invocation id",
+    ),
+    (NamedFault::StateKeyIsNotUtf8, 571, "state key is not UTF-8"),
+];
+
+#[test]
+fn names_its_faults(rt: HostRuntime) {
+    for (fault, code, text) in &FAULTS {
+        assert_eq!(rt; fault.code(), *code, "{text}");
+        assert_eq!(rt; fault.text(), *text);
+    }
+}
+
+#[test]
+fn numbers_its_types(rt: HostRuntime) -> Result<(), Fail> {
+    let types = [
+        (1, MessageType::Start),
+        (7, MessageType::AwaitingOn),
+        (10, MessageType::InputCommand),
+        (11, MessageType::GetEagerStateCommand),
+        (18, MessageType::SleepCommand),
+        (22, MessageType::SendSignalCommand),
+        (29, MessageType::OutputCommand),
+        (30, MessageType::Notification),
+    ];
+    for (number, ty) in types {
+        assert_eq!(rt; MessageType::from_number(number), Some(ty));
+        assert_eq!(rt; ty.number(), number);
+        assert_eq!(rt; ty.is_command(), 10 <= number && number < 30, "{number}");
+        assert_eq!(rt; ty.is_notification(), number == 30, "{number}");
+    }
+    Ok(())
+}
+
+#[test]
+fn writes_an_error(rt: HostRuntime) -> Result<(), Fail> {
+    let alloc = rt.alloc();
+    let error = Error::new(570, String::from_str(alloc, "no")?)
+        .with_stacktrace(String::from_str(alloc, "at")?)
+        .with_behavior(ErrorBehavior::Pause)
+        .with_next_retry_delay(Duration::from_micros(1_999));
+    let message = error.clone()?.to_message(alloc)?;
+    let text = format!(in alloc; "{} {} {message:?}", error.code(), error.message())?;
+    assert_eq!(rt;
+        text.as_str(),
+        "570 no ErrorMessage { code: 570, message: Text { inner: \"no\" }, \
+        stacktrace: Text { inner: \"at\" }, behavior: Pause, index: None, ty: None, name: None, \
+        delay: Some(1) }"
+    );
+    Ok(())
+}
+
+#[test]
+fn writes_what_an_error_relates_to(rt: HostRuntime) -> Result<(), Fail> {
+    let alloc = rt.alloc();
+    let related = RelatedCommand {
+        index: 1,
+        ty: MessageType::SleepCommand,
+        name: Text::from_string(String::new(alloc)),
+    };
+    let error = Error::named(NamedFault::Closed, Some(related)).with_next_retry_delay(
+        Duration::MAX,
+    );
+    let text = format!(in alloc; "{:?}", error.to_message(alloc)?)?;
+    assert_eq!(rt;
+        text.as_str(),
+        "ErrorMessage { code: 598, message: Text { inner: \"ClosedError\" }, \
+        stacktrace: Text { inner: \"\" }, behavior: Retry, index: Some(1), ty: Some(18), name: None, \
+        delay: Some(18446744073709551615) }"
+    );
+    Ok(())
+}
+
+#[test]
+fn tells_a_fault(rt: HostRuntime) {
+    assert_eq!(rt; Error::from(Fault::Malformed).message(), "BadMessage");
+    assert_eq!(rt; Error::from(Fault::Memory).code(), 500);
+}
+
+#[test]
+fn lets_go_of_what_waits(rt: HostRuntime) -> Result<(), Fail> {
+    let mut decoder = Decoder::new(rt.alloc());
+    decoder.push(Bytes::from_static(NAP))?;
+    decoder.push(Bytes::from_static(b"\0"))?;
+    let raw = decoder.next_frame()?.ok_or("a part of a frame")?;
+    decoder.clear();
+    decoder.push(Bytes::from_static(NAP))?;
+    assert!(rt; decoder.next_frame()? == Some(raw.clone()?));
+    Ok(())
+}
+
+#[test]
+fn copies_texts(rt: HostRuntime) -> Result<(), Fail> {
+    let alloc = rt.alloc();
+    let text = Text::from_string(String::from_str(alloc, "text")?);
+    assert!(rt; is_same(&text, &copy_of(&text)?));
+    assert_eq!(rt; text.into_string().as_str(), "text");
+    let said = Said::own(String::from_str(alloc, "own")?);
+    assert_eq!(rt; said.clone()?.as_str(), "own");
+    Ok(())
+}
+
+#[test]
+fn reads_a_list(rt: HostRuntime) -> Result<(), Fail> {
+    let numbers = whole::<Items<u32>>(
+        rt.alloc(),
+        &Bytes::from_static(b"\0\0\0\0\0\0\0\x01\0\0\0\x07"),
+    )?;
+    assert!(rt; numbers == numbers.clone()?);
+    assert!(rt; Items::empty_like(&numbers).is_empty());
+    assert_eq!(rt; numbers.get(0), Some(&7));
+    assert_eq!(rt; numbers.into_vec().as_slice(), [7].as_slice());
+    Ok(())
+}

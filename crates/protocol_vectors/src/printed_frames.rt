@@ -1,0 +1,183 @@
+// The rows as lines and as frames, and whole runs of the program.
+use crate::frame_rows::{BAD, FRAMES, OTHER};
+use bytes::Bytes;
+use frame_lines::entry::{frame_of, print_frame};
+use frame_lines::exit_status::ExitStatus;
+use frame_lines::run::{Unread, decode, encode, frames_of};
+use journal_protocol::Decoder;
+use lines::atoms::bytes_of;
+use lines::line::Line;
+use std::alloc::Global;
+use std::io::{self, Read, Write};
+use std::test::Fail;
+use wire::Fault;
+
+#[test]
+fn frames_as_lines(rt: HostRuntime) -> Result<(), Fail> {
+    let alloc = rt.alloc();
+    for (text, hex) in FRAMES {
+        let mut decoder = Decoder::new(alloc);
+        decoder.push(Bytes::from_vec(bytes_of(alloc, hex.as_bytes())?)?)?;
+        let raw = decoder.next_frame()?.ok_or("no whole frame")?;
+        let mut line = Line::new(alloc);
+        print_frame(alloc, &raw, &mut line)?;
+        assert_eq!(rt; line.as_str(), text);
+    }
+    Ok(())
+}
+
+#[test]
+fn lines_as_frames(rt: HostRuntime) -> Result<(), Fail> {
+    let alloc = rt.alloc();
+    for (text, hex) in FRAMES {
+        let frame = bytes_of(alloc, hex.as_bytes())?;
+        assert_eq!(rt;
+            frame_of(alloc, text.as_bytes())?.as_slice(),
+            frame.as_slice(),
+            "{text}"
+        );
+    }
+    Ok(())
+}
+
+#[test]
+fn lines_in_other_forms(rt: HostRuntime) -> Result<(), Fail> {
+    let alloc = rt.alloc();
+    for (text, hex) in OTHER {
+        let frame = bytes_of(alloc, hex.as_bytes())?;
+        assert_eq!(rt;
+            frames_of(alloc, text.as_bytes())?.as_slice(),
+            frame.as_slice(),
+            "{text}"
+        );
+    }
+    Ok(())
+}
+
+#[test]
+fn lines_without_a_meaning(rt: HostRuntime) -> Result<(), Fail> {
+    let alloc = rt.alloc();
+    for text in BAD {
+        assert_eq!(rt;
+            frame_of(alloc, text.as_bytes()).err(),
+            Some(Fault::Malformed),
+            "{text}"
+        );
+    }
+    assert_eq!(rt;
+        frames_of(alloc, b"End\n\n# no\nend\nEnd\n"),
+        Err(Unread::Line(4))
+    );
+    Ok(())
+}
+
+/// The frame of a suspension on a future that nests so deep.
+fn deep_frame(alloc: Global, depth: u64) -> Result<Bytes, Fail> {
+    let mut body = Vec::new(alloc);
+    for i in 0..depth {
+        body.extend_from_slice(&[4])?;
+        body.extend_from_slice(&[0; 24])?;
+        body.extend_from_slice(&u64::from(i + 1 < depth).to_be_bytes())?;
+    }
+    let mut frame = Vec::new(alloc);
+    frame.extend_from_slice(&[0, 2])?;
+    frame.extend_from_slice(&(body.len() as u64).to_be_bytes())?;
+    frame.extend_from_slice(body.as_slice())?;
+    Ok(Bytes::from_vec(frame)?)
+}
+
+#[test]
+fn deep_futures_as_lines(rt: HostRuntime) -> Result<(), Fail> {
+    let alloc = rt.alloc();
+    let mut decoder = Decoder::new(alloc);
+    decoder.push(deep_frame(alloc, 100_000)?)?;
+    let raw = decoder.next_frame()?.ok_or("no whole frame")?;
+    let mut line = Line::new(alloc);
+    print_frame(alloc, &raw, &mut line)?;
+    let levels = "(kind=Unknown nested=[])".len() * 99_999;
+    assert_eq!(rt;
+        line.as_str().len(),
+        "Suspension future=(kind=Unknown)".len() + levels
+    );
+    Ok(())
+}
+
+/// A reader and a writer that fail after some bytes.
+#[derive(Debug, Drop)]
+struct Failing {
+    left: usize,
+}
+
+impl Read for Failing {
+    fn read(&mut self, buf: &mut [u8]) -> io::Result<usize> {
+        if self.left == 0 || buf.is_empty() {
+            return Err(io::Error::other("no more"));
+        }
+        self.left -= 1;
+        buf[0] = 0;
+        Ok(1)
+    }
+}
+
+impl Write for Failing {
+    fn write(&mut self, buf: &[u8]) -> io::Result<usize> {
+        if self.left == 0 || buf.is_empty() {
+            return Err(io::Error::other("no more"));
+        }
+        self.left -= 1;
+        Ok(1)
+    }
+
+    fn flush(&mut self) -> io::Result<()> {
+        Ok(())
+    }
+}
+
+#[test]
+fn whole_runs(rt: HostRuntime) -> Result<(), Fail> {
+    let alloc = rt.alloc();
+    let mut lines = Vec::new(alloc);
+    let frames = [0, 4, 0, 0, 0, 0, 0, 0, 0, 0, 0, 31];
+    assert_eq!(rt;
+        decode(alloc, &mut frames.as_slice(), &mut lines),
+        ExitStatus::Done
+    );
+    assert_eq!(rt; lines.as_slice(), b"End\nrest 0x001f\n".as_slice());
+    let mut again = Vec::new(alloc);
+    assert_eq!(rt;
+        encode(alloc, &mut lines.as_slice(), &mut again),
+        ExitStatus::Done
+    );
+    assert_eq!(rt; again.as_slice(), frames.as_slice());
+    Ok(())
+}
+
+#[test]
+fn failing_runs(rt: HostRuntime) -> Result<(), Fail> {
+    let alloc = rt.alloc();
+    let end = [0, 4, 0, 0, 0, 0, 0, 0, 0, 0];
+    let mut out = Vec::new(alloc);
+    assert_eq!(rt;
+        decode(alloc, &mut Failing { left: 12 }, &mut out),
+        ExitStatus::Failed
+    );
+    assert_eq!(rt;
+        encode(alloc, &mut Failing { left: 0 }, &mut out),
+        ExitStatus::Failed
+    );
+    assert_eq!(rt; out.len(), 0);
+    assert_eq!(rt;
+        decode(alloc, &mut end.as_slice(), &mut Failing { left: 3 }),
+        ExitStatus::Failed
+    );
+    assert_eq!(rt;
+        encode(alloc, &mut b"End".as_slice(), &mut Failing { left: 9 }),
+        ExitStatus::Failed
+    );
+    assert_eq!(rt;
+        encode(alloc, &mut b"Stop".as_slice(), &mut out),
+        ExitStatus::BadLine(1)
+    );
+    assert_eq!(rt; out.len(), 0);
+    Ok(())
+}
