@@ -1,25 +1,27 @@
--- The call of the VM that a line's call is: one row a call.
-use Rattle.std.specs.Prelude.{[], ◌≡◌, ◌/◌, ℕ, Bool, List, Result, Ok, Err, IfOk, string_bytes}
-use Rattle.std.specs.Duration.{as_nanos}
+-- The call of the VM that a line's call is: one row a call, and one row a kind of what a handler's steps ask for.
+use Rattle.std.specs.Prelude.{[], ◌≡◌, ℕ, Bool, List, Result, Ok, Err, IfOk}
 use Rattle.std.specs.declared.alloc.AllocError.{AllocError}
 use Rattle.journal_protocol.specs.declared.error.Error.{Error}
+use Rattle.journal_protocol.specs.declared.message.RawMessage.{RawMessage}
 use Rattle.journal_protocol.specs.declared.version.Version.{Version}
 use Rattle.journal_protocol.specs.Errors.{no_memory}
+use Rattle.vm_parts.specs.declared.steps.Answer.TheVariants as answer
+use Rattle.vm_parts.specs.declared.steps.Step.{Step}
 use Rattle.vm_parts.specs.declared.types.AwaitResponse.{AwaitResponse}
-use Rattle.vm_parts.specs.declared.values.ResponseHead.{ResponseHead}
 use Rattle.vm_parts.specs.declared.types.UnresolvedFuture.{UnresolvedFuture}
-use Rattle.vm_parts.specs.declared.types.UnresolvedFuture.TheVariants.{Single}
+use Rattle.vm_parts.specs.declared.values.ResponseHead.{ResponseHead}
+use Rattle.vm_machine.specs.declared.asks.Ask.{Ask}
+use Rattle.vm_machine.specs.declared.asks.Ask.TheVariants as ask
 use Rattle.vm_machine.specs.declared.machine.Machine.{Machine}
-use Rattle.vm_machine.specs.declared.asks.Command.{Command}
-use Rattle.vm_machine.specs.Asks.{cancel_invocation_command, clear_all_state_command, clear_state_command, complete_awakeable_command, complete_signal_command, output_command, set_state_command, sleep_command}
-use Rattle.vm_machine.specs.Commands.{commanded, unit_of}
+use Rattle.vm_machine.specs.Asks.{ask_of, command_answer}
 use Rattle.vm_machine.specs.Awaits.{IsReadyAt, is_completed, last_index, state_of, take_step}
+use Rattle.vm_machine.specs.Commands.{commanded}
 use Rattle.vm_machine.specs.Inputs.{end_step, input_step}
 use Rattle.vm_machine.specs.Outcomes.{Outcome}
-use Rattle.invocation_vm.specs.Calls.{future_step, name_or_empty, new_awakeable_step}
+use Rattle.vm_machine.specs.Requests.{ids_of}
+use Rattle.invocation_vm.specs.Calls.{future_step, new_awakeable_step}
 use Rattle.invocation_vm.specs.Making.{response_head}
 use Rattle.invocation_vm.specs.Views.{View, Calls, CallsFlat, Leaves, TakesOutput, after_closing, after_error, after_input, brought}
-use Rattle.journal_protocol.specs.declared.message.RawMessage.{RawMessage}
 use Rattle.scripts.specs.declared.request.Call.{Call}
 use Rattle.scripts.specs.declared.request.Call.TheVariants as call
 use Rattle.scripts.specs.declared.reply.Reply.{Reply}
@@ -69,40 +71,30 @@ pub record TellsHead (version : Version) (answer : Reply) : Type 0 where
 pub record TellsReady (machine : Machine) (answer : Reply) : Type 0 where
   pub given : Result Bool Error
   pub ready : IsReadyAt machine.failure machine.phase given
-  pub told : answer ≡ reply_of reply.Flag given
+  pub told : answer ≡ reply_of reply.Ready given
 
--- a call that has a command, and is answered by its handle
-abbrev pub Handles : Command → Reply → View → View → Type 0
-Handles c answer old new = Answers reply.Handle (commanded c) answer old new
+-- what the call does that is asked for
+abbrev pub DoneAsAsked : Ask → Reply → View → View → Type 0
+DoneAsAsked (ask.Command c) told old new = Answers (λ handle. reply.Answer (command_answer (ids_of c.message) handle)) (commanded c) told old new
+DoneAsAsked ask.Awakeable told old new = Answers (λ made. reply.Answer (answer.Awakeable made)) new_awakeable_step told old new
+DoneAsAsked (ask.Await future) told old new = Awaits future told old new
+DoneAsAsked (ask.Take handle) told old new = Answers (λ value. reply.Answer (answer.Taken value)) (take_step handle.0) told old new
+DoneAsAsked (ask.Completed handle) told old new = (told ≡ reply.Answer (answer.Completed (is_completed handle.0 old.machine))) × (new ≡ old)
+DoneAsAsked ask.End told old new = Answers (λ _. reply.Answer answer.Unit) end_step told old new
 
--- a call that has a command, and answers nothing
-abbrev pub Acts : Command → Reply → View → View → Type 0
-Acts c answer old new = Answers (λ _. reply.Done) (λ v. unit_of (commanded c v)) answer old new
+-- what the call of a handler's step does
+abbrev pub StepDone : Step → Reply → View → View → Type 0
+StepDone step told old new = DoneAsAsked (ask_of old.machine.version step) told old new
 
 -- what a line's call does
 abbrev pub Called : Call → Reply → View → View → Type 0
-Called call.Head answer old new = TellsHead old.machine.version answer × (new ≡ old)
-Called (call.Input bytes) answer old new = Feeds (brought old bytes) (after_input old bytes) answer old new
-Called call.Close answer old new = Feeds [] (after_closing old) answer old new
-Called call.Output answer old new = Drains answer old new
-Called call.Ready answer old new = TellsReady old.machine answer × (new ≡ old)
-Called call.State answer old new = (answer ≡ reply.State (state_of old.machine)) × (new ≡ old)
-Called call.Index answer old new = (answer ≡ reply.Index (last_index old.machine.counters.command)) × (new ≡ old)
-Called (call.Error error relationship) answer old new = Feeds [] (after_error old error relationship) answer old new
-Called (call.Await handle) answer old new = Awaits (Single handle) answer old new
-Called (call.Completed handle) answer old new = (answer ≡ reply.Flag (is_completed handle.0 old.machine)) × (new ≡ old)
-Called (call.Take handle) answer old new = Answers reply.Taken (take_step handle.0) answer old new
-Called call.SysInput answer old new = Answers reply.Input input_step answer old new
-Called (call.Set key value name options) answer old new =
-    Acts (set_state_command (string_bytes key) value (name_or_empty name) options) answer old new
-Called (call.Clear key name) answer old new = Acts (clear_state_command (string_bytes key) (name_or_empty name)) answer old new
-Called (call.ClearAll name) answer old new = Acts (clear_all_state_command (name_or_empty name)) answer old new
-Called (call.Sleep name until now) answer old new = Handles (sleep_command (as_nanos until / 1000000) (string_bytes name)) answer old new
-Called call.Awakeable answer old new = Answers reply.Awakeable new_awakeable_step answer old new
-Called (call.CompleteAwakeable id value options) answer old new =
-    Acts (complete_awakeable_command (string_bytes id) value options old.machine.version) answer old new
-Called (call.CompleteSignal target name value) answer old new =
-    Acts (complete_signal_command (string_bytes target) (string_bytes name) value old.machine.version) answer old new
-Called (call.Cancel target) answer old new = Acts (cancel_invocation_command (string_bytes target)) answer old new
-Called (call.WriteOutput value options) answer old new = Acts (output_command value options old.machine.version) answer old new
-Called call.End answer old new = Answers (λ _. reply.Done) end_step answer old new
+Called call.Head told old new = TellsHead old.machine.version told × (new ≡ old)
+Called (call.Input bytes) told old new = Feeds (brought old bytes) (after_input old bytes) told old new
+Called call.Close told old new = Feeds [] (after_closing old) told old new
+Called call.Output told old new = Drains told old new
+Called call.Ready told old new = TellsReady old.machine told × (new ≡ old)
+Called call.State told old new = (told ≡ reply.State (state_of old.machine)) × (new ≡ old)
+Called call.Index told old new = (told ≡ reply.Index (last_index old.machine.counters.command)) × (new ≡ old)
+Called (call.Error error relationship) told old new = Feeds [] (after_error old error relationship) told old new
+Called call.SysInput told old new = Answers (λ input. reply.Answer (answer.Input input)) input_step told old new
+Called (call.Step step) told old new = StepDone step told old new

@@ -5,3 +5,5 @@ pub mod Performed
 pub mod Durations
 pub mod Reports
 pub mod Verbs
+pub mod Printed
+pub mod Transcripts

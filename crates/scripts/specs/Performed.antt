@@ -1,7 +1,6 @@
--- What a line of the script does to the VM, and what of its answer is fixed.
-use Rattle.std.specs.Prelude.{◌≡◌, ℕ, List, ◌++◌, codes, Option, Some, None, Result, Ok, Err}
+-- What a line of the script does to the VM, and what it is answered.
+use Rattle.std.specs.Prelude.{◌≡◌, codes, Option, Some, None, Result, Ok, Err}
 use Rattle.std.proofs.Common.{Global}
-use Rattle.std.specs.Fmt.{decimal}
 use Rattle.journal_protocol.specs.declared.error.Error.{Error}
 use Rattle.journal_protocol.specs.declared.version.Version.{Version}
 use Rattle.journal_protocol.specs.Errors.{no_memory}
@@ -9,7 +8,6 @@ use Rattle.vm_parts.specs.declared.options.VMOptions.{VMOptions}
 use Rattle.invocation_vm.specs.declared.core_vm.CoreVM.{CoreVM}
 use Rattle.invocation_vm.specs.Making.{made, version_in}
 use Rattle.invocation_vm.specs.Seen.{seen}
-use Rattle.lines.specs.Atoms.{quoted}
 use Rattle.scripts.specs.declared.request.Request.{Request}
 use Rattle.scripts.specs.declared.request.Request.TheVariants as request
 use Rattle.scripts.specs.declared.reply.Reply.{Reply}
@@ -34,12 +32,3 @@ Performed alloc (request.Make content_type options) old answer new = Made alloc 
 Performed alloc (request.Call call) None answer new = (answer ≡ reply.NoVm) × (new ≡ None)
 Performed alloc (request.Call call) (Some vm) answer None = ⊥
 Performed alloc (request.Call call) (Some vm) answer (Some after) = Called call answer (seen vm) (seen after)
-
--- the line that some answers have
-abbrev pub Printed : Reply → List ℕ → List ℕ → Type 0
-Printed reply.Nothing old new = new ≡ old
-Printed reply.Bad old new = new ≡ old ++ codes "bad"
-Printed reply.NoVm old new = new ≡ old ++ codes "none"
-Printed reply.Done old new = new ≡ old ++ codes "ok"
-Printed (reply.Refused e) old new = new ≡ old ++ codes "err " ++ decimal e.code ++ codes " " ++ quoted e.message
-Printed answer old new = Unit {0}

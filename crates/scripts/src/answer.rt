@@ -2,7 +2,7 @@
 ghost use Rattle.std.specs.Prelude.{◌≡◌, ◌++◌, codes, OnOk};
 ghost use Rattle.std.specs.Fmt.{decimal};
 ghost use Rattle.lines.specs.Atoms.{quoted};
-ghost use Rattle.scripts.specs.Performed.{Printed};
+ghost use Rattle.scripts.specs.Printed.{AnswerPrinted, Printed, ValuePrinted};
 
 use crate::reply::Reply;
 use invocation_vm::{
@@ -12,13 +12,16 @@ use invocation_vm::{
 use journal_protocol::Header;
 use lines::line::Line;
 use std::alloc::AllocError;
+use vm_parts::Answer;
 use wire::Text;
 
 fn flag(flag: bool, line: &mut Line) -> Result<(), AllocError> {
     line.word(if flag { "true" } else { "false" })
 }
 
-fn text(text: &Text, line: &mut Line) -> Result<(), AllocError> {
+fn text(text: &Text, line: &mut Line) -> Result<(), AllocError>
+    ensures { OnOk result (line.new ≡ line.old ++ quoted text.now) }
+{
     line.quoted(text.as_str().as_bytes())
 }
 
@@ -89,7 +92,6 @@ fn headers(headers: &[Header], line: &mut Line) -> Result<(), AllocError> {
 }
 
 fn head(head: &ResponseHead, line: &mut Line) -> Result<(), AllocError> {
-    line.word("ok ")?;
     line.number(u64::from(head.status_code))?;
     line.word(" ")?;
     line.word(version_name(head.version))?;
@@ -162,7 +164,7 @@ fn value(value: &Value, line: &mut Line) -> Result<(), AllocError> {
 }
 
 fn input(input: &Input, line: &mut Line) -> Result<(), AllocError> {
-    line.word("ok id=")?;
+    line.word("id=")?;
     text(&input.invocation_id, line)?;
     line.word(" seed=")?;
     line.number(input.random_seed)?;
@@ -181,26 +183,52 @@ fn input(input: &Input, line: &mut Line) -> Result<(), AllocError> {
 }
 
 /// The handle of an awakeable, and its id.
-fn awakeable(given: &AwakeableHandle, line: &mut Line) -> Result<(), AllocError> {
+fn awakeable(given: &AwakeableHandle, line: &mut Line) -> Result<(), AllocError>
+    ensures { OnOk result (line.new ≡ line.old ++ decimal given.now.handle.0 ++ codes " " ++ quoted given.now.id) }
+{
     line.number(u64::from(given.handle.0))?;
     line.word(" ")?;
     text(&given.id, line)
 }
 
+/// What was taken, if anything was.
+fn taken(given: &Option<Value>, line: &mut Line) -> Result<(), AllocError> {
+    match given {
+        Some(given) => value(given, line),
+        None => line.word("none"),
+    }
+}
+
+/// What a call of a handler answered.
+fn answered(given: &Answer, line: &mut Line) -> Result<(), AllocError>
+    ensures { OnOk result (AnswerPrinted given.now line.old line.new) }
+{
+    match given {
+        Answer::Input(given) => input(given, line),
+        Answer::Handle(handle) => line.number(u64::from(handle.0)),
+        Answer::Awakeable(given) => awakeable(given, line),
+        Answer::Unit => Ok(()),
+        Answer::Awake => line.word("any"),
+        Answer::Cancelled => line.word("cancelled"),
+        Answer::Taken(given) => taken(given, line),
+        Answer::Completed(given) => flag(*given, line),
+    }
+}
+
 /// What a call answered with a value.
-fn print_value(reply: &Reply, line: &mut Line) -> Result<(), AllocError> {
+fn print_value(reply: &Reply, line: &mut Line) -> Result<(), AllocError>
+    ensures { OnOk result (ValuePrinted reply.now line.old line.new) }
+{
     line.word("ok ")?;
     match reply {
         Reply::Made(version) => line.word(version_name(*version)),
+        Reply::Head(given) => head(given, line),
         Reply::Output(bytes) => line.hex(bytes.as_slice()),
-        Reply::Flag(given) => flag(*given, line),
+        Reply::Ready(given) => flag(*given, line),
         Reply::State(state) => line.word(state_name(*state)),
         Reply::Index(given) => index(*given, line),
         Reply::Awaited(response) => awaited(*response, line),
-        Reply::Taken(Some(given)) => value(given, line),
-        Reply::Taken(None) => line.word("none"),
-        Reply::Handle(handle) => line.number(u64::from(handle.0)),
-        Reply::Awakeable(given) => awakeable(given, line),
+        Reply::Answer(given) => answered(given, line),
         _ => Ok(()),
     }
 }
@@ -214,9 +242,7 @@ pub fn print(reply: &Reply, line: &mut Line) -> Result<(), AllocError>
         Reply::Bad => line.word("bad"),
         Reply::NoVm => line.word("none"),
         Reply::Refused(given) => error(given, line),
-        Reply::Done => line.word("ok"),
-        Reply::Head(given) => head(given, line),
-        Reply::Input(given) => input(given, line),
+        Reply::Done | Reply::Answer(Answer::Unit) => line.word("ok"),
         _ => print_value(reply, line),
     }
 }

@@ -2,6 +2,7 @@
 #![tactic(auto)]
 
 pub mod answer;
+pub mod arguments;
 pub mod atoms;
 pub mod content_type;
 pub mod exit_status;

@@ -1,8 +1,12 @@
 //! What a line asks for, done.
 ghost use Rattle.std.specs.Prelude.{◌≡◌, codes};
+ghost use Rattle.vm_machine.specs.Asks.{command_answer};
+ghost use Rattle.vm_machine.specs.Commands.{commanded};
+ghost use Rattle.vm_machine.specs.Requests.{ids_of};
+ghost use Rattle.vm_parts.specs.declared.steps.Answer.TheVariants as answer;
 ghost use Rattle.invocation_vm.specs.Making.{version_in};
 ghost use Rattle.invocation_vm.specs.Seen.{seen};
-ghost use Rattle.scripts.specs.Called.{Called, reply_of, reply_or_memory};
+ghost use Rattle.scripts.specs.Called.{Answers, Called, StepDone, reply_of, reply_or_memory};
 ghost use Rattle.scripts.specs.ContentTypes.{found};
 ghost use Rattle.scripts.specs.declared.reply.Reply.TheVariants as reply;
 ghost use Rattle.scripts.specs.Performed.{Made, Performed};
@@ -12,19 +16,13 @@ use crate::reply::Reply;
 use crate::request::{Call, Request};
 use bytes::Bytes;
 use invocation_vm::{
-    AwaitResponse, AwakeableHandle, CoreVM, Error, Input, NotificationHandle, ResponseHead,
-    UnresolvedFuture, VM, VMOptions, VMResult, Value,
+    AwaitResponse, AwakeableHandle, CoreVM, Error, Input, ResponseHead, VM, VMOptions, VMResult,
+    Value,
 };
 use std::alloc::{AllocError, Global};
-
-fn done(given: VMResult<()>) -> Reply
-    ensures { result ≡ reply_of (λ _. reply.Done) given }
-{
-    match given {
-        Ok(()) => Reply::Done,
-        Err(error) => Reply::Refused(error),
-    }
-}
+use vm_machine::asks::command_answer;
+use vm_machine::{Ask, Command};
+use vm_parts::{Answer, Step};
 
 /// The answer of a call that answers nothing but want of memory.
 fn fed(given: Result<(), AllocError>) -> Reply
@@ -33,60 +31,6 @@ fn fed(given: Result<(), AllocError>) -> Reply
     match given {
         Ok(()) => Reply::Done,
         Err(error) => Reply::Refused(Error::from(error)),
-    }
-}
-
-fn handle(given: VMResult<NotificationHandle>) -> Reply
-    ensures { result ≡ reply_of reply.Handle given }
-{
-    match given {
-        Ok(handle) => Reply::Handle(handle),
-        Err(error) => Reply::Refused(error),
-    }
-}
-
-fn awakeable(given: VMResult<AwakeableHandle>) -> Reply
-    ensures { result ≡ reply_of reply.Awakeable given }
-{
-    match given {
-        Ok(awakeable) => Reply::Awakeable(awakeable),
-        Err(error) => Reply::Refused(error),
-    }
-}
-
-fn flag(given: VMResult<bool>) -> Reply
-    ensures { result ≡ reply_of reply.Flag given }
-{
-    match given {
-        Ok(flag) => Reply::Flag(flag),
-        Err(error) => Reply::Refused(error),
-    }
-}
-
-fn awaited(given: VMResult<AwaitResponse>) -> Reply
-    ensures { result ≡ reply_of reply.Awaited given }
-{
-    match given {
-        Ok(response) => Reply::Awaited(response),
-        Err(error) => Reply::Refused(error),
-    }
-}
-
-fn taken(given: VMResult<Option<Value>>) -> Reply
-    ensures { result ≡ reply_of reply.Taken given }
-{
-    match given {
-        Ok(value) => Reply::Taken(value),
-        Err(error) => Reply::Refused(error),
-    }
-}
-
-fn input(given: VMResult<Input>) -> Reply
-    ensures { result ≡ reply_of reply.Input given }
-{
-    match given {
-        Ok(input) => Reply::Input(input),
-        Err(error) => Reply::Refused(error),
     }
 }
 
@@ -108,8 +52,89 @@ fn output(given: Result<Bytes, AllocError>) -> Reply
     }
 }
 
+fn ready(given: VMResult<bool>) -> Reply
+    ensures { result ≡ reply_of reply.Ready given }
+{
+    match given {
+        Ok(is_ready) => Reply::Ready(is_ready),
+        Err(error) => Reply::Refused(error),
+    }
+}
+
+fn awaited(given: VMResult<AwaitResponse>) -> Reply
+    ensures { result ≡ reply_of reply.Awaited given }
+{
+    match given {
+        Ok(response) => Reply::Awaited(response),
+        Err(error) => Reply::Refused(error),
+    }
+}
+
+fn input(given: VMResult<Input>) -> Reply
+    ensures { result ≡ reply_of (λ input. reply.Answer (answer.Input input)) given }
+{
+    match given {
+        Ok(input) => Reply::Answer(Answer::Input(input)),
+        Err(error) => Reply::Refused(error),
+    }
+}
+
+fn awakeable(given: VMResult<AwakeableHandle>) -> Reply
+    ensures { result ≡ reply_of (λ made. reply.Answer (answer.Awakeable made)) given }
+{
+    match given {
+        Ok(awakeable) => Reply::Answer(Answer::Awakeable(awakeable)),
+        Err(error) => Reply::Refused(error),
+    }
+}
+
+fn taken(given: VMResult<Option<Value>>) -> Reply
+    ensures { result ≡ reply_of (λ value. reply.Answer (answer.Taken value)) given }
+{
+    match given {
+        Ok(value) => Reply::Answer(Answer::Taken(value)),
+        Err(error) => Reply::Refused(error),
+    }
+}
+
+fn ended(given: VMResult<()>) -> Reply
+    ensures { result ≡ reply_of (λ _. reply.Answer answer.Unit) given }
+{
+    match given {
+        Ok(()) => Reply::Answer(Answer::Unit),
+        Err(error) => Reply::Refused(error),
+    }
+}
+
+/// Makes a call that has a command.
+#[tactic(auto, using(crate::proofs::Told::answers))]
+fn carry(vm: &mut CoreVM, command: Command) -> Reply
+    ensures { Answers (λ handle. reply.Answer (command_answer (ids_of command.message) handle)) (commanded command) result (seen vm.old) (seen vm.new) }
+{
+    let ids = command.ids();
+    match vm.command(command) {
+        Ok(handle) => Reply::Answer(command_answer(ids, handle)),
+        Err(error) => Reply::Refused(error),
+    }
+}
+
+/// Makes the call that a step of a handler is.
+#[tactic(auto, using(crate::proofs::Told::answers, crate::proofs::Told::awaits))]
+fn perform_step(vm: &mut CoreVM, step: Step) -> Reply
+    ensures { StepDone step result (seen vm.old) (seen vm.new) }
+{
+    match vm.ask_of(step) {
+        Ask::Command(command) => carry(vm, command),
+        Ask::Awakeable => awakeable(vm.sys_awakeable()),
+        Ask::Await(future) => awaited(vm.do_await(future)),
+        Ask::Take(handle) => taken(vm.take_notification(handle)),
+        Ask::Completed(handle) => Reply::Answer(Answer::Completed(vm.is_completed(handle))),
+        Ask::End => ended(vm.sys_end()),
+    }
+}
+
 /// Makes a call.
-#[tactic(auto, using(crate::proofs::Told::answers, crate::proofs::Told::awaits, crate::proofs::Told::feeds, crate::proofs::Told::drains))]
+#[tactic(auto, using(crate::proofs::Told::answers, crate::proofs::Told::feeds, crate::proofs::Told::drains))]
 fn perform_call(vm: &mut CoreVM, call: Call) -> Reply
     ensures { Called call result (seen vm.old) (seen vm.new) }
 {
@@ -118,35 +143,12 @@ fn perform_call(vm: &mut CoreVM, call: Call) -> Reply
         Call::Input(bytes) => fed(vm.notify_input(bytes)),
         Call::Close => fed(vm.notify_input_closed()),
         Call::Output => output(vm.take_output()),
-        Call::Ready => flag(vm.is_ready_to_execute()),
+        Call::Ready => ready(vm.is_ready_to_execute()),
         Call::State => Reply::State(vm.state()),
         Call::Index => Reply::Index(vm.last_command_index()),
         Call::Error(error, relationship) => fed(vm.notify_error(error, relationship)),
-        Call::Await(handle) => awaited(vm.do_await(UnresolvedFuture::Single(handle))),
-        Call::Completed(handle) => Reply::Flag(vm.is_completed(handle)),
-        Call::Take(handle) => taken(vm.take_notification(handle)),
         Call::SysInput => input(vm.sys_input()),
-        Call::Set {
-            key,
-            value,
-            name,
-            options,
-        } => done(vm.sys_state_set(key, value, name, options)),
-        Call::Clear { key, name } => done(vm.sys_state_clear(key, name)),
-        Call::ClearAll { name } => done(vm.sys_state_clear_all(name)),
-        Call::Sleep { name, until, now } => handle(vm.sys_sleep(name, until, now)),
-        Call::Awakeable => awakeable(vm.sys_awakeable()),
-        Call::CompleteAwakeable { id, value, options } => {
-            done(vm.sys_complete_awakeable(id, value, options))
-        }
-        Call::CompleteSignal {
-            target,
-            name,
-            value,
-        } => done(vm.sys_complete_signal(target, name, value)),
-        Call::Cancel { target } => done(vm.sys_cancel_invocation(target)),
-        Call::WriteOutput(value, options) => done(vm.sys_write_output(value, options)),
-        Call::End => done(vm.sys_end()),
+        Call::Step(step) => perform_step(vm, step),
     }
 }
 

@@ -1,5 +1,6 @@
 //! A run of the program: what a reader gives is a script, and its answers go to a writer.
-ghost use Rattle.std.specs.Prelude.{◌≡◌, ◌≢◌, ◌<◌, length};
+ghost use Rattle.std.specs.Prelude.{◌≡◌, ◌≢◌, ◌<◌, length, IfOk};
+ghost use Rattle.scripts.specs.Transcripts.{Transcribes};
 ghost use Rattle.scripts.specs.declared.exit_status.ExitStatus.TheVariants as status;
 
 use crate::answer::print;
@@ -11,13 +12,15 @@ use lines::line::Line;
 use std::alloc::{AllocError, Global};
 use std::io::{self, Read, Write};
 
-/// The answer to a line.
-fn answer(alloc: Global, vm: &mut Option<CoreVM>, line: &[u8]) -> Result<Line, AllocError> {
+/// The answer to a line, both without their ends.
+#[tactic(auto, using(crate::proofs::Told::transcribes))]
+pub fn answer(alloc: Global, vm: &mut Option<CoreVM>, line: &[u8]) -> Result<Line, AllocError>
+    ensures { IfOk result (λ answer. Transcribes alloc vm.old vm.new answer) }
+{
     let request = parse(alloc, line)?;
     let reply = perform(alloc, vm, request);
     let mut line = Line::new(alloc);
     print(&reply, &mut line)?;
-    line.word("\n")?;
     Ok(line)
 }
 
@@ -42,7 +45,8 @@ fn answer_all<W: Write>(
     let mut rest = script;
     while !rest.is_empty() {
         let (line, behind) = first_line(rest);
-        let answer = answer(alloc, vm, line)?;
+        let mut answer = answer(alloc, vm, line)?;
+        answer.word("\n")?;
         writer.write_all(answer.as_str().as_bytes())?;
         rest = behind;
     }
