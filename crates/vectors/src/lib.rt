@@ -27,3 +27,5 @@ mod reports;
 mod sleeps;
 #[cfg(test)]
 mod states;
+#[cfg(test)]
+mod transcripts;

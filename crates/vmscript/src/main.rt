@@ -1,23 +1,8 @@
 //! `vmscript`: drives one VM from a script on standard input, and prints an answer for each of its lines.
 #![tactic(auto)]
 
-pub mod answer;
-pub mod atoms;
-pub mod content_type;
-pub mod exit_status;
-pub mod options;
-pub mod parse;
-pub mod perform;
-pub mod reply;
-pub mod report;
-pub mod request;
-pub mod run;
-#[cfg(test)]
-mod tests;
-pub mod verb;
-
-use exit_status::ExitStatus;
-use run::run;
+use scripts::exit_status::ExitStatus;
+use scripts::run::run;
 use std::env::{self, Env};
 use std::io;
 use std::process::ExitCode;

@@ -1,0 +1,15 @@
+-- A VM that was made as a line asks for it.
+use Rattle.std.proofs.Common.{◌≡◌, Some, Result, Ok, Err, Global, ap, ◌∙◌}
+use Rattle.journal_protocol.specs.declared.error.Error.{Error}
+use Rattle.journal_protocol.specs.declared.version.Version.{Version}
+use Rattle.vm_parts.specs.declared.options.VMOptions.{VMOptions}
+use Rattle.invocation_vm.specs.declared.core_vm.CoreVM.{CoreVM}
+use Rattle.invocation_vm.specs.Making.{Makes}
+use Rattle.invocation_vm.specs.Seen.{seen}
+use Rattle.invocation_vm.specs.Views.{View}
+use Rattle.scripts.specs.declared.reply.Reply.TheVariants as reply
+use Rattle.scripts.specs.Performed.{Made}
+
+pub made_as_asked : (alloc : Global) (options : VMOptions) (wanted : Result Version Error) (vm : CoreVM) (named : Version) → Makes alloc options wanted seen (Ok vm) → named ≡ (seen vm).machine.version → Made alloc options wanted (reply.Made named) (Some vm)
+made_as_asked alloc options (Ok version) vm named is at = (at ∙ ap (λ (v : View). v.machine.version) is, is)
+made_as_asked alloc options (Err refusal) vm named is at = absurd is

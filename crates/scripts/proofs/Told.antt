@@ -1,0 +1,34 @@
+-- A reply tells what a call did.
+use Rattle.std.proofs.Common.{◌≡◌, List, [], ℕ, Result, Option, Global}
+use Rattle.std.specs.declared.alloc.AllocError.{AllocError}
+use Rattle.journal_protocol.specs.declared.error.Error.{Error}
+use Rattle.journal_protocol.specs.declared.message.RawMessage.{RawMessage}
+use Rattle.vm_parts.specs.declared.types.AwaitResponse.{AwaitResponse}
+use Rattle.vm_parts.specs.declared.types.UnresolvedFuture.{UnresolvedFuture}
+use Rattle.vm_machine.specs.declared.machine.Machine.{Machine}
+use Rattle.vm_machine.specs.Outcomes.{Outcome, called, flat, Does}
+use Rattle.invocation_vm.specs.declared.core_vm.CoreVM.{CoreVM}
+use Rattle.invocation_vm.specs.Calls.{future_step}
+use Rattle.invocation_vm.specs.Views.{View, Leaves, TakesOutput}
+use Rattle.scripts.specs.declared.reply.Reply.{Reply}
+use Rattle.scripts.specs.declared.reply.Reply.TheVariants as reply
+use Rattle.scripts.specs.declared.request.Request.{Request}
+use Rattle.scripts.specs.Performed.{Performed}
+use Rattle.scripts.specs.Printed.{Printed}
+use Rattle.scripts.specs.Transcripts.{Transcribes}
+use Rattle.scripts.specs.Called.{Answers, Awaits, Feeds, Drains, reply_of, reply_or_memory}
+
+pub answers : {A : Type 0} (f : A → Reply) (step : Machine → Outcome A) (given : Result A Error) (answer : Reply) (old new : View) → Does (called (step old.machine) old.machine) given old.machine new.machine → new.undecoded ≡ old.undecoded → answer ≡ reply_of f given → Answers f step answer old new
+answers f step given answer old new does undecoded told = record { given = given; calls = (does, undecoded); told = told }
+
+pub awaits : (future : UnresolvedFuture) (given : Result AwaitResponse Error) (answer : Reply) (old new : View) → Does (flat (called (future_step future old.machine) old.machine)) given old.machine new.machine → new.undecoded ≡ old.undecoded → answer ≡ reply_of reply.Awaited given → Awaits future answer old new
+awaits future given answer old new does undecoded told = record { given = given; calls = (does, undecoded); told = told }
+
+pub feeds : (raws : List RawMessage) (after : View) (given : Result Unit AllocError) (answer : Reply) (old new : View) → Leaves raws after given old new → answer ≡ reply_or_memory (λ _. reply.Done) given → Feeds raws after answer old new
+feeds raws after given answer old new leaves told = record { given = given; leaves = leaves; told = told }
+
+pub drains : (given : Result (List ℕ) AllocError) (answer : Reply) (old new : View) → TakesOutput given old new → answer ≡ reply_or_memory reply.Output given → Drains answer old new
+drains given answer old new takes told = record { given = given; takes = takes; told = told }
+
+pub transcribes : (alloc : Global) (old new : Option CoreVM) (line : List ℕ) (request : Request) (reply : Reply) → Performed alloc request old reply new → Printed reply [] line → Transcribes alloc old new line
+transcribes alloc old new line request reply performed printed = record { request = request; reply = reply; performed = performed; printed = printed }

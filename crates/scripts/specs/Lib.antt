@@ -1,0 +1,9 @@
+pub mod Statuses
+pub mod ContentTypes
+pub mod Called
+pub mod Performed
+pub mod Durations
+pub mod Reports
+pub mod Verbs
+pub mod Printed
+pub mod Transcripts

@@ -1,0 +1,15 @@
+-- What a line of the script does, and what is printed for it.
+use Rattle.std.specs.Prelude.{ℕ, List, [], Option}
+use Rattle.std.proofs.Common.{Global}
+use Rattle.invocation_vm.specs.declared.core_vm.CoreVM.{CoreVM}
+use Rattle.scripts.specs.declared.request.Request.{Request}
+use Rattle.scripts.specs.declared.reply.Reply.{Reply}
+use Rattle.scripts.specs.Performed.{Performed}
+use Rattle.scripts.specs.Printed.{Printed}
+
+-- what the line asked for was done, and its reply is what is printed
+pub record Transcribes (alloc : Global) (old new : Option CoreVM) (line : List ℕ) : Type 0 where
+  pub request : Request
+  pub reply : Reply
+  pub performed : Performed alloc request old reply new
+  pub printed : Printed reply [] line

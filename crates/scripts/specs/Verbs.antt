@@ -1,0 +1,114 @@
+-- The call that a line asks for: its first word names it, and its arguments are in their places.
+use Rattle.std.specs.Prelude.{◌≡◌, ℕ, zero, suc, List, [], ◌∷◌, codes}
+use Rattle.std.specs.Borrow.{Bor}
+use Rattle.std.specs.Duration.{as_nanos}
+use Rattle.std.specs.Str.Parse.{digits_value}
+use Rattle.lines.specs.Atoms.{IsAtom}
+use Rattle.vm_parts.specs.declared.steps.Step.{Step}
+use Rattle.vm_parts.specs.declared.steps.Step.TheVariants as step
+use Rattle.vm_parts.specs.declared.types.UnresolvedFuture.TheVariants.{Single}
+use Rattle.scripts.specs.declared.request.Call.{Call}
+use Rattle.scripts.specs.declared.request.Call.TheVariants as call
+use Rattle.scripts.specs.declared.verb.Verb.{Verb}
+use Rattle.scripts.specs.declared.verb.Verb.TheVariants as verb
+use Rattle.scripts.specs.Durations.{IsDuration}
+
+-- the word that names a call
+unfoldable pub verb_name : Verb → List ℕ
+verb_name verb.Head = codes "head"
+verb_name verb.Input = codes "input"
+verb_name verb.Close = codes "close"
+verb_name verb.Output = codes "output"
+verb_name verb.Ready = codes "ready"
+verb_name verb.State = codes "state"
+verb_name verb.Index = codes "index"
+verb_name verb.Error = codes "error"
+verb_name verb.Await = codes "await"
+verb_name verb.Completed = codes "completed"
+verb_name verb.Take = codes "take"
+verb_name verb.SysInput = codes "sys_input"
+verb_name verb.Set = codes "set"
+verb_name verb.Clear = codes "clear"
+verb_name verb.ClearAll = codes "clear_all"
+verb_name verb.Sleep = codes "sleep"
+verb_name verb.Awakeable = codes "awakeable"
+verb_name verb.CompleteAwakeable = codes "complete_awakeable"
+verb_name verb.CompleteSignal = codes "complete_signal"
+verb_name verb.Cancel = codes "cancel"
+verb_name verb.WriteOutput = codes "write_output"
+verb_name verb.End = codes "end"
+
+-- the name of the call that a handler's step is
+abbrev pub verb_of_step : Step → Verb
+verb_of_step (step.Await future) = verb.Await
+verb_of_step (step.Completed handle) = verb.Completed
+verb_of_step (step.Take handle) = verb.Take
+verb_of_step (step.StateSet key value name options) = verb.Set
+verb_of_step (step.StateClear key name) = verb.Clear
+verb_of_step (step.StateClearAll name) = verb.ClearAll
+verb_of_step (step.Sleep name until now) = verb.Sleep
+verb_of_step step.Awakeable = verb.Awakeable
+verb_of_step (step.CompleteAwakeable id value options) = verb.CompleteAwakeable
+verb_of_step (step.CompleteSignal target name value) = verb.CompleteSignal
+verb_of_step (step.CancelInvocation target) = verb.Cancel
+verb_of_step (step.WriteOutput value options) = verb.WriteOutput
+verb_of_step step.End = verb.End
+
+-- the name of a call
+abbrev pub verb_of : Call → Verb
+verb_of call.Head = verb.Head
+verb_of (call.Input bytes) = verb.Input
+verb_of call.Close = verb.Close
+verb_of call.Output = verb.Output
+verb_of call.Ready = verb.Ready
+verb_of call.State = verb.State
+verb_of call.Index = verb.Index
+verb_of (call.Error error relationship) = verb.Error
+verb_of call.SysInput = verb.SysInput
+verb_of (call.Step s) = verb_of_step s
+
+-- the text of a word, or nothing where there are no so many words
+abbrev pub text_at : ℕ → List (Bor (List ℕ)) → List ℕ
+text_at i [] = []
+text_at zero (word ∷ words) = word.now
+text_at (suc i) (word ∷ words) = text_at i words
+
+-- the words behind the first
+abbrev pub behind : List (Bor (List ℕ)) → List (Bor (List ℕ))
+behind [] = []
+behind (word ∷ words) = words
+
+-- the words begin with this code and this text
+abbrev pub HasCodeAndText : ℕ → List ℕ → List (Bor (List ℕ)) → Type 0
+HasCodeAndText code message words = (code ≡ digits_value 10 (text_at 0 words)) × IsAtom (text_at 1 words) message
+
+-- the arguments of a step that stand before a value and the options, in their places
+abbrev pub HasStepArguments : List (Bor (List ℕ)) → Step → Type 0
+HasStepArguments arguments (step.Await (Single handle)) = handle.0 ≡ digits_value 10 (text_at 0 arguments)
+HasStepArguments arguments (step.Completed handle) = handle.0 ≡ digits_value 10 (text_at 0 arguments)
+HasStepArguments arguments (step.Take handle) = handle.0 ≡ digits_value 10 (text_at 0 arguments)
+HasStepArguments arguments (step.StateSet key value name options) = IsAtom (text_at 0 arguments) key × IsAtom (text_at 1 arguments) value
+HasStepArguments arguments (step.StateClear key name) = IsAtom (text_at 0 arguments) key
+HasStepArguments arguments (step.StateClearAll name) = Unit {0}
+HasStepArguments arguments (step.Sleep name until now) = IsAtom (text_at 0 arguments) name × IsDuration (text_at 1 arguments) (as_nanos until)
+HasStepArguments arguments step.Awakeable = Unit {0}
+HasStepArguments arguments (step.CompleteAwakeable id value options) = IsAtom (text_at 0 arguments) id
+HasStepArguments arguments (step.CompleteSignal target name value) = IsAtom (text_at 0 arguments) target × IsAtom (text_at 1 arguments) name
+HasStepArguments arguments (step.CancelInvocation target) = IsAtom (text_at 0 arguments) target
+HasStepArguments arguments (step.WriteOutput value options) = Unit {0}
+HasStepArguments arguments step.End = Unit {0}
+
+-- the arguments that stand before a value and the options, in their places
+abbrev pub HasArguments : List (Bor (List ℕ)) → Call → Type 0
+HasArguments arguments (call.Input bytes) = IsAtom (text_at 0 arguments) bytes
+HasArguments arguments (call.Error error relationship) = HasCodeAndText error.code error.message arguments
+HasArguments arguments (call.Step s) = HasStepArguments arguments s
+HasArguments arguments other = Unit {0}
+
+-- a call of this name, with these words behind it
+abbrev pub IsLine : Verb → List (Bor (List ℕ)) → Call → Type 0
+IsLine named arguments call = (verb_of call ≡ named) × HasArguments arguments call
+
+-- the call that the words of a line ask for
+abbrev pub IsAsked : List (Bor (List ℕ)) → Call → Type 0
+IsAsked words call = (text_at 0 words ≡ verb_name (verb_of call)) × HasArguments (behind words) call

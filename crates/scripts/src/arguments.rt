@@ -1,0 +1,223 @@
+//! The arguments of a line: values, options and single atoms, in their places.
+ghost use Rattle.std.specs.Prelude.{◌≡◌, IfOk};
+ghost use Rattle.std.specs.Str.Parse.{digits_value};
+ghost use Rattle.lines.specs.Atoms.{IsAtom};
+ghost use Rattle.scripts.specs.Verbs.{HasCodeAndText, text_at};
+
+use crate::atoms::{duration_of, handle_of, shared_of, text_of, u16_of};
+use crate::request::Call;
+use bytes::Bytes;
+use invocation_vm::{NonEmptyValue, NotificationHandle, PayloadOptions, TerminalFailure};
+use lines::fields::Fields;
+use lines::pieces::{between, words};
+use std::alloc::Global;
+use std::time::Duration;
+use wire::{Fault, Items, Text};
+
+/// The options behind a command's arguments.
+#[derive(Debug, Drop)]
+pub struct Extras {
+    pub name: Option<Text>,
+    pub payload: PayloadOptions,
+}
+
+/// The words but `unstable`, which may stand once, and whether it stands there.
+fn without_unstable<'a>(
+    alloc: Global,
+    words: &[&'a [u8]],
+) -> Result<(Vec<&'a [u8]>, PayloadOptions), Fault> {
+    let mut others = Vec::new(alloc);
+    let mut payload = PayloadOptions::stable_serialization();
+    for word in words {
+        if *word == b"unstable".as_slice() {
+            if payload.unstable_serialization {
+                return Err(Fault::Malformed);
+            }
+            payload = PayloadOptions::unstable_serialization();
+        } else {
+            others.push(*word)?;
+        }
+    }
+    Ok((others, payload))
+}
+
+/// `[unstable]` alone.
+fn payload_of(alloc: Global, words: &[&[u8]]) -> Result<PayloadOptions, Fault> {
+    let (others, payload) = without_unstable(alloc, words)?;
+    if others.is_empty() {
+        Ok(payload)
+    } else {
+        Err(Fault::Malformed)
+    }
+}
+
+/// `[name=T]` alone.
+pub fn name_of(alloc: Global, words: &[&[u8]]) -> Result<Option<Text>, Fault> {
+    let mut fields = Fields::of_pieces(alloc, words)?;
+    let name = match fields.take_text("name") {
+        Some(text) => Some(text_of(alloc, text)?),
+        None => None,
+    };
+    fields.end()?;
+    Ok(name)
+}
+
+/// `[name=T] [unstable]`.
+pub fn extras_of(alloc: Global, words: &[&[u8]]) -> Result<Extras, Fault> {
+    let (others, payload) = without_unstable(alloc, words)?;
+    let name = name_of(alloc, others.as_slice())?;
+    Ok(Extras { name, payload })
+}
+
+/// `[now=D]`.
+pub fn now_of(alloc: Global, words: &[&[u8]]) -> Result<Option<Duration>, Fault> {
+    let mut fields = Fields::of_pieces(alloc, words)?;
+    let now = match fields.take_text("now") {
+        Some(text) => Some(duration_of(text)?),
+        None => None,
+    };
+    fields.end()?;
+    Ok(now)
+}
+
+/// `{T T}`.
+fn pair_of(alloc: Global, text: &[u8]) -> Result<(Text, Text), Fault> {
+    let pair = words(alloc, between(text, b'{', b'}')?)?;
+    match pair.as_slice() {
+        [first, second] => {
+            let first = text_of(alloc, *first)?;
+            let second = text_of(alloc, *second)?;
+            Ok((first, second))
+        }
+        _ => Err(Fault::Malformed),
+    }
+}
+
+/// The pairs at the front of the words.
+fn pairs_of(alloc: Global, words: &[&[u8]]) -> Result<Items<(Text, Text)>, Fault> {
+    let mut pairs = Items::new(alloc);
+    for word in words {
+        if !word.starts_with(b"{") {
+            break;
+        }
+        pairs.push(pair_of(alloc, *word)?)?;
+    }
+    Ok(pairs)
+}
+
+/// `N T` and pairs, and the words behind them.
+fn failure_of<'w, 'a>(
+    alloc: Global,
+    words: &'w [&'a [u8]],
+) -> Result<(TerminalFailure, &'w [&'a [u8]]), Fault>
+    ensures { IfOk result (λ found. HasCodeAndText found.0.code found.0.message words.now) }
+{
+    let [code, message, others @ ..] = words else {
+        return Err(Fault::Malformed);
+    };
+    let code = u16_of(*code)?;
+    let message = text_of(alloc, *message)?;
+    let metadata = pairs_of(alloc, others)?;
+    let Some(rest) = others.get(metadata.len()..) else {
+        return Err(Fault::Malformed);
+    };
+    let failure = TerminalFailure {
+        code,
+        message,
+        metadata,
+    };
+    Ok((failure, rest))
+}
+
+/// `success B` or `failure N T` and pairs, and the words behind them.
+fn value_of<'w, 'a>(
+    alloc: Global,
+    words: &'w [&'a [u8]],
+) -> Result<(NonEmptyValue, &'w [&'a [u8]]), Fault> {
+    match words {
+        [b"success", bytes, rest @ ..] => {
+            Ok((NonEmptyValue::Success(shared_of(alloc, *bytes)?), rest))
+        }
+        [b"failure", failure @ ..] => {
+            let (failure, rest) = failure_of(alloc, failure)?;
+            Ok((NonEmptyValue::Failure(failure), rest))
+        }
+        _ => Err(Fault::Malformed),
+    }
+}
+
+/// `V [unstable]`.
+pub fn value_and_payload(
+    alloc: Global,
+    words: &[&[u8]],
+) -> Result<(NonEmptyValue, PayloadOptions), Fault> {
+    let (value, rest) = value_of(alloc, words)?;
+    let payload = payload_of(alloc, rest)?;
+    Ok((value, payload))
+}
+
+/// `V` alone.
+pub fn value_alone(alloc: Global, words: &[&[u8]]) -> Result<NonEmptyValue, Fault> {
+    let (value, rest) = value_of(alloc, words)?;
+    if rest.is_empty() {
+        Ok(value)
+    } else {
+        Err(Fault::Malformed)
+    }
+}
+
+/// A call without arguments.
+pub fn alone(arguments: &[&[u8]], call: Call) -> Result<Call, Fault>
+    ensures { IfOk result (λ it. it ≡ call) }
+{
+    if arguments.is_empty() {
+        Ok(call)
+    } else {
+        Err(Fault::Malformed)
+    }
+}
+
+/// `H` alone.
+pub fn handle_alone(arguments: &[&[u8]]) -> Result<NotificationHandle, Fault>
+    ensures { IfOk result (λ handle. handle.0 ≡ digits_value 10 (text_at 0 arguments.now)) }
+{
+    match arguments {
+        [handle] => handle_of(*handle),
+        _ => Err(Fault::Malformed),
+    }
+}
+
+/// `T` alone.
+pub fn text_alone(alloc: Global, arguments: &[&[u8]]) -> Result<Text, Fault>
+    ensures { IfOk result (λ text. IsAtom (text_at 0 arguments.now) text) }
+{
+    match arguments {
+        [text] => text_of(alloc, *text),
+        _ => Err(Fault::Malformed),
+    }
+}
+
+/// `T T`, and the words behind them.
+pub fn two_texts<'w, 'a>(
+    alloc: Global,
+    words: &'w [&'a [u8]],
+) -> Result<(Text, Text, &'w [&'a [u8]]), Fault>
+    ensures { IfOk result (λ found. IsAtom (text_at 0 words.now) found.0 × IsAtom (text_at 1 words.now) found.1) }
+{
+    let [first, second, rest @ ..] = words else {
+        return Err(Fault::Malformed);
+    };
+    let first = text_of(alloc, *first)?;
+    let second = text_of(alloc, *second)?;
+    Ok((first, second, rest))
+}
+
+/// `B` alone.
+pub fn bytes_alone(alloc: Global, arguments: &[&[u8]]) -> Result<Bytes, Fault>
+    ensures { IfOk result (λ bytes. IsAtom (text_at 0 arguments.now) bytes) }
+{
+    match arguments {
+        [bytes] => shared_of(alloc, *bytes),
+        _ => Err(Fault::Malformed),
+    }
+}

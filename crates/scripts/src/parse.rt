@@ -1,0 +1,207 @@
+//! A line of the script, read as a whole: one row a call.
+ghost use Rattle.std.specs.Prelude.{◌≡◌, IfOk};
+ghost use Rattle.scripts.specs.declared.verb.Verb.TheVariants as verb;
+ghost use Rattle.scripts.specs.Verbs.{IsLine, IsAsked};
+
+use crate::arguments::{
+    Extras, alone, bytes_alone, extras_of, handle_alone, name_of, now_of, text_alone, two_texts,
+    value_alone, value_and_payload,
+};
+use crate::atoms::{duration_of, shared_of, string_of, text_of};
+use crate::content_type::ContentType;
+use crate::options::options_of;
+use crate::report::error_of;
+use crate::request::{Call, Request};
+use crate::verb::{Verb, verb_of_word};
+use invocation_vm::UnresolvedFuture;
+use lines::fields::Fields;
+use lines::pieces::words;
+use std::alloc::{AllocError, Global};
+use vm_parts::Step;
+use wire::Fault;
+
+fn set_of(alloc: Global, arguments: &[&[u8]]) -> Result<Call, Fault>
+    ensures { IfOk result (λ call. IsLine verb.Set arguments.now call) }
+{
+    let [key, value, others @ ..] = arguments else {
+        return Err(Fault::Malformed);
+    };
+    let key = text_of(alloc, *key)?;
+    let value = shared_of(alloc, *value)?;
+    let Extras { name, payload } = extras_of(alloc, others)?;
+    Ok(Call::Step(Step::StateSet {
+        key,
+        value,
+        name,
+        options: payload,
+    }))
+}
+
+fn clear_of(alloc: Global, arguments: &[&[u8]]) -> Result<Call, Fault>
+    ensures { IfOk result (λ call. IsLine verb.Clear arguments.now call) }
+{
+    let [key, others @ ..] = arguments else {
+        return Err(Fault::Malformed);
+    };
+    let key = text_of(alloc, *key)?;
+    let name = name_of(alloc, others)?;
+    Ok(Call::Step(Step::StateClear { key, name }))
+}
+
+fn sleep_of(alloc: Global, arguments: &[&[u8]]) -> Result<Call, Fault>
+    ensures { IfOk result (λ call. IsLine verb.Sleep arguments.now call) }
+{
+    let [name, until, others @ ..] = arguments else {
+        return Err(Fault::Malformed);
+    };
+    let name = text_of(alloc, *name)?;
+    let until = duration_of(*until)?;
+    let now = now_of(alloc, others)?;
+    Ok(Call::Step(Step::Sleep {
+        name,
+        wake_up_time_since_unix_epoch: until,
+        now_since_unix_epoch: now,
+    }))
+}
+
+fn complete_awakeable_of(alloc: Global, arguments: &[&[u8]]) -> Result<Call, Fault>
+    ensures { IfOk result (λ call. IsLine verb.CompleteAwakeable arguments.now call) }
+{
+    let [id, value @ ..] = arguments else {
+        return Err(Fault::Malformed);
+    };
+    let id = text_of(alloc, *id)?;
+    let (value, options) = value_and_payload(alloc, value)?;
+    Ok(Call::Step(Step::CompleteAwakeable { id, value, options }))
+}
+
+fn complete_signal_of(alloc: Global, arguments: &[&[u8]]) -> Result<Call, Fault>
+    ensures { IfOk result (λ call. IsLine verb.CompleteSignal arguments.now call) }
+{
+    let (target_invocation_id, signal_name, value) = two_texts(alloc, arguments)?;
+    let value = value_alone(alloc, value)?;
+    Ok(Call::Step(Step::CompleteSignal {
+        target_invocation_id,
+        signal_name,
+        value,
+    }))
+}
+
+fn cancel_of(alloc: Global, arguments: &[&[u8]]) -> Result<Call, Fault>
+    ensures { IfOk result (λ call. IsLine verb.Cancel arguments.now call) }
+{
+    let target_invocation_id = text_alone(alloc, arguments)?;
+    Ok(Call::Step(Step::CancelInvocation {
+        target_invocation_id,
+    }))
+}
+
+fn write_output_of(alloc: Global, arguments: &[&[u8]]) -> Result<Call, Fault>
+    ensures { IfOk result (λ call. IsLine verb.WriteOutput arguments.now call) }
+{
+    let (value, options) = value_and_payload(alloc, arguments)?;
+    Ok(Call::Step(Step::WriteOutput(value, options)))
+}
+
+fn await_of(arguments: &[&[u8]]) -> Result<Call, Fault>
+    ensures { IfOk result (λ call. IsLine verb.Await arguments.now call) }
+{
+    let handle = handle_alone(arguments)?;
+    Ok(Call::Step(Step::Await(UnresolvedFuture::Single(handle))))
+}
+
+/// The call of this name, with the arguments behind it.
+fn call_named(alloc: Global, verb: Verb, arguments: &[&[u8]]) -> Result<Call, Fault>
+    ensures { IfOk result (λ call. IsLine verb arguments.now call) }
+{
+    match verb {
+        Verb::Head => alone(arguments, Call::Head),
+        Verb::Input => Ok(Call::Input(bytes_alone(alloc, arguments)?)),
+        Verb::Close => alone(arguments, Call::Close),
+        Verb::Output => alone(arguments, Call::Output),
+        Verb::Ready => alone(arguments, Call::Ready),
+        Verb::State => alone(arguments, Call::State),
+        Verb::Index => alone(arguments, Call::Index),
+        Verb::Error => error_of(alloc, arguments),
+        Verb::SysInput => alone(arguments, Call::SysInput),
+        Verb::Await => await_of(arguments),
+        Verb::Completed => Ok(Call::Step(Step::Completed(handle_alone(arguments)?))),
+        Verb::Take => Ok(Call::Step(Step::Take(handle_alone(arguments)?))),
+        Verb::Set => set_of(alloc, arguments),
+        Verb::Clear => clear_of(alloc, arguments),
+        Verb::ClearAll => Ok(Call::Step(Step::StateClearAll {
+            name: name_of(alloc, arguments)?,
+        })),
+        Verb::Sleep => sleep_of(alloc, arguments),
+        Verb::Awakeable => alone(arguments, Call::Step(Step::Awakeable)),
+        Verb::CompleteAwakeable => complete_awakeable_of(alloc, arguments),
+        Verb::CompleteSignal => complete_signal_of(alloc, arguments),
+        Verb::Cancel => cancel_of(alloc, arguments),
+        Verb::WriteOutput => write_output_of(alloc, arguments),
+        Verb::End => alone(arguments, Call::Step(Step::End)),
+    }
+}
+
+/// The call that the words of a line ask for.
+fn call_of(alloc: Global, words: &[&[u8]]) -> Result<Call, Fault>
+    ensures { IfOk result (λ call. IsAsked words.now call) }
+{
+    let [word, arguments @ ..] = words else {
+        return Err(Fault::Malformed);
+    };
+    call_named(alloc, verb_of_word(*word)?, arguments)
+}
+
+fn content_type_of(alloc: Global, text: &[u8]) -> Result<ContentType, Fault> {
+    match text {
+        b"-" => Ok(ContentType::Absent),
+        b"!" => Ok(ContentType::Unreadable),
+        _ => Ok(ContentType::Named(string_of(alloc, text)?)),
+    }
+}
+
+/// The row `vm`.
+fn make_of(alloc: Global, line: &[u8]) -> Result<Request, Fault> {
+    let words = words(alloc, line)?;
+    let [b"vm", content_type, options @ ..] = words.as_slice() else {
+        return Err(Fault::Malformed);
+    };
+    let content_type = content_type_of(alloc, *content_type)?;
+    let mut fields = Fields::of_pieces(alloc, options)?;
+    let options = options_of(&mut fields)?;
+    Ok(Request::Make(content_type, options))
+}
+
+fn request_of(alloc: Global, line: &[u8]) -> Result<Request, Fault> {
+    let words = words(alloc, line)?;
+    Ok(Request::Call(call_of(alloc, words.as_slice())?))
+}
+
+/// Whether the first word of the line is `vm`.
+fn makes(line: &[u8]) -> bool {
+    line == b"vm".as_slice() || line.starts_with(b"vm ")
+}
+
+/// What was read, or what a line without a meaning asks for. An `Err` is want of memory.
+fn or_bad(read: Result<Request, Fault>, bad: Request) -> Result<Request, AllocError> {
+    match read {
+        Ok(request) => Ok(request),
+        Err(Fault::Malformed) => Ok(bad),
+        Err(Fault::Memory) => Err(AllocError),
+    }
+}
+
+/// What a line asks for.
+pub fn parse(alloc: Global, line: &[u8]) -> Result<Request, AllocError> {
+    let line = line.trim_ascii();
+    if line.is_empty() || line.starts_with(b"#") {
+        return Ok(Request::Nothing);
+    }
+    let is_text = std::str::from_utf8(line).is_ok();
+    match (makes(line), is_text) {
+        (true, true) => or_bad(make_of(alloc, line), Request::BadMake),
+        (true, false) => Ok(Request::BadMake),
+        (false, true) => or_bad(request_of(alloc, line), Request::Bad),
+        (false, false) => Ok(Request::Bad),
+    }
+}

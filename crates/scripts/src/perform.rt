@@ -1,0 +1,193 @@
+//! What a line asks for, done.
+ghost use Rattle.std.specs.Prelude.{◌≡◌, codes};
+ghost use Rattle.vm_machine.specs.Asks.{command_answer};
+ghost use Rattle.vm_machine.specs.Commands.{commanded};
+ghost use Rattle.vm_machine.specs.Requests.{ids_of};
+ghost use Rattle.vm_parts.specs.declared.steps.Answer.TheVariants as answer;
+ghost use Rattle.invocation_vm.specs.Making.{version_in};
+ghost use Rattle.invocation_vm.specs.Seen.{seen};
+ghost use Rattle.scripts.specs.Called.{Answers, Called, StepDone, reply_of, reply_or_memory};
+ghost use Rattle.scripts.specs.ContentTypes.{found};
+ghost use Rattle.scripts.specs.declared.reply.Reply.TheVariants as reply;
+ghost use Rattle.scripts.specs.Performed.{Made, Performed};
+
+use crate::content_type::ContentType;
+use crate::reply::Reply;
+use crate::request::{Call, Request};
+use bytes::Bytes;
+use invocation_vm::{
+    AwaitResponse, AwakeableHandle, CoreVM, Error, Input, ResponseHead, VM, VMOptions, VMResult,
+    Value,
+};
+use std::alloc::{AllocError, Global};
+use vm_machine::asks::command_answer;
+use vm_machine::{Ask, Command};
+use vm_parts::{Answer, Step};
+
+/// The answer of a call that answers nothing but want of memory.
+fn fed(given: Result<(), AllocError>) -> Reply
+    ensures { result ≡ reply_or_memory (λ _. reply.Done) given }
+{
+    match given {
+        Ok(()) => Reply::Done,
+        Err(error) => Reply::Refused(Error::from(error)),
+    }
+}
+
+fn head(given: Result<ResponseHead, AllocError>) -> Reply
+    ensures { result ≡ reply_or_memory reply.Head given }
+{
+    match given {
+        Ok(head) => Reply::Head(head),
+        Err(error) => Reply::Refused(Error::from(error)),
+    }
+}
+
+fn output(given: Result<Bytes, AllocError>) -> Reply
+    ensures { result ≡ reply_or_memory reply.Output given }
+{
+    match given {
+        Ok(bytes) => Reply::Output(bytes),
+        Err(error) => Reply::Refused(Error::from(error)),
+    }
+}
+
+fn ready(given: VMResult<bool>) -> Reply
+    ensures { result ≡ reply_of reply.Ready given }
+{
+    match given {
+        Ok(is_ready) => Reply::Ready(is_ready),
+        Err(error) => Reply::Refused(error),
+    }
+}
+
+fn awaited(given: VMResult<AwaitResponse>) -> Reply
+    ensures { result ≡ reply_of reply.Awaited given }
+{
+    match given {
+        Ok(response) => Reply::Awaited(response),
+        Err(error) => Reply::Refused(error),
+    }
+}
+
+fn input(given: VMResult<Input>) -> Reply
+    ensures { result ≡ reply_of (λ input. reply.Answer (answer.Input input)) given }
+{
+    match given {
+        Ok(input) => Reply::Answer(Answer::Input(input)),
+        Err(error) => Reply::Refused(error),
+    }
+}
+
+fn awakeable(given: VMResult<AwakeableHandle>) -> Reply
+    ensures { result ≡ reply_of (λ made. reply.Answer (answer.Awakeable made)) given }
+{
+    match given {
+        Ok(awakeable) => Reply::Answer(Answer::Awakeable(awakeable)),
+        Err(error) => Reply::Refused(error),
+    }
+}
+
+fn taken(given: VMResult<Option<Value>>) -> Reply
+    ensures { result ≡ reply_of (λ value. reply.Answer (answer.Taken value)) given }
+{
+    match given {
+        Ok(value) => Reply::Answer(Answer::Taken(value)),
+        Err(error) => Reply::Refused(error),
+    }
+}
+
+fn ended(given: VMResult<()>) -> Reply
+    ensures { result ≡ reply_of (λ _. reply.Answer answer.Unit) given }
+{
+    match given {
+        Ok(()) => Reply::Answer(Answer::Unit),
+        Err(error) => Reply::Refused(error),
+    }
+}
+
+/// Makes a call that has a command.
+#[tactic(auto, using(crate::proofs::Told::answers))]
+fn carry(vm: &mut CoreVM, command: Command) -> Reply
+    ensures { Answers (λ handle. reply.Answer (command_answer (ids_of command.message) handle)) (commanded command) result (seen vm.old) (seen vm.new) }
+{
+    let ids = command.ids();
+    match vm.command(command) {
+        Ok(handle) => Reply::Answer(command_answer(ids, handle)),
+        Err(error) => Reply::Refused(error),
+    }
+}
+
+/// Makes the call that a step of a handler is.
+#[tactic(auto, using(crate::proofs::Told::answers, crate::proofs::Told::awaits))]
+fn perform_step(vm: &mut CoreVM, step: Step) -> Reply
+    ensures { StepDone step result (seen vm.old) (seen vm.new) }
+{
+    match vm.ask_of(step) {
+        Ask::Command(command) => carry(vm, command),
+        Ask::Awakeable => awakeable(vm.sys_awakeable()),
+        Ask::Await(future) => awaited(vm.do_await(future)),
+        Ask::Take(handle) => taken(vm.take_notification(handle)),
+        Ask::Completed(handle) => Reply::Answer(Answer::Completed(vm.is_completed(handle))),
+        Ask::End => ended(vm.sys_end()),
+    }
+}
+
+/// Makes a call.
+#[tactic(auto, using(crate::proofs::Told::answers, crate::proofs::Told::feeds, crate::proofs::Told::drains))]
+fn perform_call(vm: &mut CoreVM, call: Call) -> Reply
+    ensures { Called call result (seen vm.old) (seen vm.new) }
+{
+    match call {
+        Call::Head => head(vm.get_response_head()),
+        Call::Input(bytes) => fed(vm.notify_input(bytes)),
+        Call::Close => fed(vm.notify_input_closed()),
+        Call::Output => output(vm.take_output()),
+        Call::Ready => ready(vm.is_ready_to_execute()),
+        Call::State => Reply::State(vm.state()),
+        Call::Index => Reply::Index(vm.last_command_index()),
+        Call::Error(error, relationship) => fed(vm.notify_error(error, relationship)),
+        Call::SysInput => input(vm.sys_input()),
+        Call::Step(step) => perform_step(vm, step),
+    }
+}
+
+/// Makes a new VM in the place of the last.
+#[tactic(auto, using(crate::proofs::Making::made_as_asked))]
+fn make(
+    alloc: Global,
+    vm: &mut Option<CoreVM>,
+    content_type: ContentType,
+    options: VMOptions,
+) -> Reply
+    ensures { Made alloc options (version_in (found content_type (codes "content-type"))) result vm.new }
+{
+    *vm = None;
+    match CoreVM::new(alloc, content_type, options) {
+        Ok(new) => {
+            let version = new.version();
+            *vm = Some(new);
+            Reply::Made(version)
+        }
+        Err(error) => Reply::Refused(error),
+    }
+}
+
+/// Does what a line asks for.
+pub fn perform(alloc: Global, vm: &mut Option<CoreVM>, request: Request) -> Reply
+    ensures { Performed alloc request vm.old result vm.new }
+{
+    match request {
+        Request::Nothing => Reply::Nothing,
+        Request::Bad => Reply::Bad,
+        Request::BadMake => {
+            *vm = None;
+            Reply::Bad
+        }
+        Request::Make(content_type, options) => make(alloc, vm, content_type, options),
+        Request::Call(call) => match vm {
+            Some(vm) => perform_call(vm, call),
+            None => Reply::NoVm,
+        },
+    }
+}

@@ -1,0 +1,76 @@
+//! A run of the program: what a reader gives is a script, and its answers go to a writer.
+ghost use Rattle.std.specs.Prelude.{◌≡◌, ◌≢◌, ◌<◌, length, IfOk};
+ghost use Rattle.scripts.specs.Transcripts.{Transcribes};
+ghost use Rattle.scripts.specs.declared.exit_status.ExitStatus.TheVariants as status;
+
+use crate::answer::print;
+use crate::exit_status::ExitStatus;
+use crate::parse::parse;
+use crate::perform::perform;
+use invocation_vm::CoreVM;
+use lines::line::Line;
+use std::alloc::{AllocError, Global};
+use std::io::{self, Read, Write};
+
+/// The answer to a line, both without their ends.
+#[tactic(auto, using(crate::proofs::Told::transcribes))]
+pub fn answer(alloc: Global, vm: &mut Option<CoreVM>, line: &[u8]) -> Result<Line, AllocError>
+    ensures { IfOk result (λ answer. Transcribes alloc vm.old vm.new answer) }
+{
+    let request = parse(alloc, line)?;
+    let reply = perform(alloc, vm, request);
+    let mut line = Line::new(alloc);
+    print(&reply, &mut line)?;
+    Ok(line)
+}
+
+/// The first line, without its end, and what follows it.
+fn first_line(script: &[u8]) -> (&[u8], &[u8])
+    requires { 0 < length script.now }
+    ensures { length result.1.now < length script.now }
+{
+    match script.iter().position(|byte| *byte == b'\n') {
+        Some(at) => (&script[..at], &script[at + 1..]),
+        None => (script, &script[script.len()..]),
+    }
+}
+
+/// Answers the lines one after another. The last may have no end.
+fn answer_all<W: Write>(
+    alloc: Global,
+    vm: &mut Option<CoreVM>,
+    script: &[u8],
+    writer: &mut W,
+) -> io::Result<()> {
+    let mut rest = script;
+    while !rest.is_empty() {
+        let (line, behind) = first_line(rest);
+        let mut answer = answer(alloc, vm, line)?;
+        answer.word("\n")?;
+        writer.write_all(answer.as_str().as_bytes())?;
+        rest = behind;
+    }
+    Ok(())
+}
+
+fn drive<W: Write>(alloc: Global, script: &[u8], writer: &mut W) -> io::Result<()> {
+    let mut vm = None;
+    answer_all(alloc, &mut vm, script, writer)
+}
+
+fn try_run<R: Read, W: Write>(alloc: Global, reader: &mut R, writer: &mut W) -> io::Result<()> {
+    let mut script = Vec::new(alloc);
+    reader.read_to_end(&mut script)?;
+    drive(alloc, script.as_slice(), writer)?;
+    writer.flush()
+}
+
+/// Reads a script to its end, and writes its transcript: for each line one line of answer.
+pub fn run<R: Read, W: Write>(alloc: Global, reader: &mut R, writer: &mut W) -> ExitStatus
+    ensures { result ≢ status.Usage }
+{
+    match try_run(alloc, reader, writer) {
+        Ok(()) => ExitStatus::Done,
+        Err(_) => ExitStatus::Failed,
+    }
+}

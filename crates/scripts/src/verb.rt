@@ -1,0 +1,101 @@
+//! The first word of a line, which says what call is made.
+ghost use Rattle.std.specs.Prelude.{◌≡◌, IfOk};
+ghost use Rattle.scripts.specs.Verbs.{verb_name};
+
+use wire::Fault;
+
+/// A call of the VM, as the first word of a line names it.
+#[derive(Clone, Copy, Debug)]
+pub enum Verb {
+    Head,
+    Input,
+    Close,
+    Output,
+    Ready,
+    State,
+    Index,
+    Error,
+    Await,
+    Completed,
+    Take,
+    SysInput,
+    Set,
+    Clear,
+    ClearAll,
+    Sleep,
+    Awakeable,
+    CompleteAwakeable,
+    CompleteSignal,
+    Cancel,
+    WriteOutput,
+    End,
+}
+
+/// Each verb.
+const VERBS: [Verb; 22] = [
+    Verb::Head,
+    Verb::Input,
+    Verb::Close,
+    Verb::Output,
+    Verb::Ready,
+    Verb::State,
+    Verb::Index,
+    Verb::Error,
+    Verb::Await,
+    Verb::Completed,
+    Verb::Take,
+    Verb::SysInput,
+    Verb::Set,
+    Verb::Clear,
+    Verb::ClearAll,
+    Verb::Sleep,
+    Verb::Awakeable,
+    Verb::CompleteAwakeable,
+    Verb::CompleteSignal,
+    Verb::Cancel,
+    Verb::WriteOutput,
+    Verb::End,
+];
+
+/// The word for it.
+#[tactic(auto, unfolding(crate::specs::Verbs::verb_name))]
+fn name_of_verb(verb: Verb) -> &'static str
+    ensures { result.now ≡ verb_name verb }
+{
+    match verb {
+        Verb::Head => "head",
+        Verb::Input => "input",
+        Verb::Close => "close",
+        Verb::Output => "output",
+        Verb::Ready => "ready",
+        Verb::State => "state",
+        Verb::Index => "index",
+        Verb::Error => "error",
+        Verb::Await => "await",
+        Verb::Completed => "completed",
+        Verb::Take => "take",
+        Verb::SysInput => "sys_input",
+        Verb::Set => "set",
+        Verb::Clear => "clear",
+        Verb::ClearAll => "clear_all",
+        Verb::Sleep => "sleep",
+        Verb::Awakeable => "awakeable",
+        Verb::CompleteAwakeable => "complete_awakeable",
+        Verb::CompleteSignal => "complete_signal",
+        Verb::Cancel => "cancel",
+        Verb::WriteOutput => "write_output",
+        Verb::End => "end",
+    }
+}
+
+/// The verb that a word is.
+pub fn verb_of_word(word: &[u8]) -> Result<Verb, Fault>
+    ensures { IfOk result (λ verb. word.now ≡ verb_name verb) }
+{
+    for verb in VERBS {
+        if word == name_of_verb(verb).as_bytes() {
+            return Ok(verb);
+        }
+    }
+    Err(Fault::Malformed)
+}
