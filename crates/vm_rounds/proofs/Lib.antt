@@ -18,6 +18,7 @@ pub mod Stepped
 pub mod Advanced
 pub mod Coming
 pub mod Under
+pub mod Honest
 pub mod Replayed
 pub mod Blaming
 pub mod Placing

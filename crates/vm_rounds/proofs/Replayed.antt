@@ -57,16 +57,16 @@ noted_notes : (b : Bool) (o : Option Notification) (es : List Entry) (ns : List 
 noted_notes true o es ns is = told_notes o es ns is
 noted_notes false o es ns is = is
 
-notes_same : (raws : List RawMessage) → notifications_in (as_entries raws) ≡ notifications_among raws
+pub notes_same : (raws : List RawMessage) → notifications_in (as_entries raws) ≡ notifications_among raws
 notes_same [] = refl
 notes_same (raw ∷ raws) =
     recorded_notes (is_command raw) raw (cond (is_notification raw) (told_by (notification_in raw.body) (as_entries raws)) (as_entries raws))
     ∙ noted_notes (is_notification raw) (notification_in raw.body) (as_entries raws) (notifications_among raws) (notes_same raws)
 
-head_same : (a b : RawMessage) (xs ys : List RawMessage) → a ∷ xs ≡ b ∷ ys → a ≡ b
+pub head_same : (a b : RawMessage) (xs ys : List RawMessage) → a ∷ xs ≡ b ∷ ys → a ≡ b
 head_same a b xs ys e = cc
 
-tail_same : (a b : RawMessage) (xs ys : List RawMessage) → a ∷ xs ≡ b ∷ ys → xs ≡ ys
+pub tail_same : (a b : RawMessage) (xs ys : List RawMessage) → a ∷ xs ≡ b ∷ ys → xs ≡ ys
 tail_same a b xs ys e = cc
 
 -- on a history no call is refused while recorded commands are left

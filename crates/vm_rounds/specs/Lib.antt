@@ -6,3 +6,4 @@ pub mod Stepping
 pub mod Steps
 pub mod Told
 pub mod Blames
+pub mod Honest

@@ -18,6 +18,7 @@ ghost use Rattle.vm_model.specs.Moves.{Point, later};
 ghost use Rattle.vm_parts.specs.declared.context.StateMap.{StateMap};
 ghost use Rattle.vm_rounds.specs.Agreement.{Agrees, Aside, Follows};
 ghost use Rattle.vm_rounds.specs.Blames.{Blame, FailsAt, IsHonest, IsOwnError};
+ghost use Rattle.vm_rounds.specs.Honest.{FeedsHonestly};
 ghost use Rattle.vm_rounds.specs.Journals.{BeginsOrFails, Started, as_entries, machine_fed, notifications_among, setup_for};
 ghost use Rattle.vm_rounds.specs.Steps.{performed, IfDone, ReadsBack};
 ghost use Rattle.vm_rounds.specs.Told.{AnswersAreTold, HasCome, IsKeptUnder, Premises, RefusesReplay, arrivals_of};
@@ -100,4 +101,10 @@ pub fn answers_are_told()
 /// version check, a kind of number that ran out, or a state key that is no text.
 pub fn honest_attempts_fail_by_themselves()
     ensures { (m : Meaning) (version : Version) (options : VMOptions) (fed : List Fed) (closed : Bool) (answers : List Answer) (e : Error) → IsHonest m version options fed → Blame m version options fed closed answers e → IsOwnError m version options fed closed answers e }
+{}
+
+/// Bytes that are a beginning of Start, of the whole journal, which is a history of the handler, and of notifications behind it are
+/// an honest attempt's: each of its frames has its place.
+pub fn honest_bytes_are_honest()
+    ensures { (m : Meaning) (version : Version) (options : VMOptions) (fed : List Fed) → FeedsHonestly m version options fed → IsHonest m version options fed }
 {}

@@ -12,7 +12,8 @@ pub use attempt::Attempt;
 pub use handler::Handler;
 pub use laws::{
     answers_are_told, attempts_begin, attempts_keep, attempts_write, calls_follow, frames_arrive,
-    histories_are_replayed, honest_attempts_fail_by_themselves, journals_come,
+    histories_are_replayed, honest_attempts_fail_by_themselves, honest_bytes_are_honest,
+    journals_come,
 };
 pub use progress::{Fed, Progress};
 pub use vm_parts::{Answer, Step};

@@ -1,0 +1,255 @@
+-- What an honest runtime feeds has its place, frame by frame, and its journal is the history.
+use Rattle.std.proofs.Common.{◌≡◌, ◌≢◌, ℕ, zero, suc, ◌+◌, ◌-◌, ◌<◌, ◌≤◌, ◌^◌, Bool, true, false, cond, length, List, [], ◌∷◌, ◌++◌, map, Option, Some, None, refl, sym, ap, ◌∙◌, subst, append_assoc, arith, length-append}
+use Rattle.std.specs.Prelude.{◌==◌, ◌&&◌, if◌then◌else◌, nat_le, nat_lt}
+use Rattle.std.specs.List.{AllByRecursion, flat_map}
+use Rattle.std.proofs.lemmas.Bool.Decides.{nat_tests}
+use Rattle.std.proofs.lemmas.Option.{same_Some}
+use Rattle.journal_protocol.specs.declared.faults.NamedFault.{NamedFault}
+use Rattle.journal_protocol.specs.declared.faults.NamedFault.TheVariants as fault
+use Rattle.journal_protocol.specs.declared.message.Message.TheVariants as message
+use Rattle.journal_protocol.specs.declared.message.RawMessage.{RawMessage}
+use Rattle.journal_protocol.specs.declared.notification.Notification.{Notification}
+use Rattle.journal_protocol.specs.declared.start.Start.{Start}
+use Rattle.journal_protocol.specs.declared.version.Version.{Version}
+use Rattle.journal_protocol.specs.Frames.{Whole, next_of}
+use Rattle.journal_protocol.specs.Reading.{notification_in, start_in}
+use Rattle.journal_protocol.specs.Runs.{IsWhole}
+use Rattle.journal_protocol.specs.Types.{type_number}
+use Rattle.journal_protocol.proofs.Cuts.{whole_spelled}
+use Rattle.journal_protocol.proofs.Reading.{notification_read, start_read}
+use Rattle.vm_parts.specs.declared.options.VMOptions.{VMOptions}
+use Rattle.vm_machine.specs.declared.phase.Phase.{Phase}
+use Rattle.vm_machine.specs.declared.phase.Phase.TheVariants.{WaitingStart, WaitingReplayEntries, Replaying, Processing, Closed}
+use Rattle.vm_machine.specs.Inputs.{entries_in}
+use Rattle.invocation_vm.specs.Frames.{Tail, Rest, Garbage, frames_from, frames_of, joined}
+use Rattle.invocation_vm.proofs.Cuts.{frames_of-append, frames_of-next}
+use Rattle.vm_model.specs.Calls.{Meaning}
+use Rattle.vm_model.specs.Histories.{History, behind}
+use Rattle.vm_model.specs.Journal.{Entry, Recorded, Notified, commands_in, notifications_in, stored_form}
+use Rattle.vm_rounds.specs.declared.progress.Fed.{Fed}
+use Rattle.vm_rounds.specs.Blames.{Began, IsHonest, Place, fault_by, frame_fault, notification_fault, refused_start, start_fault}
+use Rattle.vm_rounds.specs.Honest.{FeedsHonestly, IsEntry, entry_frame, frame_bytes, honest_frames, notification_frame}
+use Rattle.vm_rounds.specs.Journals.{as_entries, is_command, is_notification, notifications_among, notified_by, recorded_by, setup_for, told_by}
+use Rattle.vm_rounds.specs.Told.{CompleteOnce, Premises, arrivals_of, bytes_fed, frames_fed}
+use Rattle.vm_rounds.proofs.Pieces.{notifications_append}
+use Rattle.vm_rounds.proofs.Replayed.{head_same, notes_same, tail_same}
+use Rattle.vm_rounds.proofs.Under.{once_before}
+
+-- ---- frames of bytes
+
+abbrev Fits : RawMessage → Type 0
+Fits raw = length raw.body < 2 ^ 64
+
+-- whole frames are read back
+frames_spelled : (raws : List RawMessage) → AllByRecursion Fits raws → frames_of (flat_map frame_bytes raws) ≡ (raws, Rest [])
+unfolding frames_of
+frames_spelled [] fit = refl
+frames_spelled (raw ∷ raws) fit =
+    let rest = flat_map frame_bytes raws in
+    frames_of-next (frame_bytes raw ++ rest)
+    ∙ ap (λ o. frames_from o (λ bytes. frames_of bytes) (frame_bytes raw ++ rest)) (whole_spelled raw.ty raw.body rest fit.0)
+    ∙ ap (λ p. (raw ∷ p.0, p.1)) (frames_spelled raws fit.1)
+
+-- a beginning of frames brings the first of them, and no garbage
+record Begins (F : List RawMessage) (t : Tail) (raws : List RawMessage) : Type 0 where
+  clean : t ≢ Garbage
+  others : List RawMessage
+  all : F ++ others ≡ raws
+
+begins_by : (F : List RawMessage) (t : Tail) (unfed : List ℕ) (raws : List RawMessage) → joined (F, t) unfed ≡ (raws, Rest []) → Begins F t raws
+begins_by F (Rest bytes) unfed raws is = record { clean = λ h. absurd (cc); others = (frames_of (bytes ++ unfed)).0; all = ap (λ p. p.0) is }
+begins_by F Garbage unfed raws is = absurd (let z : Garbage ≡ Rest [] = ap (λ p. p.1) is in cc)
+
+fed_begins : (bytes unfed : List ℕ) (raws : List RawMessage) → AllByRecursion Fits raws → bytes ++ unfed ≡ flat_map frame_bytes raws → Begins (frames_of bytes).0 (frames_of bytes).1 raws
+fed_begins bytes unfed raws fit is = begins_by (frames_of bytes).0 (frames_of bytes).1 unfed raws (sym (frames_of-append bytes unfed) ∙ ap frames_of is ∙ frames_spelled raws fit)
+
+all_append : (P : RawMessage → Type 0) (xs ys : List RawMessage) → AllByRecursion P xs → AllByRecursion P ys → AllByRecursion P (xs ++ ys)
+all_append P [] ys a b = b
+all_append P (x ∷ xs) ys a b = (a.0, all_append P xs ys a.1 b)
+
+entries_fit : (journal : List Entry) → AllByRecursion IsEntry journal → AllByRecursion Fits (map entry_frame journal)
+entries_fit [] all = tt
+entries_fit (Recorded raw ∷ journal) all = (all.0.1, entries_fit journal all.1)
+entries_fit (Notified n ∷ journal) all = (all.0.1, entries_fit journal all.1)
+
+abbrev Wholes : List Notification → Type 0
+Wholes = AllByRecursion (λ n. IsWhole (message.Notification n))
+
+notes_fit : (more : List Notification) → Wholes more → AllByRecursion Fits (map notification_frame more)
+notes_fit [] all = tt
+notes_fit (n ∷ more) all = (all.0.1, notes_fit more all.1)
+
+-- ---- what a frame is
+
+-- a command is neither a Start nor a notification
+other_number : (n : ℕ) → (nat_le 10 n && nat_lt n 30) ≡ true → (n == 1) ≡ false
+other_number n is = by_test (n == 1) refl
+  where
+    by_test : (b : Bool) → (n == 1) ≡ b → b ≡ false
+    by_test false e = refl
+    by_test true e = let one : n ≡ 1 = grind (arith, nat_tests, e) in absurd (let z : (nat_le 10 1 && nat_lt 1 30) ≡ true = subst (λ k. (nat_le 10 k && nat_lt k 30) ≡ true) one is in cc)
+
+not_thirty : (n : ℕ) → (nat_le 10 n && nat_lt n 30) ≡ true → (n == 30) ≡ false
+not_thirty n is = by_test (n == 30) refl
+  where
+    by_test : (b : Bool) → (n == 30) ≡ b → b ≡ false
+    by_test false e = refl
+    by_test true e = let is_thirty : n ≡ 30 = grind (arith, nat_tests, e) in absurd (let z : (nat_le 10 30 && nat_lt 30 30) ≡ true = subst (λ k. (nat_le 10 k && nat_lt k 30) ≡ true) is_thirty is in cc)
+
+reads_note : (n : Notification) → IsWhole (message.Notification n) → notification_in (notification_frame n).body ≡ Some n
+reads_note n whole = notification_read n whole.0
+
+-- the journal is what its frames are read as
+journal_read : (journal : List Entry) → AllByRecursion IsEntry journal → as_entries (map entry_frame journal) ≡ journal
+journal_read [] all = refl
+journal_read (Recorded raw ∷ journal) all =
+    (λ i. recorded_by (all.0.0 i) raw (cond (not_thirty (type_number raw.ty) all.0.0 i) (told_by (notification_in raw.body) (as_entries (map entry_frame journal))) (as_entries (map entry_frame journal))))
+    ∙ ap (λ l. Recorded raw ∷ l) (journal_read journal all.1)
+journal_read (Notified n ∷ journal) all =
+    ap (λ o. told_by o (as_entries (map entry_frame journal))) (reads_note n all.0) ∙ ap (λ l. Notified n ∷ l) (journal_read journal all.1)
+
+notes_read : (more : List Notification) → Wholes more → notifications_among (map notification_frame more) ≡ more
+notes_read [] all = refl
+notes_read (n ∷ more) all = (λ i. notified_by (reads_note n all.0 i) (notes_read more all.1 i))
+
+-- ---- each frame has its place
+
+-- a frame that is taken while known entries are missing, and one that is taken behind them
+abbrev TakenAsEntry : RawMessage → Type 0
+TakenAsEntry raw = frame_fault WaitingReplayEntries raw ≡ None
+
+record TakenBehind (raw : RawMessage) : Type 0 where
+  replaying : frame_fault Replaying raw ≡ None
+  processing : frame_fault Processing raw ≡ None
+
+entries_taken : (journal : List Entry) → AllByRecursion IsEntry journal → AllByRecursion TakenAsEntry (map entry_frame journal)
+entries_taken [] all = tt
+entries_taken (Recorded raw ∷ journal) all =
+    ((λ i. fault_by WaitingReplayEntries raw (other_number (type_number raw.ty) all.0.0 i) (all.0.0 i) (is_notification raw)), entries_taken journal all.1)
+entries_taken (Notified n ∷ journal) all = (ap notification_fault (reads_note n all.0), entries_taken journal all.1)
+
+notes_taken : (more : List Notification) → Wholes more → AllByRecursion TakenBehind (map notification_frame more)
+notes_taken [] all = tt
+notes_taken (n ∷ more) all = (record { replaying = ap notification_fault (reads_note n all.0); processing = ap notification_fault (reads_note n all.0) }, notes_taken more all.1)
+
+-- what stands at a place among the first of two lists, or among the second
+among_first : (P : RawMessage → Type 0) (xs ys before : List RawMessage) (raw : RawMessage) (rest : List RawMessage) → xs ++ ys ≡ before ++ raw ∷ rest → length before < length xs → AllByRecursion P xs → P raw
+among_first P [] ys before raw rest is fewer all = absurd (omega arith)
+among_first P (x ∷ xs) ys [] raw rest is fewer all = subst P (head_same x raw (xs ++ ys) rest is) all.0
+among_first P (x ∷ xs) ys (b ∷ before) raw rest is fewer all = among_first P xs ys before raw rest (tail_same x b (xs ++ ys) (before ++ raw ∷ rest) is) (omega arith) all.1
+
+among_second : (P : RawMessage → Type 0) (xs ys before : List RawMessage) (raw : RawMessage) (rest : List RawMessage) → xs ++ ys ≡ before ++ raw ∷ rest → length xs ≤ length before → AllByRecursion P ys → P raw
+among_second P [] (y ∷ ys) [] raw rest is enough all = subst P (head_same y raw ys rest is) all.0
+among_second P [] (y ∷ ys) (b ∷ before) raw rest is enough all = among_second P [] ys before raw rest (tail_same y b ys (before ++ raw ∷ rest) is) (omega arith) all.1
+among_second P [] [] [] raw rest is enough all = absurd (cc)
+among_second P [] [] (b ∷ before) raw rest is enough all = absurd (cc)
+among_second P (x ∷ xs) ys [] raw rest is enough all = absurd (omega arith)
+among_second P (x ∷ xs) ys (b ∷ before) raw rest is enough all = among_second P xs ys before raw rest (tail_same x b (xs ++ ys) (before ++ raw ∷ rest) is) (omega arith) all
+
+-- of two lists that begin a third, as long ones are the same
+same_front : (xs ys us vs : List RawMessage) → xs ++ ys ≡ us ++ vs → length xs ≡ length us → xs ≡ us
+same_front [] ys [] vs is same = refl
+same_front [] ys (u ∷ us) vs is same = absurd (omega arith)
+same_front (x ∷ xs) ys [] vs is same = absurd (omega arith)
+same_front (x ∷ xs) ys (u ∷ us) vs is same = λ i. head_same x u (xs ++ ys) (us ++ vs) is i ∷ same_front xs ys us vs (tail_same x u (xs ++ ys) (us ++ vs) is) (omega arith) i
+
+length_entries : (journal : List Entry) → length (map entry_frame journal) ≡ length journal
+length_entries [] = refl
+length_entries (e ∷ journal) = ap (λ n. suc n) (length_entries journal)
+
+no_frames : {A : Type 0} (x : RawMessage) (xs : List RawMessage) → [] ≡ x ∷ xs → A
+no_frames x xs h = absurd (cc)
+
+not_none : (n : ℕ) → (suc n == 0) ≡ false
+not_none n = grind (arith, nat_tests)
+
+-- a journal that begins with a command has an entry
+some_entries : (journal : List Entry) (first : RawMessage) (rest : List RawMessage) → commands_in journal ≡ first ∷ rest → (length journal == 0) ≡ false
+some_entries [] first rest is = absurd (cc)
+some_entries (e ∷ journal) first rest is = not_none (length journal)
+
+module _ (m : Meaning) (version : Version) (options : VMOptions) (fed : List Fed) (h : FeedsHonestly m version options fed) where
+  abbrev J : List RawMessage
+  J = map entry_frame h.journal
+
+  abbrev N : List RawMessage
+  N = map notification_frame h.more
+
+  abbrev S : RawMessage
+  S = stored_form (message.Start h.start)
+
+  begins : Begins (frames_fed fed) (frames_of (bytes_fed fed)).1 (S ∷ (J ++ N))
+  begins = fed_begins (bytes_fed fed) h.unfed (S ∷ (J ++ N)) (h.start_is_whole.1, all_append Fits J N (entries_fit h.journal h.journal_is_whole) (notes_fit h.more h.more_is_whole)) h.bytes
+
+  reads_start : start_in S.body ≡ Some h.start
+  reads_start = start_read h.start h.start_is_whole.0
+
+  -- the Start that was read is this one
+  same_start : (first : RawMessage) (st : Start) → first ≡ S → start_in first.body ≡ Some st → st ≡ h.start
+  same_start first st is reads = same_Some st h.start (sym reads ∙ ap (λ (raw : RawMessage). start_in raw.body) is ∙ reads_start)
+
+  start_taken : frame_fault WaitingStart S ≡ None
+  start_taken =
+      ap start_fault reads_start ∙ ap (refused_start h.start) h.reads_state
+      ∙ (λ i. if (ap (λ n. n == 0) h.known ∙ some_entries h.journal h.history.first h.history.rest h.history.begins) i then Some fault.KnownEntriesIsZero else None)
+
+  -- at least as many frames as there are known entries
+  enough : (others : List RawMessage) → Began (S ∷ others) (λ n known. known ≤ n) → length J ≤ length others
+  enough others p =
+      no_more (length p.others) (length others) (length J) (length h.journal) p.start.known_entries (ap length (sym (tail_same S p.first others p.others p.is))) (length_entries h.journal) (ap (λ (st : Start). st.known_entries) (same_start p.first p.start (sym (head_same S p.first others p.others p.is)) p.reads) ∙ h.known) p.counts
+    where
+      no_more : (n l j e known : ℕ) → n ≡ l → j ≡ e → known ≡ e → known ≤ n → j ≤ l
+      no_more n l j e known a b c d = omega (arith, a, b, c, d)
+
+  -- the frame behind these, where Start is the first
+  behind_start : (others : List RawMessage) (raw : RawMessage) (rest : List RawMessage) → J ++ N ≡ others ++ raw ∷ rest → (phase : Phase) (k : ℕ) → Place phase k (S ∷ others) → frame_fault phase raw ≡ None
+  behind_start others raw rest is WaitingStart k p = absurd (cc)
+  behind_start others raw rest is WaitingReplayEntries k p =
+      among_first TakenAsEntry J N others raw rest is
+      (fewer (length p.others) (length others) (length J) (length h.journal) p.start.known_entries (ap length (sym (tail_same S p.first others p.others p.is))) (length_entries h.journal) (ap (λ (st : Start). st.known_entries) (same_start p.first p.start (sym (head_same S p.first others p.others p.is)) p.reads) ∙ h.known) p.counts.0 p.counts.1)
+      (entries_taken h.journal h.journal_is_whole)
+    where
+      fewer : (n l j e known : ℕ) → n ≡ l → j ≡ e → known ≡ e → n + k ≡ known → 0 < k → l < j
+      fewer n l j e known a b c d f = omega (arith, a, b, c, d, f)
+  behind_start others raw rest is Replaying k p = (among_second TakenBehind J N others raw rest is (enough others p) (notes_taken h.more h.more_is_whole)).replaying
+  behind_start others raw rest is Processing k p = (among_second TakenBehind J N others raw rest is (enough others p) (notes_taken h.more h.more_is_whole)).processing
+  behind_start others raw rest is Closed k p = absurd p
+
+  -- each frame that was fed is taken in its place
+  placed : (before : List RawMessage) (raw : RawMessage) (rest : List RawMessage) → S ∷ (J ++ N) ≡ before ++ raw ∷ rest → (phase : Phase) (k : ℕ) → Place phase k before → frame_fault phase raw ≡ None
+  placed [] raw rest is WaitingStart k p = subst (λ r. frame_fault WaitingStart r ≡ None) (head_same S raw (J ++ N) rest is) start_taken
+  placed [] raw rest is WaitingReplayEntries k p = no_frames p.first p.others p.is
+  placed [] raw rest is Replaying k p = no_frames p.first p.others p.is
+  placed [] raw rest is Processing k p = no_frames p.first p.others p.is
+  placed [] raw rest is Closed k p = absurd p
+  placed (b ∷ before) raw rest is phase k p =
+      behind_start before raw rest (tail_same S b (J ++ N) (before ++ raw ∷ rest) is) phase k
+      (subst (λ (f : RawMessage). Place phase k (f ∷ before)) (sym (head_same S b (J ++ N) (before ++ raw ∷ rest) is)) p)
+
+  -- the known entries are the journal
+  known_are : (first : RawMessage) (entries others : List RawMessage) (st : Start) → frames_fed fed ≡ first ∷ (entries ++ others) → start_in first.body ≡ Some st → length entries ≡ st.known_entries → History (setup_for version options st) m (as_entries entries)
+  known_are first entries others st is reads count =
+      let all : first ∷ (entries ++ (others ++ begins.others)) ≡ S ∷ (J ++ N) = sym (ap (λ l. first ∷ l) (append_assoc entries others begins.others)) ∙ ap (λ l. l ++ begins.others) (sym is) ∙ begins.all in
+      let same : st ≡ h.start = same_start first st (head_same first S (entries ++ (others ++ begins.others)) (J ++ N) all) reads in
+      let long : length entries ≡ length J = count ∙ ap (λ (x : Start). x.known_entries) same ∙ h.known ∙ sym (length_entries h.journal) in
+      let front : entries ≡ J = same_front entries (others ++ begins.others) J N (tail_same first S (entries ++ (others ++ begins.others)) (J ++ N) all) long in
+      let read : as_entries entries ≡ h.journal = ap as_entries front ∙ journal_read h.journal h.journal_is_whole in
+      subst (λ (x : Start × List Entry). History (setup_for version options x.0) m x.1) (λ i. (sym same i, sym read i)) h.history
+
+  -- the arrivals are a beginning of all notifications
+  arrive : (F G : List RawMessage) → F ++ G ≡ S ∷ (J ++ N) → CompleteOnce (notifications_among (behind F))
+  arrive [] G is = tt
+  arrive (f ∷ F) G is =
+      let notes : notifications_among F ++ notifications_among G ≡ notifications_in h.journal ++ h.more =
+      sym (notifications_append F G) ∙ ap notifications_among (tail_same f S (F ++ G) (J ++ N) is) ∙ notifications_append J N
+      ∙ (λ i. (sym (notes_same J) ∙ ap notifications_in (journal_read h.journal h.journal_is_whole)) i ++ notes_read h.more h.more_is_whole i)
+      in
+      once_before (notifications_among F) (notifications_among G) (subst CompleteOnce (sym notes) h.premises.once)
+
+  pub honestly_fed : IsHonest m version options fed
+  honestly_fed = record {
+    premises = record { replays = h.premises.replays; queues = h.premises.queues; once = arrive (frames_fed fed) begins.others begins.all };
+    frames = λ before raw rest phase k is p. placed before raw (rest ++ begins.others) (sym begins.all ∙ ap (λ l. l ++ begins.others) is ∙ append_assoc before (raw ∷ rest) begins.others) phase k p;
+    whole = begins.clean;
+    history = known_are;
+  }
