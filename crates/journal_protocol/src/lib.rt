@@ -36,7 +36,7 @@ pub use future::{Future, FutureKind, FutureNode};
 pub use header_equality::header_eq;
 pub use headers::HeaderMap;
 pub use invocations::{IdempotencyId, InvocationCommand, InvocationTarget, WorkflowId};
-pub use law::encodings_stand_alone;
+pub use law::{encodings_stand_alone, messages_equal_themselves};
 pub use message::{Encoder, Message, RawMessage};
 pub use notification::{Notification, NotificationId, NotificationResult};
 pub use parts::{Failure, Header, ValueOrFailure};
