@@ -1,9 +1,9 @@
 //! What an attempt waits for, as it is written on a line.
+use crate::nested::{Begun, begun_of};
 use crate::value::{PrintsValues, TakesValues, Value};
 use journal_protocol::{Future, FutureKind, FutureNode};
 use lines::fields::Fields;
 use lines::line::Line;
-use lines::pieces::items;
 use std::alloc::{AllocError, Global};
 use wire::{Fault, Items};
 
@@ -61,47 +61,20 @@ fn print_ends(left: &mut Vec<u64>, line: &mut Line) -> Result<(), AllocError> {
     Ok(())
 }
 
-/// One future of a line. The texts of those that nest in it go behind the others, the first one last.
-fn parse_node<'a>(
-    alloc: Global,
-    text: &'a [u8],
-    texts: &mut Vec<&'a [u8]>,
-) -> Result<FutureNode, Fault> {
-    let mut fields = Fields::in_brackets(alloc, text)?;
+fn node_of(alloc: Global, future: &Begun<'_>) -> Result<FutureNode, Fault> {
+    let mut fields = Fields::of_pieces(alloc, future.fields.as_slice())?;
     let kind = fields.take("kind")?;
     let waiting_completions = fields.take("completions")?;
     let waiting_signals = fields.take("signals")?;
     let waiting_named_signals = fields.take("named")?;
-    let mut nested = 0;
-    if let Some(list) = fields.take_text("nested") {
-        let mut inner = items(alloc, list)?;
-        nested = inner.len() as u64;
-        inner.reverse();
-        texts.extend_from_slice(inner.as_slice())?;
-    }
     fields.end()?;
     Ok(FutureNode {
         kind,
         waiting_completions,
         waiting_signals,
         waiting_named_signals,
-        nested,
+        nested: future.nested.unwrap_or(0),
     })
-}
-
-/// The futures of a text in preorder.
-fn parse_nodes(alloc: Global, text: &[u8]) -> Result<Items<FutureNode>, Fault> {
-    let mut nodes = Items::new(alloc);
-    let mut texts = Vec::new(alloc);
-    texts.push(text)?;
-    // Each future takes a byte at least.
-    for _ in 0..text.len() {
-        let Some(next) = texts.pop() else {
-            break;
-        };
-        nodes.push(parse_node(alloc, next, &mut texts)?)?;
-    }
-    Ok(nodes)
 }
 
 impl Value for Future {
@@ -120,6 +93,10 @@ impl Value for Future {
     }
 
     fn parse(alloc: Global, text: &[u8]) -> Result<Future, Fault> {
-        Future::from_nodes(parse_nodes(alloc, text)?).ok_or(Fault::Malformed)
+        let mut nodes = Items::new(alloc);
+        for future in &begun_of(alloc, text)? {
+            nodes.push(node_of(alloc, future)?)?;
+        }
+        Future::from_nodes(nodes).ok_or(Fault::Malformed)
     }
 }

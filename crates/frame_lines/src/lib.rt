@@ -7,6 +7,7 @@ pub mod exit_status;
 pub mod forms;
 pub mod future;
 pub mod message;
+pub mod nested;
 pub mod run;
 pub mod type_names;
 pub mod value;

@@ -5,3 +5,4 @@ pub mod Frames
 pub mod Streams
 pub mod Cuts
 pub mod Nodes
+pub mod SameHeader

@@ -8,15 +8,9 @@ use Rattle.wire.specs.Reads.{Read, read_all}
 use Rattle.wire.specs.declared.fault.Fault.{Fault}
 use Rattle.wire.specs.declared.fault.Fault.TheVariants.{Memory, Malformed}
 use Rattle.wire.proofs.Read.{all_read, all_is, some_none}
-use Rattle.journal_protocol.specs.Encoding.{start, propose_run_completion_ack, get_state_ephemeral_notification, input, notification}
 use Rattle.journal_protocol.specs.Bodies.{start_format, suspension_format, error_format, propose_run_completion_format, propose_run_completion_ack_format, awaiting_on_format, get_state_ephemeral_command_format, get_state_ephemeral_notification_format, input_format, get_eager_state_format, get_lazy_state_format, get_eager_state_keys_format, get_lazy_state_keys_format, set_state_format, clear_state_format, clear_all_state_format, sleep_format, call_format, one_way_call_format, complete_awakeable_format, send_signal_format, promise_format, complete_promise_format, run_format, invocation_format, output_format, notification_format}
 use Rattle.journal_protocol.specs.Message.{body, type_of, IsValid, DecodesTo}
-use Rattle.journal_protocol.specs.Reading.{start_in, suspension_in, error_in, end_in, propose_run_completion_in, propose_run_completion_ack_in, awaiting_on_in, get_state_ephemeral_command_in, get_state_ephemeral_notification_in, input_in, get_eager_state_in, get_lazy_state_in, get_eager_state_keys_in, get_lazy_state_keys_in, set_state_in, clear_state_in, clear_all_state_in, sleep_in, call_in, one_way_call_in, complete_awakeable_in, send_signal_in, promise_in, complete_promise_in, run_in, invocation_in, output_in, notification_in, message_in}
-use Rattle.journal_protocol.specs.declared.start.Start.{Start}
-use Rattle.journal_protocol.specs.declared.runs.ProposeRunCompletionAck.{ProposeRunCompletionAck}
-use Rattle.journal_protocol.specs.declared.state.GetStateEphemeralNotification.{GetStateEphemeralNotification}
-use Rattle.journal_protocol.specs.declared.commands.InputCommand.{InputCommand}
-use Rattle.journal_protocol.specs.declared.notification.Notification.{Notification}
+use Rattle.journal_protocol.specs.Reading.{body_as, message_in}
 use Rattle.journal_protocol.specs.declared.types.MessageType.{MessageType}
 use Rattle.journal_protocol.specs.declared.types.MessageType.TheVariants as type
 use Rattle.journal_protocol.specs.declared.message.Message.{Message}
@@ -40,158 +34,38 @@ made_is make f ty b m h e =
     let p = all_is f b k.0 k.1 in
     subst (IsMessage ty b) k.2 (h k.0 p.0 p.1)
 
-start_is : (b : List ℕ) (m : Message) → option_map message.Start (start_in b) ≡ Some m → IsMessage type.Start b m
-unfolding start_in
-start_is b m = made_is message.Start start_format type.Start b m (λ a v e. record { valid = v; typed = refl; spelled = e })
-
-suspension_is : (b : List ℕ) (m : Message) → option_map message.Suspension (suspension_in b) ≡ Some m → IsMessage type.Suspension b m
-unfolding suspension_in
-suspension_is b m = made_is message.Suspension suspension_format type.Suspension b m (λ a v e. record { valid = v; typed = refl; spelled = e })
-
-error_is : (b : List ℕ) (m : Message) → option_map message.Error (error_in b) ≡ Some m → IsMessage type.Error b m
-unfolding error_in
-error_is b m = made_is message.Error error_format type.Error b m (λ a v e. record { valid = v; typed = refl; spelled = e })
-
-end_is : (b : List ℕ) (m : Message) → option_map (λ _. message.End) (end_in b) ≡ Some m → IsMessage type.End b m
-unfolding end_in
-end_is b m = made_is (λ _. message.End) nothing_format type.End b m (λ a v e. record { valid = v; typed = refl; spelled = e })
-
-propose_run_completion_is : (b : List ℕ) (m : Message) → option_map message.ProposeRunCompletion (propose_run_completion_in b) ≡ Some m → IsMessage type.ProposeRunCompletion b m
-unfolding propose_run_completion_in
-propose_run_completion_is b m = made_is message.ProposeRunCompletion propose_run_completion_format type.ProposeRunCompletion b m (λ a v e. record { valid = v; typed = refl; spelled = e })
-
-propose_run_completion_ack_is : (b : List ℕ) (m : Message) → option_map message.ProposeRunCompletionAck (propose_run_completion_ack_in b) ≡ Some m → IsMessage type.ProposeRunCompletionAck b m
-unfolding propose_run_completion_ack_in
-propose_run_completion_ack_is b m = made_is message.ProposeRunCompletionAck propose_run_completion_ack_format type.ProposeRunCompletionAck b m (λ a v e. record { valid = v; typed = refl; spelled = e })
-
-awaiting_on_is : (b : List ℕ) (m : Message) → option_map message.AwaitingOn (awaiting_on_in b) ≡ Some m → IsMessage type.AwaitingOn b m
-unfolding awaiting_on_in
-awaiting_on_is b m = made_is message.AwaitingOn awaiting_on_format type.AwaitingOn b m (λ a v e. record { valid = v; typed = refl; spelled = e })
-
-get_state_ephemeral_command_is : (b : List ℕ) (m : Message) → option_map message.GetStateEphemeralCommand (get_state_ephemeral_command_in b) ≡ Some m → IsMessage type.GetStateEphemeralCommand b m
-unfolding get_state_ephemeral_command_in
-get_state_ephemeral_command_is b m = made_is message.GetStateEphemeralCommand get_state_ephemeral_command_format type.GetStateEphemeralCommand b m (λ a v e. record { valid = v; typed = refl; spelled = e })
-
-get_state_ephemeral_notification_is : (b : List ℕ) (m : Message) → option_map message.GetStateEphemeralNotification (get_state_ephemeral_notification_in b) ≡ Some m → IsMessage type.GetStateEphemeralNotification b m
-unfolding get_state_ephemeral_notification_in
-get_state_ephemeral_notification_is b m = made_is message.GetStateEphemeralNotification get_state_ephemeral_notification_format type.GetStateEphemeralNotification b m (λ a v e. record { valid = v; typed = refl; spelled = e })
-
-input_is : (b : List ℕ) (m : Message) → option_map message.Input (input_in b) ≡ Some m → IsMessage type.InputCommand b m
-unfolding input_in
-input_is b m = made_is message.Input input_format type.InputCommand b m (λ a v e. record { valid = v; typed = refl; spelled = e })
-
-get_eager_state_is : (b : List ℕ) (m : Message) → option_map message.GetEagerState (get_eager_state_in b) ≡ Some m → IsMessage type.GetEagerStateCommand b m
-unfolding get_eager_state_in
-get_eager_state_is b m = made_is message.GetEagerState get_eager_state_format type.GetEagerStateCommand b m (λ a v e. record { valid = v; typed = refl; spelled = e })
-
-get_lazy_state_is : (b : List ℕ) (m : Message) → option_map message.GetLazyState (get_lazy_state_in b) ≡ Some m → IsMessage type.GetLazyStateCommand b m
-unfolding get_lazy_state_in
-get_lazy_state_is b m = made_is message.GetLazyState get_lazy_state_format type.GetLazyStateCommand b m (λ a v e. record { valid = v; typed = refl; spelled = e })
-
-get_eager_state_keys_is : (b : List ℕ) (m : Message) → option_map message.GetEagerStateKeys (get_eager_state_keys_in b) ≡ Some m → IsMessage type.GetEagerStateKeysCommand b m
-unfolding get_eager_state_keys_in
-get_eager_state_keys_is b m = made_is message.GetEagerStateKeys get_eager_state_keys_format type.GetEagerStateKeysCommand b m (λ a v e. record { valid = v; typed = refl; spelled = e })
-
-get_lazy_state_keys_is : (b : List ℕ) (m : Message) → option_map message.GetLazyStateKeys (get_lazy_state_keys_in b) ≡ Some m → IsMessage type.GetLazyStateKeysCommand b m
-unfolding get_lazy_state_keys_in
-get_lazy_state_keys_is b m = made_is message.GetLazyStateKeys get_lazy_state_keys_format type.GetLazyStateKeysCommand b m (λ a v e. record { valid = v; typed = refl; spelled = e })
-
-set_state_is : (b : List ℕ) (m : Message) → option_map message.SetState (set_state_in b) ≡ Some m → IsMessage type.SetStateCommand b m
-unfolding set_state_in
-set_state_is b m = made_is message.SetState set_state_format type.SetStateCommand b m (λ a v e. record { valid = v; typed = refl; spelled = e })
-
-clear_state_is : (b : List ℕ) (m : Message) → option_map message.ClearState (clear_state_in b) ≡ Some m → IsMessage type.ClearStateCommand b m
-unfolding clear_state_in
-clear_state_is b m = made_is message.ClearState clear_state_format type.ClearStateCommand b m (λ a v e. record { valid = v; typed = refl; spelled = e })
-
-clear_all_state_is : (b : List ℕ) (m : Message) → option_map message.ClearAllState (clear_all_state_in b) ≡ Some m → IsMessage type.ClearAllStateCommand b m
-unfolding clear_all_state_in
-clear_all_state_is b m = made_is message.ClearAllState clear_all_state_format type.ClearAllStateCommand b m (λ a v e. record { valid = v; typed = refl; spelled = e })
-
-sleep_is : (b : List ℕ) (m : Message) → option_map message.Sleep (sleep_in b) ≡ Some m → IsMessage type.SleepCommand b m
-unfolding sleep_in
-sleep_is b m = made_is message.Sleep sleep_format type.SleepCommand b m (λ a v e. record { valid = v; typed = refl; spelled = e })
-
-call_is : (b : List ℕ) (m : Message) → option_map message.Call (call_in b) ≡ Some m → IsMessage type.CallCommand b m
-unfolding call_in
-call_is b m = made_is message.Call call_format type.CallCommand b m (λ a v e. record { valid = v; typed = refl; spelled = e })
-
-one_way_call_is : (b : List ℕ) (m : Message) → option_map message.OneWayCall (one_way_call_in b) ≡ Some m → IsMessage type.OneWayCallCommand b m
-unfolding one_way_call_in
-one_way_call_is b m = made_is message.OneWayCall one_way_call_format type.OneWayCallCommand b m (λ a v e. record { valid = v; typed = refl; spelled = e })
-
-complete_awakeable_is : (b : List ℕ) (m : Message) → option_map message.CompleteAwakeable (complete_awakeable_in b) ≡ Some m → IsMessage type.CompleteAwakeableCommand b m
-unfolding complete_awakeable_in
-complete_awakeable_is b m = made_is message.CompleteAwakeable complete_awakeable_format type.CompleteAwakeableCommand b m (λ a v e. record { valid = v; typed = refl; spelled = e })
-
-send_signal_is : (b : List ℕ) (m : Message) → option_map message.SendSignal (send_signal_in b) ≡ Some m → IsMessage type.SendSignalCommand b m
-unfolding send_signal_in
-send_signal_is b m = made_is message.SendSignal send_signal_format type.SendSignalCommand b m (λ a v e. record { valid = v; typed = refl; spelled = e })
-
-get_promise_is : (b : List ℕ) (m : Message) → option_map message.GetPromise (promise_in b) ≡ Some m → IsMessage type.GetPromiseCommand b m
-unfolding promise_in
-get_promise_is b m = made_is message.GetPromise promise_format type.GetPromiseCommand b m (λ a v e. record { valid = v; typed = refl; spelled = e })
-
-peek_promise_is : (b : List ℕ) (m : Message) → option_map message.PeekPromise (promise_in b) ≡ Some m → IsMessage type.PeekPromiseCommand b m
-unfolding promise_in
-peek_promise_is b m = made_is message.PeekPromise promise_format type.PeekPromiseCommand b m (λ a v e. record { valid = v; typed = refl; spelled = e })
-
-complete_promise_is : (b : List ℕ) (m : Message) → option_map message.CompletePromise (complete_promise_in b) ≡ Some m → IsMessage type.CompletePromiseCommand b m
-unfolding complete_promise_in
-complete_promise_is b m = made_is message.CompletePromise complete_promise_format type.CompletePromiseCommand b m (λ a v e. record { valid = v; typed = refl; spelled = e })
-
-run_is : (b : List ℕ) (m : Message) → option_map message.Run (run_in b) ≡ Some m → IsMessage type.RunCommand b m
-unfolding run_in
-run_is b m = made_is message.Run run_format type.RunCommand b m (λ a v e. record { valid = v; typed = refl; spelled = e })
-
-attach_invocation_is : (b : List ℕ) (m : Message) → option_map message.AttachInvocation (invocation_in b) ≡ Some m → IsMessage type.AttachInvocationCommand b m
-unfolding invocation_in
-attach_invocation_is b m = made_is message.AttachInvocation invocation_format type.AttachInvocationCommand b m (λ a v e. record { valid = v; typed = refl; spelled = e })
-
-get_invocation_output_is : (b : List ℕ) (m : Message) → option_map message.GetInvocationOutput (invocation_in b) ≡ Some m → IsMessage type.GetInvocationOutputCommand b m
-unfolding invocation_in
-get_invocation_output_is b m = made_is message.GetInvocationOutput invocation_format type.GetInvocationOutputCommand b m (λ a v e. record { valid = v; typed = refl; spelled = e })
-
-output_is : (b : List ℕ) (m : Message) → option_map message.Output (output_in b) ≡ Some m → IsMessage type.OutputCommand b m
-unfolding output_in
-output_is b m = made_is message.Output output_format type.OutputCommand b m (λ a v e. record { valid = v; typed = refl; spelled = e })
-
-notification_is : (b : List ℕ) (m : Message) → option_map message.Notification (notification_in b) ≡ Some m → IsMessage type.Notification b m
-unfolding notification_in
-notification_is b m = made_is message.Notification notification_format type.Notification b m (λ a v e. record { valid = v; typed = refl; spelled = e })
-
 is_message : (ty : MessageType) (b : List ℕ) (m : Message) → message_in ty b ≡ Some m → IsMessage ty b m
-unfolding message_in
-is_message type.Start b m e = start_is b m e
-is_message type.Suspension b m e = suspension_is b m e
-is_message type.Error b m e = error_is b m e
-is_message type.End b m e = end_is b m e
-is_message type.ProposeRunCompletion b m e = propose_run_completion_is b m e
-is_message type.ProposeRunCompletionAck b m e = propose_run_completion_ack_is b m e
-is_message type.AwaitingOn b m e = awaiting_on_is b m e
-is_message type.GetStateEphemeralCommand b m e = get_state_ephemeral_command_is b m e
-is_message type.GetStateEphemeralNotification b m e = get_state_ephemeral_notification_is b m e
-is_message type.InputCommand b m e = input_is b m e
-is_message type.GetEagerStateCommand b m e = get_eager_state_is b m e
-is_message type.GetLazyStateCommand b m e = get_lazy_state_is b m e
-is_message type.GetEagerStateKeysCommand b m e = get_eager_state_keys_is b m e
-is_message type.GetLazyStateKeysCommand b m e = get_lazy_state_keys_is b m e
-is_message type.SetStateCommand b m e = set_state_is b m e
-is_message type.ClearStateCommand b m e = clear_state_is b m e
-is_message type.ClearAllStateCommand b m e = clear_all_state_is b m e
-is_message type.SleepCommand b m e = sleep_is b m e
-is_message type.CallCommand b m e = call_is b m e
-is_message type.OneWayCallCommand b m e = one_way_call_is b m e
-is_message type.CompleteAwakeableCommand b m e = complete_awakeable_is b m e
-is_message type.SendSignalCommand b m e = send_signal_is b m e
-is_message type.GetPromiseCommand b m e = get_promise_is b m e
-is_message type.PeekPromiseCommand b m e = peek_promise_is b m e
-is_message type.CompletePromiseCommand b m e = complete_promise_is b m e
-is_message type.RunCommand b m e = run_is b m e
-is_message type.AttachInvocationCommand b m e = attach_invocation_is b m e
-is_message type.GetInvocationOutputCommand b m e = get_invocation_output_is b m e
-is_message type.OutputCommand b m e = output_is b m e
-is_message type.Notification b m e = notification_is b m e
+unfolding message_in body_as
+is_message type.Start b m = made_is message.Start start_format type.Start b m (λ a v e. record { valid = v; typed = refl; spelled = e })
+is_message type.Suspension b m = made_is message.Suspension suspension_format type.Suspension b m (λ a v e. record { valid = v; typed = refl; spelled = e })
+is_message type.Error b m = made_is message.Error error_format type.Error b m (λ a v e. record { valid = v; typed = refl; spelled = e })
+is_message type.End b m = made_is (λ _. message.End) nothing_format type.End b m (λ a v e. record { valid = v; typed = refl; spelled = e })
+is_message type.ProposeRunCompletion b m = made_is message.ProposeRunCompletion propose_run_completion_format type.ProposeRunCompletion b m (λ a v e. record { valid = v; typed = refl; spelled = e })
+is_message type.ProposeRunCompletionAck b m = made_is message.ProposeRunCompletionAck propose_run_completion_ack_format type.ProposeRunCompletionAck b m (λ a v e. record { valid = v; typed = refl; spelled = e })
+is_message type.AwaitingOn b m = made_is message.AwaitingOn awaiting_on_format type.AwaitingOn b m (λ a v e. record { valid = v; typed = refl; spelled = e })
+is_message type.GetStateEphemeralCommand b m = made_is message.GetStateEphemeralCommand get_state_ephemeral_command_format type.GetStateEphemeralCommand b m (λ a v e. record { valid = v; typed = refl; spelled = e })
+is_message type.GetStateEphemeralNotification b m = made_is message.GetStateEphemeralNotification get_state_ephemeral_notification_format type.GetStateEphemeralNotification b m (λ a v e. record { valid = v; typed = refl; spelled = e })
+is_message type.InputCommand b m = made_is message.Input input_format type.InputCommand b m (λ a v e. record { valid = v; typed = refl; spelled = e })
+is_message type.GetEagerStateCommand b m = made_is message.GetEagerState get_eager_state_format type.GetEagerStateCommand b m (λ a v e. record { valid = v; typed = refl; spelled = e })
+is_message type.GetLazyStateCommand b m = made_is message.GetLazyState get_lazy_state_format type.GetLazyStateCommand b m (λ a v e. record { valid = v; typed = refl; spelled = e })
+is_message type.GetEagerStateKeysCommand b m = made_is message.GetEagerStateKeys get_eager_state_keys_format type.GetEagerStateKeysCommand b m (λ a v e. record { valid = v; typed = refl; spelled = e })
+is_message type.GetLazyStateKeysCommand b m = made_is message.GetLazyStateKeys get_lazy_state_keys_format type.GetLazyStateKeysCommand b m (λ a v e. record { valid = v; typed = refl; spelled = e })
+is_message type.SetStateCommand b m = made_is message.SetState set_state_format type.SetStateCommand b m (λ a v e. record { valid = v; typed = refl; spelled = e })
+is_message type.ClearStateCommand b m = made_is message.ClearState clear_state_format type.ClearStateCommand b m (λ a v e. record { valid = v; typed = refl; spelled = e })
+is_message type.ClearAllStateCommand b m = made_is message.ClearAllState clear_all_state_format type.ClearAllStateCommand b m (λ a v e. record { valid = v; typed = refl; spelled = e })
+is_message type.SleepCommand b m = made_is message.Sleep sleep_format type.SleepCommand b m (λ a v e. record { valid = v; typed = refl; spelled = e })
+is_message type.CallCommand b m = made_is message.Call call_format type.CallCommand b m (λ a v e. record { valid = v; typed = refl; spelled = e })
+is_message type.OneWayCallCommand b m = made_is message.OneWayCall one_way_call_format type.OneWayCallCommand b m (λ a v e. record { valid = v; typed = refl; spelled = e })
+is_message type.CompleteAwakeableCommand b m = made_is message.CompleteAwakeable complete_awakeable_format type.CompleteAwakeableCommand b m (λ a v e. record { valid = v; typed = refl; spelled = e })
+is_message type.SendSignalCommand b m = made_is message.SendSignal send_signal_format type.SendSignalCommand b m (λ a v e. record { valid = v; typed = refl; spelled = e })
+is_message type.GetPromiseCommand b m = made_is message.GetPromise promise_format type.GetPromiseCommand b m (λ a v e. record { valid = v; typed = refl; spelled = e })
+is_message type.PeekPromiseCommand b m = made_is message.PeekPromise promise_format type.PeekPromiseCommand b m (λ a v e. record { valid = v; typed = refl; spelled = e })
+is_message type.CompletePromiseCommand b m = made_is message.CompletePromise complete_promise_format type.CompletePromiseCommand b m (λ a v e. record { valid = v; typed = refl; spelled = e })
+is_message type.RunCommand b m = made_is message.Run run_format type.RunCommand b m (λ a v e. record { valid = v; typed = refl; spelled = e })
+is_message type.AttachInvocationCommand b m = made_is message.AttachInvocation invocation_format type.AttachInvocationCommand b m (λ a v e. record { valid = v; typed = refl; spelled = e })
+is_message type.GetInvocationOutputCommand b m = made_is message.GetInvocationOutput invocation_format type.GetInvocationOutputCommand b m (λ a v e. record { valid = v; typed = refl; spelled = e })
+is_message type.OutputCommand b m = made_is message.Output output_format type.OutputCommand b m (λ a v e. record { valid = v; typed = refl; spelled = e })
+is_message type.Notification b m = made_is message.Notification notification_format type.Notification b m (λ a v e. record { valid = v; typed = refl; spelled = e })
 
 pub message_is : (ty : MessageType) (b : List ℕ) (m : Message) → message_in ty b ≡ Some m → IsValid m × (type_of m ≡ ty) × (b ≡ body m)
 message_is ty b m e = let h = is_message ty b m e in (h.valid, h.typed, h.spelled)
@@ -202,7 +76,7 @@ made_read : {A : Type 0} (make : A → Message) (f : Format A) (a : A) → f.val
 made_read make f a v = ap (option_map make) (all_read f a (f.spelling a) v refl)
 
 pub message_read : (m : Message) → IsValid m → message_in (type_of m) (body m) ≡ Some m
-unfolding message_in start_in suspension_in error_in end_in propose_run_completion_in propose_run_completion_ack_in awaiting_on_in get_state_ephemeral_command_in get_state_ephemeral_notification_in input_in get_eager_state_in get_lazy_state_in get_eager_state_keys_in get_lazy_state_keys_in set_state_in clear_state_in clear_all_state_in sleep_in call_in one_way_call_in complete_awakeable_in send_signal_in promise_in complete_promise_in run_in invocation_in output_in notification_in
+unfolding message_in body_as
 message_read (message.Start a) v = made_read message.Start start_format a v
 message_read (message.Suspension a) v = made_read message.Suspension suspension_format a v
 message_read (message.Error a) v = made_read message.Error error_format a v
@@ -244,26 +118,6 @@ message_or m (Some n) = n
 -- A valid message is known by its type and its body.
 pub one_message : (a b : Message) → type_of a ≡ type_of b → IsValid a → IsValid b → body a ≡ body b → a ≡ b
 one_message a b t v w e = ap (message_or a) (sym (message_read a v) ∙ (λ i. message_in (t i) (e i)) ∙ message_read b w)
-
-pub start_read : (a : Start) → start_format.valid a → start_in (start a) ≡ Some a
-unfolding start_in
-start_read a v = all_read start_format a (start a) v refl
-
-pub propose_run_completion_ack_read : (a : ProposeRunCompletionAck) → propose_run_completion_ack_format.valid a → propose_run_completion_ack_in (propose_run_completion_ack a) ≡ Some a
-unfolding propose_run_completion_ack_in
-propose_run_completion_ack_read a v = all_read propose_run_completion_ack_format a (propose_run_completion_ack a) v refl
-
-pub get_state_ephemeral_notification_read : (a : GetStateEphemeralNotification) → get_state_ephemeral_notification_format.valid a → get_state_ephemeral_notification_in (get_state_ephemeral_notification a) ≡ Some a
-unfolding get_state_ephemeral_notification_in
-get_state_ephemeral_notification_read a v = all_read get_state_ephemeral_notification_format a (get_state_ephemeral_notification a) v refl
-
-pub input_read : (a : InputCommand) → input_format.valid a → input_in (input a) ≡ Some a
-unfolding input_in
-input_read a v = all_read input_format a (input a) v refl
-
-pub notification_read : (a : Notification) → notification_format.valid a → notification_in (notification a) ≡ Some a
-unfolding notification_in
-notification_read a v = all_read notification_format a (notification a) v refl
 
 -- ---- reading as a relation
 

@@ -211,7 +211,7 @@ abbrev pub notification_equal : Bool → notifications.Notification → Message 
 notification_equal ignore a (Notification b) = (ids_of.ghosts).eq a.id b.id && (ignore || (results_of.ghosts).eq a.result b.result)
 notification_equal ignore a _ = false
 
--- the two are of one type, and alike in what is looked at
+-- the two are of one type, and equal in what is looked at
 unfoldable pub header_equal : Message → Message → Bool → Bool
 header_equal (Start a) m ignore = start_equal a m
 header_equal (Suspension a) m ignore = suspension_equal a m

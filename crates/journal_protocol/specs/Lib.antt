@@ -16,3 +16,4 @@ pub mod Stream
 pub mod Runs
 pub mod Headers
 pub mod HeaderEqual
+pub mod Commands

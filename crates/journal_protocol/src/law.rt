@@ -1,6 +1,7 @@
-//! Laws of the encoding.
-ghost use Rattle.std.specs.Prelude.{◌≡◌, List, ℕ, ◌++◌, Some};
+//! Laws of messages: their encodings, and replay's comparison.
+ghost use Rattle.std.specs.Prelude.{◌≡◌, Bool, true, List, ℕ, ◌++◌, Some};
 ghost use Rattle.journal_protocol.specs.Frames.{Whole, next_of};
+ghost use Rattle.journal_protocol.specs.HeaderEqual.{header_equal};
 ghost use Rattle.journal_protocol.specs.Message.{body, encoding, type_of};
 ghost use Rattle.journal_protocol.specs.Reading.{message_in};
 ghost use Rattle.journal_protocol.specs.Runs.{IsWhole};
@@ -13,4 +14,10 @@ pub fn encodings_stand_alone()
     ensures framed { (m : Message) (rest : List ℕ) → IsWhole m → next_of (encoding m ++ rest) ≡ Whole (record { ty = type_of m; body = body m }) rest }
     ensures read_back { (m : Message) → IsWhole m → message_in (type_of m) (body m) ≡ Some m }
     ensures no_beginning { (a b : Message) (rest : List ℕ) → IsWhole a → IsWhole b → encoding a ++ rest ≡ encoding b → a ≡ b }
+{}
+
+/// Each message is header-equal to itself.
+#[tactic(auto, using(crate::proofs::SameHeader::same_header))]
+pub fn messages_equal_themselves()
+    ensures { (m : Message) (ignore : Bool) → header_equal m m ignore ≡ true }
 {}

@@ -1,10 +1,6 @@
 //! The wire boundary: messages and frames, versions and headers, errors and the faults that have a name.
 #![tactic(auto)]
 
-mod alike;
-mod alike_calls;
-mod alike_runtime;
-mod alike_state;
 mod calls;
 mod commands;
 mod control;
@@ -12,6 +8,7 @@ mod decoder;
 mod error;
 mod faults;
 mod future;
+mod header_equality;
 mod headers;
 mod invocations;
 mod law;
@@ -29,7 +26,6 @@ mod stream;
 mod types;
 mod version;
 
-pub use alike::header_eq;
 pub use calls::{CallCommand, CallRequest, OneWayCallCommand};
 pub use commands::{InputCommand, OutputCommand, SleepCommand};
 pub use control::{AwaitingOn, ErrorMessage, Suspension};
@@ -37,9 +33,10 @@ pub use decoder::Decoder;
 pub use error::{Error, ErrorBehavior, RelatedCommand};
 pub use faults::NamedFault;
 pub use future::{Future, FutureKind, FutureNode};
+pub use header_equality::header_eq;
 pub use headers::HeaderMap;
 pub use invocations::{IdempotencyId, InvocationCommand, InvocationTarget, WorkflowId};
-pub use law::encodings_stand_alone;
+pub use law::{encodings_stand_alone, messages_equal_themselves};
 pub use message::{Encoder, Message, RawMessage};
 pub use notification::{Notification, NotificationId, NotificationResult};
 pub use parts::{Failure, Header, ValueOrFailure};

@@ -1,7 +1,7 @@
 //! Messages as frames: writing one, and reading the body of one.
 ghost use Rattle.std.specs.Prelude.{◌≡◌, ◌++◌, IfOk, OnOk};
 ghost use Rattle.wire.specs.Reads.{Read};
-ghost use Rattle.journal_protocol.specs.Reading.{start_in, suspension_in, error_in, end_in, propose_run_completion_in, propose_run_completion_ack_in, awaiting_on_in, get_state_ephemeral_command_in, get_state_ephemeral_notification_in, input_in, get_eager_state_in, get_lazy_state_in, get_eager_state_keys_in, get_lazy_state_keys_in, set_state_in, clear_state_in, clear_all_state_in, sleep_in, call_in, one_way_call_in, complete_awakeable_in, send_signal_in, promise_in, complete_promise_in, run_in, invocation_in, output_in, notification_in, message_in};
+ghost use Rattle.journal_protocol.specs.Reading.{body_as, start_in, input_in, notification_in, message_in};
 ghost use Rattle.journal_protocol.specs.Runs.{IsWhole};
 ghost use Rattle.journal_protocol.specs.Message.{body, encoding, type_of, IsValid, DecodesTo, Decodes};
 
@@ -163,207 +163,34 @@ impl Encoder {
     }
 }
 
-#[tactic(auto, unfolding(crate::specs::Reading::start_in, crate::specs::Reading::suspension_in, crate::specs::Reading::error_in, crate::specs::Reading::end_in, crate::specs::Reading::propose_run_completion_in, crate::specs::Reading::propose_run_completion_ack_in, crate::specs::Reading::awaiting_on_in))]
+#[tactic(auto, unfolding(crate::specs::Reading::body_as))]
 impl RawMessage {
-    /// The start that the body spells, whatever the type.
+    /// What the whole body spells, whatever the frame's type.
+    pub fn read_as<T: Wire>(&self, alloc: Global) -> Result<T, Fault>
+        ensures { Read (body_as T.format self.now.body) result }
+    {
+        whole(alloc, &self.body)
+    }
+}
+
+#[tactic(auto, unfolding(crate::specs::Reading::start_in, crate::specs::Reading::input_in, crate::specs::Reading::notification_in))]
+impl RawMessage {
     pub fn read_start(&self, alloc: Global) -> Result<Start, Fault>
         ensures { Read (start_in self.now.body) result }
     {
-        whole(alloc, &self.body)
+        self.read_as(alloc)
     }
 
-    fn read_suspension(&self, alloc: Global) -> Result<Suspension, Fault>
-        ensures { Read (suspension_in self.now.body) result }
-    {
-        whole(alloc, &self.body)
-    }
-
-    fn read_error(&self, alloc: Global) -> Result<ErrorMessage, Fault>
-        ensures { Read (error_in self.now.body) result }
-    {
-        whole(alloc, &self.body)
-    }
-
-    fn read_end(&self) -> Result<(), Fault>
-        ensures { Read (end_in self.now.body) result }
-    {
-        if self.body.is_empty() {
-            Ok(())
-        } else {
-            Err(Fault::Malformed)
-        }
-    }
-
-    fn read_propose_run_completion(&self, alloc: Global) -> Result<ProposeRunCompletion, Fault>
-        ensures { Read (propose_run_completion_in self.now.body) result }
-    {
-        whole(alloc, &self.body)
-    }
-
-    /// The acknowledgement that the body spells, whatever the type.
-    pub fn read_propose_run_completion_ack(
-        &self,
-        alloc: Global,
-    ) -> Result<ProposeRunCompletionAck, Fault>
-        ensures { Read (propose_run_completion_ack_in self.now.body) result }
-    {
-        whole(alloc, &self.body)
-    }
-
-    fn read_awaiting_on(&self, alloc: Global) -> Result<AwaitingOn, Fault>
-        ensures { Read (awaiting_on_in self.now.body) result }
-    {
-        whole(alloc, &self.body)
-    }
-}
-
-#[tactic(auto, unfolding(crate::specs::Reading::get_state_ephemeral_command_in, crate::specs::Reading::get_state_ephemeral_notification_in, crate::specs::Reading::notification_in))]
-impl RawMessage {
-    fn read_get_state_ephemeral_command(
-        &self,
-        alloc: Global,
-    ) -> Result<GetStateEphemeralCommand, Fault>
-        ensures { Read (get_state_ephemeral_command_in self.now.body) result }
-    {
-        whole(alloc, &self.body)
-    }
-
-    /// The result of an ephemeral read that the body spells, whatever the type.
-    pub fn read_get_state_ephemeral_notification(
-        &self,
-        alloc: Global,
-    ) -> Result<GetStateEphemeralNotification, Fault>
-        ensures { Read (get_state_ephemeral_notification_in self.now.body) result }
-    {
-        whole(alloc, &self.body)
-    }
-
-    /// The notification that the body spells, whatever the type.
-    pub fn read_notification(&self, alloc: Global) -> Result<Notification, Fault>
-        ensures { Read (notification_in self.now.body) result }
-    {
-        whole(alloc, &self.body)
-    }
-}
-
-#[tactic(auto, unfolding(crate::specs::Reading::input_in, crate::specs::Reading::sleep_in, crate::specs::Reading::output_in, crate::specs::Reading::run_in))]
-impl RawMessage {
-    /// The input that the body spells, whatever the type.
     pub fn read_input(&self, alloc: Global) -> Result<InputCommand, Fault>
         ensures { Read (input_in self.now.body) result }
     {
-        whole(alloc, &self.body)
+        self.read_as(alloc)
     }
 
-    fn read_sleep(&self, alloc: Global) -> Result<SleepCommand, Fault>
-        ensures { Read (sleep_in self.now.body) result }
+    pub fn read_notification(&self, alloc: Global) -> Result<Notification, Fault>
+        ensures { Read (notification_in self.now.body) result }
     {
-        whole(alloc, &self.body)
-    }
-
-    fn read_output(&self, alloc: Global) -> Result<OutputCommand, Fault>
-        ensures { Read (output_in self.now.body) result }
-    {
-        whole(alloc, &self.body)
-    }
-
-    fn read_run(&self, alloc: Global) -> Result<RunCommand, Fault>
-        ensures { Read (run_in self.now.body) result }
-    {
-        whole(alloc, &self.body)
-    }
-}
-
-#[tactic(auto, unfolding(crate::specs::Reading::get_eager_state_in, crate::specs::Reading::get_lazy_state_in, crate::specs::Reading::get_eager_state_keys_in, crate::specs::Reading::get_lazy_state_keys_in, crate::specs::Reading::set_state_in, crate::specs::Reading::clear_state_in, crate::specs::Reading::clear_all_state_in))]
-impl RawMessage {
-    fn read_get_eager_state(&self, alloc: Global) -> Result<GetEagerStateCommand, Fault>
-        ensures { Read (get_eager_state_in self.now.body) result }
-    {
-        whole(alloc, &self.body)
-    }
-
-    fn read_get_lazy_state(&self, alloc: Global) -> Result<GetLazyStateCommand, Fault>
-        ensures { Read (get_lazy_state_in self.now.body) result }
-    {
-        whole(alloc, &self.body)
-    }
-
-    fn read_get_eager_state_keys(&self, alloc: Global) -> Result<GetEagerStateKeysCommand, Fault>
-        ensures { Read (get_eager_state_keys_in self.now.body) result }
-    {
-        whole(alloc, &self.body)
-    }
-
-    fn read_get_lazy_state_keys(&self, alloc: Global) -> Result<GetLazyStateKeysCommand, Fault>
-        ensures { Read (get_lazy_state_keys_in self.now.body) result }
-    {
-        whole(alloc, &self.body)
-    }
-
-    fn read_set_state(&self, alloc: Global) -> Result<SetStateCommand, Fault>
-        ensures { Read (set_state_in self.now.body) result }
-    {
-        whole(alloc, &self.body)
-    }
-
-    fn read_clear_state(&self, alloc: Global) -> Result<ClearStateCommand, Fault>
-        ensures { Read (clear_state_in self.now.body) result }
-    {
-        whole(alloc, &self.body)
-    }
-
-    fn read_clear_all_state(&self, alloc: Global) -> Result<ClearAllStateCommand, Fault>
-        ensures { Read (clear_all_state_in self.now.body) result }
-    {
-        whole(alloc, &self.body)
-    }
-}
-
-#[tactic(auto, unfolding(crate::specs::Reading::call_in, crate::specs::Reading::one_way_call_in, crate::specs::Reading::complete_awakeable_in, crate::specs::Reading::send_signal_in))]
-impl RawMessage {
-    fn read_call(&self, alloc: Global) -> Result<CallCommand, Fault>
-        ensures { Read (call_in self.now.body) result }
-    {
-        whole(alloc, &self.body)
-    }
-
-    fn read_one_way_call(&self, alloc: Global) -> Result<OneWayCallCommand, Fault>
-        ensures { Read (one_way_call_in self.now.body) result }
-    {
-        whole(alloc, &self.body)
-    }
-
-    fn read_complete_awakeable(&self, alloc: Global) -> Result<CompleteAwakeableCommand, Fault>
-        ensures { Read (complete_awakeable_in self.now.body) result }
-    {
-        whole(alloc, &self.body)
-    }
-
-    fn read_send_signal(&self, alloc: Global) -> Result<SendSignalCommand, Fault>
-        ensures { Read (send_signal_in self.now.body) result }
-    {
-        whole(alloc, &self.body)
-    }
-}
-
-#[tactic(auto, unfolding(crate::specs::Reading::promise_in, crate::specs::Reading::complete_promise_in, crate::specs::Reading::invocation_in))]
-impl RawMessage {
-    fn read_promise(&self, alloc: Global) -> Result<PromiseCommand, Fault>
-        ensures { Read (promise_in self.now.body) result }
-    {
-        whole(alloc, &self.body)
-    }
-
-    fn read_complete_promise(&self, alloc: Global) -> Result<CompletePromiseCommand, Fault>
-        ensures { Read (complete_promise_in self.now.body) result }
-    {
-        whole(alloc, &self.body)
-    }
-
-    fn read_invocation(&self, alloc: Global) -> Result<InvocationCommand, Fault>
-        ensures { Read (invocation_in self.now.body) result }
-    {
-        whole(alloc, &self.body)
+        self.read_as(alloc)
     }
 }
 
@@ -373,73 +200,63 @@ impl RawMessage {
         ensures { Read (message_in self.now.ty self.now.body) result }
     {
         match self.ty {
-            MessageType::Start => Ok(Message::Start(self.read_start(alloc)?)),
-            MessageType::Suspension => Ok(Message::Suspension(self.read_suspension(alloc)?)),
-            MessageType::Error => Ok(Message::Error(self.read_error(alloc)?)),
+            MessageType::Start => Ok(Message::Start(self.read_as(alloc)?)),
+            MessageType::Suspension => Ok(Message::Suspension(self.read_as(alloc)?)),
+            MessageType::Error => Ok(Message::Error(self.read_as(alloc)?)),
             MessageType::End => {
-                self.read_end()?;
+                self.read_as::<()>(alloc)?;
                 Ok(Message::End)
             }
             MessageType::ProposeRunCompletion => {
-                Ok(Message::ProposeRunCompletion(self.read_propose_run_completion(alloc)?))
+                Ok(Message::ProposeRunCompletion(self.read_as(alloc)?))
             }
             MessageType::ProposeRunCompletionAck => {
-                Ok(Message::ProposeRunCompletionAck(self.read_propose_run_completion_ack(alloc)?))
+                Ok(Message::ProposeRunCompletionAck(self.read_as(alloc)?))
             }
-            MessageType::AwaitingOn => Ok(Message::AwaitingOn(self.read_awaiting_on(alloc)?)),
+            MessageType::AwaitingOn => Ok(Message::AwaitingOn(self.read_as(alloc)?)),
             MessageType::GetStateEphemeralCommand => {
-                Ok(Message::GetStateEphemeralCommand(self.read_get_state_ephemeral_command(alloc)?))
+                Ok(Message::GetStateEphemeralCommand(self.read_as(alloc)?))
             }
             MessageType::GetStateEphemeralNotification => {
-                Ok(Message::GetStateEphemeralNotification(
-                    self.read_get_state_ephemeral_notification(alloc)?,
-                ))
+                Ok(Message::GetStateEphemeralNotification(self.read_as(alloc)?))
             }
-            MessageType::InputCommand => Ok(Message::Input(self.read_input(alloc)?)),
+            MessageType::InputCommand => Ok(Message::Input(self.read_as(alloc)?)),
             MessageType::GetEagerStateCommand => {
-                Ok(Message::GetEagerState(self.read_get_eager_state(alloc)?))
+                Ok(Message::GetEagerState(self.read_as(alloc)?))
             }
-            MessageType::GetLazyStateCommand => {
-                Ok(Message::GetLazyState(self.read_get_lazy_state(alloc)?))
-            }
+            MessageType::GetLazyStateCommand => { Ok(Message::GetLazyState(self.read_as(alloc)?)) }
             MessageType::GetEagerStateKeysCommand => {
-                Ok(Message::GetEagerStateKeys(self.read_get_eager_state_keys(alloc)?))
+                Ok(Message::GetEagerStateKeys(self.read_as(alloc)?))
             }
             MessageType::GetLazyStateKeysCommand => {
-                Ok(Message::GetLazyStateKeys(self.read_get_lazy_state_keys(alloc)?))
+                Ok(Message::GetLazyStateKeys(self.read_as(alloc)?))
             }
-            MessageType::SetStateCommand => Ok(Message::SetState(self.read_set_state(alloc)?)),
-            MessageType::ClearStateCommand => {
-                Ok(Message::ClearState(self.read_clear_state(alloc)?))
-            }
+            MessageType::SetStateCommand => Ok(Message::SetState(self.read_as(alloc)?)),
+            MessageType::ClearStateCommand => { Ok(Message::ClearState(self.read_as(alloc)?)) }
             MessageType::ClearAllStateCommand => {
-                Ok(Message::ClearAllState(self.read_clear_all_state(alloc)?))
+                Ok(Message::ClearAllState(self.read_as(alloc)?))
             }
-            MessageType::SleepCommand => Ok(Message::Sleep(self.read_sleep(alloc)?)),
-            MessageType::CallCommand => Ok(Message::Call(self.read_call(alloc)?)),
-            MessageType::OneWayCallCommand => {
-                Ok(Message::OneWayCall(self.read_one_way_call(alloc)?))
-            }
+            MessageType::SleepCommand => Ok(Message::Sleep(self.read_as(alloc)?)),
+            MessageType::CallCommand => Ok(Message::Call(self.read_as(alloc)?)),
+            MessageType::OneWayCallCommand => { Ok(Message::OneWayCall(self.read_as(alloc)?)) }
             MessageType::CompleteAwakeableCommand => {
-                Ok(Message::CompleteAwakeable(self.read_complete_awakeable(alloc)?))
+                Ok(Message::CompleteAwakeable(self.read_as(alloc)?))
             }
-            MessageType::SendSignalCommand => {
-                Ok(Message::SendSignal(self.read_send_signal(alloc)?))
-            }
-            MessageType::GetPromiseCommand => Ok(Message::GetPromise(self.read_promise(alloc)?)),
-            MessageType::PeekPromiseCommand => Ok(Message::PeekPromise(self.read_promise(alloc)?)),
+            MessageType::SendSignalCommand => { Ok(Message::SendSignal(self.read_as(alloc)?)) }
+            MessageType::GetPromiseCommand => Ok(Message::GetPromise(self.read_as(alloc)?)),
+            MessageType::PeekPromiseCommand => Ok(Message::PeekPromise(self.read_as(alloc)?)),
             MessageType::CompletePromiseCommand => {
-                Ok(Message::CompletePromise(self.read_complete_promise(alloc)?))
+                Ok(Message::CompletePromise(self.read_as(alloc)?))
             }
-            MessageType::RunCommand => Ok(Message::Run(self.read_run(alloc)?)),
+            MessageType::RunCommand => Ok(Message::Run(self.read_as(alloc)?)),
             MessageType::AttachInvocationCommand => {
-                Ok(Message::AttachInvocation(self.read_invocation(alloc)?))
+                Ok(Message::AttachInvocation(self.read_as(alloc)?))
             }
             MessageType::GetInvocationOutputCommand => {
-                Ok(Message::GetInvocationOutput(self.read_invocation(alloc)?))
+                Ok(Message::GetInvocationOutput(self.read_as(alloc)?))
             }
-            MessageType::OutputCommand => Ok(Message::Output(self.read_output(alloc)?)),
-            MessageType::Notification => Ok(Message::Notification(self.read_notification(alloc)?)),
+            MessageType::OutputCommand => Ok(Message::Output(self.read_as(alloc)?)),
+            MessageType::Notification => Ok(Message::Notification(self.read_as(alloc)?)),
         }
     }
 }

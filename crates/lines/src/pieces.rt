@@ -1,44 +1,88 @@
 //! A text cut into pieces, none of them within quotes or brackets.
+ghost use Rattle.std.specs.Prelude.{◌≡◌, ◌++◌, IfOk};
+
 use std::alloc::Global;
 use wire::Fault;
+
+#[derive(Clone, Copy, Debug, PartialEq, Eq)]
+enum Quotes {
+    Outside,
+    Inside,
+    /// Inside, behind a backslash.
+    Escaped,
+}
+
+/// In how many brackets, and in which quotes, a place of a text is.
+#[derive(Clone, Copy, Debug, PartialEq, Eq)]
+struct Nesting {
+    brackets: usize,
+    quotes: Quotes,
+}
+
+impl Nesting {
+    const NONE: Nesting = Nesting {
+        brackets: 0,
+        quotes: Quotes::Outside,
+    };
+
+    fn is_none(&self) -> bool {
+        self.brackets == 0 && self.quotes == Quotes::Outside
+    }
+
+    /// The nesting behind one byte more; nothing where it closes a bracket that wasn't opened.
+    fn behind(self, byte: u8) -> Option<Nesting> {
+        let Nesting {
+            mut brackets,
+            mut quotes,
+        } = self;
+        match (quotes, byte) {
+            (Quotes::Inside, b'\\') => quotes = Quotes::Escaped,
+            (Quotes::Escaped, _) | (Quotes::Outside, b'"') => quotes = Quotes::Inside,
+            (Quotes::Inside, b'"') => quotes = Quotes::Outside,
+            (Quotes::Outside, b'(' | b'[' | b'{') => brackets = brackets.checked_add(1)?,
+            (Quotes::Outside, b')' | b']' | b'}') => brackets = brackets.checked_sub(1)?,
+            _ => {}
+        }
+        Some(Nesting { brackets, quotes })
+    }
+}
 
 /// The pieces of a text between separators that stand in no quotes and no brackets. A text whose quotes or brackets
 /// aren't closed has none.
 pub fn pieces<'a>(alloc: Global, text: &'a [u8], separator: u8) -> Result<Vec<&'a [u8]>, Fault> {
     let mut pieces = Vec::new(alloc);
     let mut start = 0;
-    let mut depth = 0usize;
-    let mut quoted = false;
-    let mut escaped = false;
+    let mut nesting = Nesting::NONE;
     for i in 0..text.len() {
-        let byte = text[i];
-        if quoted {
-            if escaped {
-                escaped = false;
-            } else if byte == b'\\' {
-                escaped = true;
-            } else if byte == b'"' {
-                quoted = false;
-            }
-        } else if byte == b'"' {
-            quoted = true;
-        } else if byte == b'(' || byte == b'[' || byte == b'{' {
-            depth += 1;
-        } else if byte == b')' || byte == b']' || byte == b'}' {
-            if depth == 0 {
-                return Err(Fault::Malformed);
-            }
-            depth -= 1;
-        } else if byte == separator && depth == 0 {
+        if text[i] == separator && nesting.is_none() {
             pieces.push(&text[start..i])?;
             start = i + 1;
+        } else {
+            nesting = nesting.behind(text[i]).ok_or(Fault::Malformed)?;
         }
     }
-    if quoted || depth != 0 {
+    if !nesting.is_none() {
         return Err(Fault::Malformed);
     }
     pieces.push(&text[start..])?;
     Ok(pieces)
+}
+
+/// The text up to its first blank, or to the bracket that closes what the text stands in; and the rest from there.
+pub fn first_word<'a>(text: &'a [u8]) -> Result<(&'a [u8], &'a [u8]), Fault>
+    ensures { IfOk result (λ cut. text.now ≡ cut.0.now ++ cut.1.now) }
+{
+    let mut nesting = Nesting::NONE;
+    for i in 0..text.len() {
+        if text[i] == b' ' && nesting.is_none() {
+            return Ok(text.split_at(i));
+        }
+        match nesting.behind(text[i]) {
+            Some(behind) => nesting = behind,
+            None => return Ok(text.split_at(i)),
+        }
+    }
+    Err(Fault::Malformed)
 }
 
 /// The pieces between blanks.

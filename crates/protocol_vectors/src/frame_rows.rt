@@ -191,7 +191,7 @@ pub const FRAMES: [(&str, &str); 48] = [
 ];
 
 /// Other lines, and the bytes that they show.
-pub const OTHER: [(&str, &str); 8] = [
+pub const OTHER: [(&str, &str); 9] = [
     (
         "  Sleep   name=\"n\"  result_completion_id=1 wake_up_time=2",
         "0x0012000000000000001500000000000000020000000100000000000000016e",
@@ -208,6 +208,10 @@ pub const OTHER: [(&str, &str); 8] = [
         "Sleep wake_up_time=0 result_completion_id=00 name=\"\"",
         "0x001200000000000000140000000000000000000000000000000000000000",
     ),
+    (
+        "Suspension future=( nested=[ (completions=[1, 2] kind=AllCompleted) ,(nested=[] named=[\"a)\", \"[\"] kind=Unknown)]   signals=[3] kind=FirstCompleted)",
+        "0x00020000000000000082000000000000000000000000000000000100000003000000000000000000000000000000020100000000000000020000000100000002000000000000000000000000000000000000000000000000040000000000000000000000000000000000000000000000020000000000000002612900000000000000015b0000000000000000",
+    ),
     ("rest 0x0012", "0x0012"),
     ("raw 31 0x", "0x001f0000000000000000"),
     ("# nothing", "0x"),
@@ -215,7 +219,7 @@ pub const OTHER: [(&str, &str); 8] = [
 ];
 
 /// Lines that show nothing.
-pub const BAD: [&str; 35] = [
+pub const BAD: [&str; 43] = [
     "Sleeper",
     "sleep wake_up_time=1",
     "Sleep wake_up_time=-1",
@@ -242,6 +246,14 @@ pub const BAD: [&str; 35] = [
     "Suspension future=(completions=[1])",
     "Suspension future=(kind=First)",
     "Suspension future=(kind=Unknown completions=[1,])",
+    "Suspension future=(kind=Unknown nested=[(kind=Unknown),])",
+    "Suspension future=(kind=Unknown nested=[(kind=Unknown) (kind=Unknown)])",
+    "Suspension future=(kind=Unknown nested=[(kind=Unknown])",
+    "Suspension future=(kind=Unknown nested=[(kind=Unknown)]signals=[1])",
+    "Suspension future=(kind=Unknown nested=[] nested=[])",
+    "Suspension future=(kind=Unknown nested=(kind=Unknown))",
+    "Suspension future=(kind=Unknown)(kind=Unknown)",
+    "Suspension future=[(kind=Unknown)]",
     "Input headers=[(\"a\")]",
     "Input headers=[(\"a\" \"b\" \"c\")]",
     "AwaitingOn future=(kind=Unknown) executing_side_effects=1",

@@ -87,10 +87,11 @@ fn deep_frame(alloc: Global, depth: u64) -> Result<Bytes, Fail> {
 }
 
 #[test]
-fn deep_futures_as_lines(rt: HostRuntime) -> Result<(), Fail> {
+fn deep_futures(rt: HostRuntime) -> Result<(), Fail> {
     let alloc = rt.alloc();
+    let frame = deep_frame(alloc, 100_000)?;
     let mut decoder = Decoder::new(alloc);
-    decoder.push(deep_frame(alloc, 100_000)?)?;
+    decoder.push(frame.clone()?)?;
     let raw = decoder.next_frame()?.ok_or("no whole frame")?;
     let mut line = Line::new(alloc);
     print_frame(alloc, &raw, &mut line)?;
@@ -99,6 +100,7 @@ fn deep_futures_as_lines(rt: HostRuntime) -> Result<(), Fail> {
         line.as_str().len(),
         "Suspension future=(kind=Unknown)".len() + levels
     );
+    assert!(rt; frame_of(alloc, line.as_str().as_bytes())?.as_slice() == frame.as_slice());
     Ok(())
 }
 

@@ -13,7 +13,7 @@ use Rattle.journal_protocol.specs.declared.parts.ValueOrFailure.TheVariants as g
 use Rattle.journal_protocol.specs.declared.types.MessageType.TheVariants as type
 use Rattle.journal_protocol.specs.declared.version.Version.TheVariants.{V7}
 use Rattle.journal_protocol.specs.HeaderEqual.{header_equal}
-use Rattle.journal_protocol.specs.Reading.{message_in, sleep_in, output_in, clear_state_in}
+use Rattle.journal_protocol.specs.Reading.{body_as, message_in}
 use Rattle.journal_protocol.specs.Encoding.{clear_state, failure, output, sleep}
 use Rattle.journal_protocol.specs.Parts.{read_value}
 use Rattle.vm_parts.specs.declared.steps.Answer.{Answer}
@@ -73,12 +73,12 @@ done : RawMessage
 done = stored_form (message.Output (record { result = given.Value [] }))
 
 after_two : rounds setup sleeper input two (Recorded first ∷ []) ≡ Recorded first ∷ Recorded slept ∷ Notified (void 1) ∷ Recorded done ∷ []
-unfolding setup sleeper two void slept done is_utf8 chars header_equal message_in sleep_in output_in sleep output read_value bytes read_byte read_bytes read_text read_pair read_u16 read_u32 read_u64 u16s u32s u64s
+unfolding setup sleeper two void slept done is_utf8 chars header_equal message_in body_as sleep output read_value bytes read_byte read_bytes read_text read_pair read_u16 read_u32 read_u64 u16s u32s u64s
 after_two = refl
 
 -- the first attempt was answered as far as the second, which went on
 answers_of_two : map (λ r. r.answers) (reports setup sleeper input two (Recorded first ∷ [])) ≡ (told ∷ answer.Handle (handle 17) ∷ []) ∷ (told ∷ answer.Handle (handle 17) ∷ answer.Awake ∷ answer.Taken (Some value.Void) ∷ answer.Unit ∷ []) ∷ []
-unfolding setup sleeper two void told handle is_utf8 chars header_equal message_in sleep_in output_in sleep output read_value bytes read_byte read_bytes read_text read_pair read_u16 read_u32 read_u64 u16s u32s u64s
+unfolding setup sleeper two void told handle is_utf8 chars header_equal message_in body_as sleep output read_value bytes read_byte read_bytes read_text read_pair read_u16 read_u32 read_u64 u16s u32s u64s
 answers_of_two = refl
 
 cleared : RawMessage
@@ -106,12 +106,12 @@ once : NotificationResult → List (List Event)
 once r = (Arrive (sent r) ∷ Feed ∷ Act ∷ Act ∷ Act ∷ Act ∷ Act ∷ Store ∷ []) ∷ []
 
 completed : rounds setup chooser input (once (came.Value (codes "x"))) (Recorded first ∷ []) ≡ Recorded first ∷ Notified (sent (came.Value (codes "x"))) ∷ Recorded cleared ∷ []
-unfolding setup chooser once sent cleared is_utf8 chars header_equal message_in clear_state_in clear_state bytes read_byte read_bytes read_text read_pair read_u16 read_u32 read_u64 u16s u32s u64s lib.Utf8.encode
+unfolding setup chooser once sent cleared is_utf8 chars header_equal message_in body_as clear_state bytes read_byte read_bytes read_text read_pair read_u16 read_u32 read_u64 u16s u32s u64s lib.Utf8.encode
 completed = refl
 
 refused : RawMessage
 refused = stored_form (message.Output (record { result = given.Failure (record { code = 409; message = codes "no"; metadata = [] }) }))
 
 failed : rounds setup chooser input (once (came.Failure (record { code = 65945; message = codes "no"; metadata = [] }))) (Recorded first ∷ []) ≡ Recorded first ∷ Notified (sent (came.Failure (record { code = 65945; message = codes "no"; metadata = [] }))) ∷ Recorded refused ∷ []
-unfolding setup chooser once sent refused is_utf8 chars header_equal message_in output_in output failure list option read_value read_items read_list bytes read_byte read_bytes read_text read_pair read_u16 read_u32 read_u64 u16s u32s u64s lib.Utf8.encode
+unfolding setup chooser once sent refused is_utf8 chars header_equal message_in body_as output failure list option read_value read_items read_list bytes read_byte read_bytes read_text read_pair read_u16 read_u32 read_u64 u16s u32s u64s lib.Utf8.encode
 failed = refl

@@ -2,7 +2,4 @@ use Rattle.std.proofs.Common.{◌≤◌}
 use Rattle.lines.proofs.pieces.pieces.Given as goal
 
 abbrev pub invariant-loop-i : goal.invariant-loop-i
-invariant-loop-i l = record {
-  opened : l.depth ≤ l.i;
-  begun : l.start ≤ l.i;
-}
+invariant-loop-i l = l.start ≤ l.i

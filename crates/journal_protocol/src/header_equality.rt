@@ -3,27 +3,31 @@ ghost use Rattle.std.specs.Prelude.{◌≡◌, ◌↔◌, IsTrue};
 ghost use Rattle.journal_protocol.specs.Headers.{HeaderEqual, IsStart, IsSuspension, IsError, IsEnd, IsInput, IsSleep, IsOutput};
 ghost use Rattle.journal_protocol.specs.HeaderEqual.{header_equal, start_equal, suspension_equal, error_equal, sleep_equal, output_equal};
 
-use crate::alike_calls::{
+mod calls;
+mod runtime;
+mod state;
+
+use crate::{ErrorMessage, Message, OutputCommand, SleepCommand, Start, Suspension};
+use calls::{
     is_attach_invocation, is_call, is_complete_awakeable, is_complete_promise,
     is_get_invocation_output, is_get_promise, is_one_way_call, is_peek_promise, is_run,
     is_send_signal,
 };
-use crate::alike_runtime::{
+use runtime::{
     is_awaiting_on, is_get_state_ephemeral_command, is_get_state_ephemeral_notification,
     is_notification, is_propose_run_completion, is_propose_run_completion_ack,
 };
-use crate::alike_state::{
+use state::{
     is_clear_all_state, is_clear_state, is_get_eager_state, is_get_eager_state_keys,
     is_get_lazy_state, is_get_lazy_state_keys, is_set_state,
 };
-use crate::{ErrorMessage, Message, OutputCommand, SleepCommand, Start, Suspension};
 use wire::is_same;
 
-/// Whether two messages are of one type and alike, but for what replay doesn't look at. With `ignore_payloads`
+/// Whether two messages are of one type and equal, but for what replay doesn't look at. With `ignore_payloads`
 /// payloads aren't looked at either.
 #[tactic(auto, unfolding(crate::specs::HeaderEqual::header_equal))]
 pub fn header_eq(a: &Message, b: &Message, ignore_payloads: bool) -> bool
-    ensures alike { IsTrue result ↔ HeaderEqual ignore_payloads a.now b.now }
+    ensures equal { IsTrue result ↔ HeaderEqual ignore_payloads a.now b.now }
     ensures test { result ≡ header_equal a.now b.now ignore_payloads }
 {
     match a {
@@ -63,7 +67,7 @@ pub fn header_eq(a: &Message, b: &Message, ignore_payloads: bool) -> bool
 }
 
 fn is_start(a: &Start, message: &Message) -> bool
-    ensures alike { IsTrue result ↔ IsStart a.now message.now }
+    ensures equal { IsTrue result ↔ IsStart a.now message.now }
     ensures test { result ≡ start_equal a.now message.now }
 {
     match message {
@@ -73,7 +77,7 @@ fn is_start(a: &Start, message: &Message) -> bool
 }
 
 fn is_suspension(a: &Suspension, message: &Message) -> bool
-    ensures alike { IsTrue result ↔ IsSuspension a.now message.now }
+    ensures equal { IsTrue result ↔ IsSuspension a.now message.now }
     ensures test { result ≡ suspension_equal a.now message.now }
 {
     match message {
@@ -83,7 +87,7 @@ fn is_suspension(a: &Suspension, message: &Message) -> bool
 }
 
 fn is_error(a: &ErrorMessage, message: &Message) -> bool
-    ensures alike { IsTrue result ↔ IsError a.now message.now }
+    ensures equal { IsTrue result ↔ IsError a.now message.now }
     ensures test { result ≡ error_equal a.now message.now }
 {
     match message {
@@ -93,7 +97,7 @@ fn is_error(a: &ErrorMessage, message: &Message) -> bool
 }
 
 fn is_sleep(a: &SleepCommand, message: &Message) -> bool
-    ensures alike { IsTrue result ↔ IsSleep a.now message.now }
+    ensures equal { IsTrue result ↔ IsSleep a.now message.now }
     ensures test { result ≡ sleep_equal a.now message.now }
 {
     match message {
@@ -104,7 +108,7 @@ fn is_sleep(a: &SleepCommand, message: &Message) -> bool
 }
 
 fn is_output(a: &OutputCommand, message: &Message, ignore_payloads: bool) -> bool
-    ensures alike { IsTrue result ↔ IsOutput ignore_payloads a.now message.now }
+    ensures equal { IsTrue result ↔ IsOutput ignore_payloads a.now message.now }
     ensures test { result ≡ output_equal ignore_payloads a.now message.now }
 {
     match message {
