@@ -6,3 +6,4 @@ pub mod Streams
 pub mod Cuts
 pub mod Nodes
 pub mod SameHeader
+pub mod Erased

@@ -1,6 +1,6 @@
 //! Whether replay takes two messages for one.
-ghost use Rattle.std.specs.Prelude.{◌≡◌, ◌↔◌, IsTrue};
-ghost use Rattle.journal_protocol.specs.Headers.{HeaderEqual, IsStart, IsSuspension, IsError, IsEnd, IsInput, IsSleep, IsOutput};
+ghost use Rattle.std.specs.Prelude.{◌≡◌, ◌↔◌, IsTrue, false};
+ghost use Rattle.journal_protocol.specs.Headers.{HeaderEqual};
 ghost use Rattle.journal_protocol.specs.HeaderEqual.{header_equal, start_equal, suspension_equal, error_equal, sleep_equal, output_equal};
 
 mod calls;
@@ -23,11 +23,19 @@ use state::{
 };
 use wire::is_same;
 
-/// Whether two messages are of one type and equal, but for what replay doesn't look at. With `ignore_payloads`
-/// payloads aren't looked at either.
-#[tactic(auto, unfolding(crate::specs::HeaderEqual::header_equal))]
+/// Whether two messages are equal, but for what replay doesn't look at. With `ignore_payloads` payloads aren't looked at
+/// either.
+#[tactic(auto, using(crate::proofs::Erased::erased_equal))]
 pub fn header_eq(a: &Message, b: &Message, ignore_payloads: bool) -> bool
     ensures equal { IsTrue result ↔ HeaderEqual ignore_payloads a.now b.now }
+    ensures test { result ≡ header_equal a.now b.now ignore_payloads }
+{
+    is_header_equal(a, b, ignore_payloads)
+}
+
+#[tactic(auto, unfolding(crate::specs::HeaderEqual::header_equal))]
+fn is_header_equal(a: &Message, b: &Message, ignore_payloads: bool) -> bool
+    ensures equal { IsTrue result → HeaderEqual ignore_payloads a.now b.now }
     ensures test { result ≡ header_equal a.now b.now ignore_payloads }
 {
     match a {
@@ -67,7 +75,7 @@ pub fn header_eq(a: &Message, b: &Message, ignore_payloads: bool) -> bool
 }
 
 fn is_start(a: &Start, message: &Message) -> bool
-    ensures equal { IsTrue result ↔ IsStart a.now message.now }
+    ensures equal { IsTrue result → HeaderEqual false (Message.Start a.now) message.now }
     ensures test { result ≡ start_equal a.now message.now }
 {
     match message {
@@ -77,7 +85,7 @@ fn is_start(a: &Start, message: &Message) -> bool
 }
 
 fn is_suspension(a: &Suspension, message: &Message) -> bool
-    ensures equal { IsTrue result ↔ IsSuspension a.now message.now }
+    ensures equal { IsTrue result → HeaderEqual false (Message.Suspension a.now) message.now }
     ensures test { result ≡ suspension_equal a.now message.now }
 {
     match message {
@@ -87,7 +95,7 @@ fn is_suspension(a: &Suspension, message: &Message) -> bool
 }
 
 fn is_error(a: &ErrorMessage, message: &Message) -> bool
-    ensures equal { IsTrue result ↔ IsError a.now message.now }
+    ensures equal { IsTrue result → HeaderEqual false (Message.Error a.now) message.now }
     ensures test { result ≡ error_equal a.now message.now }
 {
     match message {
@@ -97,7 +105,7 @@ fn is_error(a: &ErrorMessage, message: &Message) -> bool
 }
 
 fn is_sleep(a: &SleepCommand, message: &Message) -> bool
-    ensures equal { IsTrue result ↔ IsSleep a.now message.now }
+    ensures equal { IsTrue result → HeaderEqual false (Message.Sleep a.now) message.now }
     ensures test { result ≡ sleep_equal a.now message.now }
 {
     match message {
@@ -108,7 +116,7 @@ fn is_sleep(a: &SleepCommand, message: &Message) -> bool
 }
 
 fn is_output(a: &OutputCommand, message: &Message, ignore_payloads: bool) -> bool
-    ensures equal { IsTrue result ↔ IsOutput ignore_payloads a.now message.now }
+    ensures equal { IsTrue result → HeaderEqual ignore_payloads (Message.Output a.now) message.now }
     ensures test { result ≡ output_equal ignore_payloads a.now message.now }
 {
     match message {

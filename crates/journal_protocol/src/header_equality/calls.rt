@@ -1,6 +1,6 @@
 //! Whether a command on other invocations, promises or runs is header-equal to another message.
-ghost use Rattle.std.specs.Prelude.{◌≡◌, ◌↔◌, IsTrue};
-ghost use Rattle.journal_protocol.specs.Headers.{IsCall, IsOneWayCall, IsCompleteAwakeable, IsSendSignal, IsGetPromise, IsPeekPromise, IsCompletePromise, IsRun, IsAttachInvocation, IsGetInvocationOutput, RequestHeaderEqual, PromiseHeaderEqual, InvocationHeaderEqual};
+ghost use Rattle.std.specs.Prelude.{◌≡◌, IsTrue, false};
+ghost use Rattle.journal_protocol.specs.Headers.{HeaderEqual, erased_request};
 ghost use Rattle.journal_protocol.specs.HeaderEqual.{call_equal, one_way_call_equal, complete_awakeable_equal, send_signal_equal, get_promise_equal, peek_promise_equal, complete_promise_equal, run_equal, attach_invocation_equal, get_invocation_output_equal, request_equal, promise_equal, invocation_equal};
 
 use crate::{
@@ -10,7 +10,7 @@ use crate::{
 use wire::is_same;
 
 pub fn is_call(a: &CallCommand, message: &Message, ignore_payloads: bool) -> bool
-    ensures equal { IsTrue result ↔ IsCall ignore_payloads a.now message.now }
+    ensures equal { IsTrue result → HeaderEqual ignore_payloads (Message.Call a.now) message.now }
     ensures test { result ≡ call_equal ignore_payloads a.now message.now }
 {
     match message {
@@ -21,7 +21,7 @@ pub fn is_call(a: &CallCommand, message: &Message, ignore_payloads: bool) -> boo
 }
 
 pub fn is_one_way_call(a: &OneWayCallCommand, message: &Message, ignore_payloads: bool) -> bool
-    ensures equal { IsTrue result ↔ IsOneWayCall ignore_payloads a.now message.now }
+    ensures equal { IsTrue result → HeaderEqual ignore_payloads (Message.OneWayCall a.now) message.now }
     ensures test { result ≡ one_way_call_equal ignore_payloads a.now message.now }
 {
     match message {
@@ -35,7 +35,7 @@ pub fn is_complete_awakeable(
     message: &Message,
     ignore_payloads: bool,
 ) -> bool
-    ensures equal { IsTrue result ↔ IsCompleteAwakeable ignore_payloads a.now message.now }
+    ensures equal { IsTrue result → HeaderEqual ignore_payloads (Message.CompleteAwakeable a.now) message.now }
     ensures test { result ≡ complete_awakeable_equal ignore_payloads a.now message.now }
 {
     match message {
@@ -46,7 +46,7 @@ pub fn is_complete_awakeable(
 }
 
 pub fn is_send_signal(a: &SendSignalCommand, message: &Message, ignore_payloads: bool) -> bool
-    ensures equal { IsTrue result ↔ IsSendSignal ignore_payloads a.now message.now }
+    ensures equal { IsTrue result → HeaderEqual ignore_payloads (Message.SendSignal a.now) message.now }
     ensures test { result ≡ send_signal_equal ignore_payloads a.now message.now }
 {
     match message {
@@ -58,7 +58,7 @@ pub fn is_send_signal(a: &SendSignalCommand, message: &Message, ignore_payloads:
 }
 
 pub fn is_get_promise(a: &PromiseCommand, message: &Message) -> bool
-    ensures equal { IsTrue result ↔ IsGetPromise a.now message.now }
+    ensures equal { IsTrue result → HeaderEqual false (Message.GetPromise a.now) message.now }
     ensures test { result ≡ get_promise_equal a.now message.now }
 {
     match message {
@@ -68,7 +68,7 @@ pub fn is_get_promise(a: &PromiseCommand, message: &Message) -> bool
 }
 
 pub fn is_peek_promise(a: &PromiseCommand, message: &Message) -> bool
-    ensures equal { IsTrue result ↔ IsPeekPromise a.now message.now }
+    ensures equal { IsTrue result → HeaderEqual false (Message.PeekPromise a.now) message.now }
     ensures test { result ≡ peek_promise_equal a.now message.now }
 {
     match message {
@@ -82,7 +82,7 @@ pub fn is_complete_promise(
     message: &Message,
     ignore_payloads: bool,
 ) -> bool
-    ensures equal { IsTrue result ↔ IsCompletePromise ignore_payloads a.now message.now }
+    ensures equal { IsTrue result → HeaderEqual ignore_payloads (Message.CompletePromise a.now) message.now }
     ensures test { result ≡ complete_promise_equal ignore_payloads a.now message.now }
 {
     match message {
@@ -94,7 +94,7 @@ pub fn is_complete_promise(
 }
 
 pub fn is_run(a: &RunCommand, message: &Message) -> bool
-    ensures equal { IsTrue result ↔ IsRun a.now message.now }
+    ensures equal { IsTrue result → HeaderEqual false (Message.Run a.now) message.now }
     ensures test { result ≡ run_equal a.now message.now }
 {
     match message {
@@ -105,7 +105,7 @@ pub fn is_run(a: &RunCommand, message: &Message) -> bool
 }
 
 pub fn is_attach_invocation(a: &InvocationCommand, message: &Message) -> bool
-    ensures equal { IsTrue result ↔ IsAttachInvocation a.now message.now }
+    ensures equal { IsTrue result → HeaderEqual false (Message.AttachInvocation a.now) message.now }
     ensures test { result ≡ attach_invocation_equal a.now message.now }
 {
     match message {
@@ -115,7 +115,7 @@ pub fn is_attach_invocation(a: &InvocationCommand, message: &Message) -> bool
 }
 
 pub fn is_get_invocation_output(a: &InvocationCommand, message: &Message) -> bool
-    ensures equal { IsTrue result ↔ IsGetInvocationOutput a.now message.now }
+    ensures equal { IsTrue result → HeaderEqual false (Message.GetInvocationOutput a.now) message.now }
     ensures test { result ≡ get_invocation_output_equal a.now message.now }
 {
     match message {
@@ -125,7 +125,7 @@ pub fn is_get_invocation_output(a: &InvocationCommand, message: &Message) -> boo
 }
 
 fn same_request(a: &CallRequest, b: &CallRequest, ignore_payloads: bool) -> bool
-    ensures equal { IsTrue result ↔ RequestHeaderEqual ignore_payloads a.now b.now }
+    ensures equal { IsTrue result → erased_request ignore_payloads a.now ≡ erased_request ignore_payloads b.now }
     ensures test { result ≡ request_equal ignore_payloads a.now b.now }
 {
     is_same(&a.service_name, &b.service_name)
@@ -141,14 +141,14 @@ fn same_request(a: &CallRequest, b: &CallRequest, ignore_payloads: bool) -> bool
 }
 
 fn same_promise(a: &PromiseCommand, b: &PromiseCommand) -> bool
-    ensures equal { IsTrue result ↔ PromiseHeaderEqual a.now b.now }
+    ensures equal { IsTrue result → a.now ≡ b.now }
     ensures test { result ≡ promise_equal a.now b.now }
 {
     is_same(&a.key, &b.key) && a.result_completion_id == b.result_completion_id
 }
 
 fn same_invocation(a: &InvocationCommand, b: &InvocationCommand) -> bool
-    ensures equal { IsTrue result ↔ InvocationHeaderEqual a.now b.now }
+    ensures equal { IsTrue result → a.now ≡ b.now }
     ensures test { result ≡ invocation_equal a.now b.now }
 {
     is_same(&a.target, &b.target) && a.result_completion_id == b.result_completion_id

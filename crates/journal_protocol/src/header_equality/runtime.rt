@@ -1,6 +1,6 @@
 //! Whether a message that is no command is header-equal to another.
-ghost use Rattle.std.specs.Prelude.{◌≡◌, ◌↔◌, IsTrue};
-ghost use Rattle.journal_protocol.specs.Headers.{IsProposeRunCompletion, IsProposeRunCompletionAck, IsAwaitingOn, IsGetStateEphemeralCommand, IsGetStateEphemeralNotification, IsNotification};
+ghost use Rattle.std.specs.Prelude.{◌≡◌, IsTrue, false};
+ghost use Rattle.journal_protocol.specs.Headers.{HeaderEqual};
 ghost use Rattle.journal_protocol.specs.HeaderEqual.{propose_run_completion_equal, propose_run_completion_ack_equal, awaiting_on_equal, get_state_ephemeral_command_equal, get_state_ephemeral_notification_equal, notification_equal};
 
 use crate::{
@@ -14,7 +14,7 @@ pub fn is_propose_run_completion(
     message: &Message,
     ignore_payloads: bool,
 ) -> bool
-    ensures equal { IsTrue result ↔ IsProposeRunCompletion ignore_payloads a.now message.now }
+    ensures equal { IsTrue result → HeaderEqual ignore_payloads (Message.ProposeRunCompletion a.now) message.now }
     ensures test { result ≡ propose_run_completion_equal ignore_payloads a.now message.now }
 {
     match message {
@@ -25,7 +25,7 @@ pub fn is_propose_run_completion(
 }
 
 pub fn is_propose_run_completion_ack(a: &ProposeRunCompletionAck, message: &Message) -> bool
-    ensures equal { IsTrue result ↔ IsProposeRunCompletionAck a.now message.now }
+    ensures equal { IsTrue result → HeaderEqual false (Message.ProposeRunCompletionAck a.now) message.now }
     ensures test { result ≡ propose_run_completion_ack_equal a.now message.now }
 {
     match message {
@@ -35,7 +35,7 @@ pub fn is_propose_run_completion_ack(a: &ProposeRunCompletionAck, message: &Mess
 }
 
 pub fn is_awaiting_on(a: &AwaitingOn, message: &Message) -> bool
-    ensures equal { IsTrue result ↔ IsAwaitingOn a.now message.now }
+    ensures equal { IsTrue result → HeaderEqual false (Message.AwaitingOn a.now) message.now }
     ensures test { result ≡ awaiting_on_equal a.now message.now }
 {
     match message {
@@ -46,7 +46,7 @@ pub fn is_awaiting_on(a: &AwaitingOn, message: &Message) -> bool
 }
 
 pub fn is_get_state_ephemeral_command(a: &GetStateEphemeralCommand, message: &Message) -> bool
-    ensures equal { IsTrue result ↔ IsGetStateEphemeralCommand a.now message.now }
+    ensures equal { IsTrue result → HeaderEqual false (Message.GetStateEphemeralCommand a.now) message.now }
     ensures test { result ≡ get_state_ephemeral_command_equal a.now message.now }
 {
     match message {
@@ -60,7 +60,7 @@ pub fn is_get_state_ephemeral_notification(
     message: &Message,
     ignore_payloads: bool,
 ) -> bool
-    ensures equal { IsTrue result ↔ IsGetStateEphemeralNotification ignore_payloads a.now message.now }
+    ensures equal { IsTrue result → HeaderEqual ignore_payloads (Message.GetStateEphemeralNotification a.now) message.now }
     ensures test { result ≡ get_state_ephemeral_notification_equal ignore_payloads a.now message.now }
 {
     match message {
@@ -71,7 +71,7 @@ pub fn is_get_state_ephemeral_notification(
 }
 
 pub fn is_notification(a: &Notification, message: &Message, ignore_payloads: bool) -> bool
-    ensures equal { IsTrue result ↔ IsNotification ignore_payloads a.now message.now }
+    ensures equal { IsTrue result → HeaderEqual ignore_payloads (Message.Notification a.now) message.now }
     ensures test { result ≡ notification_equal ignore_payloads a.now message.now }
 {
     match message {

@@ -1,6 +1,6 @@
 //! Whether a command on state is header-equal to another message.
-ghost use Rattle.std.specs.Prelude.{◌≡◌, ◌↔◌, IsTrue};
-ghost use Rattle.journal_protocol.specs.Headers.{IsGetEagerState, IsGetLazyState, IsGetEagerStateKeys, IsGetLazyStateKeys, IsSetState, IsClearState, IsClearAllState};
+ghost use Rattle.std.specs.Prelude.{◌≡◌, IsTrue, false};
+ghost use Rattle.journal_protocol.specs.Headers.{HeaderEqual};
 ghost use Rattle.journal_protocol.specs.HeaderEqual.{get_eager_state_equal, get_lazy_state_equal, get_eager_state_keys_equal, get_lazy_state_keys_equal, set_state_equal, clear_state_equal, clear_all_state_equal};
 
 use crate::{
@@ -14,7 +14,7 @@ pub fn is_get_eager_state(
     message: &Message,
     ignore_payloads: bool,
 ) -> bool
-    ensures equal { IsTrue result ↔ IsGetEagerState ignore_payloads a.now message.now }
+    ensures equal { IsTrue result → HeaderEqual ignore_payloads (Message.GetEagerState a.now) message.now }
     ensures test { result ≡ get_eager_state_equal ignore_payloads a.now message.now }
 {
     match message {
@@ -26,7 +26,7 @@ pub fn is_get_eager_state(
 }
 
 pub fn is_get_lazy_state(a: &GetLazyStateCommand, message: &Message) -> bool
-    ensures equal { IsTrue result ↔ IsGetLazyState a.now message.now }
+    ensures equal { IsTrue result → HeaderEqual false (Message.GetLazyState a.now) message.now }
     ensures test { result ≡ get_lazy_state_equal a.now message.now }
 {
     match message {
@@ -42,7 +42,7 @@ pub fn is_get_eager_state_keys(
     message: &Message,
     ignore_payloads: bool,
 ) -> bool
-    ensures equal { IsTrue result ↔ IsGetEagerStateKeys ignore_payloads a.now message.now }
+    ensures equal { IsTrue result → HeaderEqual ignore_payloads (Message.GetEagerStateKeys a.now) message.now }
     ensures test { result ≡ get_eager_state_keys_equal ignore_payloads a.now message.now }
 {
     match message {
@@ -53,7 +53,7 @@ pub fn is_get_eager_state_keys(
 }
 
 pub fn is_get_lazy_state_keys(a: &GetLazyStateKeysCommand, message: &Message) -> bool
-    ensures equal { IsTrue result ↔ IsGetLazyStateKeys a.now message.now }
+    ensures equal { IsTrue result → HeaderEqual false (Message.GetLazyStateKeys a.now) message.now }
     ensures test { result ≡ get_lazy_state_keys_equal a.now message.now }
 {
     match message {
@@ -64,7 +64,7 @@ pub fn is_get_lazy_state_keys(a: &GetLazyStateKeysCommand, message: &Message) ->
 }
 
 pub fn is_set_state(a: &SetStateCommand, message: &Message, ignore_payloads: bool) -> bool
-    ensures equal { IsTrue result ↔ IsSetState ignore_payloads a.now message.now }
+    ensures equal { IsTrue result → HeaderEqual ignore_payloads (Message.SetState a.now) message.now }
     ensures test { result ≡ set_state_equal ignore_payloads a.now message.now }
 {
     match message {
@@ -76,7 +76,7 @@ pub fn is_set_state(a: &SetStateCommand, message: &Message, ignore_payloads: boo
 }
 
 pub fn is_clear_state(a: &ClearStateCommand, message: &Message) -> bool
-    ensures equal { IsTrue result ↔ IsClearState a.now message.now }
+    ensures equal { IsTrue result → HeaderEqual false (Message.ClearState a.now) message.now }
     ensures test { result ≡ clear_state_equal a.now message.now }
 {
     match message {
@@ -86,7 +86,7 @@ pub fn is_clear_state(a: &ClearStateCommand, message: &Message) -> bool
 }
 
 pub fn is_clear_all_state(a: &ClearAllStateCommand, message: &Message) -> bool
-    ensures equal { IsTrue result ↔ IsClearAllState a.now message.now }
+    ensures equal { IsTrue result → HeaderEqual false (Message.ClearAllState a.now) message.now }
     ensures test { result ≡ clear_all_state_equal a.now message.now }
 {
     match message {
