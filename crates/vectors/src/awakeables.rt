@@ -1,111 +1,122 @@
 // Awakeables: their ids and handles, and the signals that complete them.
-use crate::bench::{Act, Call, Taken, V7, assert_row};
-use crate::frames::{
-    COMPLETION_1, END, ERROR_STATE, INPUT_TILL, SIGNAL_17, SIGNAL_18, SLEEP_TO_2024, START_1,
-    START_3, START_AB, START_FB_FF,
-};
-use invocation_vm::State;
+use crate::table::assert_table;
 use std::test::Fail;
 
-/// An invocation's first awakeable, by the bytes of its id.
-const FIRST: [(&[u8], &str); 3] = [
-    (START_1, "sign_1YWJjAAAAEQ"),
-    (START_AB, "sign_1YWIAAAAR"),
-    (START_FB_FF, "sign_1-_8AAAAR"),
-];
+/// An awakeable has the id of its invocation, counts up, is made in replay, and is refused outside the handler.
+const AWAKEABLES: &str = r#"
+# An invocation's first awakeable has the bytes of its id.
+vm "application/vnd.restate.invocation.v7" => ok V7
+input <start_1 input_till>                 => ok
+sys_input                                  => ok id="abc" seed=0 key="" headers=[] value="Till" scope=- limit=- idem=-
+awakeable                                  => ok 17 "sign_1YWJjAAAAEQ"
 
-/// Two awakeables, of which the second is completed first.
-const TWO: &[Act] = &[
-    Act::Feed(START_1),
-    Act::Feed(INPUT_TILL),
-    Act::Input,
-    Act::Awakeable("sign_1YWJjAAAAEQ", 17),
-    Act::Awakeable("sign_1YWJjAAAAEg", 18),
-    Act::At(State::Processing, 0),
-    Act::Sends(&[]),
-    Act::Feed(SIGNAL_18),
-    Act::Waits(17),
-    Act::Completed(17, false),
-    Act::Completed(18, true),
-    Act::Take(18, Taken::Success(b"x")),
-    Act::Feed(SIGNAL_17),
-    Act::Wakes(17),
-    Act::Take(17, Taken::Void),
-];
+vm "application/vnd.restate.invocation.v7" => ok V7
+input <start_ab input_till>                => ok
+sys_input                                  => ok id="abc" seed=0 key="" headers=[] value="Till" scope=- limit=- idem=-
+awakeable                                  => ok 17 "sign_1YWIAAAAR"
 
-/// A sleep's handle comes between those of two awakeables, and its id is none of theirs.
-const BESIDE_A_SLEEP: &[Act] = &[
-    Act::Feed(START_1),
-    Act::Feed(INPUT_TILL),
-    Act::Input,
-    Act::Awakeable("sign_1YWJjAAAAEQ", 17),
-    Act::Sleep(1000, 18),
-    Act::Awakeable("sign_1YWJjAAAAEg", 19),
-    Act::Feed(COMPLETION_1),
-    Act::Wakes(18),
-    Act::Completed(17, false),
-    Act::Completed(19, false),
-];
+vm "application/vnd.restate.invocation.v7" => ok V7
+input <start_fb_ff input_till>             => ok
+sys_input                                  => ok id="abc" seed=0 key="" headers=[] value="Till" scope=- limit=- idem=-
+awakeable                                  => ok 17 "sign_1-_8AAAAR"
 
-/// An awakeable is made in replay, whatever is recorded.
-const REPLAYED: &[Act] = &[
-    Act::Feed(START_3),
-    Act::Feed(INPUT_TILL),
-    Act::Feed(SLEEP_TO_2024),
-    Act::Feed(SIGNAL_17),
-    Act::Input,
-    Act::Awakeable("sign_1YWJjAAAAEQ", 17),
-    Act::At(State::Replaying, 0),
-    Act::Wakes(17),
-    Act::Sleep(1000, 18),
-    Act::At(State::Processing, 1),
-    Act::Sends(&[]),
-];
+# Two awakeables, of which the second is completed first.
+vm "application/vnd.restate.invocation.v7" => ok V7
+input <start_1 input_till>                 => ok
+sys_input                                  => ok id="abc" seed=0 key="" headers=[] value="Till" scope=- limit=- idem=-
+awakeable                                  => ok 17 "sign_1YWJjAAAAEQ"
+awakeable                                  => ok 18 "sign_1YWJjAAAAEg"
+state                                      => ok Processing
+index                                      => ok 0
+output                                     => ok 0x
+input <signal_18>                          => ok
+await 17                                   => ok wait true false
+completed 17                               => ok false
+completed 18                               => ok true
+take 18                                    => ok success "x"
+input <signal_17>                          => ok
+await 17                                   => ok any
+take 17                                    => ok void
 
-const BEFORE_START: &[Act] = &[
-    Act::Refuses(Call::Awakeable, 571, "UnexpectedStateError"),
-    Act::At(State::Closed, -1),
-    Act::Sends(&[ERROR_STATE]),
-    Act::Failed(571, "UnexpectedStateError"),
-];
+# A sleep's handle comes between those of two awakeables, and its id is none of theirs.
+vm "application/vnd.restate.invocation.v7" => ok V7
+input <start_1 input_till>                 => ok
+sys_input                                  => ok id="abc" seed=0 key="" headers=[] value="Till" scope=- limit=- idem=-
+awakeable                                  => ok 17 "sign_1YWJjAAAAEQ"
+sleep "" 1000                              => ok 18
+awakeable                                  => ok 19 "sign_1YWJjAAAAEg"
+input <completion_1>                       => ok
+await 18                                   => ok any
+completed 17                               => ok false
+completed 19                               => ok false
 
-const AFTER_THE_END: &[Act] = &[
-    Act::Feed(START_1),
-    Act::Feed(INPUT_TILL),
-    Act::Input,
-    Act::End,
-    Act::Refuses(Call::Awakeable, 598, "ClosedError"),
-    Act::Sends(&[END]),
-    Act::Failed(598, "ClosedError"),
-];
+# An awakeable is made in replay, whatever is recorded.
+vm "application/vnd.restate.invocation.v7"     => ok V7
+input <start_3 input_till sleep_to_2024 signal_17> => ok
+sys_input                                      => ok id="abc" seed=0 key="" headers=[] value="Till" scope=- limit=- idem=-
+awakeable                                      => ok 17 "sign_1YWJjAAAAEQ"
+state                                          => ok Replaying
+index                                          => ok 0
+await 17                                       => ok any
+sleep "" 1000                                  => ok 18
+state                                          => ok Processing
+index                                          => ok 1
+output                                         => ok 0x
+
+# Before Start.
+vm "application/vnd.restate.invocation.v7" => ok V7
+awakeable                                  => err 571 "UnexpectedStateError"
+state                                      => ok Closed
+index                                      => ok -1
+output                                     => ok <error_state>
+output                                     => ok 0x
+failed                                     => err 571 "UnexpectedStateError"
+
+# After the end.
+vm "application/vnd.restate.invocation.v7" => ok V7
+input <start_1 input_till>                 => ok
+sys_input                                  => ok id="abc" seed=0 key="" headers=[] value="Till" scope=- limit=- idem=-
+end                                        => ok
+awakeable                                  => err 598 "ClosedError"
+output                                     => ok <end>
+output                                     => ok 0x
+failed                                     => err 598 "ClosedError"
+"#;
+
+/// Awakeables in Processing and in replay; the second id is the next signal's.
+const NUMBERED: &str = r#"
+vm "application/vnd.restate.invocation.v7" => ok V7
+awakeable                                  => err 571 "UnexpectedStateError"
+
+vm "application/vnd.restate.invocation.v7" => ok V7
+input <start_1 input_till>                 => ok
+sys_input                                  => ok id="abc" seed=0 key="" headers=[] value="Till" scope=- limit=- idem=-
+awakeable                                  => ok 17 "sign_1YWJjAAAAEQ"
+awakeable                                  => ok 18 "sign_1YWJjAAAAEg"
+index                                      => ok 0
+output                                     => ok 0x
+input <signal_17>                          => ok
+await 17                                   => ok any
+take 17                                    => ok void
+await 18                                   => ok wait true false
+
+vm "application/vnd.restate.invocation.v7"     => ok V7
+input <start_3 input_till sleep_to_1000 completion_1> => ok
+sys_input                                      => ok id="abc" seed=0 key="" headers=[] value="Till" scope=- limit=- idem=-
+state                                          => ok Replaying
+awakeable                                      => ok 17 "sign_1YWJjAAAAEQ"
+sleep "" 1000                                  => ok 18
+awakeable                                      => ok 19 "sign_1YWJjAAAAEg"
+state                                          => ok Processing
+await 18                                       => ok any
+"#;
 
 #[test]
-fn awakeable_has_the_id_of_its_invocation(rt: HostRuntime) -> Result<(), Fail> {
-    for (start, id) in FIRST {
-        let acts = [
-            Act::Feed(start),
-            Act::Feed(INPUT_TILL),
-            Act::Input,
-            Act::Awakeable(id, 17),
-        ];
-        assert_row(&rt, rt.alloc(), V7, &acts)?;
-    }
-    Ok(())
+fn awakeables_are_made(rt: HostRuntime) -> Result<(), Fail> {
+    assert_table(&rt, rt.alloc(), AWAKEABLES)
 }
 
 #[test]
-fn awakeables_count_up(rt: HostRuntime) -> Result<(), Fail> {
-    assert_row(&rt, rt.alloc(), V7, TWO)?;
-    assert_row(&rt, rt.alloc(), V7, BESIDE_A_SLEEP)
-}
-
-#[test]
-fn awakeable_is_made_in_replay(rt: HostRuntime) -> Result<(), Fail> {
-    assert_row(&rt, rt.alloc(), V7, REPLAYED)
-}
-
-#[test]
-fn awakeable_is_refused_outside_the_handler(rt: HostRuntime) -> Result<(), Fail> {
-    assert_row(&rt, rt.alloc(), V7, BEFORE_START)?;
-    assert_row(&rt, rt.alloc(), V7, AFTER_THE_END)
+fn awakeables_are_numbered(rt: HostRuntime) -> Result<(), Fail> {
+    assert_table(&rt, rt.alloc(), NUMBERED)
 }

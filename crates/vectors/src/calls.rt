@@ -1,123 +1,80 @@
 // Each call of a VM once where it succeeds.
-use crate::bench::{Act, Call, Taken, V7, assert_row};
-use crate::changes::Change;
 use crate::frames::{
-    AWAKEABLE_X, CANCEL_INV1, CLEAR_ALL, CLEAR_K, CLEAR_MISMATCH, COMPLETION_1, END, INPUT_TILL,
-    OUTPUT_EMPTY, SET_K, SIGNAL_V, SLEEP_TO_2024, START_1, START_3,
+    AWAKEABLE_X, CANCEL_INV1, CLEAR_ALL, CLEAR_K, COMPLETION_1, END, ERROR_INPUT_CLOSED,
+    INPUT_TILL, OF_NOTHING, OUTPUT_EMPTY, SET_K, SIGNAL_V, SLEEP_TO_1000, SLEEP_TO_2024, START_1,
+    START_3,
 };
 use crate::headers::Headers;
 use bytes::Bytes;
 use invocation_vm::{
-    AwaitResponse, CANCEL_NOTIFICATION_HANDLE, CoreVM, Input, NonEmptyValue, PayloadOptions, State,
-    VM, VMOptions, any_cut,
+    AwaitResponse, CANCEL_NOTIFICATION_HANDLE, CoreVM, Error, Input, NonEmptyValue,
+    NotificationHandle, PayloadOptions, ResponseHead, State, UnresolvedFuture, VM, VMOptions,
+    VMResult, Value, Version, any_cut,
 };
-use std::alloc::Global;
+use std::alloc::{AllocError, Global};
 use std::process::Abort;
 use std::test::Fail;
+use std::time::Duration;
+
+const CONTENT_TYPE: &str = "application/vnd.restate.invocation.v7";
 
 const JOURNAL: [&[u8]; 4] = [START_3, INPUT_TILL, SLEEP_TO_2024, COMPLETION_1];
 
-const READINESS: &[Act] = &[
-    Act::Ready(false),
-    Act::Feed(START_3),
-    Act::Feed(INPUT_TILL),
-    Act::Feed(SLEEP_TO_2024),
-    Act::Ready(false),
-    Act::At(State::WaitingPreFlight, -1),
-    Act::Feed(COMPLETION_1),
-    Act::Ready(true),
-    Act::At(State::Replaying, -1),
-    Act::Close,
-    Act::Ready(true),
-    Act::Input,
-    Act::Sleep(1000, 17),
-    Act::Ready(true),
-    Act::At(State::Processing, 1),
-    Act::End,
-    Act::At(State::Closed, 1),
-    Act::Refuses(Call::Ready, 598, "ClosedError"),
-    Act::Sends(&[END]),
-];
-
-const TAKEN_ONCE: &[Act] = &[
-    Act::Feed(START_3),
-    Act::Feed(INPUT_TILL),
-    Act::Feed(SLEEP_TO_2024),
-    Act::Feed(COMPLETION_1),
-    Act::Input,
-    Act::Sleep(1000, 17),
-    Act::Completed(17, false),
-    Act::Take(17, Taken::Nothing),
-    Act::Wakes(17),
-    Act::Completed(17, true),
-    Act::Wakes(17),
-    Act::Take(17, Taken::Void),
-    Act::Completed(17, false),
-    Act::Take(17, Taken::Nothing),
-];
-
-const CHANGES: &[Act] = &[
-    Act::Feed(START_1),
-    Act::Feed(INPUT_TILL),
-    Act::Input,
-    Act::Changes(Change::Set),
-    Act::Sends(&[SET_K]),
-    Act::Changes(Change::Clear),
-    Act::Changes(Change::ClearAll),
-    Act::Sends(&[CLEAR_K, CLEAR_ALL]),
-    Act::At(State::Processing, 3),
-    Act::Changes(Change::Awakeable),
-    Act::Sends(&[AWAKEABLE_X]),
-    Act::Changes(Change::Signal),
-    Act::Changes(Change::Cancel),
-    Act::Sends(&[SIGNAL_V, CANCEL_INV1]),
-    Act::At(State::Processing, 6),
-];
-
-/// The recorded command is a sleep.
-const NO_CHANGE: &[Act] = &[
-    Act::Feed(START_3),
-    Act::Feed(INPUT_TILL),
-    Act::Feed(SLEEP_TO_2024),
-    Act::Feed(COMPLETION_1),
-    Act::Input,
-    Act::Refuses(
-        Call::Change(Change::ClearAll),
-        570,
-        "CommandTypeMismatchError",
-    ),
-    Act::Sends(&[CLEAR_MISMATCH]),
-    Act::Failed(570, "CommandTypeMismatchError"),
-];
-
-#[test]
-fn changes_are_sent(rt: HostRuntime) -> Result<(), Fail> {
-    assert_row(&rt, rt.alloc(), V7, CHANGES)
-}
-
-#[test]
-fn change_is_no_sleep(rt: HostRuntime) -> Result<(), Fail> {
-    assert_row(&rt, rt.alloc(), V7, NO_CHANGE)
-}
-
-#[test]
-fn is_ready_once_the_entries_are_there(rt: HostRuntime) -> Result<(), Fail> {
-    assert_row(&rt, rt.alloc(), V7, READINESS)
-}
-
-#[test]
-fn result_is_taken_once(rt: HostRuntime) -> Result<(), Fail> {
-    assert_row(&rt, rt.alloc(), V7, TAKEN_ONCE)
-}
-
 fn made(alloc: Global) -> Result<CoreVM, Fail> {
-    Ok(CoreVM::new(alloc, Headers::ContentType(V7), VMOptions::default())?)
+    Ok(CoreVM::new(
+        alloc,
+        Headers::ContentType(CONTENT_TYPE),
+        VMOptions::default(),
+    )?)
 }
 
 fn feed(vm: &mut CoreVM, frames: &[&'static [u8]]) -> Result<(), Fail> {
     for frame in frames {
         vm.notify_input(Bytes::from_static(frame))?;
     }
+    Ok(())
+}
+
+fn start(vm: &mut CoreVM) -> Result<(), Fail> {
+    feed(vm, &[START_1, INPUT_TILL])?;
+    drop(vm.sys_input()?);
+    Ok(())
+}
+
+/// A VM whose handler has read its input, with no other command recorded.
+fn started(alloc: Global) -> Result<CoreVM, Fail> {
+    let mut vm = made(alloc)?;
+    start(&mut vm)?;
+    Ok(vm)
+}
+
+/// The VM sends these frames.
+fn assert_sends(
+    rt: &impl Abort,
+    alloc: Global,
+    vm: &mut CoreVM,
+    frames: &[&[u8]],
+) -> Result<(), Fail> {
+    let output = vm.take_output()?;
+    let wanted = frames.concat(alloc)?;
+    assert_eq!(rt; output.as_slice(), wanted.as_slice());
+    Ok(())
+}
+
+fn head_of(alloc: Global) -> Result<ResponseHead, Fail> {
+    let vm = made(alloc)?;
+    Ok(vm.get_response_head()?)
+}
+
+#[test]
+fn response_names_the_version(rt: HostRuntime) -> Result<(), Fail> {
+    let head = head_of(rt.alloc())?;
+    assert_eq!(rt; head.status_code, 200);
+    assert_eq!(rt; head.version, Version::V7);
+    assert_eq!(rt; head.headers.len(), 1);
+    let header = head.headers.get(0).ok_or("no header")?;
+    assert_eq!(rt; header.key.as_str(), "content-type");
+    assert_eq!(rt; header.value.as_str(), CONTENT_TYPE);
     Ok(())
 }
 
@@ -145,13 +102,126 @@ fn input_tells_of_the_invocation(rt: HostRuntime) -> Result<(), Fail> {
     Ok(())
 }
 
+fn text(alloc: Global, text: &'static str) -> Result<String, AllocError> {
+    String::from_str(alloc, text)
+}
+
+fn value(bytes: &'static [u8]) -> NonEmptyValue {
+    NonEmptyValue::Success(Bytes::from_static(bytes))
+}
+
+fn change_state(alloc: Global, vm: &mut CoreVM) -> VMResult<()> {
+    let options = PayloadOptions::default();
+    vm.sys_state_set(text(alloc, "k")?, Bytes::from_static(b"1"), None, options)?;
+    vm.sys_state_clear(text(alloc, "k")?, Some(text(alloc, "n")?))?;
+    vm.sys_state_clear_all(None)
+}
+
+fn complete_others(alloc: Global, vm: &mut CoreVM) -> VMResult<()> {
+    let options = PayloadOptions::default();
+    vm.sys_complete_awakeable(text(alloc, "sign_1")?, value(b"x"), options)?;
+    vm.sys_complete_signal(text(alloc, "inv1")?, text(alloc, "s")?, value(b"v"))?;
+    vm.sys_cancel_invocation(text(alloc, "inv1")?)
+}
+
+fn assert_changes(rt: &impl Abort, alloc: Global, vm: &mut CoreVM) -> Result<(), Fail> {
+    change_state(alloc, vm)?;
+    assert_sends(rt, alloc, vm, &[SET_K, CLEAR_K, CLEAR_ALL])?;
+    assert_eq!(rt; vm.last_command_index(), 3);
+    complete_others(alloc, vm)?;
+    assert_sends(rt, alloc, vm, &[AWAKEABLE_X, SIGNAL_V, CANCEL_INV1])?;
+    assert_eq!(rt; vm.state(), State::Processing);
+    assert_eq!(rt; vm.last_command_index(), 6);
+    Ok(())
+}
+
+#[test]
+fn changes_are_sent(rt: HostRuntime) -> Result<(), Fail> {
+    let mut vm = started(rt.alloc())?;
+    assert_changes(&rt, rt.alloc(), &mut vm)
+}
+
+const WAITING: AwaitResponse = AwaitResponse::WaitingExternalProgress {
+    waiting_input: true,
+    waiting_run_proposal: false,
+};
+
+fn assert_makes(rt: &impl Abort, vm: &mut CoreVM, id: &str, handle: u32) -> Result<(), Fail> {
+    let made = vm.sys_awakeable()?;
+    assert_eq!(rt; made.id.as_str(), id);
+    assert_eq!(rt; made.handle.0, handle);
+    Ok(())
+}
+
+fn sleep(alloc: Global, vm: &mut CoreVM) -> VMResult<NotificationHandle> {
+    vm.sys_sleep(String::new(alloc), Duration::from_millis(1000), None)
+}
+
+fn wait(vm: &mut CoreVM, handle: u32) -> VMResult<AwaitResponse> {
+    vm.do_await(UnresolvedFuture::from(NotificationHandle(handle)))
+}
+
+fn assert_awaited(rt: &impl Abort, vm: &mut CoreVM) -> Result<(), Fail> {
+    assert_eq!(rt; wait(vm, 18)?, WAITING);
+    feed(vm, &[COMPLETION_1])?;
+    assert_eq!(rt; wait(vm, 18)?, AwaitResponse::AnyCompleted);
+    assert!(rt; !vm.is_completed(NotificationHandle(17)));
+    assert!(rt; vm.is_completed(NotificationHandle(18)));
+    Ok(())
+}
+
+fn assert_taken(rt: &impl Abort, vm: &mut CoreVM) -> Result<(), Fail> {
+    let taken = vm.take_notification(NotificationHandle(18))?;
+    assert!(rt; matches!(taken, Some(Value::Void)));
+    Ok(())
+}
+
+fn assert_ends(rt: &impl Abort, alloc: Global, vm: &mut CoreVM) -> Result<(), Fail> {
+    write(vm)?;
+    vm.sys_end()?;
+    assert_eq!(rt; vm.state(), State::Closed);
+    assert_sends(rt, alloc, vm, &[SLEEP_TO_1000, OUTPUT_EMPTY, END])
+}
+
+fn assert_slept(rt: &impl Abort, alloc: Global, vm: &mut CoreVM) -> Result<(), Fail> {
+    assert_makes(rt, vm, "sign_1YWJjAAAAEQ", 17)?;
+    assert_eq!(rt; sleep(alloc, vm)?.0, 18);
+    assert_awaited(rt, vm)?;
+    assert_taken(rt, vm)?;
+    assert_ends(rt, alloc, vm)
+}
+
+#[test]
+fn sleep_is_awaited_and_taken(rt: HostRuntime) -> Result<(), Fail> {
+    let mut vm = started(rt.alloc())?;
+    assert_slept(&rt, rt.alloc(), &mut vm)
+}
+
+fn assert_reported(rt: &impl Abort, alloc: Global, vm: &mut CoreVM) -> Result<(), Fail> {
+    vm.notify_error(Error::new(500, text(alloc, "no")?), None)?;
+    assert_sends(rt, alloc, vm, &[OF_NOTHING])
+}
+
+#[test]
+fn reported_error_is_sent(rt: HostRuntime) -> Result<(), Fail> {
+    let mut vm = made(rt.alloc())?;
+    assert_reported(&rt, rt.alloc(), &mut vm)
+}
+
+fn assert_missed(rt: &impl Abort, alloc: Global, vm: &mut CoreVM) -> Result<(), Fail> {
+    feed(vm, &[START_3, INPUT_TILL, SLEEP_TO_2024])?;
+    vm.notify_input_closed()?;
+    assert_sends(rt, alloc, vm, &[ERROR_INPUT_CLOSED])
+}
+
+#[test]
+fn missed_entries_are_told(rt: HostRuntime) -> Result<(), Fail> {
+    let mut vm = made(rt.alloc())?;
+    assert_missed(&rt, rt.alloc(), &mut vm)
+}
+
 fn write(vm: &mut CoreVM) -> Result<(), Fail> {
-    feed(vm, &[START_1, INPUT_TILL])?;
-    drop(vm.sys_input()?);
-    vm.sys_write_output(
-        NonEmptyValue::Success(Bytes::new()),
-        PayloadOptions::default(),
-    )?;
+    vm.sys_write_output(value(b""), PayloadOptions::default())?;
     Ok(())
 }
 
@@ -168,7 +238,7 @@ fn assert_waiting(rt: &impl Abort, vm: &mut CoreVM) -> Result<(), Fail> {
 
 #[test]
 fn output_stays_until_it_is_cleared(rt: HostRuntime) -> Result<(), Fail> {
-    let mut vm = made(rt.alloc())?;
+    let mut vm = started(rt.alloc())?;
     write(&mut vm)?;
     assert_waiting(&rt, &mut vm)?;
     let shown = format!(in rt.alloc(); "{vm:?}")?;
@@ -180,19 +250,15 @@ fn output_stays_until_it_is_cleared(rt: HostRuntime) -> Result<(), Fail> {
 }
 
 fn assert_cancel_awaited(rt: &impl Abort, vm: &mut CoreVM) -> Result<(), Fail> {
-    let waiting = AwaitResponse::WaitingExternalProgress {
-        waiting_input: true,
-        waiting_run_proposal: false,
-    };
+    assert!(rt; vm.is_ready_to_execute()?);
     let answer = vm.try_await(CANCEL_NOTIFICATION_HANDLE.into())??;
-    assert_eq!(rt; answer, waiting);
+    assert_eq!(rt; answer, WAITING);
     Ok(())
 }
 
 #[test]
 fn cancel_handle_is_awaited(rt: HostRuntime) -> Result<(), Fail> {
-    let mut vm = made(rt.alloc())?;
-    write(&mut vm)?;
+    let mut vm = started(rt.alloc())?;
     assert_cancel_awaited(&rt, &mut vm)?;
     any_cut();
     Ok(())

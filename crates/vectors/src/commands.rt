@@ -1,329 +1,533 @@
 // What each call that has a command does, state by state.
-use crate::bench::{Act, Call, assert_after};
-use crate::changes::Change;
-use crate::frames::{
-    AWAKEABLE_X, AWAKEABLE_Y, CANCEL_INV1, CLEAR_ALL, CLEAR_ALL_N, CLEAR_K, CLEAR_L, COMPLETION_9,
-    INPUT_TILL, OUTPUT_EMPTY, OUTPUT_X, SET_K, SET_K_TO_2, SIGNAL_V, SIGNAL_W, SLEEP_TO_2024,
-    SLEEP_UNDER_2, START_1, START_2, START_3,
-};
-use crate::places::{
-    CLOSED, ENTRIES_MISSING, FIRST_ERROR, PROCESSING, Refusal, VERSIONS, assert_refused,
-};
-use invocation_vm::{NonDeterministicChecksOption, State, VMOptions};
+use crate::places::{CLOSED, ENTRIES_MISSING, FAILED, NEW, PROCESSING, VERSIONS};
+use crate::table::{Rows, assert_each_line, assert_each_row};
 use std::test::Fail;
 
-/// A call that has a command, and recorded commands of its type.
-#[derive(Clone, Copy, Debug)]
-struct Row {
-    call: Call,
-    /// The type of its command.
-    types: &'static [u8],
-    /// Is header-equal to its command.
-    equal: &'static [u8],
-    /// Isn't header-equal to it.
-    other: &'static [u8],
-    /// The other is another by its payload alone.
-    is_other_payload: bool,
-}
-
-const ROWS: [Row; 8] = [
-    Row {
-        call: Call::Sleep(1000),
-        types: &[18],
-        equal: SLEEP_TO_2024,
-        other: SLEEP_UNDER_2,
-        is_other_payload: false,
-    },
-    Row {
-        call: Call::Write,
-        types: &[29],
-        equal: OUTPUT_EMPTY,
-        other: OUTPUT_X,
-        is_other_payload: true,
-    },
-    Row {
-        call: Call::Change(Change::Set),
-        types: &[15],
-        equal: SET_K,
-        other: SET_K_TO_2,
-        is_other_payload: true,
-    },
-    Row {
-        call: Call::Change(Change::Clear),
-        types: &[16],
-        equal: CLEAR_K,
-        other: CLEAR_L,
-        is_other_payload: false,
-    },
-    Row {
-        call: Call::Change(Change::ClearAll),
-        types: &[17],
-        equal: CLEAR_ALL,
-        other: CLEAR_ALL_N,
-        is_other_payload: false,
-    },
-    Row {
-        call: Call::Change(Change::Awakeable),
-        types: &[21],
-        equal: AWAKEABLE_X,
-        other: AWAKEABLE_Y,
-        is_other_payload: true,
-    },
-    Row {
-        call: Call::Change(Change::Signal),
-        types: &[22],
-        equal: SIGNAL_V,
-        other: SIGNAL_W,
-        is_other_payload: true,
-    },
-    Row {
-        call: Call::Change(Change::Cancel),
-        types: &[22],
-        equal: CANCEL_INV1,
-        other: SIGNAL_V,
-        is_other_payload: false,
-    },
-];
-
 /// The states in which each of these calls is refused. It counts as a command there, unless the VM has failed.
-const REFUSALS: [Refusal; 6] = [
-    Refusal {
-        before: &[],
-        code: 571,
-        text: "UnexpectedStateError",
-        index: 0,
-        types: &[3],
+const REFUSALS: [Rows; 6] = [
+    // Before Start.
+    Rows {
+        options: "",
+        before: NEW,
+        rows: r#"
+sleep "" 1000                           => err 571 "UnexpectedStateError"
+write_output success ""                 => err 571 "UnexpectedStateError"
+set "k" "1"                             => err 571 "UnexpectedStateError"
+clear "k" name="n"                      => err 571 "UnexpectedStateError"
+clear_all                               => err 571 "UnexpectedStateError"
+complete_awakeable "sign_1" success "x" => err 571 "UnexpectedStateError"
+complete_signal "inv1" "s" success "v"  => err 571 "UnexpectedStateError"
+cancel "inv1"                           => err 571 "UnexpectedStateError"
+"#,
+        behind: r#"
+state  => ok Closed
+index  => ok 0
+output => frames Error
+output => ok 0x
+failed => err 571 "UnexpectedStateError"
+"#,
     },
-    Refusal {
+    // Before the known entries are there.
+    Rows {
+        options: "",
         before: ENTRIES_MISSING,
-        code: 571,
-        text: "UnexpectedStateError",
-        index: 0,
-        types: &[3],
+        rows: r#"
+sleep "" 1000                           => err 571 "UnexpectedStateError"
+write_output success ""                 => err 571 "UnexpectedStateError"
+set "k" "1"                             => err 571 "UnexpectedStateError"
+clear "k" name="n"                      => err 571 "UnexpectedStateError"
+clear_all                               => err 571 "UnexpectedStateError"
+complete_awakeable "sign_1" success "x" => err 571 "UnexpectedStateError"
+complete_signal "inv1" "s" success "v"  => err 571 "UnexpectedStateError"
+cancel "inv1"                           => err 571 "UnexpectedStateError"
+"#,
+        behind: r#"
+state  => ok Closed
+index  => ok 0
+output => frames Error
+output => ok 0x
+failed => err 571 "UnexpectedStateError"
+"#,
     },
-    Refusal {
-        before: &[
-            Act::Feed(START_1),
-            Act::Feed(COMPLETION_9),
-            Act::At(State::Replaying, -1),
-        ],
-        code: 571,
-        text: "UnavailableEntryError",
-        index: 0,
-        types: &[3],
+    // The known entries are there, and none of them is a command.
+    Rows {
+        options: "",
+        before: r#"
+input <start_1 completion_9> => ok
+state                        => ok Replaying
+index                        => ok -1
+"#,
+        rows: r#"
+sleep "" 1000                           => err 571 "UnavailableEntryError"
+write_output success ""                 => err 571 "UnavailableEntryError"
+set "k" "1"                             => err 571 "UnavailableEntryError"
+clear "k" name="n"                      => err 571 "UnavailableEntryError"
+clear_all                               => err 571 "UnavailableEntryError"
+complete_awakeable "sign_1" success "x" => err 571 "UnavailableEntryError"
+complete_signal "inv1" "s" success "v"  => err 571 "UnavailableEntryError"
+cancel "inv1"                           => err 571 "UnavailableEntryError"
+"#,
+        behind: r#"
+state  => ok Closed
+index  => ok 0
+output => frames Error
+output => ok 0x
+failed => err 571 "UnavailableEntryError"
+"#,
     },
-    Refusal {
-        before: &[
-            Act::Feed(START_2),
-            Act::Feed(INPUT_TILL),
-            Act::Feed(INPUT_TILL),
-            Act::Input,
-            Act::At(State::Replaying, 0),
-        ],
-        code: 570,
-        text: "CommandTypeMismatchError",
-        index: 1,
-        types: &[3],
+    // The recorded command is of another type.
+    Rows {
+        options: "",
+        before: r#"
+input <start_2 input_till input_till> => ok
+sys_input                             => ok id="abc" seed=0 key="" headers=[] value="Till" scope=- limit=- idem=-
+state                                 => ok Replaying
+index                                 => ok 0
+"#,
+        rows: r#"
+sleep "" 1000                           => err 570 "CommandTypeMismatchError"
+write_output success ""                 => err 570 "CommandTypeMismatchError"
+set "k" "1"                             => err 570 "CommandTypeMismatchError"
+clear "k" name="n"                      => err 570 "CommandTypeMismatchError"
+clear_all                               => err 570 "CommandTypeMismatchError"
+complete_awakeable "sign_1" success "x" => err 570 "CommandTypeMismatchError"
+complete_signal "inv1" "s" success "v"  => err 570 "CommandTypeMismatchError"
+cancel "inv1"                           => err 570 "CommandTypeMismatchError"
+"#,
+        behind: r#"
+state  => ok Closed
+index  => ok 1
+output => frames Error
+output => ok 0x
+failed => err 570 "CommandTypeMismatchError"
+"#,
     },
-    Refusal {
+    // After the end.
+    Rows {
+        options: "",
         before: CLOSED,
-        code: 598,
-        text: "ClosedError",
-        index: 1,
-        types: &[],
+        rows: r#"
+sleep "" 1000                           => err 598 "ClosedError"
+write_output success ""                 => err 598 "ClosedError"
+set "k" "1"                             => err 598 "ClosedError"
+clear "k" name="n"                      => err 598 "ClosedError"
+clear_all                               => err 598 "ClosedError"
+complete_awakeable "sign_1" success "x" => err 598 "ClosedError"
+complete_signal "inv1" "s" success "v"  => err 598 "ClosedError"
+cancel "inv1"                           => err 598 "ClosedError"
+"#,
+        behind: r#"
+state  => ok Closed
+index  => ok 1
+output => ok 0x
+failed => err 598 "ClosedError"
+"#,
     },
-    FIRST_ERROR,
+    // A failed VM answers its first error.
+    Rows {
+        options: "",
+        before: FAILED,
+        rows: r#"
+sleep "" 1000                           => err 571 "KNOWN_ENTRIES_IS_ZERO"
+write_output success ""                 => err 571 "KNOWN_ENTRIES_IS_ZERO"
+set "k" "1"                             => err 571 "KNOWN_ENTRIES_IS_ZERO"
+clear "k" name="n"                      => err 571 "KNOWN_ENTRIES_IS_ZERO"
+clear_all                               => err 571 "KNOWN_ENTRIES_IS_ZERO"
+complete_awakeable "sign_1" success "x" => err 571 "KNOWN_ENTRIES_IS_ZERO"
+complete_signal "inv1" "s" success "v"  => err 571 "KNOWN_ENTRIES_IS_ZERO"
+cancel "inv1"                           => err 571 "KNOWN_ENTRIES_IS_ZERO"
+"#,
+        behind: r#"
+state  => ok Closed
+index  => ok -1
+output => ok 0x
+failed => err 571 "KNOWN_ENTRIES_IS_ZERO"
+"#,
+    },
 ];
 
 /// The handler reads its input where it may not.
-const INPUT_REFUSALS: [Refusal; 7] = [
-    Refusal {
-        before: &[],
-        code: 571,
-        text: "UnexpectedStateError",
-        index: 0,
-        types: &[3],
+const INPUT_REFUSALS: [Rows; 7] = [
+    // Before Start.
+    Rows {
+        options: "",
+        before: NEW,
+        rows: r#"
+sys_input => err 571 "UnexpectedStateError"
+"#,
+        behind: r#"
+state  => ok Closed
+index  => ok 0
+output => frames Error
+output => ok 0x
+failed => err 571 "UnexpectedStateError"
+"#,
     },
-    Refusal {
+    // Before the known entries are there.
+    Rows {
+        options: "",
         before: ENTRIES_MISSING,
-        code: 571,
-        text: "UnexpectedStateError",
-        index: 0,
-        types: &[3],
+        rows: r#"
+sys_input => err 571 "UnexpectedStateError"
+"#,
+        behind: r#"
+state  => ok Closed
+index  => ok 0
+output => frames Error
+output => ok 0x
+failed => err 571 "UnexpectedStateError"
+"#,
     },
-    Refusal {
-        before: &[Act::Feed(START_1), Act::Feed(COMPLETION_9)],
-        code: 571,
-        text: "UnavailableEntryError",
-        index: 0,
-        types: &[3],
+    // The known entries are there, and none of them is a command.
+    Rows {
+        options: "",
+        before: r#"
+input <start_1 completion_9> => ok
+"#,
+        rows: r#"
+sys_input => err 571 "UnavailableEntryError"
+"#,
+        behind: r#"
+state  => ok Closed
+index  => ok 0
+output => frames Error
+output => ok 0x
+failed => err 571 "UnavailableEntryError"
+"#,
     },
-    Refusal {
-        before: &[Act::Feed(START_1), Act::Feed(CLEAR_ALL)],
-        code: 570,
-        text: "CommandTypeMismatchError",
-        index: 0,
-        types: &[3],
+    // The first command is another.
+    Rows {
+        options: "",
+        before: r#"
+input <start_1 clear_all> => ok
+"#,
+        rows: r#"
+sys_input => err 570 "CommandTypeMismatchError"
+"#,
+        behind: r#"
+state  => ok Closed
+index  => ok 0
+output => frames Error
+output => ok 0x
+failed => err 570 "CommandTypeMismatchError"
+"#,
     },
-    Refusal {
+    // A second time.
+    Rows {
+        options: "",
         before: PROCESSING,
-        code: 571,
-        text: "UnexpectedStateError",
-        index: 1,
-        types: &[3],
+        rows: r#"
+sys_input => err 571 "UnexpectedStateError"
+"#,
+        behind: r#"
+state  => ok Closed
+index  => ok 1
+output => frames Error
+output => ok 0x
+failed => err 571 "UnexpectedStateError"
+"#,
     },
-    Refusal {
+    // After the end.
+    Rows {
+        options: "",
         before: CLOSED,
-        code: 598,
-        text: "ClosedError",
-        index: 1,
-        types: &[],
+        rows: r#"
+sys_input => err 598 "ClosedError"
+"#,
+        behind: r#"
+state  => ok Closed
+index  => ok 1
+output => ok 0x
+failed => err 598 "ClosedError"
+"#,
     },
-    FIRST_ERROR,
+    // A failed VM answers its first error.
+    Rows {
+        options: "",
+        before: FAILED,
+        rows: r#"
+sys_input => err 571 "KNOWN_ENTRIES_IS_ZERO"
+"#,
+        behind: r#"
+state  => ok Closed
+index  => ok -1
+output => ok 0x
+failed => err 571 "KNOWN_ENTRIES_IS_ZERO"
+"#,
+    },
 ];
 
-/// The acts up to the second command of a journal.
-fn recorded(start: &'static [u8], command: &'static [u8]) -> [Act; 4] {
-    [
-        Act::Feed(start),
-        Act::Feed(INPUT_TILL),
-        Act::Feed(command),
-        Act::Input,
-    ]
-}
+/// In Processing each is sent.
+const WRITTEN: Rows = Rows {
+    options: "",
+    before: PROCESSING,
+    rows: r#"
+sleep "" 1000 => ok 17
+output        => frames Sleep
+
+write_output success "" => ok
+output                  => frames Output
+
+set "k" "1" => ok
+output      => frames SetState
+
+clear "k" name="n" => ok
+output             => frames ClearState
+
+clear_all => ok
+output    => frames ClearAllState
+
+complete_awakeable "sign_1" success "x" => ok
+output                                  => frames CompleteAwakeable
+
+complete_signal "inv1" "s" success "v" => ok
+output                                 => frames SendSignal
+
+cancel "inv1" => ok
+output        => frames SendSignal
+"#,
+    behind: r#"
+state  => ok Processing
+index  => ok 1
+output => ok 0x
+"#,
+};
+
+/// The last recorded command is equal to it.
+const LAST_POPPED: Rows = Rows {
+    options: "",
+    before: NEW,
+    rows: r#"
+input <start_2 input_till sleep_to_2024> => ok
+sys_input                                => ok id="abc" seed=0 key="" headers=[] value="Till" scope=- limit=- idem=-
+sleep "" 1000                            => ok 17
+
+input <start_2 input_till output_empty> => ok
+sys_input                               => ok id="abc" seed=0 key="" headers=[] value="Till" scope=- limit=- idem=-
+write_output success ""                 => ok
+
+input <start_2 input_till set_k> => ok
+sys_input                        => ok id="abc" seed=0 key="" headers=[] value="Till" scope=- limit=- idem=-
+set "k" "1"                      => ok
+
+input <start_2 input_till clear_k> => ok
+sys_input                          => ok id="abc" seed=0 key="" headers=[] value="Till" scope=- limit=- idem=-
+clear "k" name="n"                 => ok
+
+input <start_2 input_till clear_all> => ok
+sys_input                            => ok id="abc" seed=0 key="" headers=[] value="Till" scope=- limit=- idem=-
+clear_all                            => ok
+
+input <start_2 input_till awakeable_x>  => ok
+sys_input                               => ok id="abc" seed=0 key="" headers=[] value="Till" scope=- limit=- idem=-
+complete_awakeable "sign_1" success "x" => ok
+
+input <start_2 input_till signal_v>    => ok
+sys_input                              => ok id="abc" seed=0 key="" headers=[] value="Till" scope=- limit=- idem=-
+complete_signal "inv1" "s" success "v" => ok
+
+input <start_2 input_till cancel_inv1> => ok
+sys_input                              => ok id="abc" seed=0 key="" headers=[] value="Till" scope=- limit=- idem=-
+cancel "inv1"                          => ok
+"#,
+    behind: r#"
+state  => ok Processing
+index  => ok 1
+output => ok 0x
+"#,
+};
+
+/// A recorded command is equal to it, and another follows.
+const ONE_POPPED: Rows = Rows {
+    options: "",
+    before: NEW,
+    rows: r#"
+input <start_3 input_till sleep_to_2024 sleep_under_2> => ok
+sys_input                                      => ok id="abc" seed=0 key="" headers=[] value="Till" scope=- limit=- idem=-
+sleep "" 1000                                  => ok 17
+
+input <start_3 input_till output_empty output_x> => ok
+sys_input                                      => ok id="abc" seed=0 key="" headers=[] value="Till" scope=- limit=- idem=-
+write_output success ""                        => ok
+
+input <start_3 input_till set_k set_k_to_2> => ok
+sys_input                                   => ok id="abc" seed=0 key="" headers=[] value="Till" scope=- limit=- idem=-
+set "k" "1"                                 => ok
+
+input <start_3 input_till clear_k clear_l> => ok
+sys_input                                  => ok id="abc" seed=0 key="" headers=[] value="Till" scope=- limit=- idem=-
+clear "k" name="n"                         => ok
+
+input <start_3 input_till clear_all clear_all_n> => ok
+sys_input                                      => ok id="abc" seed=0 key="" headers=[] value="Till" scope=- limit=- idem=-
+clear_all                                      => ok
+
+input <start_3 input_till awakeable_x awakeable_y> => ok
+sys_input                                      => ok id="abc" seed=0 key="" headers=[] value="Till" scope=- limit=- idem=-
+complete_awakeable "sign_1" success "x"        => ok
+
+input <start_3 input_till signal_v signal_w> => ok
+sys_input                                    => ok id="abc" seed=0 key="" headers=[] value="Till" scope=- limit=- idem=-
+complete_signal "inv1" "s" success "v"       => ok
+
+input <start_3 input_till cancel_inv1 signal_v> => ok
+sys_input                                      => ok id="abc" seed=0 key="" headers=[] value="Till" scope=- limit=- idem=-
+cancel "inv1"                                  => ok
+"#,
+    behind: r#"
+state  => ok Replaying
+index  => ok 1
+output => ok 0x
+"#,
+};
+
+/// The recorded command has its type, and isn't equal to it.
+const MISMATCHES: Rows = Rows {
+    options: "",
+    before: NEW,
+    rows: r#"
+input <start_2 input_till sleep_under_2> => ok
+sys_input                                => ok id="abc" seed=0 key="" headers=[] value="Till" scope=- limit=- idem=-
+sleep "" 1000                            => err 570 "CommandMismatchError"
+
+input <start_2 input_till output_x> => ok
+sys_input                           => ok id="abc" seed=0 key="" headers=[] value="Till" scope=- limit=- idem=-
+write_output success ""             => err 570 "CommandMismatchError"
+
+input <start_2 input_till set_k_to_2> => ok
+sys_input                             => ok id="abc" seed=0 key="" headers=[] value="Till" scope=- limit=- idem=-
+set "k" "1"                           => err 570 "CommandMismatchError"
+
+input <start_2 input_till clear_l> => ok
+sys_input                          => ok id="abc" seed=0 key="" headers=[] value="Till" scope=- limit=- idem=-
+clear "k" name="n"                 => err 570 "CommandMismatchError"
+
+input <start_2 input_till clear_all_n> => ok
+sys_input                              => ok id="abc" seed=0 key="" headers=[] value="Till" scope=- limit=- idem=-
+clear_all                              => err 570 "CommandMismatchError"
+
+input <start_2 input_till awakeable_y>  => ok
+sys_input                               => ok id="abc" seed=0 key="" headers=[] value="Till" scope=- limit=- idem=-
+complete_awakeable "sign_1" success "x" => err 570 "CommandMismatchError"
+
+input <start_2 input_till signal_w>    => ok
+sys_input                              => ok id="abc" seed=0 key="" headers=[] value="Till" scope=- limit=- idem=-
+complete_signal "inv1" "s" success "v" => err 570 "CommandMismatchError"
+
+input <start_2 input_till signal_v> => ok
+sys_input                           => ok id="abc" seed=0 key="" headers=[] value="Till" scope=- limit=- idem=-
+cancel "inv1"                       => err 570 "CommandMismatchError"
+"#,
+    behind: r#"
+state  => ok Closed
+index  => ok 1
+output => frames Error
+output => ok 0x
+failed => err 570 "CommandMismatchError"
+"#,
+};
+
+/// The same where payloads aren't compared.
+const UNCHECKED: Rows = Rows {
+    options: "checks=off",
+    before: NEW,
+    rows: r#"
+input <start_2 input_till sleep_under_2> => ok
+sys_input                                => ok id="abc" seed=0 key="" headers=[] value="Till" scope=- limit=- idem=-
+sleep "" 1000                            => err 570 "CommandMismatchError"
+state                                    => ok Closed
+index                                    => ok 1
+output                                   => frames Error
+
+input <start_2 input_till output_x> => ok
+sys_input                           => ok id="abc" seed=0 key="" headers=[] value="Till" scope=- limit=- idem=-
+write_output success ""             => ok
+state                               => ok Processing
+index                               => ok 1
+output                              => ok 0x
+
+input <start_2 input_till set_k_to_2> => ok
+sys_input                             => ok id="abc" seed=0 key="" headers=[] value="Till" scope=- limit=- idem=-
+set "k" "1"                           => ok
+state                                 => ok Processing
+index                                 => ok 1
+output                                => ok 0x
+
+input <start_2 input_till clear_l> => ok
+sys_input                          => ok id="abc" seed=0 key="" headers=[] value="Till" scope=- limit=- idem=-
+clear "k" name="n"                 => err 570 "CommandMismatchError"
+state                              => ok Closed
+index                              => ok 1
+output                             => frames Error
+
+input <start_2 input_till clear_all_n> => ok
+sys_input                              => ok id="abc" seed=0 key="" headers=[] value="Till" scope=- limit=- idem=-
+clear_all                              => err 570 "CommandMismatchError"
+state                                  => ok Closed
+index                                  => ok 1
+output                                 => frames Error
+
+input <start_2 input_till awakeable_y>  => ok
+sys_input                               => ok id="abc" seed=0 key="" headers=[] value="Till" scope=- limit=- idem=-
+complete_awakeable "sign_1" success "x" => ok
+state                                   => ok Processing
+index                                   => ok 1
+output                                  => ok 0x
+
+input <start_2 input_till signal_w>    => ok
+sys_input                              => ok id="abc" seed=0 key="" headers=[] value="Till" scope=- limit=- idem=-
+complete_signal "inv1" "s" success "v" => ok
+state                                  => ok Processing
+index                                  => ok 1
+output                                 => ok 0x
+
+input <start_2 input_till signal_v> => ok
+sys_input                           => ok id="abc" seed=0 key="" headers=[] value="Till" scope=- limit=- idem=-
+cancel "inv1"                       => err 570 "CommandMismatchError"
+state                               => ok Closed
+index                               => ok 1
+output                              => frames Error
+"#,
+    behind: "",
+};
 
 #[test]
 fn commands_are_refused(rt: HostRuntime) -> Result<(), Fail> {
-    for version in VERSIONS {
-        for refusal in REFUSALS {
-            for row in ROWS {
-                let options = VMOptions::default();
-                assert_refused(&rt, rt.alloc(), version, options, refusal, row.call)?;
-            }
-        }
+    for rows in REFUSALS {
+        assert_each_line(&rt, rt.alloc(), VERSIONS, rows)?;
     }
     Ok(())
 }
 
 #[test]
 fn input_is_refused(rt: HostRuntime) -> Result<(), Fail> {
-    for version in VERSIONS {
-        for refusal in INPUT_REFUSALS {
-            let options = VMOptions::default();
-            assert_refused(&rt, rt.alloc(), version, options, refusal, Call::Input)?;
-        }
+    for rows in INPUT_REFUSALS {
+        assert_each_line(&rt, rt.alloc(), VERSIONS, rows)?;
     }
     Ok(())
 }
 
 #[test]
 fn commands_are_written(rt: HostRuntime) -> Result<(), Fail> {
-    for version in VERSIONS {
-        for row in ROWS {
-            let acts = [
-                Act::Does(row.call),
-                Act::At(State::Processing, 1),
-                Act::SendsTypes(row.types),
-            ];
-            let options = VMOptions::default();
-            assert_after(&rt, rt.alloc(), version, options, PROCESSING, &acts)?;
-        }
-    }
-    Ok(())
+    assert_each_row(&rt, rt.alloc(), VERSIONS, WRITTEN)
 }
 
 #[test]
 fn last_recorded_command_is_popped(rt: HostRuntime) -> Result<(), Fail> {
-    for version in VERSIONS {
-        for row in ROWS {
-            let before = recorded(START_2, row.equal);
-            let acts = [
-                Act::Does(row.call),
-                Act::At(State::Processing, 1),
-                Act::SendsTypes(&[]),
-            ];
-            let options = VMOptions::default();
-            assert_after(&rt, rt.alloc(), version, options, &before, &acts)?;
-        }
-    }
-    Ok(())
+    assert_each_row(&rt, rt.alloc(), VERSIONS, LAST_POPPED)
 }
 
 #[test]
 fn one_recorded_command_is_popped(rt: HostRuntime) -> Result<(), Fail> {
-    for version in VERSIONS {
-        for row in ROWS {
-            let before = [
-                Act::Feed(START_3),
-                Act::Feed(INPUT_TILL),
-                Act::Feed(row.equal),
-                Act::Feed(row.other),
-                Act::Input,
-            ];
-            let acts = [
-                Act::Does(row.call),
-                Act::At(State::Replaying, 1),
-                Act::SendsTypes(&[]),
-            ];
-            let options = VMOptions::default();
-            assert_after(&rt, rt.alloc(), version, options, &before, &acts)?;
-        }
-    }
-    Ok(())
+    assert_each_row(&rt, rt.alloc(), VERSIONS, ONE_POPPED)
 }
-
-const MISMATCH: &[Act] = &[
-    Act::At(State::Closed, 1),
-    Act::SendsTypes(&[3]),
-    Act::Failed(570, "CommandMismatchError"),
-];
 
 #[test]
 fn other_command_is_a_mismatch(rt: HostRuntime) -> Result<(), Fail> {
-    for version in VERSIONS {
-        for row in ROWS {
-            let acts = [
-                Act::Feed(START_2),
-                Act::Feed(INPUT_TILL),
-                Act::Feed(row.other),
-                Act::Input,
-                Act::Refuses(row.call, 570, "CommandMismatchError"),
-            ];
-            let options = VMOptions::default();
-            assert_after(&rt, rt.alloc(), version, options, &acts, MISMATCH)?;
-        }
-    }
-    Ok(())
-}
-
-/// The call where payloads aren't compared.
-fn unchecked(row: Row) -> [Act; 3] {
-    if row.is_other_payload {
-        return [
-            Act::Does(row.call),
-            Act::At(State::Processing, 1),
-            Act::SendsTypes(&[]),
-        ];
-    }
-    [
-        Act::Refuses(row.call, 570, "CommandMismatchError"),
-        Act::At(State::Closed, 1),
-        Act::SendsTypes(&[3]),
-    ]
+    assert_each_row(&rt, rt.alloc(), VERSIONS, MISMATCHES)
 }
 
 #[test]
 fn payloads_are_not_compared_where_checks_are_off(rt: HostRuntime) -> Result<(), Fail> {
-    for version in VERSIONS {
-        for row in ROWS {
-            let options = VMOptions {
-                non_determinism_checks: NonDeterministicChecksOption::PayloadChecksDisabled,
-                ..VMOptions::default()
-            };
-            let before = recorded(START_2, row.other);
-            let acts = unchecked(row);
-            assert_after(&rt, rt.alloc(), version, options, &before, &acts)?;
-        }
-    }
-    Ok(())
+    assert_each_row(&rt, rt.alloc(), VERSIONS, UNCHECKED)
 }

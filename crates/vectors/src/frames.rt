@@ -418,3 +418,108 @@ pub const CLEAR_MISMATCH: &[u8] = b"\0\x03\0\0\0\0\0\0\0\x39\
     \x01\0\0\0\x11\
     \0\
     \0";
+
+/// An error with the text "no", of no command.
+pub const OF_NOTHING: &[u8] = b"\0\x03\0\0\0\0\0\0\0\x1b\
+    \0\0\x01\xf4\
+    \0\0\0\0\0\0\0\x02no\
+    \0\0\0\0\0\0\0\0\
+    \0\
+    \0\
+    \0\
+    \0\
+    \0";
+
+/// Such an error, of the command 0, a sleep under the name "n".
+pub const OF_A_FIRST_SLEEP: &[u8] = b"\0\x03\0\0\0\0\0\0\0\x2c\
+    \0\0\x01\xf4\
+    \0\0\0\0\0\0\0\x02no\
+    \0\0\0\0\0\0\0\0\
+    \0\
+    \x01\0\0\0\0\
+    \x01\0\0\0\x12\
+    \x01\0\0\0\0\0\0\0\x01n\
+    \0";
+
+/// Such an error, of the command 2, a sleep under the name "n".
+pub const OF_A_THIRD_SLEEP: &[u8] = b"\0\x03\0\0\0\0\0\0\0\x2c\
+    \0\0\x01\xf4\
+    \0\0\0\0\0\0\0\x02no\
+    \0\0\0\0\0\0\0\0\
+    \0\
+    \x01\0\0\0\x02\
+    \x01\0\0\0\x12\
+    \x01\0\0\0\0\0\0\0\x01n\
+    \0";
+
+/// Such an error, of the command 0, Start.
+pub const OF_START: &[u8] = b"\0\x03\0\0\0\0\0\0\0\x23\
+    \0\0\x01\xf4\
+    \0\0\0\0\0\0\0\x02no\
+    \0\0\0\0\0\0\0\0\
+    \0\
+    \x01\0\0\0\0\
+    \x01\0\0\0\x01\
+    \0\
+    \0";
+
+/// Such an error, of the command 1, which clears a state key under the name "n".
+pub const OF_THE_CLEARING: &[u8] = b"\0\x03\0\0\0\0\0\0\0\x2c\
+    \0\0\x01\xf4\
+    \0\0\0\0\0\0\0\x02no\
+    \0\0\0\0\0\0\0\0\
+    \0\
+    \x01\0\0\0\x01\
+    \x01\0\0\0\x10\
+    \x01\0\0\0\0\0\0\0\x01n\
+    \0";
+
+/// Such an error, of the command 7, a call.
+pub const OF_A_CALL: &[u8] = b"\0\x03\0\0\0\0\0\0\0\x23\
+    \0\0\x01\xf4\
+    \0\0\0\0\0\0\0\x02no\
+    \0\0\0\0\0\0\0\0\
+    \0\
+    \x01\0\0\0\x07\
+    \x01\0\0\0\x13\
+    \0\
+    \0";
+
+/// An error with the text "no" of a journal that doesn't fit, which is retried.
+pub const MISMATCH_RETRIED: &[u8] = b"\0\x03\0\0\0\0\0\0\0\x1b\
+    \0\0\x02\x3a\
+    \0\0\0\0\0\0\0\x02no\
+    \0\0\0\0\0\0\0\0\
+    \0\
+    \0\
+    \0\
+    \0\
+    \0";
+
+/// An error with the text "no" of a journal that doesn't fit, which is paused.
+pub const MISMATCH_PAUSED: &[u8] = b"\0\x03\0\0\0\0\0\0\0\x1b\
+    \0\0\x02\x3a\
+    \0\0\0\0\0\0\0\x02no\
+    \0\0\0\0\0\0\0\0\
+    \x01\
+    \0\
+    \0\
+    \0\
+    \0";
+
+/// An error with the text "no" of a journal that doesn't fit, which ends the invocation.
+pub const MISMATCH_FAILED: &[u8] = b"\0\x03\0\0\0\0\0\0\0\x1b\
+    \0\0\x02\x3a\
+    \0\0\0\0\0\0\0\x02no\
+    \0\0\0\0\0\0\0\0\
+    \x02\
+    \0\
+    \0\
+    \0\
+    \0";
+
+/// The two bytes of a type's number that no message has.
+pub const TYPE_31: &[u8] = b"\0\x1f";
+
+/// The front of `COMPLETION_1`: all but its last byte.
+pub const CUT: &[u8] = b"\0\x1e\0\0\0\0\0\0\0\x06\0\0\0\0\x01";

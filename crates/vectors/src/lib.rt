@@ -4,17 +4,17 @@
 #[cfg(test)]
 mod awakeables;
 #[cfg(test)]
-mod bench;
-#[cfg(test)]
 mod calls;
-#[cfg(test)]
-mod changes;
 #[cfg(test)]
 mod commands;
 pub mod frames;
 pub mod headers;
 #[cfg(test)]
-mod making;
+mod journals;
+#[cfg(test)]
+mod meanings;
+#[cfg(test)]
+mod names;
 #[cfg(test)]
 mod parts;
 #[cfg(test)]
@@ -27,5 +27,7 @@ mod reports;
 mod sleeps;
 #[cfg(test)]
 mod states;
+#[cfg(test)]
+mod table;
 #[cfg(test)]
 mod transcripts;

@@ -1,319 +1,667 @@
 // What each call without a command does, state by state; and what is refused whatever the state.
-use crate::bench::{Act, Call, Taken, V5, V8, assert_after};
-use crate::changes::Change;
-use crate::frames::{
-    COMPLETION_1, ERROR_NO_REPLAY, INPUT_TILL, SIGNAL_17, SLEEP_TO_2024, START_1, START_3,
-};
-use crate::places::{
-    CLOSED, ENTRIES_MISSING, FAILED, FIRST_ERROR, PLACES, PROCESSING, REPLAYING, Refusal, VERSIONS,
-    assert_refused, assert_refused_everywhere,
-};
-use crate::reports::{Related, Report};
-use invocation_vm::{ErrorBehavior, JournalReplay, State, VMOptions};
+use crate::places::{CLOSED, ENTRIES_MISSING, FAILED, NEW, PROCESSING, REPLAYING, VERSIONS};
+use crate::table::{Rows, assert_each_line, assert_each_row};
 use std::test::Fail;
 
-/// The calls without a command.
-const CALLS: [Call; 4] = [Call::Await(17), Call::Take(17), Call::Awakeable, Call::End];
-
-/// The states in which each of these calls is refused.
-const REFUSALS: [Refusal; 3] = [
-    Refusal {
-        before: &[],
-        code: 571,
-        text: "UnexpectedStateError",
-        index: -1,
-        types: &[3],
+/// The states in which the calls without a command are refused.
+const REFUSALS: [Rows; 6] = [
+    // Before Start.
+    Rows {
+        options: "",
+        before: NEW,
+        rows: r#"
+await 17  => err 571 "UnexpectedStateError"
+take 17   => err 571 "UnexpectedStateError"
+awakeable => err 571 "UnexpectedStateError"
+end       => err 571 "UnexpectedStateError"
+"#,
+        behind: r#"
+state  => ok Closed
+index  => ok -1
+output => frames Error
+output => ok 0x
+failed => err 571 "UnexpectedStateError"
+"#,
     },
-    Refusal {
+    // Before the known entries are there.
+    Rows {
+        options: "",
         before: ENTRIES_MISSING,
-        code: 571,
-        text: "UnexpectedStateError",
-        index: -1,
-        types: &[3],
+        rows: r#"
+await 17  => err 571 "UnexpectedStateError"
+take 17   => err 571 "UnexpectedStateError"
+awakeable => err 571 "UnexpectedStateError"
+end       => err 571 "UnexpectedStateError"
+"#,
+        behind: r#"
+state  => ok Closed
+index  => ok -1
+output => frames Error
+output => ok 0x
+failed => err 571 "UnexpectedStateError"
+"#,
     },
-    FIRST_ERROR,
+    // A failed VM answers its first error.
+    Rows {
+        options: "",
+        before: FAILED,
+        rows: r#"
+await 17  => err 571 "KNOWN_ENTRIES_IS_ZERO"
+take 17   => err 571 "KNOWN_ENTRIES_IS_ZERO"
+awakeable => err 571 "KNOWN_ENTRIES_IS_ZERO"
+end       => err 571 "KNOWN_ENTRIES_IS_ZERO"
+"#,
+        behind: r#"
+state  => ok Closed
+index  => ok -1
+output => ok 0x
+failed => err 571 "KNOWN_ENTRIES_IS_ZERO"
+"#,
+    },
+    // After the end.
+    Rows {
+        options: "",
+        before: CLOSED,
+        rows: r#"
+await 17  => err 598 "ClosedError"
+take 17   => err 598 "ClosedError"
+awakeable => err 598 "ClosedError"
+"#,
+        behind: r#"
+state  => ok Closed
+index  => ok 0
+output => ok 0x
+failed => err 598 "ClosedError"
+"#,
+    },
+    // The handler ends in replay.
+    Rows {
+        options: "",
+        before: REPLAYING,
+        rows: r#"
+end => err 571 "UnexpectedStateError"
+"#,
+        behind: r#"
+state  => ok Closed
+index  => ok 0
+output => frames Error
+output => ok 0x
+failed => err 571 "UnexpectedStateError"
+"#,
+    },
+    // The handler awaits in replay what isn't there.
+    Rows {
+        options: "",
+        before: REPLAYING,
+        rows: r#"
+await 17 => err 570 "UncompletedDoProgressDuringReplay"
+"#,
+        behind: r#"
+state  => ok Closed
+index  => ok 0
+output => frames Error
+output => ok 0x
+failed => err 570 "UncompletedDoProgressDuringReplay"
+"#,
+    },
 ];
-
-/// The handler has ended.
-const AFTER_THE_END: Refusal = Refusal {
-    before: CLOSED,
-    code: 598,
-    text: "ClosedError",
-    index: 0,
-    types: &[],
-};
-
-/// The handler ends in replay.
-const END_IN_REPLAY: Refusal = Refusal {
-    before: REPLAYING,
-    code: 571,
-    text: "UnexpectedStateError",
-    index: 0,
-    types: &[3],
-};
-
-/// The handler awaits in replay what isn't there.
-const AWAIT_IN_REPLAY: Refusal = Refusal {
-    before: REPLAYING,
-    code: 570,
-    text: "UncompletedDoProgressDuringReplay",
-    index: 0,
-    types: &[3],
-};
 
 /// What these calls do where they aren't refused.
-const DONE: [&[Act]; 10] = [
-    &[
-        Act::Feed(START_3),
-        Act::Feed(INPUT_TILL),
-        Act::Feed(SLEEP_TO_2024),
-        Act::Feed(SIGNAL_17),
-        Act::Input,
-        Act::Awakeable("sign_1YWJjAAAAEQ", 17),
-        Act::Wakes(17),
-        Act::Take(17, Taken::Void),
-        Act::At(State::Replaying, 0),
-        Act::SendsTypes(&[]),
-    ],
-    &[
-        Act::Feed(START_3),
-        Act::Feed(INPUT_TILL),
-        Act::Feed(SLEEP_TO_2024),
-        Act::Feed(COMPLETION_1),
-        Act::Input,
-        Act::Awakeable("sign_1YWJjAAAAEQ", 17),
-        Act::At(State::Replaying, 0),
-        Act::Take(17, Taken::Nothing),
-        Act::At(State::Replaying, 0),
-        Act::SendsTypes(&[]),
-    ],
-    &[
-        Act::Feed(START_3),
-        Act::Feed(INPUT_TILL),
-        Act::Feed(SLEEP_TO_2024),
-        Act::Feed(COMPLETION_1),
-        Act::Input,
-        Act::Sleep(1000, 17),
-        Act::Wakes(17),
-        Act::Take(17, Taken::Void),
-        Act::At(State::Processing, 1),
-        Act::SendsTypes(&[]),
-    ],
-    &[
-        Act::Feed(START_1),
-        Act::Feed(INPUT_TILL),
-        Act::Input,
-        Act::Awakeable("sign_1YWJjAAAAEQ", 17),
-        Act::At(State::Processing, 0),
-        Act::SendsTypes(&[]),
-    ],
-    &[
-        Act::Feed(START_1),
-        Act::Feed(INPUT_TILL),
-        Act::Input,
-        Act::Take(17, Taken::Nothing),
-        Act::At(State::Processing, 0),
-        Act::SendsTypes(&[]),
-    ],
-    &[
-        Act::Feed(START_1),
-        Act::Feed(INPUT_TILL),
-        Act::Input,
-        Act::Waits(17),
-        Act::At(State::Processing, 0),
-    ],
-    &[
-        Act::Feed(START_1),
-        Act::Feed(INPUT_TILL),
-        Act::Input,
-        Act::Close,
-        Act::Refuses(Call::Await(17), 599, "SUSPENDED"),
-        Act::At(State::Closed, 0),
-        Act::SendsTypes(&[2]),
-        Act::Refuses(Call::Ready, 598, "ClosedError"),
-    ],
-    &[
-        Act::Feed(START_1),
-        Act::Feed(INPUT_TILL),
-        Act::Input,
-        Act::End,
-        Act::At(State::Closed, 0),
-        Act::SendsTypes(&[4]),
-    ],
-    &[
-        Act::Feed(START_1),
-        Act::Feed(INPUT_TILL),
-        Act::Input,
-        Act::End,
-        Act::SendsTypes(&[4]),
-        Act::End,
-        Act::At(State::Closed, 0),
-        Act::SendsTypes(&[]),
-    ],
-    &[
-        Act::Feed(START_1),
-        Act::Feed(INPUT_TILL),
-        Act::Input,
-        Act::Close,
-        Act::Sleep(1000, 17),
-        Act::Feed(COMPLETION_1),
-        Act::Wakes(17),
-        Act::At(State::Processing, 1),
-        Act::SendsTypes(&[18]),
-    ],
+const DONE: Rows = Rows {
+    options: "",
+    before: NEW,
+    rows: r#"
+input <start_3 input_till sleep_to_2024 signal_17> => ok
+sys_input                                      => ok id="abc" seed=0 key="" headers=[] value="Till" scope=- limit=- idem=-
+awakeable                                      => ok 17 "sign_1YWJjAAAAEQ"
+await 17                                       => ok any
+take 17                                        => ok void
+state                                          => ok Replaying
+index                                          => ok 0
+output                                         => ok 0x
+
+input <start_3 input_till sleep_to_2024 completion_1> => ok
+sys_input                                      => ok id="abc" seed=0 key="" headers=[] value="Till" scope=- limit=- idem=-
+awakeable                                      => ok 17 "sign_1YWJjAAAAEQ"
+state                                          => ok Replaying
+index                                          => ok 0
+take 17                                        => ok none
+state                                          => ok Replaying
+index                                          => ok 0
+output                                         => ok 0x
+
+input <start_3 input_till sleep_to_2024 completion_1> => ok
+sys_input                                      => ok id="abc" seed=0 key="" headers=[] value="Till" scope=- limit=- idem=-
+sleep "" 1000                                  => ok 17
+await 17                                       => ok any
+take 17                                        => ok void
+state                                          => ok Processing
+index                                          => ok 1
+output                                         => ok 0x
+
+input <start_1 input_till> => ok
+sys_input                  => ok id="abc" seed=0 key="" headers=[] value="Till" scope=- limit=- idem=-
+awakeable                  => ok 17 "sign_1YWJjAAAAEQ"
+state                      => ok Processing
+index                      => ok 0
+output                     => ok 0x
+
+input <start_1 input_till> => ok
+sys_input                  => ok id="abc" seed=0 key="" headers=[] value="Till" scope=- limit=- idem=-
+take 17                    => ok none
+state                      => ok Processing
+index                      => ok 0
+output                     => ok 0x
+
+input <start_1 input_till> => ok
+sys_input                  => ok id="abc" seed=0 key="" headers=[] value="Till" scope=- limit=- idem=-
+await 17                   => ok wait true false
+state                      => ok Processing
+index                      => ok 0
+
+input <start_1 input_till> => ok
+sys_input                  => ok id="abc" seed=0 key="" headers=[] value="Till" scope=- limit=- idem=-
+close                      => ok
+await 17                   => err 599 "SUSPENDED"
+state                      => ok Closed
+index                      => ok 0
+output                     => frames Suspension
+ready                      => err 598 "ClosedError"
+
+input <start_1 input_till> => ok
+sys_input                  => ok id="abc" seed=0 key="" headers=[] value="Till" scope=- limit=- idem=-
+end                        => ok
+state                      => ok Closed
+index                      => ok 0
+output                     => frames End
+
+input <start_1 input_till> => ok
+sys_input                  => ok id="abc" seed=0 key="" headers=[] value="Till" scope=- limit=- idem=-
+end                        => ok
+output                     => frames End
+end                        => ok
+state                      => ok Closed
+index                      => ok 0
+output                     => ok 0x
+
+input <start_1 input_till> => ok
+sys_input                  => ok id="abc" seed=0 key="" headers=[] value="Till" scope=- limit=- idem=-
+close                      => ok
+sleep "" 1000              => ok 17
+input <completion_1>       => ok
+await 17                   => ok any
+state                      => ok Processing
+index                      => ok 1
+output                     => frames Sleep
+"#,
+    behind: "",
+};
+
+/// An error that is reported fails the VM.
+const REPORTED: [Rows; 6] = [
+    // Before Start.
+    Rows {
+        options: "",
+        before: NEW,
+        rows: r#"
+error 500 "no" => ok
+"#,
+        behind: r#"
+state  => ok Closed
+index  => ok -1
+output => frames Error
+output => ok 0x
+failed => err 500 "no"
+"#,
+    },
+    // Before the known entries are there.
+    Rows {
+        options: "",
+        before: ENTRIES_MISSING,
+        rows: r#"
+error 500 "no" => ok
+"#,
+        behind: r#"
+state  => ok Closed
+index  => ok -1
+output => frames Error
+output => ok 0x
+failed => err 500 "no"
+"#,
+    },
+    // In replay.
+    Rows {
+        options: "",
+        before: REPLAYING,
+        rows: r#"
+error 500 "no" => ok
+"#,
+        behind: r#"
+state  => ok Closed
+index  => ok 0
+output => frames Error
+output => ok 0x
+failed => err 500 "no"
+"#,
+    },
+    // In Processing.
+    Rows {
+        options: "",
+        before: PROCESSING,
+        rows: r#"
+error 500 "no" => ok
+"#,
+        behind: r#"
+state  => ok Closed
+index  => ok 0
+output => frames Error
+output => ok 0x
+failed => err 500 "no"
+"#,
+    },
+    // After the end.
+    Rows {
+        options: "",
+        before: CLOSED,
+        rows: r#"
+error 500 "no" => ok
+"#,
+        behind: r#"
+state  => ok Closed
+index  => ok 0
+output => ok 0x
+failed => err 500 "no"
+"#,
+    },
+    // A failed VM keeps its first error.
+    Rows {
+        options: "",
+        before: FAILED,
+        rows: r#"
+error 500 "no" => ok
+"#,
+        behind: r#"
+state  => ok Closed
+index  => ok -1
+failed => err 571 "KNOWN_ENTRIES_IS_ZERO"
+"#,
+    },
 ];
+
+/// Before V6 a failure with metadata is refused, whatever the state.
+const METADATA: [Rows; 6] = [
+    // Before Start.
+    Rows {
+        options: "",
+        before: NEW,
+        rows: r#"
+write_output failure 409 "no" {"a" "b"}        => err 573 "UnsupportedFeatureForNegotiatedVersion"
+complete_awakeable "sign_1" failure 409 "no" {"a" "b"} => err 573 "UnsupportedFeatureForNegotiatedVersion"
+complete_signal "inv1" "s" failure 409 "no" {"a" "b"} => err 573 "UnsupportedFeatureForNegotiatedVersion"
+"#,
+        behind: r#"
+state  => ok Closed
+index  => ok -1
+output => frames Error
+output => ok 0x
+failed => err 573 "UnsupportedFeatureForNegotiatedVersion"
+"#,
+    },
+    // Before the known entries are there.
+    Rows {
+        options: "",
+        before: ENTRIES_MISSING,
+        rows: r#"
+write_output failure 409 "no" {"a" "b"}        => err 573 "UnsupportedFeatureForNegotiatedVersion"
+complete_awakeable "sign_1" failure 409 "no" {"a" "b"} => err 573 "UnsupportedFeatureForNegotiatedVersion"
+complete_signal "inv1" "s" failure 409 "no" {"a" "b"} => err 573 "UnsupportedFeatureForNegotiatedVersion"
+"#,
+        behind: r#"
+state  => ok Closed
+index  => ok -1
+output => frames Error
+output => ok 0x
+failed => err 573 "UnsupportedFeatureForNegotiatedVersion"
+"#,
+    },
+    // In replay.
+    Rows {
+        options: "",
+        before: REPLAYING,
+        rows: r#"
+write_output failure 409 "no" {"a" "b"}        => err 573 "UnsupportedFeatureForNegotiatedVersion"
+complete_awakeable "sign_1" failure 409 "no" {"a" "b"} => err 573 "UnsupportedFeatureForNegotiatedVersion"
+complete_signal "inv1" "s" failure 409 "no" {"a" "b"} => err 573 "UnsupportedFeatureForNegotiatedVersion"
+"#,
+        behind: r#"
+state  => ok Closed
+index  => ok 0
+output => frames Error
+output => ok 0x
+failed => err 573 "UnsupportedFeatureForNegotiatedVersion"
+"#,
+    },
+    // In Processing.
+    Rows {
+        options: "",
+        before: PROCESSING,
+        rows: r#"
+write_output failure 409 "no" {"a" "b"}        => err 573 "UnsupportedFeatureForNegotiatedVersion"
+complete_awakeable "sign_1" failure 409 "no" {"a" "b"} => err 573 "UnsupportedFeatureForNegotiatedVersion"
+complete_signal "inv1" "s" failure 409 "no" {"a" "b"} => err 573 "UnsupportedFeatureForNegotiatedVersion"
+"#,
+        behind: r#"
+state  => ok Closed
+index  => ok 0
+output => frames Error
+output => ok 0x
+failed => err 573 "UnsupportedFeatureForNegotiatedVersion"
+"#,
+    },
+    // After the end.
+    Rows {
+        options: "",
+        before: CLOSED,
+        rows: r#"
+write_output failure 409 "no" {"a" "b"}        => err 573 "UnsupportedFeatureForNegotiatedVersion"
+complete_awakeable "sign_1" failure 409 "no" {"a" "b"} => err 573 "UnsupportedFeatureForNegotiatedVersion"
+complete_signal "inv1" "s" failure 409 "no" {"a" "b"} => err 573 "UnsupportedFeatureForNegotiatedVersion"
+"#,
+        behind: r#"
+state  => ok Closed
+index  => ok 0
+output => ok 0x
+failed => err 573 "UnsupportedFeatureForNegotiatedVersion"
+"#,
+    },
+    // A failed VM answers its first error.
+    Rows {
+        options: "",
+        before: FAILED,
+        rows: r#"
+write_output failure 409 "no" {"a" "b"}        => err 571 "KNOWN_ENTRIES_IS_ZERO"
+complete_awakeable "sign_1" failure 409 "no" {"a" "b"} => err 571 "KNOWN_ENTRIES_IS_ZERO"
+complete_signal "inv1" "s" failure 409 "no" {"a" "b"} => err 571 "KNOWN_ENTRIES_IS_ZERO"
+"#,
+        behind: r#"
+state  => ok Closed
+index  => ok -1
+output => ok 0x
+failed => err 571 "KNOWN_ENTRIES_IS_ZERO"
+"#,
+    },
+];
+
+/// From V6 on it is sent.
+const METADATA_SENT: Rows = Rows {
+    options: "",
+    before: PROCESSING,
+    rows: r#"
+write_output failure 409 "no" {"a" "b"} => ok
+output                                  => frames Output
+
+complete_awakeable "sign_1" failure 409 "no" {"a" "b"} => ok
+output                                         => frames CompleteAwakeable
+
+complete_signal "inv1" "s" failure 409 "no" {"a" "b"} => ok
+output                                         => frames SendSignal
+"#,
+    behind: r#"
+state  => ok Processing
+index  => ok 1
+output => ok 0x
+"#,
+};
+
+/// A sleep to one millisecond more than a u64 has is refused, whatever the state.
+const TOO_LONG: [Rows; 6] = [
+    // Before Start.
+    Rows {
+        options: "",
+        before: NEW,
+        rows: r#"
+sleep "" 18446744073709551616 => err 500 "OutOfBoundsDuration"
+"#,
+        behind: r#"
+state  => ok Closed
+index  => ok -1
+output => frames Error
+output => ok 0x
+failed => err 500 "OutOfBoundsDuration"
+"#,
+    },
+    // Before the known entries are there.
+    Rows {
+        options: "",
+        before: ENTRIES_MISSING,
+        rows: r#"
+sleep "" 18446744073709551616 => err 500 "OutOfBoundsDuration"
+"#,
+        behind: r#"
+state  => ok Closed
+index  => ok -1
+output => frames Error
+output => ok 0x
+failed => err 500 "OutOfBoundsDuration"
+"#,
+    },
+    // In replay.
+    Rows {
+        options: "",
+        before: REPLAYING,
+        rows: r#"
+sleep "" 18446744073709551616 => err 500 "OutOfBoundsDuration"
+"#,
+        behind: r#"
+state  => ok Closed
+index  => ok 0
+output => frames Error
+output => ok 0x
+failed => err 500 "OutOfBoundsDuration"
+"#,
+    },
+    // In Processing.
+    Rows {
+        options: "",
+        before: PROCESSING,
+        rows: r#"
+sleep "" 18446744073709551616 => err 500 "OutOfBoundsDuration"
+"#,
+        behind: r#"
+state  => ok Closed
+index  => ok 0
+output => frames Error
+output => ok 0x
+failed => err 500 "OutOfBoundsDuration"
+"#,
+    },
+    // After the end.
+    Rows {
+        options: "",
+        before: CLOSED,
+        rows: r#"
+sleep "" 18446744073709551616 => err 500 "OutOfBoundsDuration"
+"#,
+        behind: r#"
+state  => ok Closed
+index  => ok 0
+output => ok 0x
+failed => err 500 "OutOfBoundsDuration"
+"#,
+    },
+    // A failed VM answers its first error.
+    Rows {
+        options: "",
+        before: FAILED,
+        rows: r#"
+sleep "" 18446744073709551616 => err 571 "KNOWN_ENTRIES_IS_ZERO"
+"#,
+        behind: r#"
+state  => ok Closed
+index  => ok -1
+output => ok 0x
+failed => err 571 "KNOWN_ENTRIES_IS_ZERO"
+"#,
+    },
+];
+
+/// Without replay no awakeable is made, whatever the state.
+const WITHOUT_REPLAY: [Rows; 6] = [
+    // Before Start.
+    Rows {
+        options: "replay=off",
+        before: NEW,
+        rows: r#"
+awakeable => err 573 "UNSUPPORTED_FEATURE"
+"#,
+        behind: r#"
+state  => ok Closed
+index  => ok -1
+output => frames Error
+output => ok 0x
+failed => err 573 "UNSUPPORTED_FEATURE"
+"#,
+    },
+    // Before the known entries are there.
+    Rows {
+        options: "replay=off",
+        before: ENTRIES_MISSING,
+        rows: r#"
+awakeable => err 573 "UNSUPPORTED_FEATURE"
+"#,
+        behind: r#"
+state  => ok Closed
+index  => ok -1
+output => frames Error
+output => ok 0x
+failed => err 573 "UNSUPPORTED_FEATURE"
+"#,
+    },
+    // In replay.
+    Rows {
+        options: "replay=off",
+        before: REPLAYING,
+        rows: r#"
+awakeable => err 573 "UNSUPPORTED_FEATURE"
+"#,
+        behind: r#"
+state  => ok Closed
+index  => ok 0
+output => frames Error
+output => ok 0x
+failed => err 573 "UNSUPPORTED_FEATURE"
+"#,
+    },
+    // In Processing.
+    Rows {
+        options: "replay=off",
+        before: PROCESSING,
+        rows: r#"
+awakeable => err 573 "UNSUPPORTED_FEATURE"
+"#,
+        behind: r#"
+state  => ok Closed
+index  => ok 0
+output => frames Error
+output => ok 0x
+failed => err 573 "UNSUPPORTED_FEATURE"
+"#,
+    },
+    // After the end.
+    Rows {
+        options: "replay=off",
+        before: CLOSED,
+        rows: r#"
+awakeable => err 573 "UNSUPPORTED_FEATURE"
+"#,
+        behind: r#"
+state  => ok Closed
+index  => ok 0
+output => ok 0x
+failed => err 573 "UNSUPPORTED_FEATURE"
+"#,
+    },
+    // A failed VM answers its first error.
+    Rows {
+        options: "replay=off",
+        before: FAILED,
+        rows: r#"
+awakeable => err 571 "KNOWN_ENTRIES_IS_ZERO"
+"#,
+        behind: r#"
+state  => ok Closed
+index  => ok -1
+output => ok 0x
+failed => err 571 "KNOWN_ENTRIES_IS_ZERO"
+"#,
+    },
+];
+
+/// The error that is then sent.
+const NO_AWAKEABLE: Rows = Rows {
+    options: "replay=off",
+    before: PROCESSING,
+    rows: r#"
+awakeable => err 573 "UNSUPPORTED_FEATURE"
+output    => ok <error_no_replay>
+output    => ok 0x
+"#,
+    behind: r#"
+failed => err 573 "UNSUPPORTED_FEATURE"
+"#,
+};
 
 #[test]
 fn calls_are_refused(rt: HostRuntime) -> Result<(), Fail> {
-    for version in VERSIONS {
-        for refusal in REFUSALS {
-            for call in CALLS {
-                let options = VMOptions::default();
-                assert_refused(&rt, rt.alloc(), version, options, refusal, call)?;
-            }
-        }
-    }
-    Ok(())
-}
-
-#[test]
-fn calls_after_the_end_are_refused(rt: HostRuntime) -> Result<(), Fail> {
-    for version in VERSIONS {
-        for call in [Call::Await(17), Call::Take(17), Call::Awakeable] {
-            let options = VMOptions::default();
-            assert_refused(&rt, rt.alloc(), version, options, AFTER_THE_END, call)?;
-        }
-    }
-    Ok(())
-}
-
-#[test]
-fn end_and_await_are_refused_in_replay(rt: HostRuntime) -> Result<(), Fail> {
-    for version in VERSIONS {
-        let options = VMOptions::default();
-        assert_refused(&rt, rt.alloc(), version, options, END_IN_REPLAY, Call::End)?;
-        let call = Call::Await(17);
-        assert_refused(&rt, rt.alloc(), version, options, AWAIT_IN_REPLAY, call)?;
+    for rows in REFUSALS {
+        assert_each_line(&rt, rt.alloc(), VERSIONS, rows)?;
     }
     Ok(())
 }
 
 #[test]
 fn calls_are_done(rt: HostRuntime) -> Result<(), Fail> {
-    for version in VERSIONS {
-        for acts in DONE {
-            assert_after(&rt, rt.alloc(), version, VMOptions::default(), &[], acts)?;
-        }
-    }
-    Ok(())
+    assert_each_row(&rt, rt.alloc(), VERSIONS, DONE)
 }
-
-const REPORTED: Act = Act::Reports(Report {
-    code: 500,
-    behavior: ErrorBehavior::Retry,
-    related: Related::Nothing,
-});
 
 #[test]
 fn reported_error_fails_in_each_state(rt: HostRuntime) -> Result<(), Fail> {
-    for version in VERSIONS {
-        for place in PLACES {
-            let acts = [
-                REPORTED,
-                Act::At(State::Closed, place.index),
-                Act::SendsTypes(place.types),
-                Act::Failed(500, "no"),
-            ];
-            let options = VMOptions::default();
-            assert_after(&rt, rt.alloc(), version, options, place.before, &acts)?;
-        }
+    for rows in REPORTED {
+        assert_each_line(&rt, rt.alloc(), VERSIONS, rows)?;
     }
     Ok(())
 }
 
-const STAYS_FAILED: &[Act] = &[
-    REPORTED,
-    Act::At(State::Closed, -1),
-    Act::Failed(571, "KNOWN_ENTRIES_IS_ZERO"),
-];
-
 #[test]
-fn reported_error_does_nothing_to_a_failed_vm(rt: HostRuntime) -> Result<(), Fail> {
-    for version in VERSIONS {
-        assert_after(
-            &rt,
-            rt.alloc(),
-            version,
-            VMOptions::default(),
-            FAILED,
-            STAYS_FAILED,
-        )?;
-    }
-    Ok(())
-}
-
-/// The calls that hand on a failure with metadata, and the type of their command.
-const WITH_METADATA: [(Call, &[u8]); 3] = [
-    (Call::WriteMetadata, &[29]),
-    (Call::Change(Change::AwakeableMetadata), &[21]),
-    (Call::Change(Change::SignalMetadata), &[22]),
-];
-
-#[test]
-fn metadata_is_refused_before_the_state(rt: HostRuntime) -> Result<(), Fail> {
-    for (call, _) in WITH_METADATA {
-        let text = "UnsupportedFeatureForNegotiatedVersion";
-        let options = VMOptions::default();
-        assert_refused_everywhere(&rt, rt.alloc(), V5, options, call, 573, text)?;
+fn metadata_is_refused_before_v6(rt: HostRuntime) -> Result<(), Fail> {
+    for rows in METADATA {
+        assert_each_line(&rt, rt.alloc(), &[5], rows)?;
     }
     Ok(())
 }
 
 #[test]
 fn metadata_is_sent_from_v6(rt: HostRuntime) -> Result<(), Fail> {
-    for (call, types) in WITH_METADATA {
-        let acts = [
-            Act::Does(call),
-            Act::At(State::Processing, 1),
-            Act::SendsTypes(types),
-        ];
-        assert_after(&rt, rt.alloc(), V8, VMOptions::default(), PROCESSING, &acts)?;
-    }
-    Ok(())
+    assert_each_row(&rt, rt.alloc(), &[8], METADATA_SENT)
 }
 
 #[test]
 fn sleep_out_of_bounds_is_refused_before_the_state(rt: HostRuntime) -> Result<(), Fail> {
-    for version in VERSIONS {
-        let call = Call::SleepTooLong;
-        let text = "OutOfBoundsDuration";
-        let options = VMOptions::default();
-        assert_refused_everywhere(&rt, rt.alloc(), version, options, call, 500, text)?;
+    for rows in TOO_LONG {
+        assert_each_line(&rt, rt.alloc(), VERSIONS, rows)?;
     }
     Ok(())
 }
-
-fn without_replay() -> VMOptions {
-    VMOptions {
-        journal_replay: JournalReplay::Disabled,
-        ..VMOptions::default()
-    }
-}
-
-const NO_AWAKEABLE: &[Act] = &[
-    Act::Refuses(Call::Awakeable, 573, "UNSUPPORTED_FEATURE"),
-    Act::Sends(&[ERROR_NO_REPLAY]),
-    Act::Failed(573, "UNSUPPORTED_FEATURE"),
-];
 
 #[test]
 fn awakeable_is_refused_without_replay(rt: HostRuntime) -> Result<(), Fail> {
-    for version in VERSIONS {
-        let call = Call::Awakeable;
-        let text = "UNSUPPORTED_FEATURE";
-        let options = without_replay();
-        assert_refused_everywhere(&rt, rt.alloc(), version, options, call, 573, text)?;
-        assert_after(&rt, rt.alloc(), version, options, PROCESSING, NO_AWAKEABLE)?;
+    for rows in WITHOUT_REPLAY {
+        assert_each_line(&rt, rt.alloc(), VERSIONS, rows)?;
     }
     Ok(())
+}
+
+#[test]
+fn refusal_without_replay_is_sent(rt: HostRuntime) -> Result<(), Fail> {
+    assert_each_row(&rt, rt.alloc(), VERSIONS, NO_AWAKEABLE)
 }

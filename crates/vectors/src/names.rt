@@ -1,0 +1,111 @@
+// The names by which tables call frames and types of frames.
+use crate::frames::{
+    AWAKEABLE_X, AWAKEABLE_Y, CANCEL_INV1, CLEAR_ALL, CLEAR_ALL_N, CLEAR_K, CLEAR_L,
+    CLEAR_MISMATCH, COMPLETION_1, COMPLETION_9, CUT, END, ERROR_BAD_MESSAGE, ERROR_EAGER_STATE_KEY,
+    ERROR_ENTRY_MESSAGE, ERROR_INPUT_CLOSED, ERROR_INPUT_MESSAGE, ERROR_KNOWN_ENTRIES,
+    ERROR_NO_REPLAY, ERROR_NOT_UTF_8, ERROR_OUT_OF_BOUNDS, ERROR_STATE, ERROR_STATE_CLEAR,
+    ERROR_UNSUPPORTED, FAILURE_1, INPUT_TILL, KEYS_1, MISMATCH_FAILED, MISMATCH_PAUSED,
+    MISMATCH_RETRIED, NO_NOTIFICATION, NO_START, OF_A_CALL, OF_A_FIRST_SLEEP, OF_A_THIRD_SLEEP,
+    OF_NOTHING, OF_START, OF_THE_CLEARING, OUTPUT_EMPTY, OUTPUT_X, SET_K, SET_K_TO_2, SIGNAL_17,
+    SIGNAL_18, SIGNAL_V, SIGNAL_W, SLEEP_TO_1000, SLEEP_TO_2024, SLEEP_TO_THE_END, SLEEP_UNDER_2,
+    START_0, START_1, START_2, START_3, START_AB, START_FB_FF, START_WITH_A_BAD_KEY,
+    SUSPENSION_ON_1, TYPE_31, TYPE_MISMATCH, UNCOMPLETED,
+};
+use std::test::Fail;
+
+const FRAMES: [(&str, &[u8]); 61] = [
+    ("start_0", START_0),
+    ("start_1", START_1),
+    ("start_2", START_2),
+    ("start_3", START_3),
+    ("start_ab", START_AB),
+    ("start_fb_ff", START_FB_FF),
+    ("no_start", NO_START),
+    ("start_with_a_bad_key", START_WITH_A_BAD_KEY),
+    ("input_till", INPUT_TILL),
+    ("sleep_to_2024", SLEEP_TO_2024),
+    ("sleep_to_1000", SLEEP_TO_1000),
+    ("sleep_to_the_end", SLEEP_TO_THE_END),
+    ("sleep_under_2", SLEEP_UNDER_2),
+    ("output_empty", OUTPUT_EMPTY),
+    ("output_x", OUTPUT_X),
+    ("end", END),
+    ("completion_1", COMPLETION_1),
+    ("completion_9", COMPLETION_9),
+    ("failure_1", FAILURE_1),
+    ("keys_1", KEYS_1),
+    ("signal_17", SIGNAL_17),
+    ("signal_18", SIGNAL_18),
+    ("no_notification", NO_NOTIFICATION),
+    ("suspension_on_1", SUSPENSION_ON_1),
+    ("uncompleted", UNCOMPLETED),
+    ("type_mismatch", TYPE_MISMATCH),
+    ("error_input_closed", ERROR_INPUT_CLOSED),
+    ("error_known_entries", ERROR_KNOWN_ENTRIES),
+    ("error_input_message", ERROR_INPUT_MESSAGE),
+    ("error_entry_message", ERROR_ENTRY_MESSAGE),
+    ("error_state", ERROR_STATE),
+    ("error_state_clear", ERROR_STATE_CLEAR),
+    ("error_eager_state_key", ERROR_EAGER_STATE_KEY),
+    ("error_not_utf_8", ERROR_NOT_UTF_8),
+    ("error_bad_message", ERROR_BAD_MESSAGE),
+    ("error_out_of_bounds", ERROR_OUT_OF_BOUNDS),
+    ("error_unsupported", ERROR_UNSUPPORTED),
+    ("error_no_replay", ERROR_NO_REPLAY),
+    ("set_k", SET_K),
+    ("set_k_to_2", SET_K_TO_2),
+    ("clear_k", CLEAR_K),
+    ("clear_l", CLEAR_L),
+    ("clear_all", CLEAR_ALL),
+    ("clear_all_n", CLEAR_ALL_N),
+    ("awakeable_x", AWAKEABLE_X),
+    ("awakeable_y", AWAKEABLE_Y),
+    ("signal_v", SIGNAL_V),
+    ("signal_w", SIGNAL_W),
+    ("cancel_inv1", CANCEL_INV1),
+    ("clear_mismatch", CLEAR_MISMATCH),
+    ("of_nothing", OF_NOTHING),
+    ("of_a_first_sleep", OF_A_FIRST_SLEEP),
+    ("of_a_third_sleep", OF_A_THIRD_SLEEP),
+    ("of_start", OF_START),
+    ("of_the_clearing", OF_THE_CLEARING),
+    ("of_a_call", OF_A_CALL),
+    ("mismatch_retried", MISMATCH_RETRIED),
+    ("mismatch_paused", MISMATCH_PAUSED),
+    ("mismatch_failed", MISMATCH_FAILED),
+    ("type_31", TYPE_31),
+    ("cut", CUT),
+];
+
+/// The frame of this name.
+pub fn frame_of(name: &str) -> Result<&'static [u8], Fail> {
+    for (known, frame) in FRAMES {
+        if known == name {
+            return Ok(frame);
+        }
+    }
+    Err("no such frame")?
+}
+
+const TYPES: [(&str, u8); 10] = [
+    ("Suspension", 2),
+    ("Error", 3),
+    ("End", 4),
+    ("SetState", 15),
+    ("ClearState", 16),
+    ("ClearAllState", 17),
+    ("Sleep", 18),
+    ("CompleteAwakeable", 21),
+    ("SendSignal", 22),
+    ("Output", 29),
+];
+
+/// The number of the type of this name.
+pub fn type_of(name: &str) -> Result<u8, Fail> {
+    for (known, number) in TYPES {
+        if known == name {
+            return Ok(number);
+        }
+    }
+    Err("no such type")?
+}

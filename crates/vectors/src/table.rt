@@ -1,0 +1,209 @@
+// Tables: scripts with the wanted answer behind each line.
+//
+// A line is `LINE => ANSWER`; one without an arrow is answered by an empty line. `<NAME NAME>` stands for the bytes of
+// these frames, `0x..`. The answer `frames TYPE TYPE` is an output of frames of these types, and of nothing more. The
+// line `failed => ANSWER` stands for each call of a VM that has failed: it answers that, and nothing is sent.
+use crate::names::{frame_of, type_of};
+use invocation_vm::CoreVM;
+use lines::atoms::bytes_of;
+use lines::line::Line;
+use scripts::run::answer;
+use std::alloc::Global;
+use std::process::Abort;
+use std::test::Fail;
+
+/// Rows that are played one by one, each on a VM of its own.
+#[derive(Clone, Copy, Debug)]
+pub struct Rows {
+    /// The options of the VM.
+    pub options: &'static str,
+    /// The lines before each row.
+    pub before: &'static str,
+    pub rows: &'static str,
+    /// The lines behind each row.
+    pub behind: &'static str,
+}
+
+/// The text, with the bytes of frames in the place of their names.
+fn expanded(alloc: Global, text: &str) -> Result<Line, Fail> {
+    let mut line = Line::new(alloc);
+    match text.split_once('<') {
+        Some((before, named)) => {
+            let (names, behind) = named.split_once('>').ok_or("no >")?;
+            let mut bytes = Vec::new(alloc);
+            for name in names.split_whitespace() {
+                bytes.extend_from_slice(frame_of(name)?)?;
+            }
+            line.word(before)?;
+            line.hex(bytes.as_slice())?;
+            line.word(behind)?;
+        }
+        None => line.word(text)?,
+    }
+    Ok(line)
+}
+
+/// What stands behind a first frame of this type, whose body is shorter than 256 bytes.
+fn behind(bytes: &[u8], ty: u8) -> Option<&[u8]> {
+    if bytes.len() < 10 || bytes[1] != ty || bytes[8] != 0 {
+        return None;
+    }
+    bytes.get(10 + usize::from(bytes[9])..)
+}
+
+/// The answer is an output of frames of these types.
+fn are_frames(alloc: Global, answer: &str, types: &str) -> Result<bool, Fail> {
+    let output = answer.strip_prefix("ok ").ok_or("no output")?;
+    let bytes = bytes_of(alloc, output.as_bytes())?;
+    let mut rest = bytes.as_slice();
+    for name in types.split_whitespace() {
+        match behind(rest, type_of(name)?) {
+            Some(more) => rest = more,
+            None => return Ok(false),
+        }
+    }
+    Ok(rest.is_empty())
+}
+
+fn assert_answer(
+    rt: &impl Abort,
+    alloc: Global,
+    vm: &mut Option<CoreVM>,
+    asked: &str,
+    wanted: &str,
+) -> Result<(), Fail> {
+    let found = answer(alloc, vm, asked.as_bytes())?;
+    match wanted.strip_prefix("frames ") {
+        Some(types) => {
+            let are_frames = are_frames(alloc, found.as_str(), types)?;
+            assert!(rt; are_frames, "{asked}: no frames {types}");
+        }
+        None => assert_eq!(rt; found.as_str(), wanted, "{asked}"),
+    }
+    Ok(())
+}
+
+/// The calls that a failed VM answers with its error.
+const CALLS: [&str; 7] = [
+    "ready",
+    "sys_input",
+    "sleep \"\" 1000",
+    "await 17",
+    "take 17",
+    "write_output success \"\"",
+    "end",
+];
+
+fn assert_failed(
+    rt: &impl Abort,
+    alloc: Global,
+    vm: &mut Option<CoreVM>,
+    wanted: &str,
+) -> Result<(), Fail> {
+    for call in CALLS {
+        assert_answer(rt, alloc, vm, call, wanted)?;
+    }
+    assert_answer(rt, alloc, vm, "completed 17", "ok false")?;
+    assert_answer(rt, alloc, vm, "state", "ok Closed")?;
+    assert_answer(rt, alloc, vm, "output", "ok 0x")
+}
+
+fn assert_line(
+    rt: &impl Abort,
+    alloc: Global,
+    vm: &mut Option<CoreVM>,
+    line: &str,
+) -> Result<(), Fail> {
+    let (asked, wanted) = line.split_once(" => ").unwrap_or((line, ""));
+    let asked = expanded(alloc, asked.trim_end())?;
+    let wanted = expanded(alloc, wanted)?;
+    if asked.as_str() == "failed" {
+        assert_failed(rt, alloc, vm, wanted.as_str())
+    } else {
+        assert_answer(rt, alloc, vm, asked.as_str(), wanted.as_str())
+    }
+}
+
+fn assert_lines(
+    rt: &impl Abort,
+    alloc: Global,
+    vm: &mut Option<CoreVM>,
+    table: &str,
+) -> Result<(), Fail> {
+    for line in table.lines() {
+        assert_line(rt, alloc, vm, line)?;
+    }
+    Ok(())
+}
+
+/// Each line of the table is answered as it says.
+pub fn assert_table(rt: &impl Abort, alloc: Global, table: &str) -> Result<(), Fail> {
+    let mut vm = None;
+    assert_lines(rt, alloc, &mut vm, table)
+}
+
+/// The line by which a VM of this version is made.
+fn making(alloc: Global, version: u8, options: &str) -> Result<Line, Fail> {
+    let mut line = Line::new(alloc);
+    line.word("vm \"application/vnd.restate.invocation.v")?;
+    line.number(u64::from(version))?;
+    line.word("\" ")?;
+    line.word(options)?;
+    line.word(" => ok V")?;
+    line.number(u64::from(version))?;
+    Ok(line)
+}
+
+/// The script of a row.
+fn script(alloc: Global, version: u8, rows: Rows, row: &str) -> Result<Line, Fail> {
+    let mut script = making(alloc, version, rows.options)?;
+    script.word("\n")?;
+    script.word(rows.before)?;
+    script.word(row)?;
+    script.word("\n")?;
+    script.word(rows.behind)?;
+    Ok(script)
+}
+
+fn assert_row(
+    rt: &impl Abort,
+    alloc: Global,
+    version: u8,
+    rows: Rows,
+    row: &str,
+) -> Result<(), Fail> {
+    let script = script(alloc, version, rows, row)?;
+    assert_table(rt, alloc, script.as_str())
+}
+
+/// Each line is a row, and is played on a VM of each of these versions.
+pub fn assert_each_line(
+    rt: &impl Abort,
+    alloc: Global,
+    versions: &[u8],
+    rows: Rows,
+) -> Result<(), Fail> {
+    for version in versions {
+        for line in rows.rows.lines() {
+            if !line.is_empty() {
+                assert_row(rt, alloc, *version, rows, line)?;
+            }
+        }
+    }
+    Ok(())
+}
+
+/// The lines up to a blank one are a row, and are played on a VM of each of these versions.
+pub fn assert_each_row(
+    rt: &impl Abort,
+    alloc: Global,
+    versions: &[u8],
+    rows: Rows,
+) -> Result<(), Fail> {
+    for version in versions {
+        for row in rows.rows.split("\n\n") {
+            assert_row(rt, alloc, *version, rows, row)?;
+        }
+    }
+    Ok(())
+}
