@@ -51,13 +51,18 @@ fn payload_of(alloc: Global, words: &[&[u8]]) -> Result<PayloadOptions, Fault> {
     }
 }
 
+/// `[NAME=T]`, among other fields.
+pub fn take_optional_text(fields: &mut Fields<'_>, name: &str) -> Result<Option<Text>, Fault> {
+    match fields.take_text(name) {
+        Some(text) => Ok(Some(text_of(fields.alloc(), text)?)),
+        None => Ok(None),
+    }
+}
+
 /// `[name=T]` alone.
 pub fn name_of(alloc: Global, words: &[&[u8]]) -> Result<Option<Text>, Fault> {
     let mut fields = Fields::of_pieces(alloc, words)?;
-    let name = match fields.take_text("name") {
-        Some(text) => Some(text_of(alloc, text)?),
-        None => None,
-    };
+    let name = take_optional_text(&mut fields, "name")?;
     fields.end()?;
     Ok(name)
 }
