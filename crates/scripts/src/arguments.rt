@@ -176,10 +176,10 @@ pub fn alone(arguments: &[&[u8]], call: Call) -> Result<Call, Fault>
     ensures { IfOk result (λ it. it ≡ call) }
 {
     if arguments.is_empty() {
-        Ok(call)
-    } else {
-        Err(Fault::Malformed)
+        return Ok(call);
     }
+    drop(call);
+    Err(Fault::Malformed)
 }
 
 /// `H` alone.

@@ -185,9 +185,15 @@ fn makes(line: &[u8]) -> bool {
 /// What was read, or what a line without a meaning asks for. An `Err` is want of memory.
 fn or_bad(read: Result<Request, Fault>, bad: Request) -> Result<Request, AllocError> {
     match read {
-        Ok(request) => Ok(request),
+        Ok(request) => {
+            drop(bad);
+            Ok(request)
+        }
         Err(Fault::Malformed) => Ok(bad),
-        Err(Fault::Memory) => Err(AllocError),
+        Err(Fault::Memory) => {
+            drop(bad);
+            Err(AllocError)
+        }
     }
 }
 

@@ -187,7 +187,10 @@ pub fn perform(alloc: Global, vm: &mut Option<CoreVM>, request: Request) -> Repl
         Request::Make(content_type, options) => make(alloc, vm, content_type, options),
         Request::Call(call) => match vm {
             Some(vm) => perform_call(vm, call),
-            None => Reply::NoVm,
+            None => {
+                drop(call);
+                Reply::NoVm
+            }
         },
     }
 }

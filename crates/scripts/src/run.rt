@@ -20,7 +20,9 @@ pub fn answer(alloc: Global, vm: &mut Option<CoreVM>, line: &[u8]) -> Result<Lin
     let request = parse(alloc, line)?;
     let reply = perform(alloc, vm, request);
     let mut line = Line::new(alloc);
-    print(&reply, &mut line)?;
+    let printed = print(&reply, &mut line);
+    drop(reply);
+    printed?;
     Ok(line)
 }
 
@@ -55,7 +57,9 @@ fn answer_all<W: Write>(
 
 fn drive<W: Write>(alloc: Global, script: &[u8], writer: &mut W) -> io::Result<()> {
     let mut vm = None;
-    answer_all(alloc, &mut vm, script, writer)
+    let answered = answer_all(alloc, &mut vm, script, writer);
+    drop(vm);
+    answered
 }
 
 fn try_run<R: Read, W: Write>(alloc: Global, reader: &mut R, writer: &mut W) -> io::Result<()> {

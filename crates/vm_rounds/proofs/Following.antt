@@ -43,7 +43,8 @@ use Rattle.vm_rounds.specs.declared.progress.Reply.TheVariants as reply
 use Rattle.vm_rounds.specs.Agreement.{Agrees, Aside, Follows, machine_at}
 use Rattle.vm_rounds.specs.Steps.{IfDone, IsReadable, ReadsBack, mapped, performed, performed_by}
 use Rattle.vm_rounds.proofs.Leading.{Leads, error_written, follows_from, no_move, open_after}
-use Rattle.vm_rounds.proofs.Own.{AsksCommand, IsCommand, asks_command, stands_for_itself}
+use Rattle.journal_protocol.specs.Commands.{IsCommand}
+use Rattle.vm_rounds.proofs.Own.{AsksCommand, asks_command, stands_for_itself}
 use Rattle.vm_rounds.proofs.Requesting.{issues, runs_at}
 use Rattle.vm_rounds.proofs.Waiting.{awaits_follow}
 

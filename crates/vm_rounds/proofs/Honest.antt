@@ -12,11 +12,12 @@ use Rattle.journal_protocol.specs.declared.notification.Notification.{Notificati
 use Rattle.journal_protocol.specs.declared.start.Start.{Start}
 use Rattle.journal_protocol.specs.declared.version.Version.{Version}
 use Rattle.journal_protocol.specs.Frames.{Whole, next_of}
-use Rattle.journal_protocol.specs.Reading.{notification_in, start_in}
+use Rattle.journal_protocol.specs.Reading.{body_as, notification_in, start_in}
 use Rattle.journal_protocol.specs.Runs.{IsWhole}
 use Rattle.journal_protocol.specs.Types.{type_number}
 use Rattle.journal_protocol.proofs.Cuts.{whole_spelled}
-use Rattle.journal_protocol.proofs.Reading.{notification_read, start_read}
+use Rattle.wire.proofs.Read.{all_read}
+use Rattle.journal_protocol.specs.Bodies.{notification_format, start_format}
 use Rattle.vm_parts.specs.declared.options.VMOptions.{VMOptions}
 use Rattle.vm_machine.specs.declared.phase.Phase.{Phase}
 use Rattle.vm_machine.specs.declared.phase.Phase.TheVariants.{WaitingStart, WaitingReplayEntries, Replaying, Processing, Closed}
@@ -95,6 +96,14 @@ not_thirty n is = by_test (n == 30) refl
     by_test : (b : Bool) → (n == 30) ≡ b → b ≡ false
     by_test false e = refl
     by_test true e = let is_thirty : n ≡ 30 = grind (arith, nat_tests, e) in absurd (let z : (nat_le 10 30 && nat_lt 30 30) ≡ true = subst (λ k. (nat_le 10 k && nat_lt k 30) ≡ true) is_thirty is in cc)
+
+start_read : (a : Start) → start_format.valid a → start_in (stored_form (message.Start a)).body ≡ Some a
+unfolding start_in body_as
+start_read a v = all_read start_format a (start_format.spelling a) v refl
+
+notification_read : (a : Notification) → notification_format.valid a → notification_in (stored_form (message.Notification a)).body ≡ Some a
+unfolding notification_in body_as
+notification_read a v = all_read notification_format a (notification_format.spelling a) v refl
 
 reads_note : (n : Notification) → IsWhole (message.Notification n) → notification_in (notification_frame n).body ≡ Some n
 reads_note n whole = notification_read n whole.0

@@ -27,7 +27,8 @@ use Rattle.vm_machine.specs.declared.asks.Ask.{Ask}
 use Rattle.vm_machine.specs.declared.asks.Ask.TheVariants as ask
 use Rattle.vm_machine.specs.declared.asks.Command.{Command}
 use Rattle.vm_machine.specs.Asks.{ask_of}
-use Rattle.vm_rounds.proofs.Own.{AsksCommand, IsCommand, asks_command, numbered_is}
+use Rattle.journal_protocol.specs.Commands.{IsCommand}
+use Rattle.vm_rounds.proofs.Own.{AsksCommand, asks_command, numbered_is}
 use Rattle.vm_machine.specs.Commands.{phase_after}
 use Rattle.vm_machine.specs.Outcomes.{Does, IsStarved, Outcome, Done, Failed}
 use Rattle.vm_machine.specs.Phases.{is_running}
