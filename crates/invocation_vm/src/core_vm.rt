@@ -289,6 +289,16 @@ impl VM for CoreVM {
         self.unit(asks::cancel_invocation(Text::from_string(target_invocation_id)))
     }
 
+    fn sys_complete_promise(
+        &mut self,
+        key: String,
+        value: NonEmptyValue,
+        options: PayloadOptions,
+    ) -> VMResult<NotificationHandle> {
+        let version = self.machine.version;
+        self.command(asks::complete_promise(Text::from_string(key), value, options, version))
+    }
+
     fn sys_write_output(&mut self, value: NonEmptyValue, options: PayloadOptions) -> VMResult<()> {
         let version = self.machine.version;
         self.unit(asks::output(value, options, version))

@@ -1,7 +1,7 @@
 //! The calls of a VM, each with what it does to the view of it.
 ghost use Rattle.std.specs.Prelude.{◌≡◌, ◌/◌, [], IfOk, OnErr, None, Ok, true, string_bytes, codes};
 ghost use Rattle.std.specs.Duration.{as_nanos};
-ghost use Rattle.vm_machine.specs.Asks.{cancel_invocation_command, clear_all_state_command, clear_state_command, complete_awakeable_command, complete_signal_command, output_command, set_state_command, sleep_command};
+ghost use Rattle.vm_machine.specs.Asks.{cancel_invocation_command, clear_all_state_command, clear_state_command, complete_awakeable_command, complete_promise_command, complete_signal_command, output_command, set_state_command, sleep_command};
 ghost use Rattle.vm_machine.specs.Awaits.{IsReadyAt, is_completed, last_index, state_of, take_step};
 ghost use Rattle.vm_machine.specs.Inputs.{end_step, input_step};
 ghost use Rattle.vm_machine.specs.declared.phase.Phase.TheVariants.{Closed};
@@ -133,6 +133,16 @@ pub trait VM: Sized {
     /// Sends the built-in cancel signal to another invocation.
     fn sys_cancel_invocation(&mut self, target_invocation_id: String) -> VMResult<()>
         ensures { CallsUnit (cancel_invocation_command (string_bytes target_invocation_id)) result (view self.old) (view self.new) };
+
+    /// Completes a promise of the workflow, and answers the handle of whether that was done: void, or a failure where it had been
+    /// completed before. A failure with metadata needs V6.
+    fn sys_complete_promise(
+        &mut self,
+        key: String,
+        value: NonEmptyValue,
+        options: PayloadOptions,
+    ) -> VMResult<NotificationHandle>
+        ensures { CallsCommand (complete_promise_command (string_bytes key) value options (view self.old).machine.version) result (view self.old) (view self.new) };
 
     /// The handler's result. A failure with metadata needs V6.
     fn sys_write_output(&mut self, value: NonEmptyValue, options: PayloadOptions) -> VMResult<()>

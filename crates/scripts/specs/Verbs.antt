@@ -35,6 +35,7 @@ verb_name verb.Awakeable = codes "awakeable"
 verb_name verb.CompleteAwakeable = codes "complete_awakeable"
 verb_name verb.CompleteSignal = codes "complete_signal"
 verb_name verb.Cancel = codes "cancel"
+verb_name verb.CompletePromise = codes "complete_promise"
 verb_name verb.WriteOutput = codes "write_output"
 verb_name verb.End = codes "end"
 
@@ -51,6 +52,7 @@ verb_of_step step.Awakeable = verb.Awakeable
 verb_of_step (step.CompleteAwakeable id value options) = verb.CompleteAwakeable
 verb_of_step (step.CompleteSignal target name value) = verb.CompleteSignal
 verb_of_step (step.CancelInvocation target) = verb.Cancel
+verb_of_step (step.CompletePromise key value options) = verb.CompletePromise
 verb_of_step (step.WriteOutput value options) = verb.WriteOutput
 verb_of_step step.End = verb.End
 
@@ -95,6 +97,7 @@ HasStepArguments arguments step.Awakeable = Unit {0}
 HasStepArguments arguments (step.CompleteAwakeable id value options) = IsAtom (text_at 0 arguments) id
 HasStepArguments arguments (step.CompleteSignal target name value) = IsAtom (text_at 0 arguments) target × IsAtom (text_at 1 arguments) name
 HasStepArguments arguments (step.CancelInvocation target) = IsAtom (text_at 0 arguments) target
+HasStepArguments arguments (step.CompletePromise key value options) = IsAtom (text_at 0 arguments) key
 HasStepArguments arguments (step.WriteOutput value options) = Unit {0}
 HasStepArguments arguments step.End = Unit {0}
 

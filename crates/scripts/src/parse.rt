@@ -96,6 +96,21 @@ fn cancel_of(alloc: Global, arguments: &[&[u8]]) -> Result<Call, Fault>
     }))
 }
 
+fn complete_promise_of(alloc: Global, arguments: &[&[u8]]) -> Result<Call, Fault>
+    ensures { IfOk result (λ call. IsLine verb.CompletePromise arguments.now call) }
+{
+    let [key, value @ ..] = arguments else {
+        return Err(Fault::Malformed);
+    };
+    let key = text_of(alloc, *key)?;
+    let (value, options) = value_and_payload(alloc, value)?;
+    Ok(Call::Step(Step::CompletePromise {
+        key,
+        value,
+        options,
+    }))
+}
+
 fn write_output_of(alloc: Global, arguments: &[&[u8]]) -> Result<Call, Fault>
     ensures { IfOk result (λ call. IsLine verb.WriteOutput arguments.now call) }
 {
@@ -137,6 +152,7 @@ fn call_named(alloc: Global, verb: Verb, arguments: &[&[u8]]) -> Result<Call, Fa
         Verb::CompleteAwakeable => complete_awakeable_of(alloc, arguments),
         Verb::CompleteSignal => complete_signal_of(alloc, arguments),
         Verb::Cancel => cancel_of(alloc, arguments),
+        Verb::CompletePromise => complete_promise_of(alloc, arguments),
         Verb::WriteOutput => write_output_of(alloc, arguments),
         Verb::End => alone(arguments, Call::Step(Step::End)),
     }

@@ -27,12 +27,13 @@ pub enum Verb {
     CompleteAwakeable,
     CompleteSignal,
     Cancel,
+    CompletePromise,
     WriteOutput,
     End,
 }
 
 /// Each verb.
-const VERBS: [Verb; 22] = [
+const VERBS: [Verb; 23] = [
     Verb::Head,
     Verb::Input,
     Verb::Close,
@@ -53,6 +54,7 @@ const VERBS: [Verb; 22] = [
     Verb::CompleteAwakeable,
     Verb::CompleteSignal,
     Verb::Cancel,
+    Verb::CompletePromise,
     Verb::WriteOutput,
     Verb::End,
 ];
@@ -83,6 +85,7 @@ fn name_of_verb(verb: Verb) -> &'static str
         Verb::CompleteAwakeable => "complete_awakeable",
         Verb::CompleteSignal => "complete_signal",
         Verb::Cancel => "cancel",
+        Verb::CompletePromise => "complete_promise",
         Verb::WriteOutput => "write_output",
         Verb::End => "end",
     }

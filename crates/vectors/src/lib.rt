@@ -20,6 +20,8 @@ mod parts;
 #[cfg(test)]
 mod places;
 #[cfg(test)]
+mod promises;
+#[cfg(test)]
 mod refusals;
 #[cfg(test)]
 mod reports;

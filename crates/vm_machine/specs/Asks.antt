@@ -104,6 +104,14 @@ complete_signal_command target signal value version = record {
 abbrev pub cancel_invocation_command : List ℕ → Command
 cancel_invocation_command target = allowed (message.SendSignal (record { target_invocation_id = target; signal = Index 1; result = sent.Void })) false
 
+-- a promise of the workflow is completed
+abbrev pub complete_promise_command : List ℕ → NonEmptyValue → PayloadOptions → Version → Command
+complete_promise_command key value options version = record {
+  refusal = value_fault value version;
+  message = message.CompletePromise (record { key = key; completion = value_message value; result_completion_id = 0 });
+  unstable = options.unstable_serialization;
+}
+
 -- ---- the table
 
 -- an absent name is empty
@@ -121,6 +129,7 @@ ask_of version step.Awakeable = ask.Awakeable
 ask_of version (step.CompleteAwakeable id value options) = ask.Command (complete_awakeable_command id value options version)
 ask_of version (step.CompleteSignal target signal value) = ask.Command (complete_signal_command target signal value version)
 ask_of version (step.CancelInvocation target) = ask.Command (cancel_invocation_command target)
+ask_of version (step.CompletePromise key value options) = ask.Command (complete_promise_command key value options version)
 ask_of version (step.WriteOutput value options) = ask.Command (output_command value options version)
 ask_of version (step.Await future) = ask.Await future
 ask_of version (step.Take handle) = ask.Take handle

@@ -1,15 +1,15 @@
 //! What each step of a handler asks of the machine: one table over steps. A command is given without its numbers.
 ghost use Rattle.std.specs.Prelude.{◌≡◌, ◌/◌};
 ghost use Rattle.std.specs.Duration.{as_nanos};
-ghost use Rattle.vm_machine.specs.Asks.{allowed, ask_of, cancel_invocation_command, clear_all_state_command, clear_state_command, command_answer, complete_awakeable_command, complete_signal_command, has_metadata, name_in, output_command, set_state_command, signal_result, sleep_command, time_fault, value_fault};
+ghost use Rattle.vm_machine.specs.Asks.{allowed, ask_of, cancel_invocation_command, clear_all_state_command, clear_state_command, command_answer, complete_awakeable_command, complete_promise_command, complete_signal_command, has_metadata, name_in, output_command, set_state_command, signal_result, sleep_command, time_fault, value_fault};
 ghost use Rattle.vm_machine.specs.Requests.{ids_of};
 
 use crate::phase::is_from_v6;
 use crate::request;
 use bytes::Bytes;
 use journal_protocol::{
-    ClearAllStateCommand, ClearStateCommand, CompleteAwakeableCommand, Message, NamedFault,
-    OutputCommand, SendSignalCommand, SetStateCommand, Signal, SignalResult, SleepCommand,
+    ClearAllStateCommand, ClearStateCommand, CompleteAwakeableCommand, CompletePromiseCommand,
+    Message, NamedFault, OutputCommand, SendSignalCommand, SetStateCommand, Signal, SignalResult, SleepCommand,
     ValueOrFailure, Version,
 };
 use std::alloc::Global;
@@ -192,6 +192,25 @@ pub fn cancel_invocation(target_invocation_id: Text) -> Command
     allowed(message, false)
 }
 
+pub fn complete_promise(
+    key: Text,
+    value: NonEmptyValue,
+    options: PayloadOptions,
+    version: Version,
+) -> Command
+    ensures { result ≡ complete_promise_command key value options version }
+{
+    Command {
+        refusal: value_fault(&value, version),
+        message: Message::CompletePromise(CompletePromiseCommand {
+            key,
+            completion: write_value(value),
+            result_completion_id: 0,
+        }),
+        unstable: options.unstable_serialization,
+    }
+}
+
 /// What a step asks for, in an attempt of this version.
 pub fn ask_of(alloc: Global, version: Version, step: Step) -> Ask
     ensures { result ≡ ask_of version step }
@@ -222,6 +241,11 @@ pub fn ask_of(alloc: Global, version: Version, step: Step) -> Ask
         Step::CancelInvocation {
             target_invocation_id,
         } => Ask::Command(cancel_invocation(target_invocation_id)),
+        Step::CompletePromise {
+            key,
+            value,
+            options,
+        } => Ask::Command(complete_promise(key, value, options, version)),
         Step::WriteOutput(value, options) => Ask::Command(output(value, options, version)),
         Step::Await(future) => Ask::Await(future),
         Step::Take(handle) => Ask::Take(handle),

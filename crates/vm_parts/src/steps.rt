@@ -42,6 +42,11 @@ pub enum Step {
     CancelInvocation {
         target_invocation_id: Text,
     },
+    CompletePromise {
+        key: Text,
+        value: NonEmptyValue,
+        options: PayloadOptions,
+    },
     WriteOutput(NonEmptyValue, PayloadOptions),
     Await(UnresolvedFuture),
     Take(NotificationHandle),
