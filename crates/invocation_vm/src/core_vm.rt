@@ -19,8 +19,9 @@ use std::time::Duration;
 use vm_machine::settle::flatten;
 use vm_machine::{Ask, Command, Machine, asks};
 use vm_parts::{
-    AwaitResponse, AwakeableHandle, CommandRelationship, Input, NonEmptyValue, NotificationHandle,
-    PayloadOptions, ResponseHead, State, Step, UnresolvedFuture, VMOptions, VMResult, Value,
+    AttachInvocationTarget, AwaitResponse, AwakeableHandle, CommandRelationship, Input,
+    NonEmptyValue, NotificationHandle, PayloadOptions, ResponseHead, State, Step, UnresolvedFuture,
+    VMOptions, VMResult, Value,
 };
 use wire::Text;
 
@@ -297,6 +298,14 @@ impl VM for CoreVM {
     ) -> VMResult<NotificationHandle> {
         let version = self.machine.version;
         self.command(asks::complete_promise(Text::from_string(key), value, options, version))
+    }
+
+    fn sys_attach_invocation(
+        &mut self,
+        target: AttachInvocationTarget,
+    ) -> VMResult<NotificationHandle> {
+        let version = self.machine.version;
+        self.command(asks::attach_invocation(target, version))
     }
 
     fn sys_write_output(&mut self, value: NonEmptyValue, options: PayloadOptions) -> VMResult<()> {

@@ -11,13 +11,13 @@ mod vm;
 
 pub use core_vm::CoreVM;
 pub use feed::any_cut;
-pub use journal_protocol::{Error, ErrorBehavior, HeaderMap, Version};
+pub use journal_protocol::{Error, ErrorBehavior, HeaderMap, IdempotencyId, Version, WorkflowId};
 pub use laws::{all_output_ends_once, first_error_is_answered, sleep_is_written};
 pub use vm::VM;
 pub use vm_parts::{
-    AwaitResponse, AwaitingOnPolicy, AwakeableHandle, CANCEL_NOTIFICATION_HANDLE,
-    CommandRelationship, CommandType, EphemeralCompletionId, ImplicitCancellationOption, Input,
-    JournalMismatchRetryBehavior, JournalReplay, NonDeterministicChecksOption, NonEmptyValue,
-    NotificationHandle, PayloadOptions, ResponseHead, SignalDelivery, State, TerminalFailure,
-    UnresolvedFuture, VMOptions, VMResult, Value,
+    AttachInvocationTarget, AwaitResponse, AwaitingOnPolicy, AwakeableHandle,
+    CANCEL_NOTIFICATION_HANDLE, CommandRelationship, CommandType, EphemeralCompletionId,
+    ImplicitCancellationOption, Input, JournalMismatchRetryBehavior, JournalReplay,
+    NonDeterministicChecksOption, NonEmptyValue, NotificationHandle, PayloadOptions, ResponseHead,
+    SignalDelivery, State, TerminalFailure, UnresolvedFuture, VMOptions, VMResult, Value,
 };

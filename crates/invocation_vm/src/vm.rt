@@ -1,7 +1,7 @@
 //! The calls of a VM, each with what it does to the view of it.
 ghost use Rattle.std.specs.Prelude.{◌≡◌, ◌/◌, [], IfOk, OnErr, None, Ok, true, string_bytes, codes};
 ghost use Rattle.std.specs.Duration.{as_nanos};
-ghost use Rattle.vm_machine.specs.Asks.{cancel_invocation_command, clear_all_state_command, clear_state_command, complete_awakeable_command, complete_promise_command, complete_signal_command, output_command, set_state_command, sleep_command};
+ghost use Rattle.vm_machine.specs.Asks.{attach_invocation_command, cancel_invocation_command, clear_all_state_command, clear_state_command, complete_awakeable_command, complete_promise_command, complete_signal_command, output_command, set_state_command, sleep_command};
 ghost use Rattle.vm_machine.specs.Awaits.{IsReadyAt, is_completed, last_index, state_of, take_step};
 ghost use Rattle.vm_machine.specs.Inputs.{end_step, input_step};
 ghost use Rattle.vm_machine.specs.declared.phase.Phase.TheVariants.{Closed};
@@ -15,8 +15,9 @@ use journal_protocol::{Error, HeaderMap};
 use std::alloc::{AllocError, Global};
 use std::time::Duration;
 use vm_parts::{
-    AwaitResponse, AwakeableHandle, CommandRelationship, Input, NonEmptyValue, NotificationHandle,
-    PayloadOptions, ResponseHead, State, UnresolvedFuture, VMOptions, VMResult, Value,
+    AttachInvocationTarget, AwaitResponse, AwakeableHandle, CommandRelationship, Input,
+    NonEmptyValue, NotificationHandle, PayloadOptions, ResponseHead, State, UnresolvedFuture,
+    VMOptions, VMResult, Value,
 };
 
 /// One attempt of an invocation: the bytes of its journal come in, the handler's calls are answered, and the bytes
@@ -143,6 +144,13 @@ pub trait VM: Sized {
         options: PayloadOptions,
     ) -> VMResult<NotificationHandle>
         ensures { CallsCommand (complete_promise_command (string_bytes key) value options (view self.old).machine.version) result (view self.old) (view self.new) };
+
+    /// Attaches to another invocation, and answers the handle of its result. An empty scope is refused; a scope needs V7.
+    fn sys_attach_invocation(
+        &mut self,
+        target: AttachInvocationTarget,
+    ) -> VMResult<NotificationHandle>
+        ensures { CallsCommand (attach_invocation_command target (view self.old).machine.version) result (view self.old) (view self.new) };
 
     /// The handler's result. A failure with metadata needs V6.
     fn sys_write_output(&mut self, value: NonEmptyValue, options: PayloadOptions) -> VMResult<()>

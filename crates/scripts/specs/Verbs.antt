@@ -36,6 +36,7 @@ verb_name verb.CompleteAwakeable = codes "complete_awakeable"
 verb_name verb.CompleteSignal = codes "complete_signal"
 verb_name verb.Cancel = codes "cancel"
 verb_name verb.CompletePromise = codes "complete_promise"
+verb_name verb.Attach = codes "attach"
 verb_name verb.WriteOutput = codes "write_output"
 verb_name verb.End = codes "end"
 
@@ -53,6 +54,7 @@ verb_of_step (step.CompleteAwakeable id value options) = verb.CompleteAwakeable
 verb_of_step (step.CompleteSignal target name value) = verb.CompleteSignal
 verb_of_step (step.CancelInvocation target) = verb.Cancel
 verb_of_step (step.CompletePromise key value options) = verb.CompletePromise
+verb_of_step (step.AttachInvocation target) = verb.Attach
 verb_of_step (step.WriteOutput value options) = verb.WriteOutput
 verb_of_step step.End = verb.End
 
@@ -84,7 +86,7 @@ behind (word ∷ words) = words
 abbrev pub HasCodeAndText : ℕ → List ℕ → List (Bor (List ℕ)) → Type 0
 HasCodeAndText code message words = (code ≡ digits_value 10 (text_at 0 words)) × IsAtom (text_at 1 words) message
 
--- the arguments of a step that stand before a value and the options, in their places
+-- the arguments of a step that stand before a value, a target and the options, in their places
 abbrev pub HasStepArguments : List (Bor (List ℕ)) → Step → Type 0
 HasStepArguments arguments (step.Await (Single handle)) = handle.0 ≡ digits_value 10 (text_at 0 arguments)
 HasStepArguments arguments (step.Completed handle) = handle.0 ≡ digits_value 10 (text_at 0 arguments)
@@ -98,6 +100,7 @@ HasStepArguments arguments (step.CompleteAwakeable id value options) = IsAtom (t
 HasStepArguments arguments (step.CompleteSignal target name value) = IsAtom (text_at 0 arguments) target × IsAtom (text_at 1 arguments) name
 HasStepArguments arguments (step.CancelInvocation target) = IsAtom (text_at 0 arguments) target
 HasStepArguments arguments (step.CompletePromise key value options) = IsAtom (text_at 0 arguments) key
+HasStepArguments arguments (step.AttachInvocation target) = Unit {0}
 HasStepArguments arguments (step.WriteOutput value options) = Unit {0}
 HasStepArguments arguments step.End = Unit {0}
 

@@ -13,4 +13,5 @@ pub mod reply;
 pub mod report;
 pub mod request;
 pub mod run;
+pub mod targets;
 pub mod verb;

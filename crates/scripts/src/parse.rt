@@ -12,6 +12,7 @@ use crate::content_type::ContentType;
 use crate::options::options_of;
 use crate::report::error_of;
 use crate::request::{Call, Request};
+use crate::targets::target_of;
 use crate::verb::{Verb, verb_of_word};
 use invocation_vm::UnresolvedFuture;
 use lines::fields::Fields;
@@ -111,6 +112,13 @@ fn complete_promise_of(alloc: Global, arguments: &[&[u8]]) -> Result<Call, Fault
     }))
 }
 
+fn attach_of(alloc: Global, arguments: &[&[u8]]) -> Result<Call, Fault>
+    ensures { IfOk result (λ call. IsLine verb.Attach arguments.now call) }
+{
+    let target = target_of(alloc, arguments)?;
+    Ok(Call::Step(Step::AttachInvocation(target)))
+}
+
 fn write_output_of(alloc: Global, arguments: &[&[u8]]) -> Result<Call, Fault>
     ensures { IfOk result (λ call. IsLine verb.WriteOutput arguments.now call) }
 {
@@ -153,6 +161,7 @@ fn call_named(alloc: Global, verb: Verb, arguments: &[&[u8]]) -> Result<Call, Fa
         Verb::CompleteSignal => complete_signal_of(alloc, arguments),
         Verb::Cancel => cancel_of(alloc, arguments),
         Verb::CompletePromise => complete_promise_of(alloc, arguments),
+        Verb::Attach => attach_of(alloc, arguments),
         Verb::WriteOutput => write_output_of(alloc, arguments),
         Verb::End => alone(arguments, Call::Step(Step::End)),
     }

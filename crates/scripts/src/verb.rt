@@ -28,12 +28,13 @@ pub enum Verb {
     CompleteSignal,
     Cancel,
     CompletePromise,
+    Attach,
     WriteOutput,
     End,
 }
 
 /// Each verb.
-const VERBS: [Verb; 23] = [
+const VERBS: [Verb; 24] = [
     Verb::Head,
     Verb::Input,
     Verb::Close,
@@ -55,6 +56,7 @@ const VERBS: [Verb; 23] = [
     Verb::CompleteSignal,
     Verb::Cancel,
     Verb::CompletePromise,
+    Verb::Attach,
     Verb::WriteOutput,
     Verb::End,
 ];
@@ -86,6 +88,7 @@ fn name_of_verb(verb: Verb) -> &'static str
         Verb::CompleteSignal => "complete_signal",
         Verb::Cancel => "cancel",
         Verb::CompletePromise => "complete_promise",
+        Verb::Attach => "attach",
         Verb::WriteOutput => "write_output",
         Verb::End => "end",
     }

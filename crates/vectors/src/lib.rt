@@ -2,6 +2,8 @@
 #![tactic(auto)]
 
 #[cfg(test)]
+mod attaches;
+#[cfg(test)]
 mod awakeables;
 #[cfg(test)]
 mod calls;

@@ -3,6 +3,8 @@ use Rattle.std.specs.Prelude.{ℕ, zero, suc, ◌/◌, Bool, true, false, ◌&&�
 use Rattle.std.specs.Duration.{as_nanos}
 use Rattle.journal_protocol.specs.declared.faults.NamedFault.{NamedFault}
 use Rattle.journal_protocol.specs.declared.faults.NamedFault.TheVariants as fault
+use Rattle.journal_protocol.specs.declared.invocations.InvocationTarget.{InvocationTarget}
+use Rattle.journal_protocol.specs.declared.invocations.InvocationTarget.TheVariants as target
 use Rattle.journal_protocol.specs.declared.message.Message.{Message}
 use Rattle.journal_protocol.specs.declared.message.Message.TheVariants as message
 use Rattle.journal_protocol.specs.declared.parts.ValueOrFailure.{ValueOrFailure}
@@ -23,7 +25,7 @@ use Rattle.vm_parts.specs.Values.{value_message}
 use Rattle.vm_machine.specs.declared.asks.Ask.{Ask}
 use Rattle.vm_machine.specs.declared.asks.Ask.TheVariants as ask
 use Rattle.vm_machine.specs.declared.asks.Command.{Command}
-use Rattle.vm_machine.specs.Phases.{is_from_v6}
+use Rattle.vm_machine.specs.Phases.{is_from_v6, is_from_v7}
 
 -- ---- checks
 
@@ -112,6 +114,28 @@ complete_promise_command key value options version = record {
   unstable = options.unstable_serialization;
 }
 
+-- the scope of an invocation that is named by its workflow or its idempotency key
+abbrev pub scope_of : InvocationTarget → Option (List ℕ)
+scope_of (target.InvocationId id) = None
+scope_of (target.WorkflowId workflow) = workflow.scope
+scope_of (target.IdempotencyId call) = call.scope
+
+-- a scope that can't be sent: an empty one, and before V7 each
+abbrev pub scope_fault : Option (List ℕ) → Version → Option NamedFault
+scope_fault None version = None
+scope_fault (Some scope) version =
+    if is_empty scope then Some fault.EmptyScope
+    else if is_from_v7 version then None
+    else Some fault.UnsupportedFeatureForNegotiatedVersion
+
+-- the handler attaches to an invocation
+abbrev pub attach_invocation_command : InvocationTarget → Version → Command
+attach_invocation_command target version = record {
+  refusal = scope_fault (scope_of target) version;
+  message = message.AttachInvocation (record { target = target; result_completion_id = 0 });
+  unstable = false;
+}
+
 -- ---- the table
 
 -- an absent name is empty
@@ -130,6 +154,7 @@ ask_of version (step.CompleteAwakeable id value options) = ask.Command (complete
 ask_of version (step.CompleteSignal target signal value) = ask.Command (complete_signal_command target signal value version)
 ask_of version (step.CancelInvocation target) = ask.Command (cancel_invocation_command target)
 ask_of version (step.CompletePromise key value options) = ask.Command (complete_promise_command key value options version)
+ask_of version (step.AttachInvocation target) = ask.Command (attach_invocation_command target version)
 ask_of version (step.WriteOutput value options) = ask.Command (output_command value options version)
 ask_of version (step.Await future) = ask.Await future
 ask_of version (step.Take handle) = ask.Take handle

@@ -1,21 +1,25 @@
 //! What each step of a handler asks of the machine: one table over steps. A command is given without its numbers.
 ghost use Rattle.std.specs.Prelude.{◌≡◌, ◌/◌};
 ghost use Rattle.std.specs.Duration.{as_nanos};
-ghost use Rattle.vm_machine.specs.Asks.{allowed, ask_of, cancel_invocation_command, clear_all_state_command, clear_state_command, command_answer, complete_awakeable_command, complete_promise_command, complete_signal_command, has_metadata, name_in, output_command, set_state_command, signal_result, sleep_command, time_fault, value_fault};
+ghost use Rattle.std.specs.Option.{option_copied};
+ghost use Rattle.vm_machine.specs.Asks.{allowed, ask_of, attach_invocation_command, cancel_invocation_command, clear_all_state_command, clear_state_command, command_answer, complete_awakeable_command, complete_promise_command, complete_signal_command, has_metadata, name_in, output_command, scope_fault, scope_of, set_state_command, signal_result, sleep_command, time_fault, value_fault};
 ghost use Rattle.vm_machine.specs.Requests.{ids_of};
 
-use crate::phase::is_from_v6;
+use crate::phase::{is_from_v6, is_from_v7};
 use crate::request;
 use bytes::Bytes;
 use journal_protocol::{
     ClearAllStateCommand, ClearStateCommand, CompleteAwakeableCommand, CompletePromiseCommand,
-    Message, NamedFault, OutputCommand, SendSignalCommand, SetStateCommand, Signal, SignalResult, SleepCommand,
-    ValueOrFailure, Version,
+    InvocationCommand, InvocationTarget, Message, NamedFault, OutputCommand, SendSignalCommand,
+    SetStateCommand, Signal, SignalResult, SleepCommand, ValueOrFailure, Version,
 };
 use std::alloc::Global;
 use std::time::Duration;
 use vm_parts::values::write_value;
-use vm_parts::{Answer, NonEmptyValue, NotificationHandle, PayloadOptions, Step, UnresolvedFuture};
+use vm_parts::{
+    Answer, AttachInvocationTarget, NonEmptyValue, NotificationHandle, PayloadOptions, Step,
+    UnresolvedFuture,
+};
 use wire::Text;
 
 /// A command that a call asks for.
@@ -211,6 +215,44 @@ pub fn complete_promise(
     }
 }
 
+/// The scope of an invocation that is named by its workflow or its idempotency key.
+fn scope_of(target: &InvocationTarget) -> Option<&Text>
+    ensures { option_copied result ≡ scope_of target.now }
+{
+    match target {
+        InvocationTarget::InvocationId(_) => None,
+        InvocationTarget::WorkflowId(workflow) => workflow.scope.as_ref(),
+        InvocationTarget::IdempotencyId(call) => call.scope.as_ref(),
+    }
+}
+
+/// Why a scope can't be sent in this version.
+fn scope_fault(scope: Option<&Text>, version: Version) -> Option<NamedFault>
+    ensures { result ≡ scope_fault (option_copied scope.entry) version }
+{
+    let scope = scope?;
+    if scope.as_str().is_empty() {
+        Some(NamedFault::EmptyScope)
+    } else if is_from_v7(version) {
+        None
+    } else {
+        Some(NamedFault::UnsupportedFeatureForNegotiatedVersion)
+    }
+}
+
+pub fn attach_invocation(target: AttachInvocationTarget, version: Version) -> Command
+    ensures { result ≡ attach_invocation_command target version }
+{
+    Command {
+        refusal: scope_fault(scope_of(&target), version),
+        message: Message::AttachInvocation(InvocationCommand {
+            target,
+            result_completion_id: 0,
+        }),
+        unstable: false,
+    }
+}
+
 /// What a step asks for, in an attempt of this version.
 pub fn ask_of(alloc: Global, version: Version, step: Step) -> Ask
     ensures { result ≡ ask_of version step }
@@ -246,6 +288,7 @@ pub fn ask_of(alloc: Global, version: Version, step: Step) -> Ask
             value,
             options,
         } => Ask::Command(complete_promise(key, value, options, version)),
+        Step::AttachInvocation(target) => Ask::Command(attach_invocation(target, version)),
         Step::WriteOutput(value, options) => Ask::Command(output(value, options, version)),
         Step::Await(future) => Ask::Await(future),
         Step::Take(handle) => Ask::Take(handle),

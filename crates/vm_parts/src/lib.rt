@@ -17,6 +17,7 @@ pub use async_results::{AsyncResults, Mapping};
 pub use command_type::{CommandRelationship, CommandType};
 pub use context::{Counters, LastCommand, StartInfo, StateCoverage, StateMap};
 pub use ephemeral::EphemeralCommand;
+pub use journal_protocol::InvocationTarget as AttachInvocationTarget;
 pub use options::{
     AwaitingOnPolicy, ImplicitCancellationOption, JournalMismatchRetryBehavior, JournalReplay,
     NonDeterministicChecksOption, PayloadOptions, SignalDelivery, VMOptions,

@@ -4,6 +4,7 @@ use crate::options::PayloadOptions;
 use crate::types::{AwakeableHandle, NotificationHandle, UnresolvedFuture};
 use crate::values::{Input, NonEmptyValue, Value};
 use bytes::Bytes;
+use journal_protocol::InvocationTarget;
 use std::time::Duration;
 use wire::Text;
 
@@ -47,6 +48,7 @@ pub enum Step {
         value: NonEmptyValue,
         options: PayloadOptions,
     },
+    AttachInvocation(InvocationTarget),
     WriteOutput(NonEmptyValue, PayloadOptions),
     Await(UnresolvedFuture),
     Take(NotificationHandle),
