@@ -19,6 +19,7 @@ pub mod Advanced
 pub mod Coming
 pub mod Under
 pub mod Honest
+pub mod Rows
 pub mod Replayed
 pub mod Blaming
 pub mod Placing

@@ -1,0 +1,124 @@
+-- An honest attempt of the handler that sleeps: what it is fed, so that the premise is seen to be met.
+use Rattle.std.proofs.Common.{◌≡◌, ℕ, false, List, [], ◌∷◌, ◌++◌, Option, Some, None, refl, ◌∙◌, append-nil, lit<}
+use Rattle.std.specs.Prelude.{codes}
+use Rattle.std.specs.List.{flat_map}
+use Rattle.journal_protocol.specs.declared.commands.InputCommand.{InputCommand}
+use Rattle.journal_protocol.specs.declared.message.Message.{Message}
+use Rattle.journal_protocol.specs.declared.message.Message.TheVariants as message
+use Rattle.journal_protocol.specs.declared.message.RawMessage.{RawMessage}
+use Rattle.journal_protocol.specs.declared.notification.Notification.{Notification}
+use Rattle.journal_protocol.specs.declared.notification.NotificationId.TheVariants.{CompletionId}
+use Rattle.journal_protocol.specs.declared.notification.NotificationResult.TheVariants as came
+use Rattle.journal_protocol.specs.declared.start.Start.{Start}
+use Rattle.journal_protocol.specs.declared.version.Version.TheVariants.{V7}
+use Rattle.journal_protocol.specs.Encoding.{input as input_body, notification, sleep, start}
+use Rattle.journal_protocol.specs.Runs.{IsWhole}
+use Rattle.wire.specs.Format.{bytes, flag, list, option, read_byte, read_bytes, read_pair, read_text, read_u16, read_u32, read_u64, u16s, u32s, u64s}
+use Rattle.vm_parts.specs.declared.steps.Answer.TheVariants as answer
+use Rattle.vm_parts.specs.declared.steps.Step.TheVariants as step
+use Rattle.vm_parts.specs.declared.types.UnresolvedFuture.TheVariants.{Single}
+use Rattle.vm_parts.specs.declared.values.NonEmptyValue.TheVariants.{Success}
+use Rattle.vm_parts.specs.Options.{default_options}
+use Rattle.journal_protocol.specs.Bodies.{input_format}
+use Rattle.journal_protocol.specs.HeaderEqual.{header_equal}
+use Rattle.journal_protocol.specs.Parts.{read_value}
+use Rattle.journal_protocol.specs.Reading.{body_as, input_in, message_in}
+use Rattle.std.specs.Str.{chars, is_utf8}
+use Rattle.wire.proofs.Read.{all_read}
+use Rattle.vm_model.specs.Calls.{Meaning, Setup}
+use Rattle.vm_model.specs.Histories.{History}
+use Rattle.vm_model.specs.Journal.{Entry, Recorded, Notified, input_read_from, stored_form}
+use Rattle.vm_model.specs.Moves.{Point, after, start as began}
+use Rattle.vm_rounds.specs.declared.progress.Fed.{Fed}
+use Rattle.vm_rounds.specs.Blames.{IsHonest}
+use Rattle.vm_rounds.proofs.Honest.{honestly_fed}
+use Rattle.vm_rounds.specs.Honest.{FeedsHonestly, frame_bytes, honest_frames}
+use Rattle.vm_rounds.specs.Journals.{setup_for}
+
+abbrev first : Start
+first = record { id = codes "abc"; debug_id = codes "abc"; key = []; known_entries = 3; state = []; partial = false; retry_count = 0; duration = 0; random_seed = 0; scope = None; limit_key = None; idempotency_key = None }
+
+abbrev input : InputCommand
+input = record { headers = []; value = codes "Till" }
+
+abbrev slept : Message
+slept = message.Sleep (record { wake_up_time = 1000; result_completion_id = 1; name = [] })
+
+abbrev void : Notification
+void = record { id = CompletionId 1; result = came.Void }
+
+start_is_whole : IsWhole (message.Start first)
+unfolding start u32s u64s bytes list option flag lib.Utf8.encode
+start_is_whole = ((lit< tt, ((lit< tt, (codes "abc", (refl, refl))), ((lit< tt, ([], (refl, refl))), (lit< tt, ((lit< tt, tt), (tt, (lit< tt, (lit< tt, (lit< tt, (tt, (tt, tt))))))))))), lit< tt)
+
+input_is_whole : IsWhole (message.Input input)
+unfolding input_body u32s u64s bytes list
+input_is_whole = (((lit< tt, tt), lit< tt), lit< tt)
+
+slept_is_whole : IsWhole slept
+unfolding sleep u32s u64s bytes
+slept_is_whole = ((lit< tt, (lit< tt, (lit< tt, ([], (refl, refl))))), lit< tt)
+
+void_is_whole : IsWhole (message.Notification void)
+unfolding notification u32s u64s bytes
+void_is_whole = ((lit< tt, tt), lit< tt)
+
+-- it sleeps, and ends
+sleeper : Meaning
+sleeper (i ∷ []) = step.Sleep [] (record { secs = 1; nanos = 0 }) None
+sleeper _ = step.End
+
+abbrev journal : List Entry
+journal = Recorded (stored_form (message.Input input)) ∷ Recorded (stored_form slept) ∷ Notified void ∷ []
+
+abbrev setup : Setup
+setup = setup_for V7 default_options first
+
+abbrev begin : Point
+begin = began setup input (void ∷ []) (stored_form slept ∷ [])
+
+point_in : Option Point → Point
+point_in None = begin
+point_in (Some p) = p
+
+reads_input : input_read_from (stored_form (message.Input input)) ≡ Some input
+unfolding input_in body_as
+reads_input = all_read input_format input (input_format.spelling input) input_is_whole.0 refl
+
+-- the journal is a history of it: the input, its sleep, and the sleep's completion
+is_history : History setup sleeper journal
+unfolding sleeper point_in is_utf8 chars header_equal message_in body_as sleep read_value bytes read_byte read_bytes read_text read_pair read_u16 read_u32 read_u64 u16s u32s u64s
+is_history = record {
+  first = stored_form (message.Input input);
+  input = input;
+  reads = reads_input;
+  rest = stored_form slept ∷ [];
+  begins = refl;
+  at = point_in (after setup sleeper 1 begin);
+  told = (1, refl);
+  uses_all = refl;
+}
+
+abbrev stream : List ℕ
+stream = flat_map frame_bytes (honest_frames first journal [])
+
+-- an attempt that is fed all of it in one piece is an honest one
+feeds : FeedsHonestly sleeper V7 default_options (record { piece = stream; answers = 0; output = 0 } ∷ [])
+feeds = record {
+  start = first;
+  journal = journal;
+  more = [];
+  unfed = [];
+  bytes = append-nil (stream ++ []) ∙ append-nil stream;
+  start_is_whole = start_is_whole;
+  known = refl;
+  state = [];
+  reads_state = refl;
+  journal_is_whole = ((refl, input_is_whole.1), ((refl, slept_is_whole.1), (void_is_whole, tt)));
+  more_is_whole = tt;
+  history = is_history;
+  premises = record { replays = refl; queues = refl; once = (tt, tt) };
+}
+
+is_honest : IsHonest sleeper V7 default_options (record { piece = stream; answers = 0; output = 0 } ∷ [])
+is_honest = honestly_fed sleeper V7 default_options (record { piece = stream; answers = 0; output = 0 } ∷ []) feeds
