@@ -20,7 +20,7 @@ use Rattle.vm_rounds.specs.declared.progress.Reply.{Reply}
 use Rattle.vm_rounds.specs.declared.progress.Reply.TheVariants as reply
 use Rattle.vm_rounds.specs.Journals.{setup_for}
 use Rattle.vm_rounds.specs.Record.{Record}
-use Rattle.vm_rounds.specs.Stepping.{Asks, CloseDoes, FeedDoes, StepDoes, Takes, asked, fresh_record, future_in, settled}
+use Rattle.vm_rounds.specs.Stepping.{Asks, CloseDoes, FeedDoes, StepDoes, Takes, step_asked, fresh_record, future_in, replied}
 use Rattle.vm_rounds.specs.Steps.{performed}
 use Rattle.vm_rounds.specs.Told.{Came, HasCome, IsLive, IsWholeCommand, Runs, commands_of, handed_out}
 use Rattle.vm_rounds.proofs.Advanced.{Begins, made_new, runs_answered, steps_keep}
@@ -68,14 +68,14 @@ module _ (version : Version) (options : VMOptions) (fed : List Fed) (before : Li
   }
 
 asks_come : (m : Meaning) (version : Version) (options : VMOptions) (old : Record) (result : Result Progress Error) (new : Record) → CameBy version options old.fed old.answers old.waiting old.taken old.vm → IsLive old.vm.machine → Asks m old result new → KeptBy (CameBy version options) version options new
-asks_come m version options old result new k live (x, w, does, is, made) = subst (KeptBy (CameBy version options) version options) (sym is) (inr (by_reply x (step_leaves (asked m old) old.vm.machine live x w.machine does.0.0 does.1)))
+asks_come m version options old result new k live (x, w, does, is, made) = subst (KeptBy (CameBy version options) version options) (sym is) (inr (by_reply x (step_leaves (step_asked m old) old.vm.machine live x w.machine does.0.0 does.1)))
   where
     on : (answers : List Answer) (waits : Option UnresolvedFuture) → answers ≢ [] → Sends old.vm.machine w.machine → (w.machine.failure ≡ None → (is_running w.machine.phase ≡ true) ⊎ (w.machine.phase ≡ Closed)) → CameBy version options old.fed answers waits old.taken w
     on = came_on version options old.fed old.answers old.waiting old.taken old.vm w k live does.0.1
 
-    by_reply : (x : Result Reply Error) → IsLeft old.vm.machine x w.machine → (let r = settled old (future_in (asked m old)) x w in CameBy version options r.fed r.answers r.waiting r.taken r.vm)
+    by_reply : (x : Result Reply Error) → IsLeft old.vm.machine x w.machine → (let r = replied old (future_in (step_asked m old)) x w in CameBy version options r.fed r.answers r.waiting r.taken r.vm)
     by_reply (Ok (reply.Answer a)) h = on (old.answers ++ a ∷ []) None (never_empty old.answers a) h.sends (λ _. inl h.left)
-    by_reply (Ok (reply.Waiting input run)) h = on old.answers (future_in (asked m old)) k.answered h.sends (λ _. inl h.left)
+    by_reply (Ok (reply.Waiting input run)) h = on old.answers (future_in (step_asked m old)) k.answered h.sends (λ _. inl h.left)
     by_reply (Ok reply.Suspended) h = on old.answers old.waiting k.answered h.sends (λ _. inr h.left)
     by_reply (Ok reply.Ended) h = on old.answers old.waiting k.answered h.sends (λ _. inr h.left)
     by_reply (Err e) h = on old.answers old.waiting k.answered h.0 (λ alive. absurd (let z : None ≡ Some e = sym alive ∙ h.1 in cc))

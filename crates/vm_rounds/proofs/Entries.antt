@@ -23,7 +23,7 @@ use Rattle.vm_machine.specs.Outcomes.{Outcome, Done, refused, settled}
 use Rattle.invocation_vm.specs.Views.{all_received, left_by, received}
 use Rattle.vm_model.specs.Calls.{Setup}
 use Rattle.vm_rounds.specs.Agreement.{Aside}
-use Rattle.vm_rounds.specs.Journals.{Fed, HasAll, HasStarted, StartCame, aside_for, setup_for, Started, StillWaits, commands_among, is_command, is_notification, machine_fed, missing, notifications_among, notified_by, phase_missing, waiting}
+use Rattle.vm_rounds.specs.Journals.{TakenIn, HasAll, HasStarted, StartCame, aside_for, setup_for, Started, StillWaits, commands_among, is_command, is_notification, machine_fed, missing, notifications_among, notified_by, phase_missing, waiting}
 use Rattle.vm_rounds.proofs.Arriving.{behind_one, failed_stays, live_receives, some_failure}
 
 -- one entry less is missing
@@ -131,7 +131,7 @@ more_come s given aside cs ns (raw ∷ raws) =
     (rw e (more_come s given aside cs (ns ++ notifications_among (raw ∷ [])) raws)))
     (more_comes s given aside cs ns raw)
 
-pub entries_come : (s : Setup) (given : StateMap) (aside : Aside) (k : ℕ) (cs : List RawMessage) (ns : List Notification) (raws : List RawMessage) → Fed s given aside k cs ns raws (all_received raws (waiting s given aside k cs ns))
+pub entries_come : (s : Setup) (given : StateMap) (aside : Aside) (k : ℕ) (cs : List RawMessage) (ns : List Notification) (raws : List RawMessage) → TakenIn s given aside k cs ns raws (all_received raws (waiting s given aside k cs ns))
 entries_come s given aside zero cs ns raws =
     ⊎_elim
     (λ (f : IsSome (all_received raws (waiting s given aside 0 cs ns)).failure). inl f)
@@ -143,7 +143,7 @@ entries_come s given aside (suc k) cs ns (raw ∷ raws) =
     ⊎_elim
     (λ (f : IsSome (received raw (waiting s given aside (suc k) cs ns)).failure). inl (fails_on (received raw (waiting s given aside (suc k) cs ns)) raws f))
     (λ (e : received raw (waiting s given aside (suc k) cs ns) ≡ waiting s given aside k (cs ++ commands_among (raw ∷ [])) (ns ++ notifications_among (raw ∷ []))).
-    subst (λ w. Fed s given aside (suc k) cs ns (raw ∷ raws) (all_received raws w)) (sym e) (goes_on (all_received raws (waiting s given aside k (cs ++ commands_among (raw ∷ [])) (ns ++ notifications_among (raw ∷ [])))) (entries_come s given aside k (cs ++ commands_among (raw ∷ [])) (ns ++ notifications_among (raw ∷ [])) raws)))
+    subst (λ w. TakenIn s given aside (suc k) cs ns (raw ∷ raws) (all_received raws w)) (sym e) (goes_on (all_received raws (waiting s given aside k (cs ++ commands_among (raw ∷ [])) (ns ++ notifications_among (raw ∷ [])))) (entries_come s given aside k (cs ++ commands_among (raw ∷ [])) (ns ++ notifications_among (raw ∷ [])) raws)))
     (entry_comes s given aside k cs ns raw)
   where
     commands_are : (es : List RawMessage) → (cs ++ commands_among (raw ∷ [])) ++ commands_among es ≡ cs ++ commands_among (raw ∷ es)
@@ -152,7 +152,7 @@ entries_come s given aside (suc k) cs ns (raw ∷ raws) =
     notifications_are : (ns ++ notifications_among (raw ∷ [])) ++ notifications_among raws ≡ ns ++ notifications_among (raw ∷ raws)
     notifications_are = append_assoc ns (notifications_among (raw ∷ [])) (notifications_among raws) ∙ ap (λ l. ns ++ l) (notifications_behind raw raws)
 
-    goes_on : (m : Machine) → Fed s given aside k (cs ++ commands_among (raw ∷ [])) (ns ++ notifications_among (raw ∷ [])) raws m → Fed s given aside (suc k) cs ns (raw ∷ raws) m
+    goes_on : (m : Machine) → TakenIn s given aside k (cs ++ commands_among (raw ∷ [])) (ns ++ notifications_among (raw ∷ [])) raws m → TakenIn s given aside (suc k) cs ns (raw ∷ raws) m
     goes_on m =
         ⊎_elim
         (λ (f : IsSome m.failure). inl f)
@@ -213,6 +213,6 @@ journals_come alloc version options first raws =
       entries = c.entries;
       reads = c.reads;
       keys = c.keys;
-      fed = subst (λ w. Fed (setup_for version options c.start) (record { entries = c.entries; coverage = coverage_of c.start.partial }) (aside_for alloc version options c.start) c.start.known_entries [] [] raws (all_received raws w)) (sym c.machine) (entries_come (setup_for version options c.start) (record { entries = c.entries; coverage = coverage_of c.start.partial }) (aside_for alloc version options c.start) c.start.known_entries [] [] raws);
+      fed = subst (λ w. TakenIn (setup_for version options c.start) (record { entries = c.entries; coverage = coverage_of c.start.partial }) (aside_for alloc version options c.start) c.start.known_entries [] [] raws (all_received raws w)) (sym c.machine) (entries_come (setup_for version options c.start) (record { entries = c.entries; coverage = coverage_of c.start.partial }) (aside_for alloc version options c.start) c.start.known_entries [] [] raws);
     }))
     (first_comes alloc version options first)

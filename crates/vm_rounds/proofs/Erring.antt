@@ -40,7 +40,7 @@ use Rattle.vm_rounds.specs.Blames.{Blame, BlamedAt, IfError, IsBlamed, LacksInpu
 use Rattle.vm_rounds.specs.Blames.Blame.{Memory, NoInput, Call}
 use Rattle.vm_rounds.specs.Journals.{BeginsOrFails, HasAll, StillWaits, commands_among, machine_fed, missing, notifications_among, setup_for}
 use Rattle.vm_rounds.specs.Record.{Record}
-use Rattle.vm_rounds.specs.Stepping.{Advances, Asks, LacksMemory, Reads, StepAt, StepDoes, StepFrom, StepUnless, asked, future_in, progress_of}
+use Rattle.vm_rounds.specs.Stepping.{Advances, Asks, LacksMemory, Reads, StepAt, StepDoes, StepFrom, StepUnless, step_asked, future_in, progress_of}
 use Rattle.vm_rounds.specs.Stepping as stepping
 use Rattle.vm_rounds.specs.Steps.{IfDone, ReadsBack, performed}
 use Rattle.vm_rounds.specs.Steps as steps
@@ -200,10 +200,10 @@ module _ (m : Meaning) (version : Version) (options : VMOptions) (r : Record) (k
       }
 
   -- the handler's call was refused
-  call_refused : (e : Error) → performed (asked m r) r.vm.machine ≡ Failed e w.machine → RefusedCall m version options r.fed r.answers e
+  call_refused : (e : Error) → performed (step_asked m r) r.vm.machine ≡ Failed e w.machine → RefusedCall m version options r.fed r.answers e
   call_refused e is =
       let st = m k.at.answers in
-      let same : asked m r ≡ st = asks_next m k.at r.answers r.waiting k.answers k.awaits in
+      let same : step_asked m r ≡ st = asks_next m k.at r.answers r.waiting k.answers k.awaits in
       let s = setup_for version options k.journal.start in
       let at : performed st r.vm.machine ≡ Failed e w.machine = ap (λ q. performed q r.vm.machine) (sym same) ∙ is in
       let readable = ReadsBack st r.vm.machine in
@@ -212,13 +212,13 @@ module _ (m : Meaning) (version : Version) (options : VMOptions) (r : Record) (k
       (agreeing_follows s m (handed_out k.journal) k.written r.vm.machine k.at (k.agrees live) (subst (λ o. IfDone o readable) (sym at) tt)))
 
 asks_blamed : (m : Meaning) (version : Version) (options : VMOptions) (old : Record) (result : Result Progress Error) (new : Record) → (Premises options (arrivals_of old.fed) → Runs m version options old.fed old.answers old.waiting old.taken old.vm) → IsLive old.vm.machine → Asks m old result new → IsBlamed m version options new
-asks_blamed m version options old result new runs live (x, w, does, is, made) = subst (IsBlamed m version options) (sym is) (by_reply x (step_leaves (asked m old) old.vm.machine live x w.machine does.0.0 does.1) does.0.0)
+asks_blamed m version options old result new runs live (x, w, does, is, made) = subst (IsBlamed m version options) (sym is) (by_reply x (step_leaves (step_asked m old) old.vm.machine live x w.machine does.0.0 does.1) does.0.0)
   where
     -- a VM whose handler runs
     running : (answers : List Answer) → w.machine.failure ≡ old.vm.machine.failure → is_running w.machine.phase ≡ true → BlamedAt m version options old.over old.fed old.closed answers w.machine
     running answers failure at = alive_blamed m version options old.over old.fed old.closed answers w.machine (failure ∙ live.failure) (λ closed. absurd (let z : false ≡ true = sym (ap is_running closed) ∙ at in cc))
 
-    by_reply : (x : Result Reply Error) → IsLeft old.vm.machine x w.machine → Does (performed (asked m old) old.vm.machine) x old.vm.machine w.machine → IsBlamed m version options (stepping.settled old (future_in (asked m old)) x w)
+    by_reply : (x : Result Reply Error) → IsLeft old.vm.machine x w.machine → Does (performed (step_asked m old) old.vm.machine) x old.vm.machine w.machine → IsBlamed m version options (stepping.replied old (future_in (step_asked m old)) x w)
     by_reply (Ok (reply.Answer a)) h d = running (old.answers ++ a ∷ []) h.failure h.left
     by_reply (Ok (reply.Waiting input run)) h d = running old.answers h.failure h.left
     by_reply (Ok reply.Suspended) h d = over_blamed m version options progress.Suspended _ _ _ _
@@ -226,7 +226,7 @@ asks_blamed m version options old result new runs live (x, w, does, is, made) = 
     by_reply (Err e) h d =
         error_blamed m version options old.over old.fed old.closed old.answers w.machine e h.1
         (⊎_elim
-        (λ (y : performed (asked m old) old.vm.machine ≡ Failed e w.machine). Call (λ p. call_refused m version options old (runs p) live w e y))
+        (λ (y : performed (step_asked m old) old.vm.machine ≡ Failed e w.machine). Call (λ p. call_refused m version options old (runs p) live w e y))
         (λ (y : IsStarved old.vm.machine e w.machine). Memory y.error)
         d)
 
@@ -286,9 +286,9 @@ reads_errs old (Err e) new live (w, does, is) =
     does.0
 
 asks_errs : (m : Meaning) (old : Record) (result : Result Progress Error) (new : Record) → IsLive old.vm.machine → Asks m old result new → Errs old result new
-asks_errs m old result new live (x, w, does, is, made) = subst (λ z. Errs old z new) (sym made) (by_reply x (step_leaves (asked m old) old.vm.machine live x w.machine does.0.0 does.1) is)
+asks_errs m old result new live (x, w, does, is, made) = subst (λ z. Errs old z new) (sym made) (by_reply x (step_leaves (step_asked m old) old.vm.machine live x w.machine does.0.0 does.1) is)
   where
-    by_reply : (x : Result Reply Error) → IsLeft old.vm.machine x w.machine → new ≡ stepping.settled old (future_in (asked m old)) x w → Errs old (progress_of x) new
+    by_reply : (x : Result Reply Error) → IsLeft old.vm.machine x w.machine → new ≡ stepping.replied old (future_in (step_asked m old)) x w → Errs old (progress_of x) new
     by_reply (Ok (reply.Answer a)) h at = tt
     by_reply (Ok (reply.Waiting input run)) h at = tt
     by_reply (Ok reply.Suspended) h at = tt

@@ -20,12 +20,12 @@ use Rattle.vm_model.specs.Moves.{Point, longer, move_at, moved, next, supplied, 
 use Rattle.vm_model.specs.Histories.{Made}
 use Rattle.vm_model.specs.Refusals.{IsRefusedFor}
 use Rattle.vm_rounds.specs.declared.progress.Reply.TheVariants as reply
-use Rattle.vm_rounds.specs.Agreement.{Aside, Follows, MovesOn, frames_of, machine_at}
+use Rattle.vm_rounds.specs.Agreement.{Aside, Follows, MovesOn, command_frames, machine_at}
 use Rattle.vm_rounds.specs.Steps.{mapped}
 
 -- what stands aside, with these frames written
 abbrev pub with_frames : List RawMessage → Aside → Aside
-with_frames made aside = record aside { output = aside.output ++ frames_of made }
+with_frames made aside = record aside { output = aside.output ++ command_frames made }
 
 -- a refusal for a reason, which has written nothing and ends by the error rule of its setup
 pub record Refusing (s : Setup) (before : List (List ℕ)) (queue : List Notification) (mv : Move) (left : List RawMessage) (e : Error) (w : Machine) : Type 0 where

@@ -48,11 +48,11 @@ use Rattle.vm_rounds.specs.declared.progress.Fed.{Fed}
 use Rattle.vm_rounds.specs.declared.progress.Progress.{Progress}
 use Rattle.vm_rounds.specs.declared.progress.Reply.{Reply}
 use Rattle.vm_rounds.specs.declared.progress.Reply.TheVariants as reply
-use Rattle.vm_rounds.specs.Agreement.{Agrees, Answered, Follows, HasEnded, IsRefused, IsSuspended, MovesOn, StillAgrees, Waits, frames_of, suspended_on}
+use Rattle.vm_rounds.specs.Agreement.{Agrees, Answered, Follows, HasEnded, IsRefused, IsSuspended, MovesOn, StillAgrees, Waits, command_frames, suspended_on}
 use Rattle.vm_rounds.specs.Journals.{is_command, setup_for}
 use Rattle.vm_rounds.specs.Record.{Record}
-use Rattle.vm_rounds.specs.Stepping.{Asks, IfWaits, asked, asked_from, future_in, progress_of, settled, with_vm}
-use Rattle.vm_rounds.specs.Steps.{IfDone, ReadsBack, Made as IsMade, performed}
+use Rattle.vm_rounds.specs.Stepping.{Asks, IfWaits, step_asked, asked_from, future_in, progress_of, replied, with_vm}
+use Rattle.vm_rounds.specs.Steps.{IfDone, ReadsBack, StepMade, performed}
 use Rattle.vm_rounds.specs.Told.{arrivals, IsKept, IsLive, IsAsleep, RefusesReplay, Replays, Runs, StillAwaits, Wrote, commands_of, handed_out}
 use Rattle.vm_rounds.proofs.Following.{agreeing_follows}
 use Rattle.vm_rounds.proofs.Kept.{dead_same, not_live}
@@ -115,7 +115,7 @@ call_needs s st d = asked_needs s (ask_of s.version st) d (asks_command s.versio
 -- these messages are the commands that were made
 record AreMade (ms : List Message) (made : List RawMessage) : Type 0 where
   commands : commands_of ms ≡ made
-  frames : map encoding ms ≡ frames_of made
+  frames : map encoding ms ≡ command_frames made
 
 supply_made : (mv : Move) (left : List RawMessage) → NeedsCommand mv → (ms : List Message) × AreMade ms (supply mv left)
 supply_made (Needs demand gives d) [] needs = (demand.command ∷ [], record { commands = ap (λ b. cond b (stored_form demand.command ∷ []) []) needs; frames = refl })
@@ -125,19 +125,19 @@ supply_made Awaits left needs = ([], record { commands = refl; frames = refl })
 supply_made Ends left needs = ([], record { commands = refl; frames = refl })
 supply_made (Refuses name) left needs = ([], record { commands = refl; frames = refl })
 
-frames_append : (cs ds : List RawMessage) → frames_of (cs ++ ds) ≡ frames_of cs ++ frames_of ds
+frames_append : (cs ds : List RawMessage) → command_frames (cs ++ ds) ≡ command_frames cs ++ command_frames ds
 frames_append [] ds = refl
 frames_append (c ∷ cs) ds = ap (λ l. frame c.ty c.body ∷ l) (frames_append cs ds)
 
 made_made : (s : Setup) (m : Meaning) (n : ℕ) (p : Point) (made : List RawMessage) (q : Point) → Made s m n p made q → (ms : List Message) × AreMade ms made
-made_made s m zero p made q h = ([], record { commands = sym h.0; frames = ap frames_of (sym h.0) })
+made_made s m zero p made q h = ([], record { commands = sym h.0; frames = ap command_frames (sym h.0) })
 made_made s m (suc n) p made q (r, rest, is, moves, further) =
     let a = supply_made (move_at s m p) p.left (call_needs s (m p.answers) p.derived) in
     let b = made_made s m n r rest q further in (
       a.0 ++ b.0,
       record {
         commands = commands_append a.0 b.0 ∙ ap (λ l. l ++ commands_of b.0) a.1.commands ∙ ap (λ l. supplied s m p ++ l) b.1.commands ∙ sym is;
-        frames = map_append a.0 b.0 ∙ ap (λ l. l ++ map encoding b.0) a.1.frames ∙ ap (λ l. frames_of (supplied s m p) ++ l) b.1.frames ∙ sym (frames_append (supplied s m p) rest) ∙ ap frames_of (sym is);
+        frames = map_append a.0 b.0 ∙ ap (λ l. l ++ map encoding b.0) a.1.frames ∙ ap (λ l. command_frames (supplied s m p) ++ l) b.1.frames ∙ sym (frames_append (supplied s m p) rest) ∙ ap command_frames (sym is);
       },
     )
 
@@ -161,7 +161,7 @@ runs_on m version options fed answers waiting to_wait taken v w k live und to gi
   tail = λ alive. k.tail live ∙ ap Rest (sym und);
 }
 
--- the step that is asked is the handler's
+-- the step that is step_asked is the handler's
 pub asks_next : (m : Meaning) (p : Point) (answers : List Answer) (waiting : Option UnresolvedFuture) → p.answers ≡ answers → StillAwaits m p waiting → asked_from waiting (m answers) ≡ m p.answers
 asks_next m p answers None is awaits = ap m (sym is)
 asks_next m p answers (Some future) is awaits = sym awaits
@@ -220,7 +220,7 @@ module _ (m : Meaning) (version : Version) (options : VMOptions) (r : Record) (k
   failed_follows : (P : Type 0) (o : Outcome Reply) (e : Error) → (IfDone o P → Following o) → o ≡ Failed e w.machine → Following (Failed e w.machine)
   failed_follows P o e follows is = subst Following is (follows (subst (λ q. IfDone q P) (sym is) tt))
 
-  replied_keeps : (P : Type 0) (st : Step) → m k.at.answers ≡ st → (x : Result Reply Error) → (o : Outcome Reply) → (IfDone o P → Following o) → Does o x r.vm.machine w.machine → OnOk x P → IsKept m version options (settled r (future_in st) x w)
+  replied_keeps : (P : Type 0) (st : Step) → m k.at.answers ≡ st → (x : Result Reply Error) → (o : Outcome Reply) → (IfDone o P → Following o) → Does o x r.vm.machine w.machine → OnOk x P → IsKept m version options (replied r (future_in st) x w)
   replied_keeps P st is (Ok (reply.Answer a)) o f does h = inr (answered_keeps a (done_follows P o (reply.Answer a) f does h))
   replied_keeps P st is (Ok (reply.Waiting input run)) o f does h = inr (waits_keeps st is (done_follows P o (reply.Waiting input run) f does h))
   replied_keeps P st is (Ok reply.Suspended) o f does h = inr (suspended_keeps (done_follows P o reply.Suspended f does h))
@@ -269,7 +269,7 @@ module _ (m : Meaning) (version : Version) (options : VMOptions) (r : Record) (k
   nothing_made : k.at.left ≢ [] → (a : Answer) → Answered s m (handed_out k.journal) k.written k.at r.vm.machine a w.machine → w.machine.output ≡ r.vm.machine.output
   nothing_made some a g =
       ⊎_elim
-      (λ (none : g.made ≡ []). g.output ∙ ap (λ l. r.vm.machine.output ++ frames_of l) none ∙ append-nil r.vm.machine.output)
+      (λ (none : g.made ≡ []). g.output ∙ ap (λ l. r.vm.machine.output ++ command_frames l) none ∙ append-nil r.vm.machine.output)
       (λ (none : k.at.left ≡ []). absurd (some none))
       g.none_before
 
@@ -301,7 +301,7 @@ module _ (m : Meaning) (version : Version) (options : VMOptions) (r : Record) (k
         failure = g.failure;
       }
 
-  replied_replays : (P : Type 0) (future : Option UnresolvedFuture) (c : RawMessage) (further : List RawMessage) → k.at.left ≡ c ∷ further → (x : Result Reply Error) → (o : Outcome Reply) → (IfDone o P → Following o) → Does o x r.vm.machine w.machine → OnOk x P → Replays m version options r (progress_of x) (settled r future x w)
+  replied_replays : (P : Type 0) (future : Option UnresolvedFuture) (c : RawMessage) (further : List RawMessage) → k.at.left ≡ c ∷ further → (x : Result Reply Error) → (o : Outcome Reply) → (IfDone o P → Following o) → Does o x r.vm.machine w.machine → OnOk x P → Replays m version options r (progress_of x) (replied r future x w)
   replied_replays P future c further some (Ok (reply.Answer a)) o f does h = nothing_made (λ none. let z : [] ≡ c ∷ further = sym none ∙ some in cc) a (done_follows P o (reply.Answer a) f does h)
   replied_replays P future c further some (Ok (reply.Waiting input run)) o f does h =
       let g : StillAgrees s m (handed_out k.journal) k.written k.at r.vm.machine w.machine = done_follows P o (reply.Waiting input run) f does h in
@@ -326,15 +326,15 @@ pub asks_keep : (m : Meaning) (version : Version) (options : VMOptions) (old : R
 asks_keep m version options old result new k live (x, w, does, is, progress) =
     let s = setup_for version options k.journal.start in
     let st = m k.at.answers in
-    let same : asked m old ≡ st = asks_next m k.at old.answers old.waiting k.answers k.awaits in
-    let made : IsMade st x old.vm w = subst (λ q. IsMade q x old.vm w) same does in
+    let same : step_asked m old ≡ st = asks_next m k.at old.answers old.waiting k.answers k.awaits in
+    let made : StepMade st x old.vm w = subst (λ q. StepMade q x old.vm w) same does in
     subst (IsKept m version options) (sym is)
-    (subst (λ q. IsKept m version options (settled old (future_in q) x w)) (sym same)
+    (subst (λ q. IsKept m version options (replied old (future_in q) x w)) (sym same)
     (replied_keeps m version options old k live w made.0.1 (ReadsBack st old.vm.machine) st refl x (performed st old.vm.machine) (agreeing_follows s m (handed_out k.journal) k.written old.vm.machine k.at (k.agrees live)) made.0.0 made.1))
 
 -- what a step that waits leaves of the record
 settled_waits : (m : Meaning) (version : Version) (options : VMOptions) (old : Record) (future : Option UnresolvedFuture) (w : View) (x : Result Reply Error) → IfWaits (progress_of x) (IsAsleep m version options old.fed old.answers old.taken w)
-    → IfWaits (progress_of x) (IsAsleep m version options (settled old future x w).fed (settled old future x w).answers (settled old future x w).taken (settled old future x w).vm)
+    → IfWaits (progress_of x) (IsAsleep m version options (replied old future x w).fed (replied old future x w).answers (replied old future x w).taken (replied old future x w).vm)
 settled_waits m version options old future w (Ok (reply.Answer a)) h = tt
 settled_waits m version options old future w (Ok (reply.Waiting input run)) h = h
 settled_waits m version options old future w (Ok reply.Suspended) h = h
@@ -346,7 +346,7 @@ module _ (m : Meaning) (version : Version) (options : VMOptions) (old : Record) 
   made_here = setup_for version options k.journal.start
 
   -- the step that is made is the handler's
-  is_next : asked m old ≡ m k.at.answers
+  is_next : step_asked m old ≡ m k.at.answers
   is_next = asks_next m k.at old.answers old.waiting k.answers k.awaits
 
   follows_here : (w : View) → IfDone (performed (m k.at.answers) old.vm.machine) (ReadsBack (m k.at.answers) old.vm.machine) → Follows made_here m (handed_out k.journal) k.written k.at old.vm.machine (performed (m k.at.answers) old.vm.machine)
@@ -355,10 +355,10 @@ module _ (m : Meaning) (version : Version) (options : VMOptions) (old : Record) 
   -- a step waits only where nothing wakes
   pub asks_wait : Asks m old result new → IfWaits result (IsAsleep m version options new.fed new.answers new.taken new.vm)
   asks_wait (x, w, does, is, progress) =
-      let made : IsMade (m k.at.answers) x old.vm w = subst (λ q. IsMade q x old.vm w) is_next does in
+      let made : StepMade (m k.at.answers) x old.vm w = subst (λ q. StepMade q x old.vm w) is_next does in
       subst (λ z. IfWaits z (IsAsleep m version options new.fed new.answers new.taken new.vm)) (sym progress)
       (subst (λ (n : Record). IfWaits (progress_of x) (IsAsleep m version options n.fed n.answers n.taken n.vm)) (sym is)
-      (settled_waits m version options old (future_in (asked m old)) w x
+      (settled_waits m version options old (future_in (step_asked m old)) w x
       (replied_waits m version options old k live w made.0.1 (ReadsBack (m k.at.answers) old.vm.machine) x (performed (m k.at.answers) old.vm.machine) (follows_here w) made.0.0 made.1)))
 
   -- recorded commands are left at the point
@@ -371,8 +371,8 @@ module _ (m : Meaning) (version : Version) (options : VMOptions) (old : Record) 
   -- a step while recorded commands are left
   pub asks_replay : old.vm.machine.phase ≡ Replaying → Asks m old result new → Replays m version options old result new
   asks_replay replaying (x, w, does, is, progress) =
-      let made : IsMade (m k.at.answers) x old.vm w = subst (λ q. IsMade q x old.vm w) is_next does in
+      let made : StepMade (m k.at.answers) x old.vm w = subst (λ q. StepMade q x old.vm w) is_next does in
       let some = some_left replaying k.at.left refl in
       subst (λ z. Replays m version options old z new) (sym progress)
       (subst (Replays m version options old (progress_of x)) (sym is)
-      (replied_replays m version options old k live w made.0.1 (ReadsBack (m k.at.answers) old.vm.machine) (future_in (asked m old)) some.0 some.1 some.2 x (performed (m k.at.answers) old.vm.machine) (follows_here w) made.0.0 made.1))
+      (replied_replays m version options old k live w made.0.1 (ReadsBack (m k.at.answers) old.vm.machine) (future_in (step_asked m old)) some.0 some.1 some.2 x (performed (m k.at.answers) old.vm.machine) (follows_here w) made.0.0 made.1))

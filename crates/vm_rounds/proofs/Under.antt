@@ -18,7 +18,7 @@ use Rattle.vm_rounds.specs.declared.progress.Fed.{Fed}
 use Rattle.vm_rounds.specs.declared.progress.Progress.{Progress}
 use Rattle.vm_rounds.specs.Journals.{notifications_among}
 use Rattle.vm_rounds.specs.Record.{Record}
-use Rattle.vm_rounds.specs.Stepping.{Advances, Asks, CloseDoes, Closes, FeedDoes, Feeds, LacksMemory, Reads, StepAt, StepDoes, StepFrom, StepUnless, Takes, kept, kept_at, asked, future_in, settled, with_vm}
+use Rattle.vm_rounds.specs.Stepping.{Advances, Asks, CloseDoes, Closes, FeedDoes, Feeds, LacksMemory, Reads, StepAt, StepDoes, StepFrom, StepUnless, Takes, kept, kept_at, step_asked, future_in, replied, with_vm}
 use Rattle.vm_rounds.specs.Told.{CompleteOnce, HasNoOther, IsAbsent, IsKept, IsKeptUnder, Premises, Runs, arrivals_of, bytes_fed, frames_fed}
 use Rattle.vm_rounds.specs.declared.progress.Reply.{Reply}
 use Rattle.vm_rounds.specs.declared.progress.Reply.TheVariants as reply
@@ -112,7 +112,7 @@ take_fed : (old : Record) (result : Result (List ℕ) AllocError) (new : Record)
 take_fed old (Ok bytes) new does = ap (λ (r : Record). r.fed) does.1
 take_fed old (Err e) new does = ap (λ (r : Record). r.fed) does
 
-settled_fed : (r : Record) (future : Option UnresolvedFuture) (x : Result Reply Error) (w : View) → (settled r future x w).fed ≡ r.fed
+settled_fed : (r : Record) (future : Option UnresolvedFuture) (x : Result Reply Error) (w : View) → (replied r future x w).fed ≡ r.fed
 settled_fed r future (Ok (reply.Answer a)) w = refl
 settled_fed r future (Ok (reply.Waiting input run)) w = refl
 settled_fed r future (Ok reply.Suspended) w = refl
@@ -130,7 +130,7 @@ advances_fed m old result new =
     (λ (o : ((old.answers ≡ []) × Reads old result new) ⊎ ((old.answers ≢ []) × Asks m old result new)).
     ⊎_elim
     (λ (x : (old.answers ≡ []) × Reads old result new). reads_fed old result new x.1)
-    (λ (x : (old.answers ≢ []) × Asks m old result new). ap (λ (r : Record). r.fed) x.1.3 ∙ settled_fed old (future_in (asked m old)) x.1.0 x.1.1)
+    (λ (x : (old.answers ≢ []) × Asks m old result new). ap (λ (r : Record). r.fed) x.1.3 ∙ settled_fed old (future_in (step_asked m old)) x.1.0 x.1.1)
     o)
 
 step_at_fed : (ph : Phase) (m : Meaning) (old : Record) (result : Result Progress Error) (new : Record) → StepAt ph m old result new → new.fed ≡ old.fed

@@ -73,8 +73,8 @@ pub record Agrees (s : Setup) (given : StateMap) (written : List RawMessage) (v 
   pub identity : s.identity ≡ identity_of aside.start
 
 -- the frames of commands
-abbrev pub frames_of : List RawMessage → List (List ℕ)
-frames_of cs = map (λ c. frame c.ty c.body) cs
+abbrev pub command_frames : List RawMessage → List (List ℕ)
+command_frames cs = map (λ c. frame c.ty c.body) cs
 
 -- the run moves on: to a point with these answers more, and these commands made
 pub record MovesOn (s : Setup) (m : Meaning) (p : Point) (gives : List Answer) (made : List RawMessage) (q : Point) : Type 0 where
@@ -90,7 +90,7 @@ pub record Answered (s : Setup) (m : Meaning) (given : StateMap) (written : List
   pub none_before : (made ≡ []) ⊎ (p.left ≡ [])
   pub moves : MovesOn s m p (a ∷ []) made at
   pub agrees : Agrees s given (written ++ made) w at
-  pub output : w.output ≡ v.output ++ frames_of made
+  pub output : w.output ≡ v.output ++ command_frames made
 
 -- An await waits: no recorded command was left, and with all arrivals used the future isn't awake.
 pub record Waits (s : Setup) (m : Meaning) (p q : Point) : Type 0 where

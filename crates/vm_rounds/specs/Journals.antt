@@ -126,8 +126,8 @@ pub record HasAll (s : Setup) (given : StateMap) (aside : Aside) (k : ℕ) (cs :
   pub machine : m ≡ waiting s given aside 0 (cs ++ commands_among entries) (ns ++ notifications_among raws)
 
 -- what frames make of a machine that waits
-abbrev pub Fed : Setup → StateMap → Aside → ℕ → List RawMessage → List Notification → List RawMessage → Machine → Type 0
-Fed s given aside k cs ns raws m = IsSome m.failure ⊎ (StillWaits s given aside k cs ns raws m ⊎ HasAll s given aside k cs ns raws m)
+abbrev pub TakenIn : Setup → StateMap → Aside → ℕ → List RawMessage → List Notification → List RawMessage → Machine → Type 0
+TakenIn s given aside k cs ns raws m = IsSome m.failure ⊎ (StillWaits s given aside k cs ns raws m ⊎ HasAll s given aside k cs ns raws m)
 
 -- ---- from Start on
 
@@ -157,7 +157,7 @@ pub record StartedWith (alloc : Global) (version : Version) (options : VMOptions
   pub entries : List (List ℕ × Option (List ℕ))
   pub reads : start_in first.body ≡ Some start
   pub keys : entries_in start.state ≡ Some entries
-  pub fed : Fed (setup_for version options start) (record { entries = entries; coverage = coverage_of start.partial }) (aside_for alloc version options start) start.known_entries [] [] raws m
+  pub fed : TakenIn (setup_for version options start) (record { entries = entries; coverage = coverage_of start.partial }) (aside_for alloc version options start) start.known_entries [] [] raws m
 
 -- what frames make of a new machine
 abbrev pub Started : Global → Version → VMOptions → RawMessage → List RawMessage → Machine → Type 0

@@ -24,7 +24,7 @@ use Rattle.journal_protocol.specs.declared.version.Version.{Version}
 use Rattle.vm_parts.specs.declared.options.VMOptions.{VMOptions}
 use Rattle.invocation_vm.specs.Making.{made}
 use Rattle.vm_rounds.specs.Record.{AttemptView, Record}
-use Rattle.vm_rounds.specs.Steps.{Made}
+use Rattle.vm_rounds.specs.Steps.{StepMade}
 
 -- a handler's step after these answers
 abbrev pub Meaning : Type 0
@@ -34,7 +34,7 @@ Meaning = List Answer → Step
 abbrev pub fresh_record : View → Record
 fresh_record vm = record { fed = []; closed = false; answers = []; taken = []; taken_len = 0; waiting = None; starved = false; over = None; vm = vm }
 
--- an attempt is made for the version that is asked for; else the error says why, or no memory was found
+-- an attempt is made for the version that is step_asked for; else the error says why, or no memory was found
 abbrev pub MakesAttempt : {H : Type 0} → Global → VMOptions → H → Result Version Error → Result (AttemptView H) Error → Type 0
 MakesAttempt alloc options handler (Ok version) (Ok a) = a ≡ record { handler = handler; version = version; options = options; record_of = fresh_record (made alloc options version) }
 MakesAttempt alloc options handler (Ok version) (Err e) = e ≡ no_memory
@@ -48,14 +48,14 @@ abbrev pub future_in : Step → Option UnresolvedFuture
 future_in (step.Await future) = Some future
 future_in s = None
 
--- a waiting await is asked again with the same future; else the handler's next step is made
+-- a waiting await is step_asked again with the same future; else the handler's next step is made
 abbrev pub asked_from : Option UnresolvedFuture → Step → Step
 asked_from (Some future) s = step.Await future
 asked_from None s = s
 
 -- the step that is made next
-abbrev pub asked : Meaning → Record → Step
-asked meaning r = asked_from r.waiting (meaning r.answers)
+abbrev pub step_asked : Meaning → Record → Step
+step_asked meaning r = asked_from r.waiting (meaning r.answers)
 
 -- the progress that a reply is
 abbrev pub progress_of : Result Reply Error → Result Progress Error
@@ -66,14 +66,14 @@ progress_of (Ok reply.Ended) = Ok progress.Ended
 progress_of (Err e) = Err e
 
 -- the record once the VM has replied
-abbrev pub settled : Record → Option UnresolvedFuture → Result Reply Error → View → Record
-settled r future (Ok (reply.Answer a)) w = record r { answers = r.answers ++ a ∷ []; waiting = None; vm = w }
-settled r future (Ok (reply.Waiting input run)) w = record r { waiting = future; vm = w }
-settled r future (Ok reply.Suspended) w = record r { over = Some progress.Suspended; vm = w }
-settled r future (Ok reply.Ended) w = record r { over = Some progress.Ended; vm = w }
-settled r future (Err e) w = record r { vm = w }
+abbrev pub replied : Record → Option UnresolvedFuture → Result Reply Error → View → Record
+replied r future (Ok (reply.Answer a)) w = record r { answers = r.answers ++ a ∷ []; waiting = None; vm = w }
+replied r future (Ok (reply.Waiting input run)) w = record r { waiting = future; vm = w }
+replied r future (Ok reply.Suspended) w = record r { over = Some progress.Suspended; vm = w }
+replied r future (Ok reply.Ended) w = record r { over = Some progress.Ended; vm = w }
+replied r future (Err e) w = record r { vm = w }
 
--- want of memory of the handler, of room for the answer or of a copy of the future: nothing was asked
+-- want of memory of the handler, of room for the answer or of a copy of the future: nothing was step_asked
 abbrev pub LacksMemory : Record → Result Progress Error → Record → Type 0
 LacksMemory old result new = (result ≡ Err no_memory) × (new ≡ record old { starved = true })
 
@@ -86,8 +86,8 @@ Reads old (Err e) new = (w : View) × Calls input_step (Err e) old.vm w × (new 
 -- the step is made
 abbrev pub Asks : Meaning → Record → Result Progress Error → Record → Type 0
 Asks meaning old result new =
-    (r : Result Reply Error) × (w : View) × Made (asked meaning old) r old.vm w
-    × (new ≡ settled old (future_in (asked meaning old)) r w) × (result ≡ progress_of r)
+    (r : Result Reply Error) × (w : View) × StepMade (step_asked meaning old) r old.vm w
+    × (new ≡ replied old (future_in (step_asked meaning old)) r w) × (result ≡ progress_of r)
 
 -- the handler runs: memory is lacking, or the input is read, or the step is made
 abbrev pub Advances : Meaning → Record → Result Progress Error → Record → Type 0

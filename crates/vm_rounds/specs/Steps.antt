@@ -90,5 +90,5 @@ abbrev pub Asked : (Machine → Outcome Reply) → Result Reply Error → View �
 Asked step r old new = Does (step old.machine) r old.machine new.machine × (new.undecoded ≡ old.undecoded)
 
 -- a step was made: its call, and where that was answered, the command that it wrote can be read back
-abbrev pub Made : Step → Result Reply Error → View → View → Type 0
-Made s r old new = Asked (performed s) r old new × OnOk r (ReadsBack s old.machine)
+abbrev pub StepMade : Step → Result Reply Error → View → View → Type 0
+StepMade s r old new = Asked (performed s) r old new × OnOk r (ReadsBack s old.machine)

@@ -2,7 +2,7 @@
 ghost use Rattle.std.specs.Prelude.{◌≡◌, ◌≤◌, ◌+◌, IfOk, OnOk, OnErr, vec_len, vec_capacity};
 ghost use Rattle.journal_protocol.specs.Errors.{no_memory};
 ghost use Rattle.invocation_vm.specs.Seen.{seen};
-ghost use Rattle.vm_rounds.specs.Stepping.{fresh_record, settled, future_in, progress_of, asked_from, Advances, StepDoes, FeedDoes, CloseDoes, Takes, output_len, kept};
+ghost use Rattle.vm_rounds.specs.Stepping.{fresh_record, replied, future_in, progress_of, asked_from, Advances, StepDoes, FeedDoes, CloseDoes, Takes, output_len, kept};
 
 use crate::handler::Handler;
 use crate::perform::perform;
@@ -86,7 +86,7 @@ impl<H: Handler> Inner<H> {
         reply: VMResult<Reply>,
     ) -> VMResult<Progress>
         requires { vec_len self.old.answers + 1 ≤ vec_capacity self.old.answers }
-        ensures record { the_record self.new ≡ settled (the_record self.old) future reply (seen self.old.vm) }
+        ensures record { the_record self.new ≡ replied (the_record self.old) future reply (seen self.old.vm) }
         ensures handler { self.new.handler ≡ self.old.handler }
         ensures progress { result ≡ progress_of reply }
     {

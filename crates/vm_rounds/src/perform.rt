@@ -2,7 +2,7 @@
 ghost use Rattle.std.specs.Prelude.{◌≡◌, OnOk};
 ghost use Rattle.vm_machine.specs.Commands.{CanBeRead};
 ghost use Rattle.invocation_vm.specs.Seen.{seen};
-ghost use Rattle.vm_rounds.specs.Steps.{ended, awaited, await_reply, awakeable_made, carried, taken, Asked, Made};
+ghost use Rattle.vm_rounds.specs.Steps.{ended, awaited, await_reply, awakeable_made, carried, taken, Asked, StepMade};
 
 use crate::progress::Reply;
 use invocation_vm::{AwaitResponse, CoreVM, NotificationHandle, UnresolvedFuture, VM, VMResult};
@@ -82,7 +82,7 @@ fn wait(vm: &mut CoreVM, future: UnresolvedFuture) -> VMResult<Reply>
 
 /// Makes the call that a step is.
 pub fn perform(vm: &mut CoreVM, step: Step) -> VMResult<Reply>
-    ensures { Made step result (seen vm.old) (seen vm.new) }
+    ensures { StepMade step result (seen vm.old) (seen vm.new) }
 {
     match vm.ask_of(step) {
         Ask::Command(command) => carry(vm, command),
