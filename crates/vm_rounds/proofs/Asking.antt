@@ -1,4 +1,4 @@
--- A step that was step_asked for and made, in the words of the record.
+-- A step that was asked for and made, in the words of the record.
 use Rattle.std.proofs.Common.{◌≡◌, inr, List, [], Option, Result, Ok, Err, refl, ap, ◌∙◌, subst}
 use Rattle.journal_protocol.specs.declared.error.Error.{Error}
 use Rattle.vm_parts.specs.declared.steps.Answer.{Answer}

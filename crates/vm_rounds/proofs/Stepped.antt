@@ -161,7 +161,7 @@ runs_on m version options fed answers waiting to_wait taken v w k live und to gi
   tail = λ alive. k.tail live ∙ ap Rest (sym und);
 }
 
--- the step that is step_asked is the handler's
+-- the step that is asked is the handler's
 pub asks_next : (m : Meaning) (p : Point) (answers : List Answer) (waiting : Option UnresolvedFuture) → p.answers ≡ answers → StillAwaits m p waiting → asked_from waiting (m answers) ≡ m p.answers
 asks_next m p answers None is awaits = ap m (sym is)
 asks_next m p answers (Some future) is awaits = sym awaits

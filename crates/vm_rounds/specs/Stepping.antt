@@ -34,7 +34,7 @@ Meaning = List Answer → Step
 abbrev pub fresh_record : View → Record
 fresh_record vm = record { fed = []; closed = false; answers = []; taken = []; taken_len = 0; waiting = None; starved = false; over = None; vm = vm }
 
--- an attempt is made for the version that is step_asked for; else the error says why, or no memory was found
+-- an attempt is made for the version that is asked for; else the error says why, or no memory was found
 abbrev pub MakesAttempt : {H : Type 0} → Global → VMOptions → H → Result Version Error → Result (AttemptView H) Error → Type 0
 MakesAttempt alloc options handler (Ok version) (Ok a) = a ≡ record { handler = handler; version = version; options = options; record_of = fresh_record (made alloc options version) }
 MakesAttempt alloc options handler (Ok version) (Err e) = e ≡ no_memory
@@ -48,7 +48,7 @@ abbrev pub future_in : Step → Option UnresolvedFuture
 future_in (step.Await future) = Some future
 future_in s = None
 
--- a waiting await is step_asked again with the same future; else the handler's next step is made
+-- a waiting await is asked again with the same future; else the handler's next step is made
 abbrev pub asked_from : Option UnresolvedFuture → Step → Step
 asked_from (Some future) s = step.Await future
 asked_from None s = s
@@ -73,7 +73,7 @@ replied r future (Ok reply.Suspended) w = record r { over = Some progress.Suspen
 replied r future (Ok reply.Ended) w = record r { over = Some progress.Ended; vm = w }
 replied r future (Err e) w = record r { vm = w }
 
--- want of memory of the handler, of room for the answer or of a copy of the future: nothing was step_asked
+-- want of memory of the handler, of room for the answer or of a copy of the future: nothing was asked
 abbrev pub LacksMemory : Record → Result Progress Error → Record → Type 0
 LacksMemory old result new = (result ≡ Err no_memory) × (new ≡ record old { starved = true })
 
