@@ -24,7 +24,7 @@ use Rattle.vm_rounds.specs.declared.progress.Fed.{Fed}
 use Rattle.vm_rounds.specs.declared.progress.Progress.{Progress}
 use Rattle.vm_rounds.specs.Record.{Record}
 use Rattle.vm_rounds.specs.Stepping.{CloseDoes, Closes, FeedDoes, Feeds, Takes, fresh_record, kept, kept_at, with_vm}
-use Rattle.vm_rounds.specs.Told.{BeforeInput, Came, HasCome, Premises, arrivals_of, bytes_fed, frames_fed}
+use Rattle.vm_rounds.specs.Told.{BeforeInput, Came, HasCome, bytes_fed, frames_fed}
 use Rattle.vm_rounds.specs.Blames.{BadFrame, Blame, BlamedAt, FailsAt, IsBlamed, IsShort, Place}
 use Rattle.vm_rounds.specs.Blames.Blame.{Memory, Frame, NoFrame, ClosedEarly, NoInput, Call}
 use Rattle.vm_rounds.proofs.Blaming.{frames_fit}

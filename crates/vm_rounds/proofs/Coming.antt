@@ -1,5 +1,5 @@
 -- What came and what was written, over each call of an attempt: whatever the options are and whatever comes.
-use Rattle.std.proofs.Common.{◌≡◌, ◌≢◌, ◌⊎◌, ℕ, true, List, [], ◌∷◌, ◌++◌, Option, Some, None, Result, Ok, Err, refl, sym, ap, ◌∙◌, subst, inl, inr, Global}
+use Rattle.std.proofs.Common.{◌≡◌, ◌≢◌, ◌⊎◌, ℕ, true, List, [], ◌∷◌, ◌++◌, Option, Some, None, Result, Ok, Err, sym, ap, ◌∙◌, subst, inl, inr, Global}
 use Rattle.std.specs.List.{AllByRecursion}
 use Rattle.std.specs.declared.alloc.AllocError.{AllocError}
 use Rattle.journal_protocol.specs.declared.error.Error.{Error}
@@ -13,21 +13,19 @@ use Rattle.vm_machine.specs.Phases.{is_running}
 use Rattle.invocation_vm.specs.Frames.{Rest}
 use Rattle.invocation_vm.specs.Making.{made}
 use Rattle.invocation_vm.specs.Views.{View}
-use Rattle.vm_model.specs.Calls.{Meaning, Setup}
+use Rattle.vm_model.specs.Calls.{Meaning}
 use Rattle.vm_rounds.specs.declared.progress.Fed.{Fed}
 use Rattle.vm_rounds.specs.declared.progress.Progress.{Progress}
 use Rattle.vm_rounds.specs.declared.progress.Reply.{Reply}
 use Rattle.vm_rounds.specs.declared.progress.Reply.TheVariants as reply
-use Rattle.vm_rounds.specs.Journals.{setup_for}
 use Rattle.vm_rounds.specs.Record.{Record}
 use Rattle.vm_rounds.specs.Stepping.{Asks, CloseDoes, FeedDoes, StepDoes, Takes, step_asked, fresh_record, future_in, replied}
-use Rattle.vm_rounds.specs.Steps.{performed}
-use Rattle.vm_rounds.specs.Told.{Came, HasCome, IsLive, IsWholeCommand, Runs, commands_of, handed_out}
+use Rattle.vm_rounds.specs.Told.{HasCome, IsLive, IsWholeCommand, commands_of}
 use Rattle.vm_rounds.proofs.Advanced.{Begins, made_new, runs_answered, steps_keep}
-use Rattle.vm_rounds.proofs.Kept.{KeptBy, close_keeps, feed_keeps, not_live, take_keeps}
+use Rattle.vm_rounds.proofs.Kept.{KeptBy, close_keeps, feed_keeps, take_keeps}
 use Rattle.vm_rounds.proofs.Lasting.{CameBy, came_last}
 use Rattle.vm_rounds.proofs.Quiet.{wrote_more}
-use Rattle.vm_rounds.proofs.Sending.{IsLeft, Leaves, Sends, StandsBy, step_leaves}
+use Rattle.vm_rounds.proofs.Sending.{IsLeft, Sends, step_leaves}
 
 -- ---- the input is read
 

@@ -1,6 +1,6 @@
 -- What a step keeps of why an attempt failed, and what its error is.
 use Rattle.std.proofs.Common.{◌≡◌, ◌≢◌, ◌⊎◌, ◌+◌, Bool, true, false, List, [], ◌∷◌, ◌++◌, Option, Some, None, Result, Ok, Err, refl, sym, ap, ◌∙◌, subst, inl, inr, ⊎_elim, append-nil, Global}
-use Rattle.std.specs.Prelude.{◌==◌, if◌then◌else◌, OnOk, unwrap_or}
+use Rattle.std.specs.Prelude.{◌==◌, if◌then◌else◌, unwrap_or}
 use Rattle.std.proofs.lemmas.Option.{same_Some}
 use Rattle.journal_protocol.specs.declared.commands.InputCommand.{InputCommand}
 use Rattle.journal_protocol.specs.declared.error.Error.{Error}
@@ -15,7 +15,6 @@ use Rattle.journal_protocol.specs.Types.{type_number}
 use Rattle.vm_parts.specs.declared.context.StateMap.{StateMap}
 use Rattle.vm_parts.specs.declared.options.VMOptions.{VMOptions}
 use Rattle.vm_parts.specs.declared.steps.Answer.{Answer}
-use Rattle.vm_parts.specs.declared.types.UnresolvedFuture.{UnresolvedFuture}
 use Rattle.vm_parts.specs.Counting.{missing as lacking}
 use Rattle.vm_machine.specs.declared.machine.Machine.{Machine}
 use Rattle.vm_machine.specs.declared.phase.Phase.{Phase}
@@ -28,7 +27,6 @@ use Rattle.vm_machine.specs.Phases.{is_closed, is_running}
 use Rattle.invocation_vm.specs.Views.{View}
 use Rattle.vm_model.specs.Calls.{Setup, Meaning, identity_of}
 use Rattle.vm_model.specs.Journal.{input_read_from}
-use Rattle.vm_model.specs.Moves.{start}
 use Rattle.vm_model.proofs.Runs.{made_add}
 use Rattle.vm_rounds.specs.declared.progress.Fed.{Fed}
 use Rattle.vm_rounds.specs.declared.progress.Progress.{Progress}
@@ -43,7 +41,6 @@ use Rattle.vm_rounds.specs.Record.{Record}
 use Rattle.vm_rounds.specs.Stepping.{Advances, Asks, LacksMemory, Reads, StepAt, StepDoes, StepFrom, StepUnless, step_asked, future_in, progress_of}
 use Rattle.vm_rounds.specs.Stepping as stepping
 use Rattle.vm_rounds.specs.Steps.{IfDone, ReadsBack, performed}
-use Rattle.vm_rounds.specs.Steps as steps
 use Rattle.vm_rounds.specs.Told.{BeforeInput, Begun, Came, Comes, HasCome, IsKeptUnder, IsLive, Premises, Runs, arrivals_of, begun, frames_fed, handed_out}
 use Rattle.vm_rounds.proofs.Advanced.{runs_of}
 use Rattle.vm_rounds.proofs.Beginning.{input_begins}

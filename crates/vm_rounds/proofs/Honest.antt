@@ -1,17 +1,15 @@
 -- What an honest runtime feeds has its place, frame by frame, and its journal is the history.
-use Rattle.std.proofs.Common.{◌≡◌, ◌≢◌, ℕ, zero, suc, ◌+◌, ◌-◌, ◌<◌, ◌≤◌, ◌^◌, Bool, true, false, cond, length, List, [], ◌∷◌, ◌++◌, map, Option, Some, None, refl, sym, ap, ◌∙◌, subst, append_assoc, arith, length-append}
+use Rattle.std.proofs.Common.{◌≡◌, ◌≢◌, ℕ, suc, ◌+◌, ◌<◌, ◌≤◌, ◌^◌, Bool, true, false, cond, length, List, [], ◌∷◌, ◌++◌, map, Some, None, refl, sym, ap, ◌∙◌, subst, append_assoc, arith}
 use Rattle.std.specs.Prelude.{◌==◌, ◌&&◌, if◌then◌else◌, nat_le, nat_lt}
 use Rattle.std.specs.List.{AllByRecursion, flat_map}
 use Rattle.std.proofs.lemmas.Bool.Decides.{nat_tests}
 use Rattle.std.proofs.lemmas.Option.{same_Some}
-use Rattle.journal_protocol.specs.declared.faults.NamedFault.{NamedFault}
 use Rattle.journal_protocol.specs.declared.faults.NamedFault.TheVariants as fault
 use Rattle.journal_protocol.specs.declared.message.Message.TheVariants as message
 use Rattle.journal_protocol.specs.declared.message.RawMessage.{RawMessage}
 use Rattle.journal_protocol.specs.declared.notification.Notification.{Notification}
 use Rattle.journal_protocol.specs.declared.start.Start.{Start}
 use Rattle.journal_protocol.specs.declared.version.Version.{Version}
-use Rattle.journal_protocol.specs.Frames.{Whole, next_of}
 use Rattle.journal_protocol.specs.Reading.{body_as, notification_in, start_in}
 use Rattle.journal_protocol.specs.Runs.{IsWhole}
 use Rattle.journal_protocol.specs.Types.{type_number}
@@ -21,7 +19,6 @@ use Rattle.journal_protocol.specs.Bodies.{notification_format, start_format}
 use Rattle.vm_parts.specs.declared.options.VMOptions.{VMOptions}
 use Rattle.vm_machine.specs.declared.phase.Phase.{Phase}
 use Rattle.vm_machine.specs.declared.phase.Phase.TheVariants.{WaitingStart, WaitingReplayEntries, Replaying, Processing, Closed}
-use Rattle.vm_machine.specs.Inputs.{entries_in}
 use Rattle.invocation_vm.specs.Frames.{Tail, Rest, Garbage, frames_from, frames_of, joined}
 use Rattle.invocation_vm.proofs.Cuts.{frames_of-append, frames_of-next}
 use Rattle.vm_model.specs.Calls.{Meaning}
@@ -29,9 +26,9 @@ use Rattle.vm_model.specs.Histories.{History, behind}
 use Rattle.vm_model.specs.Journal.{Entry, Recorded, Notified, commands_in, notifications_in, stored_form}
 use Rattle.vm_rounds.specs.declared.progress.Fed.{Fed}
 use Rattle.vm_rounds.specs.Blames.{Began, IsHonest, Place, fault_by, frame_fault, notification_fault, refused_start, start_fault}
-use Rattle.vm_rounds.specs.Honest.{FeedsHonestly, IsEntry, entry_frame, frame_bytes, honest_frames, notification_frame}
-use Rattle.vm_rounds.specs.Journals.{as_entries, is_command, is_notification, notifications_among, notified_by, recorded_by, setup_for, told_by}
-use Rattle.vm_rounds.specs.Told.{CompleteOnce, Premises, arrivals_of, bytes_fed, frames_fed}
+use Rattle.vm_rounds.specs.Honest.{FeedsHonestly, IsEntry, entry_frame, frame_bytes, notification_frame}
+use Rattle.vm_rounds.specs.Journals.{as_entries, is_notification, notifications_among, notified_by, recorded_by, setup_for, told_by}
+use Rattle.vm_rounds.specs.Told.{CompleteOnce, bytes_fed, frames_fed}
 use Rattle.vm_rounds.proofs.Pieces.{notifications_append}
 use Rattle.vm_rounds.proofs.Replayed.{head_same, notes_same, tail_same}
 use Rattle.vm_rounds.proofs.Under.{once_before}

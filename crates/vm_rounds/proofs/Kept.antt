@@ -16,7 +16,6 @@ use Rattle.vm_machine.specs.declared.phase.Phase.TheVariants.{WaitingStart, Wait
 use Rattle.journal_protocol.specs.Types.{type_number}
 use Rattle.std.specs.Prelude.{◌==◌}
 use Rattle.std.proofs.Common.{Global}
-use Rattle.vm_model.specs.Moves.{Point, later}
 use Rattle.vm_machine.specs.Inputs.{close_step, closed_at, coverage_of, info_of, malformed_step}
 use Rattle.vm_machine.specs.Making.{fresh}
 use Rattle.vm_machine.specs.Outcomes.{called, called_at, settled}
@@ -25,17 +24,15 @@ use Rattle.invocation_vm.specs.Frames.{Tail, Rest, Garbage, frames_of}
 use Rattle.invocation_vm.specs.Views.{StarvesAmong, brought, View, after_closing, after_input, all_received, consumed, has_failed, left_by, left_over, received, spoiled}
 use Rattle.invocation_vm.proofs.Feeds.{among_failed, among_output}
 use Rattle.invocation_vm.proofs.Cuts.{frames_of-append}
-use Rattle.vm_model.specs.Calls.{Meaning, Setup}
 use Rattle.vm_rounds.specs.declared.progress.Fed.{Fed}
-use Rattle.vm_parts.specs.declared.context.StateMap.{StateMap}
-use Rattle.vm_rounds.specs.Agreement.{Agrees, Aside}
-use Rattle.vm_rounds.specs.Journals.{HasAll, StillWaits, is_command, is_notification, notifications_among, setup_for}
+use Rattle.vm_rounds.specs.Agreement.{Aside}
+use Rattle.vm_rounds.specs.Journals.{HasAll, StillWaits, is_command, is_notification, setup_for}
 use Rattle.vm_rounds.specs.Record.{Record}
 use Rattle.vm_rounds.specs.Stepping.{CloseDoes, Closes, FeedDoes, Feeds, Takes, emptied, kept, kept_at, with_vm}
-use Rattle.vm_rounds.specs.Told.{BeforeInput, Begun, Comes, IsKept, IsLive, Quiet, Runs, Wrote, bytes_fed, frames_fed, handed_out}
+use Rattle.vm_rounds.specs.Told.{BeforeInput, Begun, Comes, IsLive, Quiet, Wrote, bytes_fed, frames_fed}
 use Rattle.vm_rounds.proofs.Arriving.{failed_receives}
 use Rattle.vm_rounds.proofs.Entries.{message_by, receives_by}
-use Rattle.vm_rounds.proofs.Pieces.{before_fed, bytes_behind, journal_to, more_frames, not_failed, run_to, running_fed, still_awaits}
+use Rattle.vm_rounds.proofs.Pieces.{before_fed, bytes_behind, more_frames, not_failed}
 use Rattle.vm_rounds.proofs.Quiet.{closing_quiet, input_quiet, quiet_same, wrote_quiet}
 
 -- ---- a VM that has failed

@@ -1,9 +1,7 @@
 -- What lasts of a handler that runs: its run is told, and what came and was written is whole.
-use Rattle.std.proofs.Common.{◌≡◌, ◌≢◌, ◌⊎◌, ℕ, Bool, true, false, List, [], ◌∷◌, ◌++◌, Option, Some, None, Result, Ok, Err, refl, sym, ap, ◌∙◌, subst, inl, inr, ⊎_elim, append-nil, Global}
-use Rattle.std.specs.Prelude.{if◌then◌else◌, is_some, IsSome, ◌==◌}
+use Rattle.std.proofs.Common.{◌≡◌, ℕ, Bool, true, false, List, [], ◌∷◌, ◌++◌, Option, Some, None, refl, sym, ap, ◌∙◌, subst, inl, inr, ⊎_elim}
+use Rattle.std.specs.Prelude.{IsSome, ◌==◌}
 use Rattle.std.specs.List.{concat}
-use Rattle.std.proofs.lemmas.List.Folds.{concat-append}
-use Rattle.std.specs.declared.alloc.AllocError.{AllocError}
 use Rattle.journal_protocol.specs.declared.error.Error.{Error}
 use Rattle.journal_protocol.specs.declared.message.RawMessage.{RawMessage}
 use Rattle.journal_protocol.specs.declared.version.Version.{Version}
@@ -15,26 +13,22 @@ use Rattle.vm_machine.specs.declared.phase.Phase.{Phase}
 use Rattle.vm_machine.specs.declared.phase.Phase.TheVariants.{WaitingStart, WaitingReplayEntries, Replaying, Processing, Closed}
 use Rattle.journal_protocol.specs.Types.{type_number}
 use Rattle.vm_model.specs.Moves.{Point, later}
-use Rattle.vm_machine.specs.Inputs.{close_step, closed_at, coverage_of, info_of, malformed_step, queued}
-use Rattle.vm_machine.specs.Making.{fresh}
-use Rattle.vm_machine.specs.Outcomes.{called, called_at, settled, ruled}
+use Rattle.vm_machine.specs.Inputs.{queued}
+use Rattle.vm_machine.specs.Outcomes.{settled, ruled}
 use Rattle.vm_machine.specs.Phases.{is_running}
-use Rattle.invocation_vm.specs.Frames.{Tail, Rest, Garbage, frames_of}
-use Rattle.invocation_vm.specs.Views.{StarvesAmong, brought, View, after_closing, after_input, all_received, consumed, has_failed, left_by, left_over, received, spoiled}
-use Rattle.invocation_vm.proofs.Feeds.{among_failed, among_output}
-use Rattle.invocation_vm.proofs.Cuts.{frames_of-append}
+use Rattle.invocation_vm.specs.Frames.{frames_of}
+use Rattle.invocation_vm.specs.Views.{View, after_input, all_received, left_by, received}
 use Rattle.vm_model.specs.Calls.{Meaning, Setup}
 use Rattle.vm_rounds.specs.declared.progress.Fed.{Fed}
 use Rattle.vm_parts.specs.declared.context.StateMap.{StateMap}
-use Rattle.vm_rounds.specs.Agreement.{Agrees, Aside}
-use Rattle.vm_rounds.specs.Journals.{HasAll, StillWaits, is_command, is_notification, notifications_among, setup_for}
-use Rattle.vm_rounds.specs.Record.{Record}
-use Rattle.vm_rounds.specs.Stepping.{CloseDoes, Closes, FeedDoes, Feeds, Takes, emptied, kept, kept_at, with_vm}
-use Rattle.vm_rounds.specs.Told.{BeforeInput, Begun, Comes, IsKept, IsLive, Quiet, Runs, Wrote, bytes_fed, frames_fed, handed_out, Came, IsWholeCommand, Journal}
-use Rattle.vm_rounds.proofs.Arriving.{failed_receives, failed_stays}
+use Rattle.vm_rounds.specs.Agreement.{Agrees}
+use Rattle.vm_rounds.specs.Journals.{is_command, is_notification, notifications_among, setup_for}
+use Rattle.vm_rounds.specs.Stepping.{emptied}
+use Rattle.vm_rounds.specs.Told.{IsLive, Quiet, Runs, frames_fed, handed_out, Came}
+use Rattle.vm_rounds.proofs.Arriving.{failed_stays}
 use Rattle.vm_rounds.proofs.Entries.{message_by, receives_by}
-use Rattle.vm_rounds.proofs.Pieces.{before_fed, bytes_behind, journal_to, more_frames, not_failed, run_to, running_fed, still_awaits, fed_frames, took_in}
-use Rattle.vm_rounds.proofs.Quiet.{closing_quiet, input_quiet, quiet_same, wrote_quiet}
+use Rattle.vm_rounds.proofs.Pieces.{journal_to, not_failed, run_to, running_fed, still_awaits, fed_frames, took_in}
+use Rattle.vm_rounds.proofs.Quiet.{input_quiet, wrote_quiet}
 use Rattle.journal_protocol.specs.declared.faults.NamedFault.{NamedFault}
 use Rattle.journal_protocol.specs.declared.notification.Notification.{Notification}
 use Rattle.journal_protocol.specs.Errors.{named_error}

@@ -1,6 +1,6 @@
 -- A command that can be encoded stands for itself once it is stored.
-use Rattle.std.proofs.Common.{◌≡◌, ℕ, Bool, true, false, ◌||◌, ◌&&◌, List, [], ◌∷◌, Option, Some, None, refl, ap, ◌∙◌}
-use Rattle.std.specs.Prelude.{◌==◌, nat_eq, nat_le, nat_lt, if◌then◌else◌}
+use Rattle.std.proofs.Common.{◌≡◌, ℕ, true, false, ◌&&◌, refl, ap, ◌∙◌}
+use Rattle.std.specs.Prelude.{◌==◌, nat_le, nat_lt, if◌then◌else◌}
 use Rattle.std.proofs.lemmas.Bool.{eq-eqb}
 use Rattle.journal_protocol.specs.Commands.{IsCommand}
 use Rattle.journal_protocol.specs.Message.{body, type_of}
@@ -22,7 +22,6 @@ use Rattle.vm_machine.proofs.Endings.{same_type}
 use Rattle.vm_model.specs.Calls.{Setup, Derived, demand_of}
 use Rattle.vm_model.specs.Journal.{stored_form}
 use Rattle.vm_model.specs.Moves.{reads_as, stands_for}
-use Rattle.vm_rounds.specs.Journals.{is_command}
 
 number_same : (n : ℕ) → (n == n) ≡ true
 number_same n = eq-eqb n n refl

@@ -5,7 +5,6 @@ use Rattle.std.specs.List.{flat_map}
 use Rattle.journal_protocol.specs.declared.commands.InputCommand.{InputCommand}
 use Rattle.journal_protocol.specs.declared.message.Message.{Message}
 use Rattle.journal_protocol.specs.declared.message.Message.TheVariants as message
-use Rattle.journal_protocol.specs.declared.message.RawMessage.{RawMessage}
 use Rattle.journal_protocol.specs.declared.notification.Notification.{Notification}
 use Rattle.journal_protocol.specs.declared.notification.NotificationId.TheVariants.{CompletionId}
 use Rattle.journal_protocol.specs.declared.notification.NotificationResult.TheVariants as came
@@ -14,10 +13,7 @@ use Rattle.journal_protocol.specs.declared.version.Version.TheVariants.{V7}
 use Rattle.journal_protocol.specs.Encoding.{input as input_body, notification, sleep, start}
 use Rattle.journal_protocol.specs.Runs.{IsWhole}
 use Rattle.wire.specs.Format.{bytes, flag, list, option, read_byte, read_bytes, read_pair, read_text, read_u16, read_u32, read_u64, u16s, u32s, u64s}
-use Rattle.vm_parts.specs.declared.steps.Answer.TheVariants as answer
 use Rattle.vm_parts.specs.declared.steps.Step.TheVariants as step
-use Rattle.vm_parts.specs.declared.types.UnresolvedFuture.TheVariants.{Single}
-use Rattle.vm_parts.specs.declared.values.NonEmptyValue.TheVariants.{Success}
 use Rattle.vm_parts.specs.Options.{default_options}
 use Rattle.journal_protocol.specs.Bodies.{input_format}
 use Rattle.journal_protocol.specs.HeaderEqual.{header_equal}
@@ -29,7 +25,6 @@ use Rattle.vm_model.specs.Calls.{Meaning, Setup}
 use Rattle.vm_model.specs.Histories.{History}
 use Rattle.vm_model.specs.Journal.{Entry, Recorded, Notified, input_read_from, stored_form}
 use Rattle.vm_model.specs.Moves.{Point, after, start as began}
-use Rattle.vm_rounds.specs.declared.progress.Fed.{Fed}
 use Rattle.vm_rounds.specs.Blames.{IsHonest}
 use Rattle.vm_rounds.proofs.Honest.{honestly_fed}
 use Rattle.vm_rounds.specs.Honest.{FeedsHonestly, frame_bytes, honest_frames}

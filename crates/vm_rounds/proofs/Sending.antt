@@ -1,15 +1,13 @@
 -- What a call of a step writes and leaves, whatever came before it: whole commands, and a VM that runs, is closed or has failed.
-use Rattle.std.proofs.Common.{◌≡◌, ◌⊎◌, ℕ, Bool, true, false, cond, List, [], ◌∷◌, ◌++◌, map, Option, Some, None, Result, Ok, Err, refl, sym, ap, ◌∙◌, subst, inl, inr, ⊎_elim, append-nil}
+use Rattle.std.proofs.Common.{◌≡◌, ℕ, Bool, true, false, cond, List, [], ◌∷◌, ◌++◌, map, Option, Some, None, Result, Ok, Err, refl, sym, ap, ◌∙◌, subst, ⊎_elim, append-nil}
 use Rattle.std.specs.Prelude.{◌==◌, if◌then◌else◌, unwrap_or, OnOk}
 use Rattle.std.specs.List.{AllByRecursion}
 use Rattle.journal_protocol.specs.declared.error.Error.{Error}
 use Rattle.journal_protocol.specs.declared.faults.NamedFault.{NamedFault}
 use Rattle.journal_protocol.specs.declared.faults.NamedFault.TheVariants as fault
-use Rattle.journal_protocol.specs.declared.future.Future.{Future}
 use Rattle.journal_protocol.specs.declared.message.Message.{Message}
 use Rattle.journal_protocol.specs.declared.message.Message.TheVariants as message
 use Rattle.journal_protocol.specs.declared.message.RawMessage.{RawMessage}
-use Rattle.journal_protocol.specs.declared.notification.NotificationId.{NotificationId}
 use Rattle.journal_protocol.specs.declared.notification.NotificationResult.{NotificationResult}
 use Rattle.journal_protocol.specs.Errors.{error_message, named_error, no_memory}
 use Rattle.journal_protocol.specs.HeaderEqual.{header_equal}
@@ -24,21 +22,19 @@ use Rattle.vm_parts.specs.declared.types.NotificationHandle.{NotificationHandle}
 use Rattle.vm_parts.specs.declared.types.UnresolvedFuture.{UnresolvedFuture}
 use Rattle.vm_parts.specs.declared.types.UnresolvedFuture.TheVariants.{Single}
 use Rattle.vm_parts.specs.declared.values.Value.{Value}
-use Rattle.vm_parts.specs.declared.steps.Answer.TheVariants as answer
 use Rattle.vm_parts.specs.declared.steps.Step.{Step}
 use Rattle.vm_parts.specs.Counting.{missing, missing_signals}
 use Rattle.vm_parts.specs.Deliveries.{has_result_for, id_at, present_for, taken_by, used_for}
 use Rattle.vm_parts.specs.Values.{value_of}
 use Rattle.vm_machine.specs.declared.asks.Ask.{Ask}
 use Rattle.vm_machine.specs.declared.asks.Ask.TheVariants as ask
-use Rattle.vm_machine.specs.declared.asks.Command.{Command}
 use Rattle.vm_machine.specs.declared.machine.Machine.{Machine}
 use Rattle.vm_machine.specs.declared.phase.Phase.{Phase}
 use Rattle.vm_machine.specs.declared.phase.Phase.TheVariants.{WaitingStart, WaitingReplayEntries, Replaying, Processing, Closed}
 use Rattle.vm_machine.specs.Asks.{ask_of}
 use Rattle.vm_machine.specs.Awaits.{await_step, future_of, pending, result_taken, suspended, take_step, taken_at, tried, value_taken}
-use Rattle.vm_machine.specs.Commands.{CanBeRead, about_next, carried_out, commanded, commanded_unless, compared, counted, entered, ignores_payloads, issued, phase_after, popped, popped_from, prepared, replayed, written}
-use Rattle.vm_machine.specs.Inputs.{end_at, end_step, ended}
+use Rattle.vm_machine.specs.Commands.{CanBeRead, carried_out, commanded, commanded_unless, compared, counted, entered, ignores_payloads, issued, phase_after, popped, popped_from, prepared, replayed, written}
+use Rattle.vm_machine.specs.Inputs.{end_at, end_step}
 use Rattle.vm_machine.specs.Outcomes.{Does, IsStarved, Outcome, Done, Failed, ◌>>=◌, about_last, called, called_at, failed, refused, ruled, settled}
 use Rattle.vm_machine.specs.Phases.{is_closed, is_processing, is_replaying, is_running, state_fault}
 use Rattle.vm_machine.specs.Requests.{ids_of, name_of, shown_type, with_ids}

@@ -1,5 +1,5 @@
 -- What an attempt keeps under the premises: they hold of a beginning of the arrivals where they hold of all.
-use Rattle.std.proofs.Common.{◌≡◌, ◌≢◌, ◌⊎◌, ℕ, Bool, true, false, List, [], ◌∷◌, ◌++◌, Option, Some, None, Result, Ok, Err, refl, sym, ap, ◌∙◌, subst, inl, inr, append-nil, Global, ⊎_elim}
+use Rattle.std.proofs.Common.{◌≡◌, ◌≢◌, ◌⊎◌, ℕ, Bool, true, false, List, [], ◌∷◌, ◌++◌, Option, Some, None, Result, Ok, Err, refl, sym, ap, ◌∙◌, subst, inl, inr, ⊎_elim}
 use Rattle.std.specs.declared.alloc.AllocError.{AllocError}
 use Rattle.journal_protocol.specs.declared.error.Error.{Error}
 use Rattle.journal_protocol.specs.declared.message.RawMessage.{RawMessage}
@@ -19,7 +19,7 @@ use Rattle.vm_rounds.specs.declared.progress.Progress.{Progress}
 use Rattle.vm_rounds.specs.Journals.{notifications_among}
 use Rattle.vm_rounds.specs.Record.{Record}
 use Rattle.vm_rounds.specs.Stepping.{Advances, Asks, CloseDoes, Closes, FeedDoes, Feeds, LacksMemory, Reads, StepAt, StepDoes, StepFrom, StepUnless, Takes, kept, kept_at, step_asked, future_in, replied, with_vm}
-use Rattle.vm_rounds.specs.Told.{CompleteOnce, HasNoOther, IsAbsent, IsKept, IsKeptUnder, Premises, Runs, arrivals_of, bytes_fed, frames_fed}
+use Rattle.vm_rounds.specs.Told.{CompleteOnce, HasNoOther, IsAbsent, IsKeptUnder, Premises, Runs, arrivals_of, bytes_fed, frames_fed}
 use Rattle.vm_rounds.specs.declared.progress.Reply.{Reply}
 use Rattle.vm_rounds.specs.declared.progress.Reply.TheVariants as reply
 use Rattle.vm_parts.specs.declared.types.UnresolvedFuture.{UnresolvedFuture}

@@ -1,5 +1,5 @@
 -- What an honest runtime feeds to an attempt.
-use Rattle.std.specs.Prelude.{◌≡◌, ℕ, ◌<◌, ◌^◌, true, length, List, [], ◌∷◌, ◌++◌, map, Option, Some}
+use Rattle.std.specs.Prelude.{◌≡◌, ℕ, ◌<◌, ◌^◌, true, length, List, ◌∷◌, ◌++◌, map, Option, Some}
 use Rattle.std.specs.List.{AllByRecursion, flat_map}
 use Rattle.journal_protocol.specs.declared.message.Message.TheVariants as message
 use Rattle.journal_protocol.specs.declared.message.RawMessage.{RawMessage}
