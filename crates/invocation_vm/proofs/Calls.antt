@@ -1,5 +1,5 @@
 -- What a call does, from what its event gave and what the error rule made of it.
-use Rattle.std.proofs.Common.{◌≡◌, ◌⊎◌, inl, inr, ⊎_elim, ◌∙◌, sym, ap, refl, subst, Option, Some, None, Result, Ok, Err, false, true, rules, arith}
+use Rattle.std.proofs.Common.{◌≡◌, inl, inr, ◌∙◌, sym, ap, refl, subst, Option, Some, None, Result, Ok, Err, false}
 use Rattle.std.specs.Prelude.{OnOk, OnErr, unwrap_or}
 use Rattle.std.proofs.lemmas.Bool.{false≢true}
 use Rattle.journal_protocol.specs.declared.error.Error.{Error}

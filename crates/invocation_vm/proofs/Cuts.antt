@@ -1,12 +1,12 @@
 -- Bytes that come in two pieces do what they do in one.
-use Rattle.std.proofs.Common.{◌≡◌, ℕ, zero, suc, ◌+◌, ◌<◌, ◌≤◌, Bool, true, false, List, [], ◌∷◌, ◌++◌, length, Option, Some, None, sym, ap, refl, ◌∙◌, arith, append_assoc}
-use Rattle.std.specs.Prelude.{is_some, if◌then◌else◌}
+use Rattle.std.proofs.Common.{◌≡◌, ℕ, zero, suc, ◌≤◌, true, List, [], ◌∷◌, ◌++◌, length, Option, Some, None, sym, ap, refl, ◌∙◌, arith, append_assoc}
+use Rattle.std.specs.Prelude.{is_some}
 use Rattle.journal_protocol.specs.declared.error.Error.{Error}
 use Rattle.journal_protocol.specs.declared.message.RawMessage.{RawMessage}
 use Rattle.journal_protocol.specs.Frames.{NextFrame, Whole, Partial, Malformed, next_of}
 use Rattle.journal_protocol.proofs.Cuts.{whole_more, malformed_more, whole_shorter}
 use Rattle.vm_machine.specs.declared.machine.Machine.{Machine}
-use Rattle.vm_machine.specs.Outcomes.{called, called_at, settled}
+use Rattle.vm_machine.specs.Outcomes.{called, called_at}
 use Rattle.vm_machine.specs.Inputs.{malformed_step}
 use Rattle.invocation_vm.specs.Frames.{Tail, Rest, Garbage, frames_by, frames_from, frames_of, joined}
 use Rattle.invocation_vm.specs.Views.{View, received, spoiled, all_received, left_over, consumed, after_input, left_by}

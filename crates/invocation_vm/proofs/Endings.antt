@@ -1,6 +1,6 @@
 -- Each call leaves all that was written so that it ends once.
-use Rattle.std.proofs.Common.{◌≡◌, ℕ, Bool, true, false, List, [], ◌∷◌, ◌++◌, Option, Some, None, refl, sym, ap, subst, ◌∙◌, append_assoc, inl, inr, Global}
-use Rattle.std.specs.Prelude.{if◌then◌else◌, nat_lt, map, is_some, Result, Ok, Err}
+use Rattle.std.proofs.Common.{◌≡◌, ℕ, Bool, true, false, List, [], ◌∷◌, ◌++◌, Option, refl, sym, ap, subst, ◌∙◌, append_assoc, inl, inr, Global}
+use Rattle.std.specs.Prelude.{if◌then◌else◌, map, is_some, Result, Ok, Err}
 use Rattle.std.specs.List.{concat, flat_map}
 use Rattle.std.proofs.lemmas.List.{append-nil}
 use Rattle.std.proofs.lemmas.List.Folds.{concat-append}
@@ -11,10 +11,8 @@ use Rattle.journal_protocol.specs.declared.faults.NamedFault.TheVariants as faul
 use Rattle.journal_protocol.specs.declared.message.Message.{Message}
 use Rattle.journal_protocol.specs.declared.message.RawMessage.{RawMessage}
 use Rattle.journal_protocol.specs.declared.version.Version.{Version}
-use Rattle.journal_protocol.specs.Errors.{no_memory}
 use Rattle.journal_protocol.specs.Message.{encoding}
 use Rattle.vm_parts.specs.declared.command_type.CommandRelationship.{CommandRelationship}
-use Rattle.vm_parts.specs.declared.options.PayloadOptions.{PayloadOptions}
 use Rattle.vm_parts.specs.declared.options.VMOptions.{VMOptions}
 use Rattle.vm_parts.specs.declared.types.AwaitResponse.{AwaitResponse}
 use Rattle.vm_parts.specs.declared.types.AwakeableHandle.{AwakeableHandle}
@@ -22,9 +20,7 @@ use Rattle.vm_parts.specs.declared.types.NotificationHandle.{NotificationHandle}
 use Rattle.vm_parts.specs.declared.types.UnresolvedFuture.{UnresolvedFuture}
 use Rattle.vm_parts.specs.declared.types.UnresolvedFuture.TheVariants.{Single}
 use Rattle.vm_parts.specs.declared.values.Input.{Input}
-use Rattle.vm_parts.specs.declared.values.NonEmptyValue.{NonEmptyValue}
 use Rattle.vm_parts.specs.declared.values.Value.{Value}
-use Rattle.vm_parts.specs.Values.{value_message}
 use Rattle.vm_machine.specs.declared.machine.Machine.{Machine}
 use Rattle.vm_machine.specs.declared.asks.Command.{Command}
 use Rattle.vm_machine.specs.Commands.{commanded, unit_of}
@@ -34,7 +30,7 @@ use Rattle.vm_machine.specs.Inputs.{close_step, end_step, input_step, malformed_
 use Rattle.vm_machine.specs.Signals.{awakeable_step}
 use Rattle.vm_machine.specs.Outcomes.{Does, IsStarved, Outcome, Done, Failed, called, flat, refused}
 use Rattle.vm_machine.specs.Reports.{report_step}
-use Rattle.vm_machine.proofs.Endings.{Event, answered, await_writes, awakeable_writes, called_writes, close_writes, end_writes, input_writes, commanded_event, malformed_writes, message_writes, nothing_behind, report_writes, same, take_writes, writes_nothing}
+use Rattle.vm_machine.proofs.Endings.{answered, await_writes, awakeable_writes, called_writes, close_writes, end_writes, input_writes, commanded_event, malformed_writes, message_writes, nothing_behind, report_writes, same, take_writes, writes_nothing}
 use Rattle.invocation_vm.specs.Calls.{CallsCommand, CallsUnit, future_step, new_awakeable_step, skips_replay}
 use Rattle.invocation_vm.specs.Endings.{EndsOnceAfter, StaysSo}
 use Rattle.invocation_vm.specs.Frames.{Tail, Rest, Garbage, frames_of}

@@ -1,19 +1,19 @@
 -- What the frames that come leave, one after another.
-use Rattle.std.proofs.Common.{◌≡◌, ◌⊎◌, inl, inr, ℕ, ◌<◌, Bool, true, false, List, [], ◌∷◌, length, Option, Some, None, Result, Ok, Err, sym, ap, refl, ◌∙◌, subst, arith, rules}
-use Rattle.std.specs.Prelude.{IsErr, IsSome, OnErr, is_some, ◌++◌}
+use Rattle.std.proofs.Common.{◌≡◌, inl, inr, ℕ, true, false, List, [], ◌∷◌, Option, Some, None, Result, Ok, Err, sym, ap, refl, ◌∙◌}
+use Rattle.std.specs.Prelude.{IsSome, OnErr, is_some, ◌++◌}
 use Rattle.std.proofs.lemmas.Bool.{false≢true}
 use Rattle.std.specs.declared.alloc.AllocError.{AllocError}
 use Rattle.journal_protocol.specs.declared.message.RawMessage.{RawMessage}
 use Rattle.journal_protocol.specs.declared.error.Error.{Error}
 use Rattle.journal_protocol.specs.Errors.{no_memory}
-use Rattle.journal_protocol.specs.Frames.{NextFrame, Whole, Partial, Malformed, next_of}
+use Rattle.journal_protocol.specs.Frames.{Whole, Partial, Malformed, next_of}
 use Rattle.journal_protocol.proofs.Cuts.{whole_shorter}
 use Rattle.vm_parts.specs.declared.context.Counters.{Counters}
 use Rattle.vm_machine.specs.declared.fault.Fault.{Fault}
 use Rattle.vm_machine.specs.declared.fault.Fault.TheVariants as fault
 use Rattle.vm_machine.specs.declared.machine.Machine.{Machine}
 use Rattle.vm_machine.specs.Inputs.{message_step, malformed_step, Quiets}
-use Rattle.vm_machine.specs.Outcomes.{Outcome, Done, Failed, Gives, called, called_at, lasting, settled, IsStarved, starved}
+use Rattle.vm_machine.specs.Outcomes.{Outcome, Gives, called, called_at, IsStarved, starved}
 use Rattle.invocation_vm.specs.Frames.{frames_of}
 use Rattle.invocation_vm.specs.Views.{View, received, spoiled, all_received, consumed, left_by, Goes, HaveCome, Leaves, StarvesAmong}
 use Rattle.invocation_vm.proofs.Calls.{starves}

@@ -1,5 +1,5 @@
 -- What calls that are carried out leave of the state and of the counters, in replay as in Processing.
-use Rattle.std.proofs.Common.{◌≡◌, ℕ, ◌+◌, Bool, true, false, List, [], ◌∷◌, Option, Some, None, refl, sym, ap, subst, ◌∙◌, arith}
+use Rattle.std.proofs.Common.{◌≡◌, Bool, true, false, List, [], ◌∷◌, Option, Some, None, refl, sym, ap, subst, arith}
 use native.Mathlib.Nat.{add-zero}
 use Rattle.std.specs.Prelude.{if◌then◌else◌, ◌==◌}
 use Rattle.journal_protocol.specs.declared.error.Error.{Error}
@@ -15,10 +15,10 @@ use Rattle.vm_parts.specs.declared.types.AwakeableHandle.{AwakeableHandle}
 use Rattle.vm_parts.specs.declared.types.NotificationHandle.{NotificationHandle}
 use Rattle.vm_parts.specs.Counting.{missing, missing_signals}
 use Rattle.vm_machine.specs.declared.machine.Machine.{Machine}
-use Rattle.vm_machine.specs.Commands.{entered, written, ignores_payloads, phase_after, popped, popped_from, compared, replayed, carried_out, prepared, counted, issued}
+use Rattle.vm_machine.specs.Commands.{written, ignores_payloads, phase_after, popped, popped_from, compared, replayed, carried_out, prepared, counted, issued}
 use Rattle.vm_machine.specs.Outcomes.{Outcome, Done, Failed, ◌>>=◌, about_last}
 use Rattle.vm_machine.specs.Phases.{is_running, is_processing}
-use Rattle.vm_machine.specs.Requests.{changed, ids_of, name_of, shown_type, with_ids}
+use Rattle.vm_machine.specs.Requests.{changed, ids_of, with_ids}
 use Rattle.vm_machine.specs.Signals.{awakeable_step, awakeable_counted}
 use Rattle.vm_machine.specs.Numbers.{Counted}
 

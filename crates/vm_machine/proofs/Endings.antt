@@ -1,6 +1,6 @@
 -- Each event writes at most one terminal message, and nothing behind it.
 use Rattle.std.proofs.Common.{◌≡◌, ℕ, Bool, true, false, List, [], ◌∷◌, ◌++◌, Option, Some, None, refl, sym, ap, subst, ◌∙◌}
-use Rattle.std.specs.Prelude.{if◌then◌else◌, ◌||◌, ◌&&◌, ◌==◌, nat_le, nat_lt, not, map, is_some, Result, Ok, Err}
+use Rattle.std.specs.Prelude.{if◌then◌else◌, ◌||◌, ◌&&◌, ◌==◌, nat_le, nat_lt, not, is_some, Result, Ok, Err}
 use Rattle.std.proofs.lemmas.List.{append-nil}
 use Rattle.journal_protocol.specs.declared.error.Error.{Error}
 use Rattle.journal_protocol.specs.declared.faults.NamedFault.{NamedFault}
@@ -28,7 +28,6 @@ use Rattle.vm_parts.specs.declared.types.NotificationHandle.{NotificationHandle}
 use Rattle.vm_parts.specs.declared.values.Value.{Value}
 use Rattle.vm_parts.specs.Deliveries.{id_at, has_result_for, present_for, taken_by, used_for}
 use Rattle.vm_parts.specs.Values.{value_of}
-use Rattle.vm_parts.specs.CommandTypes.{message_type}
 use Rattle.vm_parts.specs.Counting.{missing, missing_signals}
 use Rattle.vm_machine.specs.declared.machine.Machine.{Machine}
 use Rattle.vm_machine.specs.declared.phase.Phase.{Phase}

@@ -16,7 +16,7 @@ use Rattle.vm_parts.specs.Counting.{missing}
 use Rattle.vm_machine.specs.declared.machine.Machine.{Machine}
 use Rattle.vm_machine.specs.declared.phase.Phase.{Phase}
 use Rattle.vm_machine.specs.declared.phase.Phase.TheVariants.{Replaying}
-use Rattle.vm_machine.specs.Commands.{about_next, entered, written, ignores_payloads, phase_after, popped, popped_from, compared, replayed, carried_out, prepared, counted, issued}
+use Rattle.vm_machine.specs.Commands.{entered, written, phase_after, popped, popped_from, compared, replayed, carried_out, prepared, counted, issued}
 use Rattle.vm_machine.specs.Endings.{EndsOnce, Writes, is_over}
 use Rattle.vm_machine.specs.Outcomes.{Outcome, Done, Failed, ◌>>=◌, about_last, called, called_at}
 use Rattle.vm_machine.specs.Phases.{is_running, is_processing, state_fault}

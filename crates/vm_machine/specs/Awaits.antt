@@ -1,6 +1,5 @@
 -- Awaits and takes of a handle, and what can be asked of a machine at any time.
 use Rattle.std.specs.Prelude.{◌≡◌, ◌⊎◌, ℕ, ℤ, pos, negsuc, Bool, true, false, if◌then◌else◌, List, [], ◌∷◌, ◌++◌, Option, Some, None, is_some, Result, Ok, Err}
-use Rattle.journal_protocol.specs.declared.control.Suspension.{Suspension}
 use Rattle.journal_protocol.specs.declared.error.Error.{Error}
 use Rattle.journal_protocol.specs.declared.faults.NamedFault.TheVariants as fault
 use Rattle.journal_protocol.specs.declared.future.Future.{Future}
@@ -11,7 +10,6 @@ use Rattle.journal_protocol.specs.declared.notification.NotificationId.TheVarian
 use Rattle.journal_protocol.specs.declared.notification.NotificationResult.{NotificationResult}
 use Rattle.journal_protocol.specs.Errors.{named_error, no_memory}
 use Rattle.journal_protocol.specs.Message.{encoding}
-use Rattle.vm_parts.specs.declared.options.SignalDelivery.{SignalDelivery}
 use Rattle.vm_parts.specs.declared.types.AwaitResponse.{AwaitResponse}
 use Rattle.vm_parts.specs.declared.types.AwaitResponse.TheVariants.{AnyCompleted, WaitingExternalProgress}
 use Rattle.vm_parts.specs.declared.types.State.{State}
@@ -22,7 +20,7 @@ use Rattle.vm_parts.specs.Values.{value_of}
 use Rattle.vm_machine.specs.declared.machine.Machine.{Machine}
 use Rattle.vm_machine.specs.declared.phase.Phase.{Phase}
 use Rattle.vm_machine.specs.declared.phase.Phase.TheVariants.{WaitingStart, WaitingReplayEntries, Replaying, Processing, Closed}
-use Rattle.vm_machine.specs.Outcomes.{Outcome, Done, Failed, ◌>>=◌, refused}
+use Rattle.vm_machine.specs.Outcomes.{Outcome, Done, refused}
 use Rattle.vm_machine.specs.Phases.{is_running, is_replaying, state_fault, shown}
 
 -- ---- awaits

@@ -1,5 +1,5 @@
 -- A machine before any input.
-use Rattle.std.specs.Prelude.{ℕ, true, false, [], None}
+use Rattle.std.specs.Prelude.{false, [], None}
 use Rattle.std.proofs.Common.{Global}
 use Rattle.journal_protocol.specs.declared.types.MessageType.TheVariants.{Start}
 use Rattle.journal_protocol.specs.declared.version.Version.{Version}

@@ -1,5 +1,5 @@
 -- The values that calls take and answer, as they are read from messages and written to them.
-use Rattle.std.specs.Prelude.{ℕ, ◌%◌, Bool, if◌then◌else◌, List, Option, Some, None, codes}
+use Rattle.std.specs.Prelude.{ℕ, ◌%◌, if◌then◌else◌, List, Option, Some, None, codes}
 use Rattle.std.specs.List.{list_all}
 use Rattle.std.specs.Str.{is_utf8}
 use Rattle.journal_protocol.specs.declared.parts.Failure.{Failure}

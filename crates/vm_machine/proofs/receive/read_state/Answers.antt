@@ -1,4 +1,4 @@
-use Rattle.std.proofs.Common.{◌≡◌, ◌<◌, ◌++◌, ◌∷◌, [], length, Some, sym, ap, ◌∙◌, arith, refl}
+use Rattle.std.proofs.Common.{◌<◌, length, Some, sym, ap, arith, refl}
 use Rattle.vm_machine.proofs.States.{some_key_no_text, key_text_more, entry_more}
 use Rattle.vm_machine.proofs.receive.read_state.Goals as goal
 

@@ -1,4 +1,4 @@
-use Rattle.std.proofs.Common.{◌≡◌, ◌<◌, length, rules, subst, sym, ◌∙◌, arith}
+use Rattle.std.proofs.Common.{◌<◌, length, sym, ◌∙◌, arith}
 use Rattle.vm_parts.proofs.Results.{first_at, without_first_at}
 use Rattle.vm_parts.proofs.async_results.take_first.Goals as goal
 

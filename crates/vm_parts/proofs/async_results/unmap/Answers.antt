@@ -1,4 +1,4 @@
-use Rattle.std.proofs.Common.{◌≡◌, ◌<◌, length, rules, subst, sym, ◌∙◌, arith}
+use Rattle.std.proofs.Common.{◌<◌, length, arith}
 use Rattle.vm_parts.proofs.Results.{unmapped_at}
 use Rattle.vm_parts.proofs.async_results.unmap.Goals as goal
 

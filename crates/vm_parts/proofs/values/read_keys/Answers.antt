@@ -1,5 +1,4 @@
-use Rattle.std.proofs.Common.{◌≡◌, ◌<◌, ◌++◌, ◌∷◌, [], length, rules, sym, ap, ◌∙◌, arith, subst, refl}
-use Rattle.std.specs.Str.{IsUtf8}
+use Rattle.std.proofs.Common.{◌<◌, length, sym, ap, arith, refl}
 use Rattle.vm_parts.proofs.Texts.{some_no_text, text_more, take_next}
 use Rattle.vm_parts.proofs.values.read_keys.Goals as goal
 

@@ -1,5 +1,4 @@
 use Rattle.std.proofs.Common.{◌∙◌}
-use Rattle.invocation_vm.specs.Frames.{frames_of}
 use Rattle.invocation_vm.proofs.Feeds.{came_more}
 use Rattle.invocation_vm.proofs.core_vm.CoreVM.consume.Goals as goal
 

@@ -1,4 +1,3 @@
-use Rattle.std.proofs.Common.{refl}
 use Rattle.vm_machine.proofs.Preparing.{mapped_more}
 use Rattle.vm_machine.proofs.machine.Machine.hand_out.Goals as goal
 

@@ -1,6 +1,6 @@
-use Rattle.std.proofs.Common.{◌≡◌, sym, ◌∙◌, ap, refl, rules, subst}
+use Rattle.std.proofs.Common.{sym, ◌∙◌, subst}
 use Rattle.vm_parts.specs.Arrived.{Arrived}
-use Rattle.vm_parts.specs.Deliveries.{Taken, id_at}
+use Rattle.vm_parts.specs.Deliveries.{Taken}
 use Rattle.vm_parts.proofs.Results.{none_listed, none_replaced}
 use Rattle.vm_parts.proofs.async_results.AsyncResults.take.Goals as goal
 

@@ -1,4 +1,4 @@
-use Rattle.std.proofs.Common.{◌≡◌, sym, ◌∙◌, ap}
+use Rattle.std.proofs.Common.{sym, ◌∙◌, ap}
 use Rattle.vm_parts.specs.Deliveries.{with_used, id_at}
 use Rattle.vm_parts.proofs.Results.{used_ready}
 use Rattle.vm_parts.proofs.async_results.AsyncResults.use_for.Goals as goal
