@@ -6,6 +6,7 @@ use Rattle.journal_protocol.specs.declared.error.Error.{Error}
 use Rattle.journal_protocol.specs.declared.message.RawMessage.{RawMessage}
 use Rattle.journal_protocol.specs.Errors.{no_memory}
 use Rattle.vm_parts.specs.declared.command_type.CommandRelationship.{CommandRelationship}
+use Rattle.vm_parts.specs.Outboxes.{WholeStream}
 use Rattle.vm_machine.specs.declared.machine.Machine.{Machine}
 use Rattle.vm_machine.specs.Inputs.{message_step, malformed_step, close_step}
 use Rattle.vm_machine.specs.Outcomes.{Outcome, Done, Failed, called, flat, Does, IsStarved}
@@ -105,9 +106,10 @@ Goes true old new =
     × ((raw : RawMessage) × ((frames_of old.undecoded).0 ≡ raw ∷ (frames_of new.undecoded).0) × (new.machine ≡ received raw old.machine))
 Goes false old new = new ≡ consumed (frames_of old.undecoded) old.machine
 
--- the output is taken, whole, or nothing is changed
+-- all output is taken: whole frames, one after another, each of a message that can be read back; or nothing is changed
 pub record TakesOutput (r : Result (List ℕ) AllocError) (old new : View) : Type 0 where
   pub bytes : IfOk r (λ bytes. bytes ≡ concat old.machine.output)
+  pub whole : IfOk r WholeStream
   pub ok : OnOk r (new ≡ record old { machine = record old.machine { output = [] } })
   pub err : OnErr r (new ≡ old)
 

@@ -1,14 +1,14 @@
 //! `CoreVM`: the VM over a decoder and a machine.
-ghost use Rattle.std.specs.Prelude.{◌≡◌, [], length, min, IfOk};
+ghost use Rattle.std.specs.Prelude.{◌≡◌, [], IfOk};
 ghost use Rattle.std.specs.List.{concat};
+ghost use Rattle.vm_parts.specs.Outboxes.{WholeFrames, WholeStream, len_of};
 ghost use Rattle.vm_machine.specs.Asks.{ask_of};
 ghost use Rattle.vm_machine.specs.Outcomes.{Lives};
 ghost use Rattle.invocation_vm.specs.Calls.{CallsCommand, CallsUnit, future_step};
 ghost use Rattle.invocation_vm.specs.Seen.{seen};
 ghost use Rattle.invocation_vm.specs.Views.{Calls};
 
-use crate::commands::{make_awakeable, name_text, unanswered};
-use crate::output::{joined, len_of};
+use crate::shared::{make_awakeable, name_text, unanswered};
 use crate::versions::{response_head, version_in};
 use crate::vm::VM;
 use bytes::Bytes;
@@ -106,18 +106,21 @@ impl CoreVM {
         self.machine.settle(before, given)
     }
 
-    /// The bytes that wait to be sent, which stay there.
+    /// The bytes that wait to be sent, which stay there: whole frames.
     pub fn waiting_output(&self) -> Result<Bytes, AllocError>
-        ensures { IfOk result (λ bytes. bytes ≡ concat (seen self.now).machine.output) }
+        ensures bytes { IfOk result (λ bytes. bytes ≡ concat (seen self.now).machine.output) }
+        ensures whole { IfOk result WholeStream }
+        ensures frames { WholeFrames (seen self.now).machine.output }
     {
-        joined(self.machine.alloc, self.machine.output.items())
+        self.machine.output.bytes(self.machine.alloc)
     }
 
-    /// How many bytes wait to be sent, as far as a `usize` goes.
+    /// How many bytes wait to be sent, as far as a `usize` goes; they are whole frames.
     pub fn waiting_len(&self) -> usize
-        ensures { result ≡ min (length (concat (seen self.now).machine.output)) usize.MAX }
+        ensures len { result ≡ len_of (seen self.now).machine.output }
+        ensures whole { WholeFrames (seen self.now).machine.output }
     {
-        len_of(self.machine.output.items())
+        self.machine.output.len()
     }
 
     /// Drops the bytes that wait to be sent, once they were sent.

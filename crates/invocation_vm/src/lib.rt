@@ -1,11 +1,10 @@
 //! The invocation VM: a handler's calls and the bytes of one attempt in, answers and the bytes of commands out.
 #![tactic(auto)]
 
-mod commands;
 mod core_vm;
 mod feed;
 mod laws;
-mod output;
+mod shared;
 mod versions;
 mod vm;
 

@@ -3,7 +3,7 @@ use Rattle.std.specs.Prelude.{Bool, true, false}
 use Rattle.journal_protocol.specs.declared.faults.NamedFault.{NamedFault}
 use Rattle.journal_protocol.specs.declared.faults.NamedFault.TheVariants as fault
 use Rattle.journal_protocol.specs.declared.version.Version.{Version}
-use Rattle.journal_protocol.specs.declared.version.Version.TheVariants.{V1, V2, V3, V4, V5, V6, V7, V8}
+use Rattle.journal_protocol.specs.declared.version.Version.TheVariants.{V6, V7, V8}
 use Rattle.vm_parts.specs.declared.types.State.{State}
 use Rattle.vm_parts.specs.declared.types.State.TheVariants as state
 use Rattle.vm_machine.specs.declared.phase.Phase.{Phase}
@@ -67,22 +67,13 @@ shown Closed = state.Closed
 
 -- the version is V6 or later
 abbrev pub is_from_v6 : Version → Bool
-is_from_v6 V1 = false
-is_from_v6 V2 = false
-is_from_v6 V3 = false
-is_from_v6 V4 = false
-is_from_v6 V5 = false
 is_from_v6 V6 = true
 is_from_v6 V7 = true
 is_from_v6 V8 = true
+is_from_v6 earlier = false
 
 -- the version is V7 or later
 abbrev pub is_from_v7 : Version → Bool
-is_from_v7 V1 = false
-is_from_v7 V2 = false
-is_from_v7 V3 = false
-is_from_v7 V4 = false
-is_from_v7 V5 = false
-is_from_v7 V6 = false
 is_from_v7 V7 = true
 is_from_v7 V8 = true
+is_from_v7 earlier = false

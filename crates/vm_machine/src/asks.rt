@@ -5,7 +5,6 @@ ghost use Rattle.std.specs.Option.{option_copied};
 ghost use Rattle.vm_machine.specs.Asks.{allowed, ask_of, attach_invocation_command, cancel_invocation_command, clear_all_state_command, clear_state_command, command_answer, complete_awakeable_command, complete_promise_command, complete_signal_command, has_metadata, name_in, output_command, scope_fault, scope_of, set_state_command, signal_result, sleep_command, time_fault, value_fault};
 ghost use Rattle.vm_machine.specs.Requests.{ids_of};
 
-use crate::phase::{is_from_v6, is_from_v7};
 use crate::request;
 use bytes::Bytes;
 use journal_protocol::{
@@ -60,7 +59,7 @@ fn has_metadata(value: &NonEmptyValue) -> bool
 fn value_fault(value: &NonEmptyValue, version: Version) -> Option<NamedFault>
     ensures { result ≡ value_fault value.now version }
 {
-    if has_metadata(value) && !is_from_v6(version) {
+    if has_metadata(value) && version < Version::V6 {
         Some(NamedFault::UnsupportedFeatureForNegotiatedVersion)
     } else {
         None
@@ -233,7 +232,7 @@ fn scope_fault(scope: Option<&Text>, version: Version) -> Option<NamedFault>
     let scope = scope?;
     if scope.as_str().is_empty() {
         Some(NamedFault::EmptyScope)
-    } else if is_from_v7(version) {
+    } else if version >= Version::V7 {
         None
     } else {
         Some(NamedFault::UnsupportedFeatureForNegotiatedVersion)

@@ -1,17 +1,15 @@
 //! Awaits and takes of one handle.
-ghost use Rattle.std.specs.Prelude.{◌≡◌, IfOk};
+ghost use Rattle.std.specs.Prelude.{◌≡◌, ◌∷◌, ◌++◌, [], IfOk, OnOk, OnErr};
 ghost use Rattle.journal_protocol.specs.Message.{encoding};
 ghost use Rattle.journal_protocol.specs.declared.message.Message.TheVariants as message;
 ghost use Rattle.vm_machine.specs.Outcomes.{Gives};
 ghost use Rattle.vm_machine.specs.Awaits.{future_of, pending, await_step, take_step, is_completed, value_taken};
 
-use crate::fault::Fault;
+use crate::fault::{Fault, refuse};
 use crate::machine::Machine;
 use crate::phase::Phase;
-use crate::receive::refuse;
-use bytes::Bytes;
 use journal_protocol::{
-    Encoder, Error, Future, FutureKind, Message, NamedFault, NotificationId, Suspension,
+    Error, Future, FutureKind, Message, NamedFault, NotificationId, Suspension,
 };
 use std::alloc::{AllocError, Global};
 use vm_parts::values::read_result;
@@ -40,18 +38,19 @@ fn future_of(alloc: Global, id: Option<NotificationId>) -> Result<Future, AllocE
     )
 }
 
-/// The frame of a suspension on one handle.
-fn suspension_frame(alloc: Global, id: Option<NotificationId>) -> Result<Bytes, AllocError>
-    ensures { IfOk result (λ frame. frame ≡ encoding (message.Suspension (record { future = future_of id }))) }
-{
-    let future = future_of(alloc, id)?;
-    let message = Message::Suspension(Suspension { future });
-    let frame = Encoder::new(alloc).encode(&message);
-    drop(message);
-    frame
-}
-
 impl Machine {
+    /// Writes a suspension on one handle.
+    fn suspend(&mut self, id: Option<NotificationId>) -> Result<(), AllocError>
+        ensures ok { OnOk result (self.new ≡ record self.old { output = self.old.output ++ encoding (message.Suspension (record { future = future_of id })) ∷ [] }) }
+        ensures err { OnErr result (self.new ≡ self.old) }
+    {
+        let future = future_of(self.alloc, id)?;
+        let message = Message::Suspension(Suspension { future });
+        let written = self.output.write(self.alloc, &message);
+        drop(message);
+        written
+    }
+
     /// An await that stays pending.
     fn pend(&mut self, handle: NotificationHandle) -> Result<Result<AwaitResponse, Error>, Fault>
         ensures { Gives (pending handle.0 self.old) result self.old self.new }
@@ -65,8 +64,8 @@ impl Machine {
                 waiting_run_proposal: false,
             }));
         }
-        let frame = suspension_frame(self.alloc, self.results.id_of(handle.0)?)?;
-        self.output.push(frame)?;
+        let id = self.results.id_of(handle.0)?;
+        self.suspend(id)?;
         self.output_ended = true;
         self.phase = Phase::Closed;
         Ok(Err(Error::named(NamedFault::Suspended, None)))

@@ -5,13 +5,10 @@ ghost use Rattle.vm_machine.specs.Outcomes.{Gives};
 ghost use Rattle.vm_machine.specs.Phases.{is_closed};
 ghost use Rattle.vm_machine.specs.Inputs.{input_of, input_counted, input_step, end_step};
 
-use crate::fault::Fault;
+use crate::fault::{Fault, refuse};
 use crate::machine::{Machine, empty_text};
 use crate::phase::Phase;
-use crate::receive::refuse;
-use journal_protocol::{
-    Encoder, Error, InputCommand, Message, MessageType, NamedFault, RelatedCommand,
-};
+use journal_protocol::{Error, InputCommand, Message, MessageType, NamedFault, RelatedCommand};
 use std::alloc::AllocError;
 use vm_parts::{Input, StartInfo};
 use wire::{Text, copy_of};
@@ -87,8 +84,7 @@ impl Machine {
         match self.phase {
             Phase::Closed => Ok(()),
             Phase::Processing => {
-                let frame = Encoder::new(self.alloc).encode(&Message::End)?;
-                self.output.push(frame)?;
+                self.output.write(self.alloc, &Message::End)?;
                 self.output_ended = true;
                 self.phase = Phase::Closed;
                 Ok(())

@@ -3,9 +3,9 @@
 
 pub mod asks;
 pub mod awaits;
-pub mod commands;
 pub mod fault;
 pub mod input;
+pub mod issue;
 pub mod laws;
 pub mod machine;
 pub mod phase;

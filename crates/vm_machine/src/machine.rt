@@ -7,7 +7,7 @@ use bytes::Bytes;
 use journal_protocol::{Error, MessageType, RawMessage, Version};
 use std::alloc::{AllocError, Global};
 use vm_parts::{
-    AsyncResults, Counters, EphemeralCommand, KeptProposal, LastCommand, PendingRun, Queue,
+    AsyncResults, Counters, EphemeralCommand, KeptProposal, LastCommand, Outbox, PendingRun, Queue,
     StartInfo, StateCoverage, StateMap, TrackedCall, VMOptions,
 };
 use wire::{Items, Text};
@@ -38,13 +38,13 @@ pub struct Machine {
     pub tracked: Items<TrackedCall>,
     pub ephemeral: Items<EphemeralCommand>,
     /// The frames that wait to be taken.
-    pub output: Queue<Bytes>,
+    pub output: Outbox,
     /// Whether a terminal frame was written, or the machine has failed: no frame comes any more.
     pub output_ended: bool,
 }
 
 /// No text; it takes no memory.
-pub(crate) fn empty_text(alloc: Global) -> Text
+pub fn empty_text(alloc: Global) -> Text
     ensures { result ≡ [] }
 {
     Text::from_string(String::new(alloc))
@@ -99,7 +99,7 @@ impl Machine {
             proposals: Items::new(alloc),
             tracked: Items::new(alloc),
             ephemeral: Items::new(alloc),
-            output: Queue::new(alloc),
+            output: Outbox::new(alloc),
             output_ended: false,
         })
     }

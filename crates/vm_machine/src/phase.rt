@@ -1,8 +1,8 @@
 //! How far a machine is: before Start, waiting for the known entries, replaying them, writing new commands, closed.
 ghost use Rattle.std.specs.Prelude.{◌≡◌};
-ghost use Rattle.vm_machine.specs.Phases.{is_running, is_processing, is_replaying, is_closed, state_fault, shown, is_from_v6, is_from_v7};
+ghost use Rattle.vm_machine.specs.Phases.{is_running, is_processing, is_replaying, is_closed, state_fault, shown};
 
-use journal_protocol::{NamedFault, Version};
+use journal_protocol::NamedFault;
 use vm_parts::State;
 
 /// The state of a machine that hasn't failed.
@@ -61,25 +61,5 @@ impl Phase {
             Phase::Processing => State::Processing,
             Phase::Closed => State::Closed,
         }
-    }
-}
-
-/// Whether a version is V6 or later.
-pub fn is_from_v6(version: Version) -> bool
-    ensures { result ≡ is_from_v6 version }
-{
-    match version {
-        Version::V1 | Version::V2 | Version::V3 | Version::V4 | Version::V5 => false,
-        Version::V6 | Version::V7 | Version::V8 => true,
-    }
-}
-
-/// Whether a version is V7 or later.
-pub fn is_from_v7(version: Version) -> bool
-    ensures { result ≡ is_from_v7 version }
-{
-    match version {
-        Version::V1 | Version::V2 | Version::V3 | Version::V4 | Version::V5 | Version::V6 => false,
-        Version::V7 | Version::V8 => true,
     }
 }

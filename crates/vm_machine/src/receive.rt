@@ -1,26 +1,17 @@
 //! Messages that come in: Start, the recorded commands, notifications, and the closing of the input.
 ghost use Rattle.std.specs.Prelude.{◌≡◌, Some, None, IfOk, OnErr, true};
-ghost use Rattle.journal_protocol.specs.Errors.{named_error};
-ghost use Rattle.vm_machine.specs.declared.fault.Fault.TheVariants.{Refused};
 ghost use Rattle.vm_machine.specs.Outcomes.{Gives};
 ghost use Rattle.vm_machine.specs.Phases.{is_waiting};
 ghost use Rattle.vm_machine.specs.Inputs.{from_version, started, info_of, entries_in, coverage_of, counted_entry, start_step, entry_step, notification_step, message_step, malformed_step, close_step};
 
-use crate::fault::Fault;
+use crate::fault::{Fault, refuse};
 use crate::machine::Machine;
-use crate::phase::{Phase, is_from_v6, is_from_v7};
+use crate::phase::Phase;
 use bytes::Bytes;
-use journal_protocol::{Error, NamedFault, RawMessage, Start, Version};
+use journal_protocol::{NamedFault, RawMessage, Start, Version};
 use std::alloc::{AllocError, Global};
 use vm_parts::{StartInfo, StateCoverage, StateMap};
 use wire::{Items, Text};
-
-/// A refusal that relates to no command.
-pub(crate) fn refuse(fault: NamedFault) -> Fault
-    ensures { result ≡ Refused (named_error fault None) }
-{
-    Fault::Refused(Error::named(fault, None))
-}
 
 fn coverage_of(partial: bool) -> StateCoverage
     ensures { result ≡ coverage_of partial }
@@ -69,7 +60,7 @@ fn info_of(version: Version, fallback_random_seed: u64, start: Start) -> StartIn
         limit_key,
         idempotency_key,
     } = start;
-    let has_scope = is_from_v7(version);
+    let has_scope = version >= Version::V7;
     StartInfo {
         id,
         debug_id,
@@ -77,7 +68,7 @@ fn info_of(version: Version, fallback_random_seed: u64, start: Start) -> StartIn
         known_entries,
         retry_count,
         duration,
-        random_seed: if is_from_v6(version) {
+        random_seed: if version >= Version::V6 {
             random_seed
         } else {
             fallback_random_seed

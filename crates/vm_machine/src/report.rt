@@ -3,11 +3,9 @@ ghost use Rattle.std.specs.Prelude.{◌≡◌, [], unwrap_or, IfOk};
 ghost use Rattle.vm_machine.specs.Outcomes.{Gives};
 ghost use Rattle.vm_machine.specs.Reports.{related_by, related_to, is_retry, report_step};
 
-use crate::fault::Fault;
+use crate::fault::{Fault, refuse};
 use crate::machine::{Machine, empty_text};
-use crate::phase::is_from_v7;
-use crate::receive::refuse;
-use journal_protocol::{Error, ErrorBehavior, NamedFault, RelatedCommand};
+use journal_protocol::{Error, ErrorBehavior, NamedFault, RelatedCommand, Version};
 use std::alloc::{AllocError, Global};
 use vm_parts::CommandRelationship;
 use wire::Text;
@@ -73,7 +71,7 @@ impl Machine {
     ) -> Result<(), Fault>
         ensures { Gives (report_step error relationship self.old) result self.old self.new }
     {
-        if !is_retry(error.behavior) && !is_from_v7(self.version) {
+        if !is_retry(error.behavior) && self.version < Version::V7 {
             return Err(refuse(NamedFault::UnsupportedFeatureForNegotiatedVersion));
         }
         Err(Fault::Refused(self.relate(error, relationship)?))

@@ -8,9 +8,7 @@ ghost use Rattle.vm_machine.specs.Inputs.{Quiets};
 
 use crate::fault::Fault;
 use crate::machine::Machine;
-use crate::phase::is_from_v7;
-use bytes::Bytes;
-use journal_protocol::{Encoder, Error, ErrorBehavior, Message, NamedFault};
+use journal_protocol::{Error, ErrorBehavior, Message, NamedFault, Version};
 use std::alloc::{AllocError, Global};
 use vm_parts::{Counters, JournalMismatchRetryBehavior};
 
@@ -22,16 +20,6 @@ fn mismatch_behavior(option: JournalMismatchRetryBehavior) -> ErrorBehavior
         JournalMismatchRetryBehavior::FailTerminally => ErrorBehavior::Fail,
         JournalMismatchRetryBehavior::FollowRetryPolicy => ErrorBehavior::Retry,
     }
-}
-
-/// The frame of an error.
-fn error_frame(alloc: Global, error: &Error) -> Result<Bytes, AllocError>
-    ensures { IfOk result (λ frame. frame ≡ encoding (message.Error (error_message error.now))) }
-{
-    let message = Message::Error(error.to_message(alloc)?);
-    let frame = Encoder::new(alloc).encode(&message);
-    drop(message);
-    frame
 }
 
 impl Machine {
@@ -57,7 +45,7 @@ impl Machine {
     fn rule(&self, error: Error) -> Error
         ensures { result ≡ ruled self.now error }
     {
-        if error.code == 570 && is_from_v7(self.version) {
+        if error.code == 570 && self.version >= Version::V7 {
             return error.with_behavior(mismatch_behavior(
                 self.options.journal_mismatch_retry_behavior,
             ));
@@ -69,8 +57,10 @@ impl Machine {
         ensures ok { OnOk result (self.new ≡ record self.old { output = self.old.output ++ encoding (message.Error (error_message error.now)) ∷ [] }) }
         ensures err { OnErr result (self.new ≡ self.old) }
     {
-        let frame = error_frame(self.alloc, error)?;
-        self.output.push(frame)
+        let message = Message::Error(error.to_message(self.alloc)?);
+        let written = self.output.write(self.alloc, &message);
+        drop(message);
+        written
     }
 
     fn fail(&mut self, error: &Error) -> Result<(), AllocError>

@@ -3,9 +3,8 @@ ghost use Rattle.std.specs.Prelude.{◌≡◌, IfOk};
 ghost use Rattle.vm_machine.specs.Outcomes.{Gives};
 ghost use Rattle.vm_machine.specs.Signals.{awakeable_id, awakeable_step};
 
-use crate::fault::Fault;
+use crate::fault::{Fault, refuse};
 use crate::machine::Machine;
-use crate::receive::refuse;
 use base64::engine::general_purpose::URL_SAFE_NO_PAD;
 use bytes::Bytes;
 use journal_protocol::NotificationId;

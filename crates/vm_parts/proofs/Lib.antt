@@ -1,4 +1,5 @@
 pub mod Changes
+pub mod Outboxes
 pub mod Places
 pub mod Results
 pub mod Texts

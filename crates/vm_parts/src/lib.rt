@@ -7,6 +7,7 @@ pub mod command_type;
 pub mod context;
 pub mod ephemeral;
 pub mod options;
+pub mod outbox;
 pub mod queue;
 pub mod run_state;
 pub mod steps;
@@ -22,6 +23,7 @@ pub use options::{
     AwaitingOnPolicy, ImplicitCancellationOption, JournalMismatchRetryBehavior, JournalReplay,
     NonDeterministicChecksOption, PayloadOptions, SignalDelivery, VMOptions,
 };
+pub use outbox::Outbox;
 pub use queue::Queue;
 pub use run_state::{KeptProposal, PendingRun, RunExecution, TrackedCall};
 pub use steps::{Answer, Step};

@@ -37,17 +37,20 @@ use Rattle.vm_model.proofs.Compared.{after_answers, attempt_is_told}
 use Rattle.vm_model.proofs.Runs.{made_after}
 use Rattle.vm_rounds.specs.declared.progress.Fed.{Fed}
 use Rattle.vm_rounds.specs.declared.progress.Progress.{Progress}
+use Rattle.vm_rounds.specs.declared.progress.Progress.TheVariants as progress
 use Rattle.vm_rounds.specs.Agreement.{Agrees, Aside}
 use Rattle.vm_rounds.specs.Journals.{BeginsOrFails, HasAll, StillWaits, commands_among, machine_fed, missing, notifications_among, setup_for}
 use Rattle.vm_rounds.specs.Record.{Record}
 use Rattle.vm_rounds.specs.Stepping.{Advances, Asks, IfWaits, IsReplaying, LacksMemory, Reads, StepAt, StepDoes, StepFrom, StepUnless, fresh_record}
-use Rattle.vm_rounds.specs.Told.{AnswersAreTold, BeforeInput, Begun, Comes, IsKept, IsLive, IsAsleep, Quiet, Replays, Runs, StillAwaits, Wrote, arrivals, bytes_fed, frames_fed}
+use Rattle.vm_parts.specs.Outboxes.{WholeFrames}
+use Rattle.vm_rounds.specs.Told.{AnswersAreTold, NothingWakes, ToldBy, BeforeInput, Begun, Comes, IsKept, IsLive, IsAsleep, Quiet, Replays, Runs, StillAwaits, Wrote, arrivals, bytes_fed, frames_fed}
 use Rattle.vm_rounds.proofs.Beginning.{input_begins}
 use Rattle.vm_rounds.proofs.Kept.{KeptBy, Lasts, Reading, dead_same}
 use Rattle.vm_rounds.proofs.Lasting.{runs_last}
 use Rattle.vm_rounds.proofs.Pieces.{agrees_running}
 use Rattle.vm_rounds.proofs.Quiet.{Silent, error_quiet, quiet_same, wrote_quiet}
-use Rattle.vm_rounds.proofs.Stepped.{asks_keep, asks_replay, asks_wait}
+use Rattle.vm_rounds.proofs.Written.{written_is}
+use Rattle.vm_rounds.proofs.Stepped.{Sleeps, asks_keep, asks_replay, asks_wait}
 
 -- ---- an event that failed
 
@@ -278,9 +281,9 @@ runs_of m version options r k some =
     (λ (b : Runs m version options r.fed r.answers r.waiting r.taken r.vm). b)
     k
 
-advances_wait : (m : Meaning) (version : Version) (options : VMOptions) (old : Record) (result : Result Progress Error) (new : Record) → IsKept m version options old → IsLive old.vm.machine → Advances m old result new → IfWaits result (IsAsleep m version options new.fed new.answers new.taken new.vm)
+advances_wait : (m : Meaning) (version : Version) (options : VMOptions) (old : Record) (result : Result Progress Error) (new : Record) → IsKept m version options old → IsLive old.vm.machine → Advances m old result new → IfWaits result (Sleeps m version options new.fed new.answers new.taken new.vm)
 advances_wait m version options old result new k live =
-    let P = IsAsleep m version options new.fed new.answers new.taken new.vm in
+    let P = Sleeps m version options new.fed new.answers new.taken new.vm in
     ⊎_elim
     (λ (x : LacksMemory old result new). error_waits P result _ x.0)
     (λ (o : ((old.answers ≡ []) × Reads old result new) ⊎ ((old.answers ≢ []) × Asks m old result new)).
@@ -289,22 +292,22 @@ advances_wait m version options old result new k live =
     (λ (x : (old.answers ≢ []) × Asks m old result new). asks_wait m version options old result new (runs_of m version options old k x.0) live x.1)
     o)
 
-wait_at : (m : Meaning) (version : Version) (options : VMOptions) (old : Record) (result : Result Progress Error) (new : Record) → IsKept m version options old → old.vm.machine.failure ≡ None → (ph : Phase) → old.vm.machine.phase ≡ ph → StepAt ph m old result new → IfWaits result (IsAsleep m version options new.fed new.answers new.taken new.vm)
-wait_at m version options old result new k live WaitingStart at d = subst (λ z. IfWaits z (IsAsleep m version options new.fed new.answers new.taken new.vm)) (sym d.0) tt
-wait_at m version options old result new k live WaitingReplayEntries at d = subst (λ z. IfWaits z (IsAsleep m version options new.fed new.answers new.taken new.vm)) (sym d.0) tt
+wait_at : (m : Meaning) (version : Version) (options : VMOptions) (old : Record) (result : Result Progress Error) (new : Record) → IsKept m version options old → old.vm.machine.failure ≡ None → (ph : Phase) → old.vm.machine.phase ≡ ph → StepAt ph m old result new → IfWaits result (Sleeps m version options new.fed new.answers new.taken new.vm)
+wait_at m version options old result new k live WaitingStart at d = subst (λ z. IfWaits z (Sleeps m version options new.fed new.answers new.taken new.vm)) (sym d.0) tt
+wait_at m version options old result new k live WaitingReplayEntries at d = subst (λ z. IfWaits z (Sleeps m version options new.fed new.answers new.taken new.vm)) (sym d.0) tt
 wait_at m version options old result new k live Closed at d = error_waits _ result _ d.0
 wait_at m version options old result new k live Replaying at d = advances_wait m version options old result new k (record { failure = live; phase = ap is_running at }) d
 wait_at m version options old result new k live Processing at d = advances_wait m version options old result new k (record { failure = live; phase = ap is_running at }) d
 
-wait_unless : (m : Meaning) (version : Version) (options : VMOptions) (old : Record) (result : Result Progress Error) (new : Record) → IsKept m version options old → (f : Option Error) → old.vm.machine.failure ≡ f → StepUnless f None m old result new → IfWaits result (IsAsleep m version options new.fed new.answers new.taken new.vm)
+wait_unless : (m : Meaning) (version : Version) (options : VMOptions) (old : Record) (result : Result Progress Error) (new : Record) → IsKept m version options old → (f : Option Error) → old.vm.machine.failure ≡ f → StepUnless f None m old result new → IfWaits result (Sleeps m version options new.fed new.answers new.taken new.vm)
 wait_unless m version options old result new k (Some e) is d = ⊎_elim (λ (x : result ≡ Err e). error_waits _ result e x) (λ (x : result ≡ Err no_memory). error_waits _ result no_memory x) d.0
 wait_unless m version options old result new k None is d = wait_at m version options old result new k is old.vm.machine.phase refl d
 
 -- a step waits only where nothing wakes
-pub step_waits : (m : Meaning) (version : Version) (options : VMOptions) (old : Record) (result : Result Progress Error) (new : Record) → IsKept m version options old → old.over ≡ None → StepDoes m old result new → IfWaits result (IsAsleep m version options new.fed new.answers new.taken new.vm)
+pub step_waits : (m : Meaning) (version : Version) (options : VMOptions) (old : Record) (result : Result Progress Error) (new : Record) → IsKept m version options old → old.over ≡ None → StepDoes m old result new → IfWaits result (Sleeps m version options new.fed new.answers new.taken new.vm)
 step_waits m version options old result new k going does = by_test old.starved does
   where
-    by_test : (b : Bool) → StepFrom b m old result new → IfWaits result (IsAsleep m version options new.fed new.answers new.taken new.vm)
+    by_test : (b : Bool) → StepFrom b m old result new → IfWaits result (Sleeps m version options new.fed new.answers new.taken new.vm)
     by_test true d = error_waits _ result no_memory d.0
     by_test false d = wait_unless m version options old result new k old.vm.machine.failure refl (subst (λ over. StepUnless old.vm.machine.failure over m old result new) going d)
 
@@ -342,7 +345,7 @@ unfolding frames_of
 made_new alloc version options = record {
   answers = refl;
   waits_not = refl;
-  wrote = record { messages = []; output = refl; commands = refl };
+  wrote = record { sent = []; bytes = refl; whole = tt; waiting = []; frames = refl; commands = refl };
   comes = λ _. inl (refl, (alloc, refl));
   tail = λ _. refl;
 }
@@ -355,10 +358,23 @@ pub new_is_new : {S : Type 0} (alloc : Global) (options : VMOptions) (wanted : R
 new_is_new alloc options (Ok version) view vm is = subst (λ (x : View). IsNew x.machine.version options (fresh_record x)) (sym is) (made_new alloc version options)
 new_is_new alloc options (Err refusal) view vm is = absurd is
 
-pub kept_told : (m : Meaning) (version : Version) (options : VMOptions) (r : Record) → IsKept m version options r → (r.answers ≡ []) ⊎ AnswersAreTold m version options r
-kept_told m version options r =
+-- the answers of an attempt are told by what is read from its output
+pub kept_told : (m : Meaning) (version : Version) (options : VMOptions) (r : Record) → WholeFrames r.vm.machine.output → IsKept m version options r → (r.answers ≡ []) ⊎ AnswersAreTold m version options r
+kept_told m version options r f =
     ⊎_elim
     (λ (b : BeforeInput version options r.fed r.answers r.waiting r.taken r.vm). inl b.answers)
     (λ (k : Runs m version options r.fed r.answers r.waiting r.taken r.vm).
     let told = attempt_is_told (setup_for version options k.journal.start) m k.journal.input k.moves (arrivals k.journal) k.journal.rest k.written k.at k.run in
-    inr (record { journal = k.journal; written = k.written; wrote = k.wrote; at = k.at; told = told.0; answers = k.answers; moves = k.moves; made = k.run; in_order = told.1 }))
+    inr (subst (ToldBy m version options r.fed r.answers) (written_is r.taken r.vm.machine.output k.written k.wrote f) (record { journal = k.journal; at = k.at; told = told.0; answers = k.answers; moves = k.moves; made = k.run; in_order = told.1 })))
+
+-- an await sleeps by what is read from its output
+sleeps_on : (m : Meaning) (version : Version) (options : VMOptions) (r : Record) → WholeFrames r.vm.machine.output → Sleeps m version options r.fed r.answers r.taken r.vm → NothingWakes m version options r
+sleeps_on m version options r f (written, wrote, asleep) = subst (IsAsleep m version options r.fed r.answers) (written_is r.taken r.vm.machine.output written wrote f) asleep
+
+pub asleep_waits : (m : Meaning) (version : Version) (options : VMOptions) (r : Record) (result : Result Progress Error) → WholeFrames r.vm.machine.output → IfWaits result (Sleeps m version options r.fed r.answers r.taken r.vm) → IfWaits result (NothingWakes m version options r)
+asleep_waits m version options r (Ok (progress.Waiting input run)) f h = sleeps_on m version options r f h
+asleep_waits m version options r (Ok progress.Suspended) f h = sleeps_on m version options r f h
+asleep_waits m version options r (Ok progress.NotReady) f h = tt
+asleep_waits m version options r (Ok progress.Stepped) f h = tt
+asleep_waits m version options r (Ok progress.Ended) f h = tt
+asleep_waits m version options r (Err e) f h = tt

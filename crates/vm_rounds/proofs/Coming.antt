@@ -20,7 +20,7 @@ use Rattle.vm_rounds.specs.declared.progress.Reply.{Reply}
 use Rattle.vm_rounds.specs.declared.progress.Reply.TheVariants as reply
 use Rattle.vm_rounds.specs.Record.{Record}
 use Rattle.vm_rounds.specs.Stepping.{Asks, CloseDoes, FeedDoes, StepDoes, Takes, step_asked, fresh_record, future_in, replied}
-use Rattle.vm_rounds.specs.Told.{HasCome, IsLive, IsWholeCommand, commands_of}
+use Rattle.vm_rounds.specs.Told.{HasCome, IsLive, commands_of}
 use Rattle.vm_rounds.proofs.Advanced.{Begins, made_new, runs_answered, steps_keep}
 use Rattle.vm_rounds.proofs.Kept.{KeptBy, close_keeps, feed_keeps, take_keeps}
 use Rattle.vm_rounds.proofs.Lasting.{CameBy, came_last}
@@ -35,17 +35,12 @@ came_begins m version options fed answers waiting taken v (k, none) = record {
   answered = runs_answered m version options fed answers waiting taken v k;
   written = k.written;
   wrote = k.wrote;
-  whole = subst (AllByRecursion IsWholeCommand) (sym none) tt;
   made_for = λ live. let a = k.agrees live in (ap (λ z. z.version) a.machine, ap (λ z. z.options) a.machine);
   phase = k.phase;
   tail = k.tail;
 }
 
 -- ---- a call
-
-all_append : (P : RawMessage → Type 0) (xs ys : List RawMessage) → AllByRecursion P xs → AllByRecursion P ys → AllByRecursion P (xs ++ ys)
-all_append P [] ys a b = b
-all_append P (x ∷ xs) ys a b = (a.0, all_append P xs ys a.1 b)
 
 never_empty : (answers : List Answer) (a : Answer) → answers ++ a ∷ [] ≢ []
 never_empty [] a = λ h. absurd (cc)
@@ -59,7 +54,6 @@ module _ (version : Version) (options : VMOptions) (fed : List Fed) (before : Li
     answered = answered;
     written = k.written ++ commands_of s.messages;
     wrote = wrote_more taken v.machine.output w.machine.output s.messages k.written s.output k.wrote;
-    whole = all_append IsWholeCommand k.written (commands_of s.messages) k.whole s.whole;
     made_for = λ _. (s.version ∙ (k.made_for live).0, s.options ∙ (k.made_for live).1);
     phase = phase;
     tail = λ _. k.tail live ∙ ap Rest (sym und);

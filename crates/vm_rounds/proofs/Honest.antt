@@ -32,21 +32,9 @@ use Rattle.vm_rounds.specs.Told.{CompleteOnce, bytes_fed, frames_fed}
 use Rattle.vm_rounds.proofs.Pieces.{notifications_append}
 use Rattle.vm_rounds.proofs.Replayed.{head_same, notes_same, tail_same}
 use Rattle.vm_rounds.proofs.Under.{once_before}
+use Rattle.vm_rounds.proofs.Written.{Fits, frames_spelled}
 
 -- ---- frames of bytes
-
-abbrev Fits : RawMessage → Type 0
-Fits raw = length raw.body < 2 ^ 64
-
--- whole frames are read back
-frames_spelled : (raws : List RawMessage) → AllByRecursion Fits raws → frames_of (flat_map frame_bytes raws) ≡ (raws, Rest [])
-unfolding frames_of
-frames_spelled [] fit = refl
-frames_spelled (raw ∷ raws) fit =
-    let rest = flat_map frame_bytes raws in
-    frames_of-next (frame_bytes raw ++ rest)
-    ∙ ap (λ o. frames_from o (λ bytes. frames_of bytes) (frame_bytes raw ++ rest)) (whole_spelled raw.ty raw.body rest fit.0)
-    ∙ ap (λ p. (raw ∷ p.0, p.1)) (frames_spelled raws fit.1)
 
 -- a beginning of frames brings the first of them, and no garbage
 record Begins (F : List RawMessage) (t : Tail) (raws : List RawMessage) : Type 0 where

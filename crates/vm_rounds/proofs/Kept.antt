@@ -29,10 +29,12 @@ use Rattle.vm_rounds.specs.Agreement.{Aside}
 use Rattle.vm_rounds.specs.Journals.{HasAll, StillWaits, is_command, is_notification, setup_for}
 use Rattle.vm_rounds.specs.Record.{Record}
 use Rattle.vm_rounds.specs.Stepping.{CloseDoes, Closes, FeedDoes, Feeds, Takes, emptied, kept, kept_at, with_vm}
+use Rattle.vm_parts.specs.Outboxes.{WholeFrames}
 use Rattle.vm_rounds.specs.Told.{BeforeInput, Begun, Comes, IsLive, Quiet, Wrote, bytes_fed, frames_fed}
 use Rattle.vm_rounds.proofs.Arriving.{failed_receives}
 use Rattle.vm_rounds.proofs.Entries.{message_by, receives_by}
 use Rattle.vm_rounds.proofs.Pieces.{before_fed, bytes_behind, more_frames, not_failed}
+use Rattle.vm_rounds.proofs.Written.{takes_wrote}
 use Rattle.vm_rounds.proofs.Quiet.{closing_quiet, input_quiet, quiet_same, wrote_quiet}
 
 -- ---- a VM that has failed
@@ -128,13 +130,6 @@ with_aside version options fed v w b aside is waits = record {
   waits = waits;
 }
 
-pub takes_wrote : (taken output : List (List ℕ)) (written : List RawMessage) → Wrote taken output written → Wrote (taken ++ concat output ∷ []) [] written
-takes_wrote taken output written w = record {
-  messages = w.messages;
-  output = append-nil (concat (taken ++ concat output ∷ [])) ∙ concat-append taken (concat output ∷ []) ∙ ap (λ l. concat taken ++ l) (append-nil (concat output)) ∙ w.output;
-  commands = w.commands;
-}
-
 comes_emptied : (version : Version) (options : VMOptions) (fed : List Fed) (v : Machine) → Comes version options fed v → Comes version options fed (record v { output = [] })
 comes_emptied version options fed v =
     ⊎_elim
@@ -155,11 +150,11 @@ comes_closed version options fed v runs =
     (λ (x : HasAll (setup_for version options b.start) (record { entries = b.state; coverage = coverage_of b.start.partial }) b.aside b.start.known_entries [] [] b.others v). inr (record { entries = x.entries; others = x.others; split = x.split; count = x.count; machine = ap (λ (w : Machine). record w { input_closed = true }) x.machine }))
     b.waits)))
 
-before_takes : (version : Version) (options : VMOptions) (fed : List Fed) (answers : List Answer) (waiting : Option UnresolvedFuture) (taken : List (List ℕ)) (v : View) → BeforeInput version options fed answers waiting taken v → BeforeInput version options fed answers waiting (taken ++ concat v.machine.output ∷ []) (emptied v)
-before_takes version options fed answers waiting taken v b = record {
+before_takes : (version : Version) (options : VMOptions) (fed : List Fed) (answers : List Answer) (waiting : Option UnresolvedFuture) (taken : List (List ℕ)) (v : View) → WholeFrames v.machine.output → BeforeInput version options fed answers waiting taken v → BeforeInput version options fed answers waiting (taken ++ concat v.machine.output ∷ []) (emptied v)
+before_takes version options fed answers waiting taken v f b = record {
   answers = b.answers;
   waits_not = b.waits_not;
-  wrote = takes_wrote taken v.machine.output [] b.wrote;
+  wrote = takes_wrote taken v.machine.output [] f b.wrote;
   comes = λ alive. comes_emptied version options fed v.machine (b.comes alive);
   tail = b.tail;
 }
@@ -170,7 +165,7 @@ before_closes : (version : Version) (options : VMOptions) (fed : List Fed) (answ
 before_closes version options fed answers waiting taken v b live runs = record {
   answers = b.answers;
   waits_not = b.waits_not;
-  wrote = record { messages = b.wrote.messages; output = b.wrote.output; commands = b.wrote.commands };
+  wrote = b.wrote;
   comes = λ alive. comes_closed version options fed v.machine runs (b.comes live);
   tail = b.tail;
 }
@@ -199,7 +194,7 @@ pub record Lasts (R : Reading) : Type 0 where
   pub dead : (fed to : List Fed) (G : List RawMessage) → frames_fed to ≡ frames_fed fed ++ G → (answers : List Answer) (waiting : Option UnresolvedFuture) (taken : List (List ℕ)) (v w : View) → R fed answers waiting taken v → Quiet v.machine w.machine → IsSome w.machine.failure → R to answers waiting taken w
   pub closed : (fed : List Fed) (answers : List Answer) (waiting : Option UnresolvedFuture) (taken : List (List ℕ)) (v w : View) → R fed answers waiting taken v → Quiet v.machine w.machine → w.machine.phase ≡ Closed → R fed answers waiting taken w
   pub more : (fed : List Fed) (answers : List Answer) (waiting : Option UnresolvedFuture) (taken : List (List ℕ)) (v : View) (f : Fed) → R fed answers waiting taken v → IsLive v.machine → R (fed ++ f ∷ []) answers waiting taken (after_input v f.piece)
-  pub takes : (fed : List Fed) (answers : List Answer) (waiting : Option UnresolvedFuture) (taken : List (List ℕ)) (v : View) → R fed answers waiting taken v → R fed answers waiting (taken ++ concat v.machine.output ∷ []) (emptied v)
+  pub takes : (fed : List Fed) (answers : List Answer) (waiting : Option UnresolvedFuture) (taken : List (List ℕ)) (v : View) → WholeFrames v.machine.output → R fed answers waiting taken v → R fed answers waiting (taken ++ concat v.machine.output ∷ []) (emptied v)
   pub closes : (fed : List Fed) (answers : List Answer) (waiting : Option UnresolvedFuture) (taken : List (List ℕ)) (v : View) → R fed answers waiting taken v → R fed answers waiting taken (record v { machine = record v.machine { input_closed = true } })
   pub phase : (fed : List Fed) (answers : List Answer) (waiting : Option UnresolvedFuture) (taken : List (List ℕ)) (v : View) → R fed answers waiting taken v → v.machine.failure ≡ None → (is_running v.machine.phase ≡ true) ⊎ (v.machine.phase ≡ Closed)
 
@@ -276,8 +271,8 @@ module _ (R : Reading) (l : Lasts R) (version : Version) (options : VMOptions) w
   take_keeps old (Ok bytes) new k does =
       subst Kept (sym does.1)
       (⊎_elim
-      (λ (b : BeforeInput version options old.fed old.answers old.waiting old.taken old.vm). inl (before_takes version options old.fed old.answers old.waiting old.taken old.vm b))
-      (λ (b : R old.fed old.answers old.waiting old.taken old.vm). inr (l.takes old.fed old.answers old.waiting old.taken old.vm b))
+      (λ (b : BeforeInput version options old.fed old.answers old.waiting old.taken old.vm). inl (before_takes version options old.fed old.answers old.waiting old.taken old.vm does.2 b))
+      (λ (b : R old.fed old.answers old.waiting old.taken old.vm). inr (l.takes old.fed old.answers old.waiting old.taken old.vm does.2 b))
       k)
   take_keeps old (Err e) new k does = subst Kept (sym does) k
 

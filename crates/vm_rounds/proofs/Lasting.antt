@@ -1,4 +1,4 @@
--- What lasts of a handler that runs: its run is told, and what came and was written is whole.
+-- What lasts of a handler that runs: its run is told, and so is what came and was written.
 use Rattle.std.proofs.Common.{◌≡◌, ℕ, Bool, true, false, List, [], ◌∷◌, ◌++◌, Option, Some, None, refl, sym, ap, ◌∙◌, subst, inl, inr, ⊎_elim}
 use Rattle.std.specs.Prelude.{IsSome, ◌==◌}
 use Rattle.std.specs.List.{concat}
@@ -24,6 +24,7 @@ use Rattle.vm_parts.specs.declared.context.StateMap.{StateMap}
 use Rattle.vm_rounds.specs.Agreement.{Agrees}
 use Rattle.vm_rounds.specs.Journals.{is_command, is_notification, notifications_among, setup_for}
 use Rattle.vm_rounds.specs.Stepping.{emptied}
+use Rattle.vm_parts.specs.Outboxes.{WholeFrames}
 use Rattle.vm_rounds.specs.Told.{IsLive, Quiet, Runs, frames_fed, handed_out, Came}
 use Rattle.vm_rounds.proofs.Arriving.{failed_stays}
 use Rattle.vm_rounds.proofs.Entries.{message_by, receives_by}
@@ -35,7 +36,8 @@ use Rattle.journal_protocol.specs.Errors.{named_error}
 use Rattle.journal_protocol.specs.Reading.{notification_in}
 use Rattle.vm_rounds.specs.Blames.{FailsAt, frame_fault}
 use Rattle.vm_rounds.proofs.Blaming.{frames_fit, one_comes}
-use Rattle.vm_rounds.proofs.Kept.{Lasts, Reading, not_live, takes_wrote}
+use Rattle.vm_rounds.proofs.Kept.{Lasts, Reading, not_live}
+use Rattle.vm_rounds.proofs.Written.{takes_wrote}
 
 -- ---- its run is told
 
@@ -76,11 +78,11 @@ agrees_emptied s given written v p a = record { aside = record a.aside { output 
 agrees_closed : (s : Setup) (given : StateMap) (written : List RawMessage) (v : Machine) (p : Point) → Agrees s given written v p → Agrees s given written (record v { input_closed = true }) p
 agrees_closed s given written v p a = record { aside = record a.aside { input_closed = true }; machine = ap (λ (w : Machine). record w { input_closed = true }) a.machine; identity = a.identity }
 
-runs_takes : (m : Meaning) (version : Version) (options : VMOptions) (fed : List Fed) (answers : List Answer) (waiting : Option UnresolvedFuture) (taken : List (List ℕ)) (v : View) → Runs m version options fed answers waiting taken v → Runs m version options fed answers waiting (taken ++ concat v.machine.output ∷ []) (emptied v)
-runs_takes m version options fed answers waiting taken v k = record {
+runs_takes : (m : Meaning) (version : Version) (options : VMOptions) (fed : List Fed) (answers : List Answer) (waiting : Option UnresolvedFuture) (taken : List (List ℕ)) (v : View) → WholeFrames v.machine.output → Runs m version options fed answers waiting taken v → Runs m version options fed answers waiting (taken ++ concat v.machine.output ∷ []) (emptied v)
+runs_takes m version options fed answers waiting taken v f k = record {
   journal = k.journal;
   written = k.written;
-  wrote = takes_wrote taken v.machine.output k.written k.wrote;
+  wrote = takes_wrote taken v.machine.output k.written f k.wrote;
   at = k.at;
   moves = k.moves;
   run = k.run;
@@ -95,7 +97,7 @@ runs_closes : (m : Meaning) (version : Version) (options : VMOptions) (fed : Lis
 runs_closes m version options fed answers waiting taken v k = record {
   journal = k.journal;
   written = k.written;
-  wrote = record { messages = k.wrote.messages; output = k.wrote.output; commands = k.wrote.commands };
+  wrote = k.wrote;
   at = k.at;
   moves = k.moves;
   run = k.run;
@@ -129,7 +131,6 @@ came_dead version options fed to G frames answers waiting taken v w k q dead = r
   answered = k.answered;
   written = k.written;
   wrote = wrote_quiet taken v.machine w.machine k.written q k.wrote;
-  whole = k.whole;
   made_for = λ alive. not_failed w.machine dead alive.failure;
   phase = λ alive. not_failed w.machine dead alive;
   tail = λ alive. not_failed w.machine dead alive.failure;
@@ -141,7 +142,6 @@ came_closed version options fed answers waiting taken v w k q closed = record {
   answered = k.answered;
   written = k.written;
   wrote = wrote_quiet taken v.machine w.machine k.written q k.wrote;
-  whole = k.whole;
   made_for = λ live. not_live w.machine closed live;
   phase = λ alive. inr closed;
   tail = λ live. not_live w.machine closed live;
@@ -214,19 +214,17 @@ came_fed version options fed answers waiting taken v f k live =
       answered = k.answered;
       written = k.written;
       wrote = wrote_quiet taken v.machine w.machine k.written (input_quiet v f.piece) k.wrote;
-      whole = k.whole;
       made_for = λ alive. let s = kept_running G v.machine w.machine live (took alive.failure).0.machine alive.failure in (s.1.0 ∙ made.0, s.1.1 ∙ made.1);
       phase = λ alive. inl (kept_running G v.machine w.machine live (took alive).0.machine alive).0;
       tail = λ alive. (took alive.failure).1;
     }
 
-came_takes : (version : Version) (options : VMOptions) (fed : List Fed) (answers : List Answer) (waiting : Option UnresolvedFuture) (taken : List (List ℕ)) (v : View) → CameBy version options fed answers waiting taken v → CameBy version options fed answers waiting (taken ++ concat v.machine.output ∷ []) (emptied v)
-came_takes version options fed answers waiting taken v k = record {
+came_takes : (version : Version) (options : VMOptions) (fed : List Fed) (answers : List Answer) (waiting : Option UnresolvedFuture) (taken : List (List ℕ)) (v : View) → WholeFrames v.machine.output → CameBy version options fed answers waiting taken v → CameBy version options fed answers waiting (taken ++ concat v.machine.output ∷ []) (emptied v)
+came_takes version options fed answers waiting taken v f k = record {
   journal = k.journal;
   answered = k.answered;
   written = k.written;
-  wrote = takes_wrote taken v.machine.output k.written k.wrote;
-  whole = k.whole;
+  wrote = takes_wrote taken v.machine.output k.written f k.wrote;
   made_for = λ live. k.made_for (record { failure = live.failure; phase = live.phase });
   phase = k.phase;
   tail = λ live. k.tail (record { failure = live.failure; phase = live.phase });
@@ -237,8 +235,7 @@ came_closes version options fed answers waiting taken v k = record {
   journal = k.journal;
   answered = k.answered;
   written = k.written;
-  wrote = record { messages = k.wrote.messages; output = k.wrote.output; commands = k.wrote.commands };
-  whole = k.whole;
+  wrote = k.wrote;
   made_for = λ live. k.made_for (record { failure = live.failure; phase = live.phase });
   phase = k.phase;
   tail = λ live. k.tail (record { failure = live.failure; phase = live.phase });

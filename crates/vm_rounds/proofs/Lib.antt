@@ -10,6 +10,8 @@ pub mod Arriving
 pub mod Beginning
 pub mod Entries
 pub mod Quiet
+pub mod Lengths
+pub mod Written
 pub mod Sending
 pub mod Pieces
 pub mod Kept

@@ -160,24 +160,16 @@ closing_quiet v = called_quiet v.machine (close_step v.machine) (close_silent v.
 
 -- ---- all output
 
-bytes_of : (ms : List Message) → concat (map encoding ms) ≡ flat_map encoding ms
-bytes_of [] = refl
-bytes_of (m ∷ ms) = ap (λ t. encoding m ++ t) (bytes_of ms)
-
 -- more messages are written behind the output
 pub wrote_more : (taken output new : List (List ℕ)) (ms : List Message) (written : List RawMessage) → new ≡ output ++ map encoding ms → Wrote taken output written → Wrote taken new (written ++ commands_of ms)
-wrote_more taken output new ms written is w =
-    let T = concat taken in
-    let O = concat output in
-    record {
-      messages = w.messages ++ ms;
-      output = ap (λ l. T ++ concat l) is
-          ∙ ap (λ t. T ++ t) (concat-append output (map encoding ms) ∙ ap (λ t. O ++ t) (bytes_of ms))
-          ∙ sym (append_assoc T O (flat_map encoding ms))
-          ∙ ap (λ t. t ++ flat_map encoding ms) w.output
-          ∙ sym (flat_map-append encoding w.messages ms);
-      commands = commands_append w.messages ms ∙ ap (λ l. l ++ commands_of ms) w.commands;
-    }
+wrote_more taken output new ms written is w = record {
+  sent = w.sent;
+  bytes = w.bytes;
+  whole = w.whole;
+  waiting = w.waiting ++ ms;
+  frames = is ∙ ap (λ l. l ++ map encoding ms) w.frames ∙ sym (map_append w.waiting ms);
+  commands = ap commands_of (sym (append_assoc w.sent w.waiting ms)) ∙ commands_append (w.sent ++ w.waiting) ms ∙ ap (λ l. l ++ commands_of ms) w.commands;
+}
 
 pub wrote_quiet : (taken : List (List ℕ)) (old new : Machine) (written : List RawMessage) → Quiet old new → Wrote taken old.output written → Wrote taken new.output written
 wrote_quiet taken old new written q w = subst (Wrote taken new.output) (ap (λ l. written ++ l) q.commands ∙ append-nil written) (wrote_more taken old.output new.output q.messages written q.output w)

@@ -1,4 +1,4 @@
--- What a call of a step writes and leaves, whatever came before it: whole commands, and a VM that runs, is closed or has failed.
+-- What a call of a step writes and leaves, whatever came before it: frames of messages, and a VM that runs, is closed or has failed.
 use Rattle.std.proofs.Common.{◌≡◌, ℕ, Bool, true, false, cond, List, [], ◌∷◌, ◌++◌, map, Option, Some, None, Result, Ok, Err, refl, sym, ap, ◌∙◌, subst, ⊎_elim, append-nil}
 use Rattle.std.specs.Prelude.{◌==◌, if◌then◌else◌, unwrap_or, OnOk}
 use Rattle.std.specs.List.{AllByRecursion}
@@ -45,15 +45,14 @@ use Rattle.vm_rounds.specs.declared.progress.Reply.{Reply}
 use Rattle.vm_rounds.specs.declared.progress.Reply.TheVariants as reply
 use Rattle.vm_rounds.specs.Journals.{is_command}
 use Rattle.vm_rounds.specs.Steps.{IsReadable, ReadsBack, await_reply, mapped, performed, performed_by}
-use Rattle.vm_rounds.specs.Told.{IsLive, IsWholeCommand, commands_of}
+use Rattle.vm_rounds.specs.Told.{IsLive}
 
 -- ---- what is left
 
--- messages were written, each command among them whole; the version and the options stay
+-- messages were written; the version and the options stay
 pub record Sends (v w : Machine) : Type 0 where
   pub messages : List Message
   pub output : w.output ≡ v.output ++ map encoding messages
-  pub whole : AllByRecursion IsWholeCommand (commands_of messages)
   pub version : w.version ≡ v.version
   pub options : w.options ≡ v.options
 
@@ -68,7 +67,7 @@ abbrev Stays : Machine → Machine → Type 0
 Stays v w = (w.output ≡ v.output) × (w.version ≡ v.version) × (w.options ≡ v.options)
 
 stays_sends : (v w : Machine) → Stays v w → Sends v w
-stays_sends v w s = record { messages = []; output = s.0 ∙ sym (append-nil v.output); whole = tt; version = s.1; options = s.2 }
+stays_sends v w s = record { messages = []; output = s.0 ∙ sym (append-nil v.output); version = s.1; options = s.2 }
 
 -- an event, before the error rule: where its command can be read, what it leaves; one that is refused has written nothing
 abbrev Happens : {A : Type 0} → Type 0 → (A → Machine → Type 0) → Machine → Outcome A → Type 0
@@ -87,8 +86,8 @@ RunsOn a w = is_running w.phase ≡ true
 -- ---- the error rule
 
 failing : (e : Error) (v w : Machine) → Stays v w → (b : Bool) → is_closed w.phase ≡ b → Sends v (failed e w)
-failing e v w s true c = record { messages = []; output = rw c (s.0 ∙ sym (append-nil v.output)); whole = tt; version = s.1; options = s.2 }
-failing e v w s false c = record { messages = message.Error (error_message e) ∷ []; output = rw c (ap (λ l. l ++ encoding (message.Error (error_message e)) ∷ []) s.0); whole = tt; version = s.1; options = s.2 }
+failing e v w s true c = record { messages = []; output = rw c (s.0 ∙ sym (append-nil v.output)); version = s.1; options = s.2 }
+failing e v w s false c = record { messages = message.Error (error_message e) ∷ []; output = rw c (ap (λ l. l ++ encoding (message.Error (error_message e)) ∷ []) s.0); version = s.1; options = s.2 }
 
 settling : {A : Type 0} (P : Type 0) (L : A → Machine → Type 0) (v : Machine) (o : Outcome A) → Happens P L v o → CallLeaves P L v (settled o)
 settling P L v (Done a w) h = h
@@ -115,14 +114,6 @@ writing_runs Closed e = cc
 after_runs : (left : List RawMessage) → is_running (phase_after left) ≡ true
 after_runs [] = refl
 after_runs (c ∷ left) = refl
-
--- a message that can be read back, where it is a command
-one_whole : (m : Message) → IsWhole m → AllByRecursion IsWholeCommand (commands_of (m ∷ []))
-one_whole m whole = by_test (is_command (stored_form m))
-  where
-    by_test : (b : Bool) → AllByRecursion IsWholeCommand (cond b (stored_form m ∷ []) [])
-    by_test true = ((m, refl, whole), tt)
-    by_test false = tt
 
 module _ (v : Machine) (handle : NotificationHandle) (P : Type 0) (m : Message) (ignore : Bool) (u : Machine) (same : Stays v u) (failure : u.failure ≡ v.failure) (phase : u.phase ≡ v.phase) where
   abbrev Answer : Outcome Unit → Type 0
@@ -157,7 +148,7 @@ module _ (v : Machine) (handle : NotificationHandle) (P : Type 0) (m : Message) 
     where
       by_test : (b : Bool) → is_processing u.phase ≡ b → Answer (if b then Done (tt {0}) (written m u) else replayed m ignore u)
       by_test true e = λ p. record {
-        sends = record { messages = m ∷ []; output = ap (λ l. l ++ encoding m ∷ []) same.0; whole = one_whole m (readable p (ap is_processing (sym phase) ∙ e)); version = same.1; options = same.2 };
+        sends = record { messages = m ∷ []; output = ap (λ l. l ++ encoding m ∷ []) same.0; version = same.1; options = same.2 };
         failure = failure;
         left = writing_runs u.phase e;
       }
@@ -207,7 +198,7 @@ module _ (handle : ℕ) (v u : Machine) (same : Stays v u) (failure : u.failure 
   suspends =
       let m = message.Suspension (record { future = future_of (id_at handle u.results.handles) }) in
       record {
-        sends = record { messages = m ∷ []; output = ap (λ l. l ++ encoding m ∷ []) same.0; whole = tt; version = same.1; options = same.2 };
+        sends = record { messages = m ∷ []; output = ap (λ l. l ++ encoding m ∷ []) same.0; version = same.1; options = same.2 };
         failure = failure;
         left = refl;
       }
@@ -268,7 +259,7 @@ ends WaitingStart v e = (refl, refl, refl)
 ends WaitingReplayEntries v e = (refl, refl, refl)
 ends Replaying v e = (refl, refl, refl)
 ends Processing v e = λ p. record {
-  sends = record { messages = message.End ∷ []; output = refl; whole = tt; version = refl; options = refl };
+  sends = record { messages = message.End ∷ []; output = refl; version = refl; options = refl };
   failure = refl;
   left = refl;
 }

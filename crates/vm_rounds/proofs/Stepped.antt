@@ -61,6 +61,10 @@ use Rattle.vm_rounds.proofs.Leading.{no_move}
 use Rattle.vm_rounds.proofs.Pieces.{agrees_running}
 use Rattle.vm_rounds.proofs.Quiet.{commands_append, map_append, quiet_same, wrote_more}
 
+-- an await waits rightly, by what was written
+abbrev pub Sleeps : Meaning → Version → VMOptions → List Fed → List Answer → List (List ℕ) → View → Type 0
+Sleeps m version options fed answers taken vm = (written : List RawMessage) × Wrote taken vm.machine.output written × IsAsleep m version options fed answers written
+
 -- ---- what a call needs is a command
 
 abbrev NeedsCommand : Move → Type 0
@@ -233,27 +237,29 @@ module _ (m : Meaning) (version : Version) (options : VMOptions) (r : Record) (k
 
   -- ---- what waits
 
-  waits_so : (q : Point) → Waits s m k.at q → (ms : List Message) → commands_of ms ≡ [] → w.machine.output ≡ r.vm.machine.output ++ map encoding ms → IsAsleep m version options r.fed r.answers r.taken w
+  waits_so : (q : Point) → Waits s m k.at q → (ms : List Message) → commands_of ms ≡ [] → w.machine.output ≡ r.vm.machine.output ++ map encoding ms → Sleeps m version options r.fed r.answers r.taken w
   waits_so q ws ms commands output =
       let written = k.written ++ [] in
       let run = made_add s m k.moves ws.moves.moves (start s k.journal.input (arrivals k.journal) k.journal.rest) k.written k.at [] q k.run ws.moves.run in
       let told = attempt_is_told s m k.journal.input (k.moves + ws.moves.moves) (arrivals k.journal) k.journal.rest written q run in
       let same : q.answers ≡ r.answers = ws.moves.answers ∙ append-nil k.at.answers ∙ k.answers in
-      record {
-        journal = k.journal;
-        written = written;
-        wrote = subst (Wrote r.taken w.machine.output) (ap (λ l. k.written ++ l) commands) (wrote_more r.taken r.vm.machine.output w.machine.output ms k.written output k.wrote);
-        future = ws.future;
-        awaits = ap m (sym same) ∙ ws.awaits;
-        asleep = λ p tell is. none_wakes s m ws.future tell.0 told.0.0 (start s k.journal.input (arrivals k.journal) (k.journal.rest ++ written)) p q tell.1 told.0.1 (same ∙ sym is) ws.awaits ws.asleep ws.no_arrival;
-        at = q;
-        told = told.0;
-        answers = same;
-        no_arrival = ws.no_arrival;
-        no_command = ws.no_command;
-      }
+      let wrote : Wrote r.taken w.machine.output written = subst (Wrote r.taken w.machine.output) (ap (λ l. k.written ++ l) commands) (wrote_more r.taken r.vm.machine.output w.machine.output ms k.written output k.wrote) in (
+        written,
+        wrote,
+        record {
+          journal = k.journal;
+          future = ws.future;
+          awaits = ap m (sym same) ∙ ws.awaits;
+          asleep = λ p tell is. none_wakes s m ws.future tell.0 told.0.0 (start s k.journal.input (arrivals k.journal) (k.journal.rest ++ written)) p q tell.1 told.0.1 (same ∙ sym is) ws.awaits ws.asleep ws.no_arrival;
+          at = q;
+          told = told.0;
+          answers = same;
+          no_arrival = ws.no_arrival;
+          no_command = ws.no_command;
+        },
+      )
 
-  replied_waits : (P : Type 0) (x : Result Reply Error) → (o : Outcome Reply) → (IfDone o P → Following o) → Does o x r.vm.machine w.machine → OnOk x P → IfWaits (progress_of x) (IsAsleep m version options r.fed r.answers r.taken w)
+  replied_waits : (P : Type 0) (x : Result Reply Error) → (o : Outcome Reply) → (IfDone o P → Following o) → Does o x r.vm.machine w.machine → OnOk x P → IfWaits (progress_of x) (Sleeps m version options r.fed r.answers r.taken w)
   replied_waits P (Ok (reply.Answer a)) o f does h = tt
   replied_waits P (Ok (reply.Waiting input run)) o f does h =
       let g : StillAgrees s m (handed_out k.journal) k.written k.at r.vm.machine w.machine = done_follows P o (reply.Waiting input run) f does h in
@@ -333,8 +339,8 @@ asks_keep m version options old result new k live (x, w, does, is, progress) =
     (replied_keeps m version options old k live w made.0.1 (ReadsBack st old.vm.machine) st refl x (performed st old.vm.machine) (agreeing_follows s m (handed_out k.journal) k.written old.vm.machine k.at (k.agrees live)) made.0.0 made.1))
 
 -- what a step that waits leaves of the record
-settled_waits : (m : Meaning) (version : Version) (options : VMOptions) (old : Record) (future : Option UnresolvedFuture) (w : View) (x : Result Reply Error) → IfWaits (progress_of x) (IsAsleep m version options old.fed old.answers old.taken w)
-    → IfWaits (progress_of x) (IsAsleep m version options (replied old future x w).fed (replied old future x w).answers (replied old future x w).taken (replied old future x w).vm)
+settled_waits : (m : Meaning) (version : Version) (options : VMOptions) (old : Record) (future : Option UnresolvedFuture) (w : View) (x : Result Reply Error) → IfWaits (progress_of x) (Sleeps m version options old.fed old.answers old.taken w)
+    → IfWaits (progress_of x) (Sleeps m version options (replied old future x w).fed (replied old future x w).answers (replied old future x w).taken (replied old future x w).vm)
 settled_waits m version options old future w (Ok (reply.Answer a)) h = tt
 settled_waits m version options old future w (Ok (reply.Waiting input run)) h = h
 settled_waits m version options old future w (Ok reply.Suspended) h = h
@@ -353,11 +359,11 @@ module _ (m : Meaning) (version : Version) (options : VMOptions) (old : Record) 
   follows_here w = agreeing_follows made_here m (handed_out k.journal) k.written old.vm.machine k.at (k.agrees live)
 
   -- a step waits only where nothing wakes
-  pub asks_wait : Asks m old result new → IfWaits result (IsAsleep m version options new.fed new.answers new.taken new.vm)
+  pub asks_wait : Asks m old result new → IfWaits result (Sleeps m version options new.fed new.answers new.taken new.vm)
   asks_wait (x, w, does, is, progress) =
       let made : StepMade (m k.at.answers) x old.vm w = subst (λ q. StepMade q x old.vm w) is_next does in
-      subst (λ z. IfWaits z (IsAsleep m version options new.fed new.answers new.taken new.vm)) (sym progress)
-      (subst (λ (n : Record). IfWaits (progress_of x) (IsAsleep m version options n.fed n.answers n.taken n.vm)) (sym is)
+      subst (λ z. IfWaits z (Sleeps m version options new.fed new.answers new.taken new.vm)) (sym progress)
+      (subst (λ (n : Record). IfWaits (progress_of x) (Sleeps m version options n.fed n.answers n.taken n.vm)) (sym is)
       (settled_waits m version options old (future_in (step_asked m old)) w x
       (replied_waits m version options old k live w made.0.1 (ReadsBack (m k.at.answers) old.vm.machine) x (performed (m k.at.answers) old.vm.machine) (follows_here w) made.0.0 made.1)))
 

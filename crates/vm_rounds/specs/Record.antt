@@ -1,5 +1,6 @@
 -- What contracts see of an attempt.
-use Rattle.std.specs.Prelude.{ℕ, Bool, List, Option}
+use Rattle.std.specs.Prelude.{ℕ, Bool, List, ◌++◌, Option}
+use Rattle.std.specs.List.{concat}
 use Rattle.journal_protocol.specs.declared.version.Version.{Version}
 use Rattle.vm_parts.specs.declared.options.VMOptions.{VMOptions}
 use Rattle.vm_parts.specs.declared.steps.Answer.{Answer}
@@ -15,9 +16,8 @@ pub record Record : Type 0 where
   -- the input was closed
   pub closed : Bool
   pub answers : List Answer
-  -- the output that was taken, piece by piece, and its length as far as a usize goes
+  -- the output that was taken, piece by piece
   pub taken : List (List ℕ)
-  pub taken_len : ℕ
   -- the await that waits
   pub waiting : Option UnresolvedFuture
   -- the attempt itself found no memory
@@ -25,6 +25,10 @@ pub record Record : Type 0 where
   -- the invocation is suspended, or the handler has ended
   pub over : Option Progress
   pub vm : View
+
+-- all bytes that an attempt wrote: those that were taken, and those that wait
+abbrev pub bytes_written : Record → List ℕ
+bytes_written r = concat r.taken ++ concat r.vm.machine.output
 
 -- an attempt: what it was made for, and its record
 pub record AttemptView (H : Type 0) : Type 0 where

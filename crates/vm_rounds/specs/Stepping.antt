@@ -12,6 +12,7 @@ use Rattle.vm_parts.specs.declared.steps.Step.{Step}
 use Rattle.vm_parts.specs.declared.steps.Step.TheVariants as step
 use Rattle.vm_parts.specs.declared.types.UnresolvedFuture.{UnresolvedFuture}
 use Rattle.vm_parts.specs.declared.values.Input.{Input}
+use Rattle.vm_parts.specs.Outboxes.{WholeFrames}
 use Rattle.vm_machine.specs.declared.phase.Phase.{Phase}
 use Rattle.vm_machine.specs.declared.phase.Phase.TheVariants.{WaitingStart, WaitingReplayEntries, Replaying, Processing, Closed}
 use Rattle.vm_machine.specs.Inputs.{input_step}
@@ -23,7 +24,7 @@ use Rattle.vm_rounds.specs.declared.progress.Reply.TheVariants as reply
 use Rattle.journal_protocol.specs.declared.version.Version.{Version}
 use Rattle.vm_parts.specs.declared.options.VMOptions.{VMOptions}
 use Rattle.invocation_vm.specs.Making.{made}
-use Rattle.vm_rounds.specs.Record.{AttemptView, Record}
+use Rattle.vm_rounds.specs.Record.{AttemptView, Record, bytes_written}
 use Rattle.vm_rounds.specs.Steps.{StepMade}
 
 -- a handler's step after these answers
@@ -32,7 +33,7 @@ Meaning = List Answer → Step
 
 -- an attempt that was fed nothing
 abbrev pub fresh_record : View → Record
-fresh_record vm = record { fed = []; closed = false; answers = []; taken = []; taken_len = 0; waiting = None; starved = false; over = None; vm = vm }
+fresh_record vm = record { fed = []; closed = false; answers = []; taken = []; waiting = None; starved = false; over = None; vm = vm }
 
 -- an attempt is made for the version that is asked for; else the error says why, or no memory was found
 abbrev pub MakesAttempt : {H : Type 0} → Global → VMOptions → H → Result Version Error → Result (AttemptView H) Error → Type 0
@@ -139,7 +140,7 @@ pub record IsReplaying (r : Record) : Type 0 where
 
 -- how many bytes stood in the output, as far as a usize goes
 abbrev pub output_len : Record → ℕ
-output_len r = min (r.taken_len + min (length (concat r.vm.machine.output)) (2 ^ 64 - 1)) (2 ^ 64 - 1)
+output_len r = min (length (bytes_written r)) (2 ^ 64 - 1)
 
 -- a piece is kept until the VM has failed or closed
 abbrev pub kept_at : Option Error → Phase → List ℕ → Record → Record
@@ -184,9 +185,9 @@ emptied v = record v { machine = record v.machine { output = [] } }
 
 -- all bytes that wait are taken
 abbrev pub taken_from : Record → Record
-taken_from r = record r { taken = r.taken ++ concat r.vm.machine.output ∷ []; taken_len = output_len r; vm = emptied r.vm }
+taken_from r = record r { taken = r.taken ++ concat r.vm.machine.output ∷ []; vm = emptied r.vm }
 
--- the bytes that wait are taken, or nothing is changed
+-- the bytes that wait are taken, which are whole frames; or nothing is changed
 abbrev pub Takes : Record → Result (List ℕ) AllocError → Record → Type 0
-Takes old (Ok bytes) new = (bytes ≡ concat old.vm.machine.output) × (new ≡ taken_from old)
+Takes old (Ok bytes) new = (bytes ≡ concat old.vm.machine.output) × (new ≡ taken_from old) × WholeFrames old.vm.machine.output
 Takes old (Err e) new = new ≡ old

@@ -43,7 +43,7 @@ use Rattle.vm_rounds.specs.Agreement.{Agrees, Aside}
 use Rattle.vm_rounds.specs.Journals.{HasAll, StillWaits, commands_among, is_command, notifications_among, setup_for}
 use Rattle.vm_parts.specs.declared.steps.Answer.{Answer}
 use Rattle.invocation_vm.specs.Views.{View}
-use Rattle.vm_rounds.specs.Record.{Record}
+use Rattle.vm_rounds.specs.Record.{Record, bytes_written}
 
 -- ---- what is read from the record
 
@@ -67,11 +67,18 @@ pub record Quiet (old new : Machine) : Type 0 where
   pub output : new.output ≡ old.output ++ map encoding messages
   pub commands : commands_of messages ≡ []
 
--- What was taken and what waits are the frames of some messages, and these are the commands among them.
+-- What was taken are whole frames of some messages, what waits are frames too, and these are the commands among them all.
 pub record Wrote (taken waits : List (List ℕ)) (written : List RawMessage) : Type 0 where
-  pub messages : List Message
-  pub output : concat taken ++ concat waits ≡ flat_map encoding messages
-  pub commands : commands_of messages ≡ written
+  pub sent : List Message
+  pub bytes : concat taken ≡ flat_map encoding sent
+  pub whole : AllByRecursion IsWhole sent
+  pub waiting : List Message
+  pub frames : waits ≡ map encoding waiting
+  pub commands : commands_of (sent ++ waiting) ≡ written
+
+-- the commands that an attempt wrote: those among the frames of all its output
+abbrev pub written_by : Record → List RawMessage
+written_by r = commands_among (frames_of (bytes_written r)).0
 
 -- The journal of an attempt: behind Start as many frames as it tells are the known entries, the first command among them
 -- is the input, and all notifications that came are arrivals.
@@ -139,23 +146,23 @@ Tells m version options j written p = Told (setup_for version options j.start) m
 
 -- The answers of an attempt are those of a point that is told; what it wrote are just the commands that the calls up to there
 -- define, where none is recorded; and while recorded commands are left, it has written none.
-pub record AnswersAreTold (m : Meaning) (version : Version) (options : VMOptions) (r : Record) : Type 0 where
-  pub journal : Journal r.fed
-  pub written : List RawMessage
-  pub wrote : Wrote r.taken r.vm.machine.output written
+pub record ToldBy (m : Meaning) (version : Version) (options : VMOptions) (fed : List Fed) (answers_so_far : List Answer) (written : List RawMessage) : Type 0 where
+  pub journal : Journal fed
   pub at : Point
   pub told : Tells m version options journal written at
-  pub answers : at.answers ≡ r.answers
+  pub answers : at.answers ≡ answers_so_far
   pub moves : ℕ
   pub made : Made (setup_for version options journal.start) m moves (begun version options journal) written at
   pub in_order : (written ≡ []) ⊎ (at.left ≡ [])
 
+-- the same of a record
+abbrev pub AnswersAreTold : Meaning → Version → VMOptions → Record → Type 0
+AnswersAreTold m version options r = ToldBy m version options r.fed r.answers (written_by r)
+
 -- An await waits rightly: with all arrivals that were fed, its future is awake at no point that the journal tells with these
 -- answers, and all its commands are used.
-pub record IsAsleep (m : Meaning) (version : Version) (options : VMOptions) (fed : List Fed) (answers_so_far : List Answer) (taken : List (List ℕ)) (vm : View) : Type 0 where
+pub record IsAsleep (m : Meaning) (version : Version) (options : VMOptions) (fed : List Fed) (answers_so_far : List Answer) (written : List RawMessage) : Type 0 where
   pub journal : Journal fed
-  pub written : List RawMessage
-  pub wrote : Wrote taken vm.machine.output written
   pub future : UnresolvedFuture
   pub awaits : m answers_so_far ≡ step.Await future
   pub asleep : (p : Point) → Tells m version options journal written p → p.answers ≡ answers_so_far → is_awake (setup_for version options journal.start) future p.derived ≡ false
@@ -167,7 +174,7 @@ pub record IsAsleep (m : Meaning) (version : Version) (options : VMOptions) (fed
 
 -- the same of a record
 abbrev pub NothingWakes : Meaning → Version → VMOptions → Record → Type 0
-NothingWakes m version options r = IsAsleep m version options r.fed r.answers r.taken r.vm
+NothingWakes m version options r = IsAsleep m version options r.fed r.answers (written_by r)
 
 -- A call is refused while recorded commands are left: the journal tells a point with these answers from which no move leads on,
 -- for this reason; one Error is written, which says so by the error rule, and the VM fails by it.
@@ -223,18 +230,13 @@ pub record Runs (m : Meaning) (version : Version) (options : VMOptions) (fed : L
   pub phase : vm.machine.failure ≡ None → (is_running vm.machine.phase ≡ true) ⊎ (vm.machine.phase ≡ Closed)
   pub tail : IsLive vm.machine → (frames_of (bytes_fed fed)).1 ≡ Rest vm.undecoded
 
--- a command that can be read back
-abbrev pub IsWholeCommand : RawMessage → Type 0
-IsWholeCommand c = (m : Message) × (c ≡ stored_form m) × IsWhole m
-
--- The handler has read its input, which the journal begins with. What was written are the frames of messages, and each command
--- among them can be read back. The VM was made for this version and these options; it runs, or it is closed or has failed.
+-- The handler has read its input, which the journal begins with. What was written are the frames of messages. The VM was made for
+-- this version and these options; it runs, or it is closed or has failed.
 pub record Came (version : Version) (options : VMOptions) (fed : List Fed) (answers_so_far : List Answer) (taken : List (List ℕ)) (vm : View) : Type 0 where
   pub journal : Journal fed
   pub answered : answers_so_far ≢ []
   pub written : List RawMessage
   pub wrote : Wrote taken vm.machine.output written
-  pub whole : AllByRecursion IsWholeCommand written
   pub made_for : IsLive vm.machine → (vm.machine.version ≡ version) × (vm.machine.options ≡ options)
   pub phase : vm.machine.failure ≡ None → (is_running vm.machine.phase ≡ true) ⊎ (vm.machine.phase ≡ Closed)
   pub tail : IsLive vm.machine → (frames_of (bytes_fed fed)).1 ≡ Rest vm.undecoded

@@ -35,9 +35,11 @@ impl<H: Handler> Model for Attempt<H> {
 impl<H: Handler> Attempt<H> {
     ghost use Rattle.std.specs.Prelude.{◌≡◌, ◌⊎◌, [], None};
     ghost use Rattle.invocation_vm.specs.Making.{version_in};
-    ghost use Rattle.vm_rounds.specs.Stepping.{MakesAttempt, StepDoes, FeedDoes, CloseDoes, IfWaits, IsReplaying, Takes};
+    ghost use Rattle.vm_parts.specs.Outboxes.{WholeStream};
+    ghost use Rattle.vm_rounds.specs.Stepping.{MakesAttempt, StepDoes, FeedDoes, CloseDoes, IfWaits, IsReplaying, Takes, output_len};
     ghost use Rattle.vm_rounds.specs.Blames.{Blame, IfError, IsHonest, IsOwnError};
-    ghost use Rattle.vm_rounds.specs.Told.{AnswersAreTold, HasCome, NothingWakes, Premises, Replays, arrivals_of};
+    ghost use Rattle.vm_rounds.specs.Record.{bytes_written};
+    ghost use Rattle.vm_rounds.specs.Told.{AnswersAreTold, HasCome, NothingWakes, Premises, Replays, arrivals_of, written_by};
 
     /// An attempt for the version that the header `content-type` names; the VM's refusals are its own.
     pub fn new<M: HeaderMap>(
@@ -95,7 +97,10 @@ impl<H: Handler> Attempt<H> {
         ensures handler { self.new.handler ≡ self.old.handler }
         ensures made_for { (self.new.version ≡ self.old.version) × (self.new.options ≡ self.old.options) }
     {
-        self.inner.step()
+        let progress = self.inner.step();
+        // What waits now is whole frames, from which the clauses read the commands.
+        let _ = self.inner.output_len();
+        progress
     }
 
     /// Takes all bytes that wait to be sent, whole frames in order; where there is no memory nothing is changed.
@@ -110,12 +115,24 @@ impl<H: Handler> Attempt<H> {
     /// The answers so far; the first is the input. They are those of a point that the attempt's journal tells.
     pub fn answers(&self) -> &[Answer]
         ensures answers { result.now ≡ self.now.record_of.answers }
-        // Before the input nothing is answered and no command written; then each command that was written can be read back.
+        // Before the input nothing is answered.
         ensures came { HasCome self.now.version self.now.options self.now.record_of }
+        ensures begins { self.now.record_of.answers ≡ [] → written_by self.now.record_of ≡ [] }
         // Under the premises the journal, which is what was fed, followed by the commands that were written, tells them; no command is
         // written while recorded ones are left.
         ensures told { Premises self.now.options (arrivals_of self.now.record_of.fed) → (self.now.record_of.answers ≡ []) ⊎ AnswersAreTold (H.meaning self.now.handler) self.now.version self.now.options self.now.record_of }
     {
+        // What waits now is whole frames, from which the clauses read the commands.
+        let _ = self.inner.output_len();
         self.inner.answers.as_slice()
+    }
+
+    /// How many bytes the attempt has written, taken or not, as far as a `usize` goes.
+    pub fn output_len(&self) -> usize
+        ensures len { result ≡ output_len self.now.record_of }
+        // Each frame that was written is whole: commands, errors, a suspension and the end.
+        ensures whole { WholeStream (bytes_written self.now.record_of) }
+    {
+        self.inner.output_len()
     }
 }

@@ -1,12 +1,14 @@
 //! The fields of an attempt, and what its calls do to them.
 ghost use Rattle.std.specs.Prelude.{◌≡◌, ◌≤◌, ◌+◌, IfOk, OnOk, OnErr, vec_len, vec_capacity};
 ghost use Rattle.journal_protocol.specs.Errors.{no_memory};
+ghost use Rattle.vm_parts.specs.Outboxes.{WholeFrames};
 ghost use Rattle.invocation_vm.specs.Seen.{seen};
 ghost use Rattle.vm_rounds.specs.Stepping.{fresh_record, replied, future_in, progress_of, asked_from, Advances, StepDoes, FeedDoes, CloseDoes, Takes, output_len, kept};
 
 use crate::handler::Handler;
 use crate::perform::perform;
 use crate::progress::{Fed, Progress, Reply};
+use crate::taken::Taken;
 use bytes::Bytes;
 use invocation_vm::{CoreVM, Error, State, UnresolvedFuture, VM, VMResult};
 use journal_protocol::NamedFault;
@@ -19,8 +21,7 @@ pub struct Inner<H> {
     pub fed: Vec<Fed>,
     pub closed: bool,
     pub answers: Vec<Answer>,
-    pub taken: Vec<Bytes>,
-    pub taken_len: usize,
+    pub taken: Taken,
     pub waiting: Option<UnresolvedFuture>,
     pub starved: bool,
     pub over: Option<Progress>,
@@ -69,8 +70,7 @@ impl<H: Handler> Inner<H> {
             fed: Vec::new(alloc),
             closed: false,
             answers: Vec::new(alloc),
-            taken: Vec::new(alloc),
-            taken_len: 0,
+            taken: Taken::new(alloc),
             waiting: None,
             starved: false,
             over: None,
@@ -162,11 +162,12 @@ impl<H: Handler> Inner<H> {
         self.advance()
     }
 
-    /// How many bytes stand in the output, as far as a `usize` goes.
-    fn output_len(&self) -> usize
-        ensures { result ≡ output_len (the_record self.now) }
+    /// How many bytes stand in the output, as far as a `usize` goes; those that wait are whole frames.
+    pub fn output_len(&self) -> usize
+        ensures len { result ≡ output_len (the_record self.now) }
+        ensures whole { WholeFrames (the_record self.now).vm.machine.output }
     {
-        self.taken_len.saturating_add(self.vm.waiting_len())
+        self.taken.len().saturating_add(self.vm.waiting_len())
     }
 
     /// Keeps a piece, unless the VM has failed or closed.
@@ -217,10 +218,8 @@ impl<H: Handler> Inner<H> {
         ensures does { Takes (the_record self.old) result (the_record self.new) }
         ensures handler { self.new.handler ≡ self.old.handler }
     {
-        let len = self.output_len();
         let bytes = self.vm.waiting_output()?;
         self.taken.push(bytes.clone()?)?;
-        self.taken_len = len;
         self.vm.clear_output();
         Ok(bytes)
     }

@@ -16,6 +16,7 @@ ghost use Rattle.vm_model.specs.Histories.{History};
 ghost use Rattle.vm_model.specs.Journal.{input_read_from};
 ghost use Rattle.vm_model.specs.Moves.{Point, later};
 ghost use Rattle.vm_parts.specs.declared.context.StateMap.{StateMap};
+ghost use Rattle.vm_parts.specs.Outboxes.{WholeFrames};
 ghost use Rattle.vm_rounds.specs.Agreement.{Agrees, Aside, Follows};
 ghost use Rattle.vm_rounds.specs.Blames.{Blame, FailsAt, IsHonest, IsOwnError};
 ghost use Rattle.vm_rounds.specs.Honest.{FeedsHonestly};
@@ -93,7 +94,7 @@ pub fn histories_are_replayed()
 /// Under the premises the answers of an attempt are those of a point that its journal tells, followed by what it wrote, with the arrivals that it
 /// was fed; while recorded commands are left, it has written none.
 pub fn answers_are_told()
-    ensures { (m : Meaning) (version : Version) (options : VMOptions) (r : Record) → IsKeptUnder m version options r → Premises options (arrivals_of r.fed) → (r.answers ≡ []) ⊎ AnswersAreTold m version options r }
+    ensures { (m : Meaning) (version : Version) (options : VMOptions) (r : Record) → IsKeptUnder m version options r → WholeFrames r.vm.machine.output → Premises options (arrivals_of r.fed) → (r.answers ≡ []) ⊎ AnswersAreTold m version options r }
 {}
 
 /// Where the known entries are a history of the handler and each frame has its place, an error is only: want of memory; input that

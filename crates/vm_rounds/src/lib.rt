@@ -7,6 +7,7 @@ mod inner;
 mod laws;
 mod perform;
 mod progress;
+mod taken;
 
 pub use attempt::Attempt;
 pub use handler::Handler;

@@ -1,11 +1,17 @@
 use Rattle.vm_rounds.specs.Inside.{the_record}
 use Rattle.vm_rounds.proofs.Advanced.{kept_told}
+use Rattle.vm_rounds.proofs.Written.{none_before_input}
 use Rattle.vm_rounds.proofs.attempt.Attempt.answers.Goals as goal
 
 pub returns-clause-came : goal.returns-clause-came
 returns-clause-came g c = rw (← c.self.view_is) c.self.invariant.0
 
+pub returns-clause-begins : goal.returns-clause-begins
+returns-clause-begins g c =
+    let a = c.self.inside in
+    rw (← c.self.view_is) (none_before_input a.version a.options (the_record a.inner) c.self.invariant.0 c.output_len.ensures.whole)
+
 pub returns-clause-told : goal.returns-clause-told
 returns-clause-told g c =
     let a = c.self.inside in
-    rw (← c.self.view_is) (λ p. kept_told (g.H.Handler.meaning a.inner.handler) a.version a.options (the_record a.inner) (c.self.invariant.2 p))
+    rw (← c.self.view_is) (λ p. kept_told (g.H.Handler.meaning a.inner.handler) a.version a.options (the_record a.inner) c.output_len.ensures.whole (c.self.invariant.2 p))

@@ -1,22 +1,15 @@
 //! What the calls share that have a command, and what is checked of the call that makes an awakeable.
-ghost use Rattle.std.specs.Prelude.{◌≡◌, None};
-ghost use Rattle.journal_protocol.specs.Errors.{named_error};
-ghost use Rattle.vm_machine.specs.declared.fault.Fault.TheVariants.{Refused};
+ghost use Rattle.std.specs.Prelude.{◌≡◌};
 ghost use Rattle.vm_machine.specs.Outcomes.{Gives};
 ghost use Rattle.invocation_vm.specs.Calls.{name_or_empty, new_awakeable_step, skips_replay, unanswered};
 
-use journal_protocol::{Error, NamedFault};
+use journal_protocol::NamedFault;
 use std::alloc::Global;
+use vm_machine::fault::refuse;
+use vm_machine::machine::empty_text;
 use vm_machine::{Fault, Machine};
 use vm_parts::{AwakeableHandle, JournalReplay, NotificationHandle, VMResult};
 use wire::Text;
-
-/// A refusal that relates to no command.
-fn refuse(fault: NamedFault) -> Fault
-    ensures { result ≡ Refused (named_error fault None) }
-{
-    Fault::Refused(Error::named(fault, None))
-}
 
 /// An absent name is empty.
 pub(crate) fn name_text(alloc: Global, name: Option<String>) -> Text
@@ -24,7 +17,7 @@ pub(crate) fn name_text(alloc: Global, name: Option<String>) -> Text
 {
     match name {
         Some(name) => Text::from_string(name),
-        None => Text::from_string(String::new(alloc)),
+        None => empty_text(alloc),
     }
 }
 

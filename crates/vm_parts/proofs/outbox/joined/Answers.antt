@@ -1,6 +1,6 @@
 use Rattle.std.proofs.Common.{refl, arith}
-use Rattle.invocation_vm.proofs.Concats.{concat_more}
-use Rattle.invocation_vm.proofs.output.joined.Goals as goal
+use Rattle.vm_parts.proofs.Outboxes.{concat_more}
+use Rattle.vm_parts.proofs.outbox.joined.Goals as goal
 
 pub loop-i-preserved : goal.loop-i-preserved
 loop-i-preserved c =

@@ -8,14 +8,12 @@ ghost use Rattle.vm_machine.specs.Phases.{is_processing};
 ghost use Rattle.vm_machine.specs.Requests.{changed, ids_of};
 
 use crate::asks::Command;
-use crate::fault::Fault;
+use crate::fault::{Fault, refuse};
 use crate::machine::Machine;
 use crate::phase::Phase;
-use crate::receive::refuse;
 use crate::request::{give_ids, ids_of, name_of, shown_type};
 use journal_protocol::{
-    Encoder, Error, Message, MessageType, NamedFault, NotificationId, RawMessage, RelatedCommand,
-    header_eq,
+    Error, Message, MessageType, NamedFault, NotificationId, RawMessage, RelatedCommand, header_eq,
 };
 use std::alloc::AllocError;
 use vm_parts::{LastCommand, NonDeterministicChecksOption, NotificationHandle};
@@ -106,8 +104,7 @@ impl Machine {
         ensures whole { OnOk result (IsWhole message.now) }
         ensures err { OnErr result (lasting self.new ≡ lasting self.old) }
     {
-        let frame = Encoder::new(self.alloc).encode(message)?;
-        self.output.push(frame)?;
+        self.output.write(self.alloc, message)?;
         self.wrote_command = true;
         Ok(())
     }
