@@ -8,6 +8,7 @@ use Rattle.std.specs.declared.io.Error.{Error as IoError}
 use Rattle.journal_protocol.specs.declared.error.Error.{Error}
 use Rattle.journal_protocol.specs.declared.version.Version.{Version}
 use Rattle.vm_parts.specs.Options.{default_options}
+use Rattle.vm_parts.specs.Outboxes.{WholeFrames}
 use Rattle.invocation_vm.specs.Making.{made}
 use Rattle.vm_rounds.specs.Record.{Record}
 use Rattle.vm_rounds.specs.Stepping.{Meaning, fresh_record, FeedDoes, CloseDoes, StepDoes}
@@ -49,6 +50,10 @@ IsFed input first now =
 abbrev pub Runs : (Record → Type 0) → Meaning → Record → List ℕ → AttemptEnd → List ℕ → Type 0
 Runs holds_then meaning fresh input ending output =
     (fed : Record) × (driven : Record) × IsFed input fresh fed × Drives meaning fed ending driven × (output ≡ concat driven.vm.machine.output) × holds_then driven
+
+-- what waits is whole frames
+abbrev pub SendsWhole : Record → Type 0
+SendsWhole r = WholeFrames r.vm.machine.output
 
 -- The input is all that the reader had left, where this is known, and this holds of the output.
 abbrev pub Serves : (Record → Type 0) → Meaning → Record → Option (List ℕ) → (List ℕ → Type 0) → AttemptEnd → Type 0

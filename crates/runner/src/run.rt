@@ -5,7 +5,7 @@ ghost use Rattle.journal_protocol.specs.declared.error.Error.{Error};
 ghost use Rattle.invocation_vm.specs.Making.{version_in};
 ghost use Rattle.vm_rounds.specs.Stepping.{StepDoes};
 ghost use Rattle.vm_rounds.specs.declared.progress.Progress.{Progress};
-ghost use Rattle.runner.specs.Runs.{end_after, IsFed, Drives, Runs, ServesAnew, Tells};
+ghost use Rattle.runner.specs.Runs.{SendsWhole, end_after, IsFed, Drives, Runs, ServesAnew, Tells};
 ghost use Rattle.runner.specs.Sleeper.{sleeper_step};
 ghost use Rattle.runner.specs.declared.run_end.RunEnd.TheVariants as run_end;
 
@@ -59,7 +59,7 @@ fn serve<H: Handler>(
     attempt: &mut Attempt<H>,
     input: Bytes,
 ) -> Result<(AttemptEnd, Bytes), AllocError>
-    ensures { IfOk result (λ served. Runs (λ _. Unit {0}) (H.meaning attempt.old.handler) attempt.old.record_of input served.0 served.1) }
+    ensures { IfOk result (λ served. Runs SendsWhole (H.meaning attempt.old.handler) attempt.old.record_of input served.0 served.1) }
 {
     feed_all(attempt, input);
     let ending = drive(attempt);
