@@ -1,5 +1,5 @@
 //! `CoreVM`: the VM over a decoder and a machine.
-ghost use Rattle.std.specs.Prelude.{◌≡◌, [], IfOk};
+ghost use Rattle.std.specs.Prelude.{◌≡◌, [], IfOk, is_some};
 ghost use Rattle.std.specs.List.{concat};
 ghost use Rattle.vm_parts.specs.Outboxes.{WholeFrames, WholeStream, len_of};
 ghost use Rattle.vm_machine.specs.Asks.{ask_of};
@@ -50,6 +50,12 @@ impl CoreVM {
         ensures { result ≡ (seen self.now).machine.version }
     {
         self.machine.version
+    }
+
+    pub fn has_failed(&self) -> bool
+        ensures { result ≡ is_some (seen self.now).machine.failure }
+    {
+        self.machine.has_failed()
     }
 
     /// The first error of a failed VM.

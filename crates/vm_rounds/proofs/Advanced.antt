@@ -43,14 +43,14 @@ use Rattle.vm_rounds.specs.Journals.{BeginsOrFails, HasAll, StillWaits, commands
 use Rattle.vm_rounds.specs.Record.{Record}
 use Rattle.vm_rounds.specs.Stepping.{Advances, Asks, IfWaits, IsReplaying, LacksMemory, Reads, StepAt, StepDoes, StepFrom, StepUnless, fresh_record}
 use Rattle.vm_parts.specs.Outboxes.{WholeFrames}
-use Rattle.vm_rounds.specs.Told.{AnswersAreTold, NothingWakes, ToldBy, BeforeInput, Begun, Comes, IsKept, IsLive, IsAsleep, Quiet, Replays, Runs, StillAwaits, Wrote, arrivals, bytes_fed, frames_fed}
+use Rattle.vm_rounds.specs.Told.{AnswersAreTold, NothingWakes, Sleeps, ToldBy, BeforeInput, Begun, Comes, IsKept, IsLive, IsAsleep, Quiet, Replays, Runs, StillAwaits, Wrote, arrivals, bytes_fed, frames_fed}
 use Rattle.vm_rounds.proofs.Beginning.{input_begins}
 use Rattle.vm_rounds.proofs.Kept.{KeptBy, Lasts, Reading, dead_same}
 use Rattle.vm_rounds.proofs.Lasting.{runs_last}
 use Rattle.vm_rounds.proofs.Pieces.{agrees_running}
 use Rattle.vm_rounds.proofs.Quiet.{Silent, error_quiet, quiet_same, wrote_quiet}
 use Rattle.vm_rounds.proofs.Written.{written_is}
-use Rattle.vm_rounds.proofs.Stepped.{Sleeps, asks_keep, asks_replay, asks_wait}
+use Rattle.vm_rounds.proofs.Stepped.{asks_keep, asks_replay, asks_wait}
 
 -- ---- an event that failed
 

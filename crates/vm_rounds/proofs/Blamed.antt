@@ -33,7 +33,7 @@ use Rattle.vm_rounds.proofs.Placing.{bad_frame, come_stands, place_all}
 
 -- ---- want of memory, and a VM that stays as it is
 
-none_some : {A : Type 0} (e : Error) → None ≡ Some e → A
+pub none_some : {A : Type 0} (e : Error) → None ≡ Some e → A
 none_some e h = absurd (cc)
 
 pub starved_blamed : (m : Meaning) (version : Version) (options : VMOptions) (over : Option Progress) (fed : List Fed) (closed : Bool) (answers : List Answer) (v w : Machine) → v.failure ≡ None → IsStarved v no_memory w → BlamedAt m version options over fed closed answers w
@@ -75,11 +75,11 @@ come_tail version options r k live open_yet =
     (λ (b : Came version options r.fed r.answers r.taken r.vm). b.tail (record { failure = live; phase = ⊎_elim (λ x. x) (λ (x : r.vm.machine.phase ≡ Closed). absurd (open_yet x)) (b.phase live) }))
     k
 
-spoils : (v : Machine) → v.failure ≡ None → (spoiled v).failure ≡ Some (ruled v (named_error fault.BadMessage None))
+pub spoils : (v : Machine) → v.failure ≡ None → (spoiled v).failure ≡ Some (ruled v (named_error fault.BadMessage None))
 unfolding spoiled called
 spoils v live = ap (λ f. (left_by (called_at f (malformed_step v) v)).failure) live
 
-spoils_not : (v : Machine) (e : Error) → v.failure ≡ Some e → spoiled v ≡ v
+pub spoils_not : (v : Machine) (e : Error) → v.failure ≡ Some e → spoiled v ≡ v
 unfolding spoiled called
 spoils_not v e is = ap (λ f. left_by (called_at f (malformed_step v) v)) is
 
@@ -152,7 +152,7 @@ feed_blames m version options piece old result new k b does = by_test old.starve
 -- ---- closing
 
 -- closing changes no blame but that it says the input is closed
-closed_blame : (m : Meaning) (version : Version) (options : VMOptions) (fed : List Fed) (closed : Bool) (answers : List Answer) (e : Error) → Blame m version options fed closed answers e → Blame m version options fed true answers e
+pub closed_blame : (m : Meaning) (version : Version) (options : VMOptions) (fed : List Fed) (closed : Bool) (answers : List Answer) (e : Error) → Blame m version options fed closed answers e → Blame m version options fed true answers e
 closed_blame m version options fed closed answers e (Memory x) = Memory x
 closed_blame m version options fed closed answers e (Frame x) = Frame x
 closed_blame m version options fed closed answers e (NoFrame x y) = NoFrame x y
@@ -160,11 +160,11 @@ closed_blame m version options fed closed answers e (ClosedEarly x y z) = Closed
 closed_blame m version options fed closed answers e (NoInput x) = NoInput x
 closed_blame m version options fed closed answers e (Call x) = Call x
 
-closing_at : (v : View) → v.machine.failure ≡ None → (ph : Phase) → v.machine.phase ≡ ph → left_by (settled (closed_at ph (record v.machine { input_closed = true }))) ≡ (after_closing v).machine
+pub closing_at : (v : View) → v.machine.failure ≡ None → (ph : Phase) → v.machine.phase ≡ ph → left_by (settled (closed_at ph (record v.machine { input_closed = true }))) ≡ (after_closing v).machine
 unfolding called
 closing_at v live ph at = λ i. left_by (called_at (sym live i) (closed_at (sym at i) (record v.machine { input_closed = true })) v.machine)
 
-closing_not : (v : View) (e : Error) → v.machine.failure ≡ Some e → v.machine ≡ (after_closing v).machine
+pub closing_not : (v : View) (e : Error) → v.machine.failure ≡ Some e → v.machine ≡ (after_closing v).machine
 unfolding called
 closing_not v e is = ap (λ f. left_by (called_at f (close_step v.machine) v.machine)) (sym is)
 

@@ -265,7 +265,7 @@ step_blames m version options old result new k u b does = by_test old.starved do
 -- ---- the error of a step
 
 -- an error of a step is want of memory, or the failure of its VM
-abbrev Errs : Record → Result Progress Error → Record → Type 0
+abbrev pub Errs : Record → Result Progress Error → Record → Type 0
 Errs old result new = IfError result (λ e. (e ≡ no_memory) ⊎ ((new.vm.machine.failure ≡ Some e) × (new.over ≡ old.over)))
 
 lacks_errs : (old : Record) (result : Result Progress Error) (new : Record) → result ≡ Err no_memory → Errs old result new
@@ -318,20 +318,9 @@ errs_unless m version options old result new b going (Some e) is over d =
 errs_unless m version options old result new b going None is (Some made) d = made_errs old made result new d.0
 errs_unless m version options old result new b going None is None d = errs_at m version options old result new b going is old.vm.machine.phase refl d
 
-step_errs : (m : Meaning) (version : Version) (options : VMOptions) (old : Record) (result : Result Progress Error) (new : Record) → IsBlamed m version options old → old.over ≡ None → StepDoes m old result new → Errs old result new
+pub step_errs : (m : Meaning) (version : Version) (options : VMOptions) (old : Record) (result : Result Progress Error) (new : Record) → IsBlamed m version options old → old.over ≡ None → StepDoes m old result new → Errs old result new
 step_errs m version options old result new b going does = by_test old.starved does
   where
     by_test : (t : Bool) → StepFrom t m old result new → Errs old result new
     by_test true d = lacks_errs old result new d.0
     by_test false d = errs_unless m version options old result new b going old.vm.machine.failure refl old.over d
-
--- An error of a step has a reason, unless the attempt was over.
-pub step_blame : (m : Meaning) (version : Version) (options : VMOptions) (old : Record) (result : Result Progress Error) (new : Record) → HasCome version options old → IsKeptUnder m version options old → IsBlamed m version options old → StepDoes m old result new → old.over ≡ None → IfError result (λ e. Blame m version options new.fed new.closed new.answers e)
-step_blame m version options old result new k u b does going = by_result result (step_errs m version options old result new b going does)
-  where
-    after : IsBlamed m version options new
-    after = step_blames m version options old result new k u b does
-
-    by_result : (x : Result Progress Error) → Errs old x new → IfError x (λ e. Blame m version options new.fed new.closed new.answers e)
-    by_result (Ok made) h = tt
-    by_result (Err e) h = ⊎_elim (λ (x : e ≡ no_memory). Memory x) (λ (x : (new.vm.machine.failure ≡ Some e) × (new.over ≡ old.over)). after.blame (x.1 ∙ going) e x.0) h

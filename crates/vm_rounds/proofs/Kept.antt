@@ -75,7 +75,7 @@ closed_spoiled v closed = by_option v.failure
     by_option (Some e) = closed
     by_option None = closed
 
-closed_all : (raws : List RawMessage) (v : Machine) → v.phase ≡ Closed → (all_received raws v).phase ≡ Closed
+pub closed_all : (raws : List RawMessage) (v : Machine) → v.phase ≡ Closed → (all_received raws v).phase ≡ Closed
 closed_all [] v closed = closed
 closed_all (raw ∷ raws) v closed = closed_all raws (received raw v) (closed_received raw v closed)
 
@@ -109,7 +109,7 @@ open_before {A} version options fed v c closed =
 -- ---- a piece that is dropped
 
 -- a piece for a VM that has failed
-piece_dropped : (v : View) (piece : List ℕ) (e : Error) → v.machine.failure ≡ Some e → after_input v piece ≡ v
+pub piece_dropped : (v : View) (piece : List ℕ) (e : Error) → v.machine.failure ≡ Some e → after_input v piece ≡ v
 piece_dropped v piece e is = ap (λ o. if is_some o then v else consumed (frames_of (v.undecoded ++ piece)) v.machine) is
 
 -- ---- the output is taken

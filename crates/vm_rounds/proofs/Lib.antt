@@ -27,3 +27,5 @@ pub mod Blaming
 pub mod Placing
 pub mod Blamed
 pub mod Erring
+pub mod Late
+pub mod Sleeping

@@ -118,6 +118,6 @@ honest_fails m version options fed closed answers e honest (Call refuses) = by_l
     by_left (c ∷ further) is = absurd (history_refuses m version options fed x.journal x.moves x.written x.at x.made c further is x.why x.reason (honest.history x.journal.first_frame x.journal.entries x.journal.others x.journal.start x.journal.frames x.journal.reads_start x.journal.count))
 
 -- the error of a step of an honest attempt
-pub honest_errs : (m : Meaning) (version : Version) (options : VMOptions) (r : Record) (result : Result Progress Error) → IsHonest m version options r.fed → IfError result (λ e. Blame m version options r.fed r.closed r.answers e) → IfError result (λ e. IsOwnError m version options r.fed r.closed r.answers e)
-honest_errs m version options r (Ok progress) honest b = tt
-honest_errs m version options r (Err e) honest b = honest_fails m version options r.fed r.closed r.answers e honest b
+pub honest_errs : (m : Meaning) (version : Version) (options : VMOptions) (all : List Fed) (closed : Bool) (answers : List Answer) (result : Result Progress Error) → IsHonest m version options all → IfError result (λ e. Blame m version options all closed answers e) → IfError result (λ e. IsOwnError m version options all closed answers e)
+honest_errs m version options all closed answers (Ok progress) honest b = tt
+honest_errs m version options all closed answers (Err e) honest b = honest_fails m version options all closed answers e honest b

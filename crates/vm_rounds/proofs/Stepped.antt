@@ -53,17 +53,13 @@ use Rattle.vm_rounds.specs.Journals.{is_command, setup_for}
 use Rattle.vm_rounds.specs.Record.{Record}
 use Rattle.vm_rounds.specs.Stepping.{Asks, IfWaits, step_asked, asked_from, future_in, progress_of, replied, with_vm}
 use Rattle.vm_rounds.specs.Steps.{IfDone, ReadsBack, StepMade, performed}
-use Rattle.vm_rounds.specs.Told.{arrivals, IsKept, IsLive, IsAsleep, RefusesReplay, Replays, Runs, StillAwaits, Wrote, commands_of, handed_out}
+use Rattle.vm_rounds.specs.Told.{arrivals, IsKept, IsLive, IsAsleep, Sleeps, RefusesReplay, Replays, Runs, StillAwaits, Wrote, commands_of, handed_out}
 use Rattle.vm_rounds.proofs.Following.{agreeing_follows}
 use Rattle.vm_rounds.proofs.Kept.{dead_same, not_live}
 use Rattle.vm_rounds.proofs.Lasting.{runs_last}
 use Rattle.vm_rounds.proofs.Leading.{no_move}
 use Rattle.vm_rounds.proofs.Pieces.{agrees_running}
 use Rattle.vm_rounds.proofs.Quiet.{commands_append, map_append, quiet_same, wrote_more}
-
--- an await waits rightly, by what was written
-abbrev pub Sleeps : Meaning → Version → VMOptions → List Fed → List Answer → List (List ℕ) → View → Type 0
-Sleeps m version options fed answers taken vm = (written : List RawMessage) × Wrote taken vm.machine.output written × IsAsleep m version options fed answers written
 
 -- ---- what a call needs is a command
 

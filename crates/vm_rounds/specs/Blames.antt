@@ -19,8 +19,8 @@ use Rattle.vm_machine.specs.declared.phase.Phase.{Phase}
 use Rattle.vm_machine.specs.declared.phase.Phase.TheVariants.{WaitingStart, WaitingReplayEntries, Replaying, Processing, Closed}
 use Rattle.vm_machine.specs.Inputs.{entries_in}
 use Rattle.vm_machine.specs.Outcomes.{ruled, ruled_by}
-use Rattle.invocation_vm.specs.Frames.{Garbage, frames_of}
-use Rattle.invocation_vm.specs.Views.{all_received}
+use Rattle.invocation_vm.specs.Frames.{Garbage, Rest, frames_of}
+use Rattle.invocation_vm.specs.Views.{View, all_received}
 use Rattle.vm_model.specs.Calls.{Meaning}
 use Rattle.vm_model.specs.Calls.Move.{Refuses}
 use Rattle.vm_model.specs.Histories.{History, Made}
@@ -30,7 +30,7 @@ use Rattle.vm_model.specs.Refusals.{IsRefusedFor}
 use Rattle.vm_rounds.specs.declared.progress.Fed.{Fed}
 use Rattle.vm_rounds.specs.declared.progress.Progress.{Progress}
 use Rattle.vm_rounds.specs.Journals.{as_entries, commands_among, is_command, is_notification, setup_for}
-use Rattle.vm_rounds.specs.Record.{Record}
+use Rattle.vm_rounds.specs.Record.{Record, all_fed}
 use Rattle.vm_rounds.specs.Told.{Journal, Premises, arrivals_of, begun, bytes_fed, frames_fed}
 
 -- ---- frames
@@ -162,6 +162,23 @@ pub record BlamedAt (m : Meaning) (version : Version) (options : VMOptions) (ove
 -- the same of a record
 abbrev pub IsBlamed : Meaning → Version → VMOptions → Record → Type 0
 IsBlamed m version options r = BlamedAt m version options r.over r.fed r.closed r.answers r.vm.machine
+
+-- Once the attempt is over its VM is closed, behind the known entries, or has failed for such a reason.
+pub record BehindEnd (m : Meaning) (version : Version) (options : VMOptions) (all : List Fed) (closed : Bool) (answers : List Answer) (vm : View) : Type 0 where
+  pub phase : vm.machine.failure ≡ None → vm.machine.phase ≡ Closed
+  pub place : vm.machine.failure ≡ None → Began (frames_fed all) (λ n known. known ≤ n)
+  pub made_for : vm.machine.failure ≡ None → (vm.machine.version ≡ version) × (vm.machine.options ≡ options)
+  pub tail : vm.machine.failure ≡ None → (frames_of (bytes_fed all)).1 ≡ Rest vm.undecoded
+  pub blame : (e : Error) → vm.machine.failure ≡ Some e → Blame m version options all closed answers e
+
+-- no piece comes behind the end before it is there
+abbrev pub LateBy : Option Progress → Meaning → Version → VMOptions → Record → Type 0
+LateBy None m version options r = r.late ≡ []
+LateBy (Some made) m version options r = BehindEnd m version options (all_fed r) r.closed r.answers r.vm
+
+-- the same of a record
+abbrev pub IsLate : Meaning → Version → VMOptions → Record → Type 0
+IsLate m version options r = LateBy r.over m version options r
 
 -- where a step answers an error
 abbrev pub IfError : Result Progress Error → (Error → Type 0) → Type 0

@@ -7,6 +7,7 @@ use Rattle.vm_rounds.specs.Record.{Record}
 abbrev pub the_record : {H : Type 0} → Inner H → Record
 the_record a = record {
   fed = a.fed.items;
+  late = a.late.items;
   closed = a.closed;
   answers = a.answers.items;
   taken = a.taken;

@@ -13,6 +13,8 @@ use Rattle.vm_rounds.specs.declared.progress.Progress.{Progress}
 pub record Record : Type 0 where
   -- the pieces that came until the VM failed or closed
   pub fed : List Fed
+  -- the pieces that came behind them, to a VM that was closed and hadn't failed
+  pub late : List Fed
   -- the input was closed
   pub closed : Bool
   pub answers : List Answer
@@ -25,6 +27,10 @@ pub record Record : Type 0 where
   -- the invocation is suspended, or the handler has ended
   pub over : Option Progress
   pub vm : View
+
+-- all pieces that came until the VM failed
+abbrev pub all_fed : Record → List Fed
+all_fed r = r.fed ++ r.late
 
 -- all bytes that an attempt wrote: those that were taken, and those that wait
 abbrev pub bytes_written : Record → List ℕ

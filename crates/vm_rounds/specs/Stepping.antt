@@ -17,6 +17,7 @@ use Rattle.vm_machine.specs.declared.phase.Phase.{Phase}
 use Rattle.vm_machine.specs.declared.phase.Phase.TheVariants.{WaitingStart, WaitingReplayEntries, Replaying, Processing, Closed}
 use Rattle.vm_machine.specs.Inputs.{input_step}
 use Rattle.invocation_vm.specs.Views.{StarvesAmong, brought, View, Calls, after_input, after_closing}
+use Rattle.vm_rounds.specs.declared.progress.Fed.{Fed}
 use Rattle.vm_rounds.specs.declared.progress.Progress.{Progress}
 use Rattle.vm_rounds.specs.declared.progress.Progress.TheVariants as progress
 use Rattle.vm_rounds.specs.declared.progress.Reply.{Reply}
@@ -33,7 +34,7 @@ Meaning = List Answer → Step
 
 -- an attempt that was fed nothing
 abbrev pub fresh_record : View → Record
-fresh_record vm = record { fed = []; closed = false; answers = []; taken = []; waiting = None; starved = false; over = None; vm = vm }
+fresh_record vm = record { fed = []; late = []; closed = false; answers = []; taken = []; waiting = None; starved = false; over = None; vm = vm }
 
 -- an attempt is made for the version that is asked for; else the error says why, or no memory was found
 abbrev pub MakesAttempt : {H : Type 0} → Global → VMOptions → H → Result Version Error → Result (AttemptView H) Error → Type 0
@@ -142,11 +143,15 @@ pub record IsReplaying (r : Record) : Type 0 where
 abbrev pub output_len : Record → ℕ
 output_len r = min (length (bytes_written r)) (2 ^ 64 - 1)
 
--- a piece is kept until the VM has failed or closed
+-- a piece that is kept, with the numbers that stand now
+abbrev pub fed_now : List ℕ → Record → Fed
+fed_now piece r = record { piece = piece; answers = length r.answers; output = output_len r }
+
+-- a piece is kept until the VM has failed; what comes to a closed VM is kept apart
 abbrev pub kept_at : Option Error → Phase → List ℕ → Record → Record
 kept_at (Some e) phase piece r = r
-kept_at None Closed piece r = r
-kept_at None _ piece r = record r { fed = r.fed ++ record { piece = piece; answers = length r.answers; output = output_len r } ∷ [] }
+kept_at None Closed piece r = record r { late = r.late ++ fed_now piece r ∷ [] }
+kept_at None _ piece r = record r { fed = r.fed ++ fed_now piece r ∷ [] }
 
 -- a piece is kept as long as the VM takes it
 abbrev pub kept : List ℕ → Record → Record

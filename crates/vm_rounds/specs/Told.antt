@@ -44,6 +44,7 @@ use Rattle.vm_rounds.specs.Journals.{HasAll, StillWaits, commands_among, is_comm
 use Rattle.vm_parts.specs.declared.steps.Answer.{Answer}
 use Rattle.invocation_vm.specs.Views.{View}
 use Rattle.vm_rounds.specs.Record.{Record, bytes_written}
+use Rattle.vm_rounds.specs.Stepping.{IfWaits}
 
 -- ---- what is read from the record
 
@@ -176,6 +177,10 @@ pub record IsAsleep (m : Meaning) (version : Version) (options : VMOptions) (fed
 abbrev pub NothingWakes : Meaning → Version → VMOptions → Record → Type 0
 NothingWakes m version options r = IsAsleep m version options r.fed r.answers (written_by r)
 
+-- an await waits rightly, by what was written
+abbrev pub Sleeps : Meaning → Version → VMOptions → List Fed → List Answer → List (List ℕ) → View → Type 0
+Sleeps m version options fed answers taken vm = (written : List RawMessage) × Wrote taken vm.machine.output written × IsAsleep m version options fed answers written
+
 -- A call is refused while recorded commands are left: the journal tells a point with these answers from which no move leads on,
 -- for this reason; one Error is written, which says so by the error rule, and the VM fails by it.
 pub record RefusesReplay (m : Meaning) (version : Version) (options : VMOptions) (fed : List Fed) (answers_so_far : List Answer) (e : Error) (old new : Machine) : Type 0 where
@@ -278,3 +283,7 @@ IsKept m version options r = BeforeInput version options r.fed r.answers r.waiti
 -- the same, under the premises
 abbrev pub IsKeptUnder : Meaning → Version → VMOptions → Record → Type 0
 IsKeptUnder m version options r = Premises options (arrivals_of r.fed) → IsKept m version options r
+
+-- once the handler's await was suspended it waits rightly, under the premises
+abbrev pub StillSleeps : Meaning → Version → VMOptions → Record → Type 0
+StillSleeps m version options r = Premises options (arrivals_of r.fed) → (made : Progress) → r.over ≡ Some made → IfWaits (Ok made) (Sleeps m version options r.fed r.answers r.taken r.vm)

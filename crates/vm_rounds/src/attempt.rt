@@ -10,8 +10,8 @@ use std::alloc::{AllocError, Global};
 use std::marker::Model;
 use vm_parts::Answer;
 
-/// An attempt of a handler over the VM. It keeps a record: each piece of input until the VM failed or closed, whether
-/// the input was closed, the answers, and all output.
+/// An attempt of a handler over the VM. It keeps a record: each piece of input until the VM failed or closed, those that
+/// came to a closed VM behind them, whether the input was closed, the answers, and all output.
 #[derive(Drop)]
 pub struct Attempt<H: Handler> {
     version: Version,
@@ -22,14 +22,14 @@ pub struct Attempt<H: Handler> {
 impl<H: Handler> Model for Attempt<H> {
     ghost use Rattle.vm_rounds.specs.Record.{AttemptView};
     ghost use Rattle.vm_rounds.specs.Inside.{the_record};
-    ghost use Rattle.vm_rounds.specs.Blames.{IsBlamed};
-    ghost use Rattle.vm_rounds.specs.Told.{HasCome, IsKeptUnder};
+    ghost use Rattle.vm_rounds.specs.Blames.{IsBlamed, IsLate};
+    ghost use Rattle.vm_rounds.specs.Told.{HasCome, IsKeptUnder, StillSleeps};
 
     ghost Value = { AttemptView H };
 
     ghost view = { λ a. record { handler = a.inner.handler; version = a.version; options = a.options; record_of = the_record a.inner } };
 
-    ghost invariant = { λ a. HasCome a.version a.options (the_record a.inner) × IsBlamed (H.meaning a.inner.handler) a.version a.options (the_record a.inner) × IsKeptUnder (H.meaning a.inner.handler) a.version a.options (the_record a.inner) };
+    ghost invariant = { λ a. HasCome a.version a.options (the_record a.inner) × IsBlamed (H.meaning a.inner.handler) a.version a.options (the_record a.inner) × IsKeptUnder (H.meaning a.inner.handler) a.version a.options (the_record a.inner) × IsLate (H.meaning a.inner.handler) a.version a.options (the_record a.inner) × StillSleeps (H.meaning a.inner.handler) a.version a.options (the_record a.inner) };
 }
 
 impl<H: Handler> Attempt<H> {
@@ -38,7 +38,7 @@ impl<H: Handler> Attempt<H> {
     ghost use Rattle.vm_parts.specs.Outboxes.{WholeStream};
     ghost use Rattle.vm_rounds.specs.Stepping.{MakesAttempt, StepDoes, FeedDoes, CloseDoes, IfWaits, IsReplaying, Takes, output_len};
     ghost use Rattle.vm_rounds.specs.Blames.{Blame, IfError, IsHonest, IsOwnError};
-    ghost use Rattle.vm_rounds.specs.Record.{bytes_written};
+    ghost use Rattle.vm_rounds.specs.Record.{all_fed, bytes_written};
     ghost use Rattle.vm_rounds.specs.Told.{AnswersAreTold, HasCome, NothingWakes, Premises, Replays, arrivals_of, written_by};
 
     /// An attempt for the version that the header `content-type` names; the VM's refusals are its own.
@@ -84,16 +84,16 @@ impl<H: Handler> Attempt<H> {
     pub fn step(&mut self) -> VMResult<Progress>
         ensures does { StepDoes (H.meaning self.old.handler) self.old.record_of result self.new.record_of }
         // Under the premises it waits or is suspended only where no number of the arrivals wakes the handler's await.
-        ensures waits { self.old.record_of.over ≡ None → Premises self.old.options (arrivals_of self.old.record_of.fed) → IfWaits result (NothingWakes (H.meaning self.old.handler) self.old.version self.old.options self.new.record_of) }
+        ensures waits { Premises self.old.options (arrivals_of self.old.record_of.fed) → IfWaits result (NothingWakes (H.meaning self.old.handler) self.old.version self.old.options self.new.record_of) }
         // Under the premises, while recorded commands are left, the handler's next call is answered, or it is refused where the journal
         // tells no more.
         ensures replays { IsReplaying self.old.record_of → Premises self.old.options (arrivals_of self.old.record_of.fed) → Replays (H.meaning self.old.handler) self.old.version self.old.options self.old.record_of result self.new.record_of }
         // An error is want of memory, a frame or bytes that were refused, input closed too early, a journal without input, or a call
         // that was refused.
-        ensures blamed { self.old.record_of.over ≡ None → IfError result (λ e. Blame (H.meaning self.old.handler) self.old.version self.old.options self.new.record_of.fed self.new.record_of.closed self.new.record_of.answers e) }
+        ensures blamed { IfError result (λ e. Blame (H.meaning self.old.handler) self.old.version self.old.options (all_fed self.new.record_of) self.new.record_of.closed self.new.record_of.answers e) }
         // Where the bytes are an honest attempt's over a history of the handler, an error is only want of memory, input that was closed
         // too early, or a call's own refusal, where no recorded command is left.
-        ensures honest { self.old.record_of.over ≡ None → IsHonest (H.meaning self.old.handler) self.old.version self.old.options self.new.record_of.fed → IfError result (λ e. IsOwnError (H.meaning self.old.handler) self.old.version self.old.options self.new.record_of.fed self.new.record_of.closed self.new.record_of.answers e) }
+        ensures honest { IsHonest (H.meaning self.old.handler) self.old.version self.old.options (all_fed self.new.record_of) → IfError result (λ e. IsOwnError (H.meaning self.old.handler) self.old.version self.old.options (all_fed self.new.record_of) self.new.record_of.closed self.new.record_of.answers e) }
         ensures handler { self.new.handler ≡ self.old.handler }
         ensures made_for { (self.new.version ≡ self.old.version) × (self.new.options ≡ self.old.options) }
     {

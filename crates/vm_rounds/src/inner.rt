@@ -19,6 +19,7 @@ use vm_parts::{Answer, Step};
 #[derive(Drop)]
 pub struct Inner<H> {
     pub fed: Vec<Fed>,
+    pub late: Vec<Fed>,
     pub closed: bool,
     pub answers: Vec<Answer>,
     pub taken: Taken,
@@ -68,6 +69,7 @@ impl<H: Handler> Inner<H> {
     {
         Inner {
             fed: Vec::new(alloc),
+            late: Vec::new(alloc),
             closed: false,
             answers: Vec::new(alloc),
             taken: Taken::new(alloc),
@@ -170,14 +172,14 @@ impl<H: Handler> Inner<H> {
         self.taken.len().saturating_add(self.vm.waiting_len())
     }
 
-    /// Keeps a piece, unless the VM has failed or closed.
+    /// Keeps a piece, unless the VM has failed.
     fn keep(&mut self, piece: &Bytes) -> Result<(), AllocError>
         ensures ok { OnOk result (the_record self.new ≡ kept piece.now (the_record self.old)) }
         ensures err { OnErr result (the_record self.new ≡ the_record self.old) }
         ensures vm { seen self.new.vm ≡ seen self.old.vm }
         ensures handler { self.new.handler ≡ self.old.handler }
     {
-        if matches!(self.vm.state(), State::Closed) {
+        if self.vm.has_failed() {
             return Ok(());
         }
         let fed = Fed {
@@ -185,7 +187,11 @@ impl<H: Handler> Inner<H> {
             answers: self.answers.len(),
             output: self.output_len(),
         };
-        self.fed.push(fed)?;
+        if matches!(self.vm.state(), State::Closed) {
+            self.late.push(fed)?;
+        } else {
+            self.fed.push(fed)?;
+        }
         Ok(())
     }
 

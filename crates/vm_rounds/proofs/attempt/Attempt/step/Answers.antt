@@ -1,8 +1,11 @@
 use Rattle.vm_rounds.specs.Inside.{the_record}
-use Rattle.vm_rounds.proofs.Advanced.{asleep_waits, step_replays, step_waits}
+use Rattle.vm_rounds.specs.Record.{all_fed}
+use Rattle.vm_rounds.proofs.Advanced.{step_replays}
 use Rattle.vm_rounds.proofs.Coming.{step_comes}
-use Rattle.vm_rounds.proofs.Erring.{step_blame, step_blames}
+use Rattle.vm_rounds.proofs.Erring.{step_blames}
 use Rattle.vm_rounds.proofs.Replayed.{honest_errs}
+use Rattle.vm_rounds.proofs.Late.{step_blame, step_late}
+use Rattle.vm_rounds.proofs.Sleeping.{step_sleeps, waits_rightly}
 use Rattle.vm_rounds.proofs.Under.{step_under}
 use Rattle.vm_rounds.proofs.attempt.Attempt.step.Goals as goal
 
@@ -14,12 +17,14 @@ invariant_of-self g c =
       step_comes m a.version a.options (the_record a.inner) c.step-progress.result (the_record c.step-progress.new.self) c.self.invariant.0 c.step-progress.ensures.does,
       step_blames m a.version a.options (the_record a.inner) c.step-progress.result (the_record c.step-progress.new.self) c.self.invariant.0 c.self.invariant.2 c.self.invariant.1 c.step-progress.ensures.does,
       step_under m a.version a.options (the_record a.inner) c.step-progress.result (the_record c.step-progress.new.self) c.self.invariant.2 c.step-progress.ensures.does,
+      step_late m a.version a.options (the_record a.inner) c.step-progress.result (the_record c.step-progress.new.self) c.self.invariant.0 c.self.invariant.3 c.step-progress.ensures.does,
+      step_sleeps m a.version a.options (the_record a.inner) c.step-progress.result (the_record c.step-progress.new.self) c.self.invariant.2 c.self.invariant.4 c.step-progress.ensures.does,
     )
 
 pub returns-clause-waits : goal.returns-clause-waits
 returns-clause-waits g c =
     let a = c.self.inside in
-    rw (← c.self.view_is) (λ going p. asleep_waits (g.H.Handler.meaning a.inner.handler) a.version a.options (the_record c.step-progress.new.self) c.step-progress.result c.output_len.ensures.whole (step_waits (g.H.Handler.meaning a.inner.handler) a.version a.options (the_record a.inner) c.step-progress.result (the_record c.step-progress.new.self) (c.self.invariant.2 p) going c.step-progress.ensures.does))
+    rw (← c.self.view_is) (waits_rightly (g.H.Handler.meaning a.inner.handler) a.version a.options (the_record a.inner) c.step-progress.result (the_record c.step-progress.new.self) c.self.invariant.2 c.self.invariant.4 c.step-progress.ensures.does c.output_len.ensures.whole)
 
 pub returns-clause-replays : goal.returns-clause-replays
 returns-clause-replays g c =
@@ -29,9 +34,10 @@ returns-clause-replays g c =
 pub returns-clause-blamed : goal.returns-clause-blamed
 returns-clause-blamed g c =
     let a = c.self.inside in
-    rw (← c.self.view_is) (step_blame (g.H.Handler.meaning a.inner.handler) a.version a.options (the_record a.inner) c.step-progress.result (the_record c.step-progress.new.self) c.self.invariant.0 c.self.invariant.2 c.self.invariant.1 c.step-progress.ensures.does)
+    rw (← c.self.view_is) (step_blame (g.H.Handler.meaning a.inner.handler) a.version a.options (the_record a.inner) c.step-progress.result (the_record c.step-progress.new.self) c.self.invariant.0 c.self.invariant.2 c.self.invariant.1 c.self.invariant.3 c.step-progress.ensures.does)
 
 pub returns-clause-honest : goal.returns-clause-honest
 returns-clause-honest g c =
     let a = c.self.inside in
-    rw (← c.self.view_is) (λ going honest. honest_errs (g.H.Handler.meaning a.inner.handler) a.version a.options (the_record c.step-progress.new.self) c.step-progress.result honest (step_blame (g.H.Handler.meaning a.inner.handler) a.version a.options (the_record a.inner) c.step-progress.result (the_record c.step-progress.new.self) c.self.invariant.0 c.self.invariant.2 c.self.invariant.1 c.step-progress.ensures.does going))
+    let new = the_record c.step-progress.new.self in
+    rw (← c.self.view_is) (λ honest. honest_errs (g.H.Handler.meaning a.inner.handler) a.version a.options (all_fed new) new.closed new.answers c.step-progress.result honest (step_blame (g.H.Handler.meaning a.inner.handler) a.version a.options (the_record a.inner) c.step-progress.result new c.self.invariant.0 c.self.invariant.2 c.self.invariant.1 c.self.invariant.3 c.step-progress.ensures.does))
