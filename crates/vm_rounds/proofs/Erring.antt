@@ -209,7 +209,7 @@ module _ (m : Meaning) (version : Version) (options : VMOptions) (r : Record) (k
       (agreeing_follows s m (handed_out k.journal) k.written r.vm.machine k.at (k.agrees live) (subst (λ o. IfDone o readable) (sym at) tt)))
 
 asks_blamed : (m : Meaning) (version : Version) (options : VMOptions) (old : Record) (result : Result Progress Error) (new : Record) → (Premises options (arrivals_of old.fed) → Runs m version options old.fed old.answers old.waiting old.taken old.vm) → IsLive old.vm.machine → Asks m old result new → IsBlamed m version options new
-asks_blamed m version options old result new runs live (x, w, does, is, made) = subst (IsBlamed m version options) (sym is) (by_reply x (step_leaves (step_asked m old) old.vm.machine live x w.machine does.0.0 does.1) does.0.0)
+asks_blamed m version options old result new runs live (x, w, does, is, made) = subst (IsBlamed m version options) (sym is) (by_reply x (step_leaves (step_asked m old) old.vm.machine live x w.machine does.0.0) does.0.0)
   where
     -- a VM whose handler runs
     running : (answers : List Answer) → w.machine.failure ≡ old.vm.machine.failure → is_running w.machine.phase ≡ true → BlamedAt m version options old.over old.fed old.closed answers w.machine
@@ -283,7 +283,7 @@ reads_errs old (Err e) new live (w, does, is) =
     does.0
 
 asks_errs : (m : Meaning) (old : Record) (result : Result Progress Error) (new : Record) → IsLive old.vm.machine → Asks m old result new → Errs old result new
-asks_errs m old result new live (x, w, does, is, made) = subst (λ z. Errs old z new) (sym made) (by_reply x (step_leaves (step_asked m old) old.vm.machine live x w.machine does.0.0 does.1) is)
+asks_errs m old result new live (x, w, does, is, made) = subst (λ z. Errs old z new) (sym made) (by_reply x (step_leaves (step_asked m old) old.vm.machine live x w.machine does.0.0) is)
   where
     by_reply : (x : Result Reply Error) → IsLeft old.vm.machine x w.machine → new ≡ stepping.replied old (future_in (step_asked m old)) x w → Errs old (progress_of x) new
     by_reply (Ok (reply.Answer a)) h at = tt

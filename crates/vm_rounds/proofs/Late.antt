@@ -256,7 +256,7 @@ ends_behind m version options r w c live none und failure at ver opt =
     enough a c n known e f = omega (arith, e, f)
 
 asks_late : (m : Meaning) (version : Version) (options : VMOptions) (old : Record) (result : Result Progress Error) (new : Record) → Came version options old.fed old.answers old.taken old.vm → IsLive old.vm.machine → old.over ≡ None → old.late ≡ [] → Asks m old result new → IsLate m version options new
-asks_late m version options old result new c live going none (x, w, does, is, made) = subst (IsLate m version options) (sym is) (by_reply x (step_leaves (step_asked m old) old.vm.machine live x w.machine does.0.0 does.1))
+asks_late m version options old result new c live going none (x, w, does, is, made) = subst (IsLate m version options) (sym is) (by_reply x (step_leaves (step_asked m old) old.vm.machine live x w.machine does.0.0))
   where
     on : (r : Record) → r.over ≡ old.over → r.late ≡ old.late → IsLate m version options r
     on r over late = subst (λ o. LateBy o m version options r) (sym (over ∙ going)) (late ∙ none)

@@ -13,7 +13,7 @@ use Rattle.journal_protocol.specs.Errors.{error_message, named_error, no_memory}
 use Rattle.journal_protocol.specs.HeaderEqual.{header_equal}
 use Rattle.journal_protocol.specs.Message.{encoding, type_of}
 use Rattle.journal_protocol.specs.Reading.{message_in}
-use Rattle.journal_protocol.specs.Runs.{IsWhole}
+
 use Rattle.journal_protocol.specs.Types.{type_number}
 use Rattle.vm_parts.specs.declared.types.AwaitResponse.{AwaitResponse}
 use Rattle.vm_parts.specs.declared.types.AwaitResponse.TheVariants.{AnyCompleted, WaitingExternalProgress}
@@ -69,15 +69,15 @@ Stays v w = (w.output ≡ v.output) × (w.version ≡ v.version) × (w.options �
 stays_sends : (v w : Machine) → Stays v w → Sends v w
 stays_sends v w s = record { messages = []; output = s.0 ∙ sym (append-nil v.output); version = s.1; options = s.2 }
 
--- an event, before the error rule: where its command can be read, what it leaves; one that is refused has written nothing
-abbrev Happens : {A : Type 0} → Type 0 → (A → Machine → Type 0) → Machine → Outcome A → Type 0
-Happens Readable Left v (Done a w) = Readable → Leaves Left v a w
-Happens Readable Left v (Failed e w) = Stays v w
+-- an event, before the error rule: what it leaves; one that is refused has written nothing
+abbrev Happens : {A : Type 0} → (A → Machine → Type 0) → Machine → Outcome A → Type 0
+Happens Left v (Done a w) = Leaves Left v a w
+Happens Left v (Failed e w) = Stays v w
 
 -- a call, with the error rule
-abbrev pub CallLeaves : {A : Type 0} → Type 0 → (A → Machine → Type 0) → Machine → Outcome A → Type 0
-CallLeaves Readable Left v (Done a w) = Readable → Leaves Left v a w
-CallLeaves Readable Left v (Failed e w) = Sends v w × (w.failure ≡ Some e)
+abbrev pub CallLeaves : {A : Type 0} → (A → Machine → Type 0) → Machine → Outcome A → Type 0
+CallLeaves Left v (Done a w) = Leaves Left v a w
+CallLeaves Left v (Failed e w) = Sends v w × (w.failure ≡ Some e)
 
 -- the handler runs on
 abbrev RunsOn : {A : Type 0} → A → Machine → Type 0
@@ -89,17 +89,17 @@ failing : (e : Error) (v w : Machine) → Stays v w → (b : Bool) → is_closed
 failing e v w s true c = record { messages = []; output = rw c (s.0 ∙ sym (append-nil v.output)); version = s.1; options = s.2 }
 failing e v w s false c = record { messages = message.Error (error_message e) ∷ []; output = rw c (ap (λ l. l ++ encoding (message.Error (error_message e)) ∷ []) s.0); version = s.1; options = s.2 }
 
-settling : {A : Type 0} (P : Type 0) (L : A → Machine → Type 0) (v : Machine) (o : Outcome A) → Happens P L v o → CallLeaves P L v (settled o)
-settling P L v (Done a w) h = h
-settling P L v (Failed e w) h = (failing (ruled w e) v w h (is_closed w.phase) refl, refl)
+settling : {A : Type 0} (L : A → Machine → Type 0) (v : Machine) (o : Outcome A) → Happens L v o → CallLeaves L v (settled o)
+settling L v (Done a w) h = h
+settling L v (Failed e w) h = (failing (ruled w e) v w h (is_closed w.phase) refl, refl)
 
-calling : {A : Type 0} (P : Type 0) (L : A → Machine → Type 0) (v : Machine) (o : Outcome A) → v.failure ≡ None → Happens P L v o → CallLeaves P L v (called o v)
+calling : {A : Type 0} (L : A → Machine → Type 0) (v : Machine) (o : Outcome A) → v.failure ≡ None → Happens L v o → CallLeaves L v (called o v)
 unfolding called
-calling P L v o live h = subst (λ f. CallLeaves P L v (called_at f o v)) (sym live) (settling P L v o h)
+calling L v o live h = subst (λ f. CallLeaves L v (called_at f o v)) (sym live) (settling L v o h)
 
-mapping : {A B : Type 0} (P : Type 0) (L : A → Machine → Type 0) (M : B → Machine → Type 0) (f : A → B) → ((a : A) (w : Machine) → L a w → M (f a) w) → (v : Machine) (o : Outcome A) → CallLeaves P L v o → CallLeaves P M v (mapped f o)
-mapping P L M f more v (Done a w) h = λ p. let x = h p in record { sends = x.sends; failure = x.failure; left = more a w x.left }
-mapping P L M f more v (Failed e w) h = h
+mapping : {A B : Type 0} (L : A → Machine → Type 0) (M : B → Machine → Type 0) (f : A → B) → ((a : A) (w : Machine) → L a w → M (f a) w) → (v : Machine) (o : Outcome A) → CallLeaves L v o → CallLeaves M v (mapped f o)
+mapping L M f more v (Done a w) h = record { sends = h.sends; failure = h.failure; left = more a w h.left }
+mapping L M f more v (Failed e w) h = h
 
 -- ---- a command
 
@@ -115,16 +115,16 @@ after_runs : (left : List RawMessage) → is_running (phase_after left) ≡ true
 after_runs [] = refl
 after_runs (c ∷ left) = refl
 
-module _ (v : Machine) (handle : NotificationHandle) (P : Type 0) (m : Message) (ignore : Bool) (u : Machine) (same : Stays v u) (failure : u.failure ≡ v.failure) (phase : u.phase ≡ v.phase) where
+module _ (v : Machine) (handle : NotificationHandle) (m : Message) (ignore : Bool) (u : Machine) (same : Stays v u) (failure : u.failure ≡ v.failure) (phase : u.phase ≡ v.phase) where
   abbrev Answer : Outcome Unit → Type 0
-  Answer o = Happens P RunsOn v (o >>= λ _ w. Done handle w)
+  Answer o = Happens RunsOn v (o >>= λ _ w. Done handle w)
 
   compares : (o : Option Message) (w : Machine) → Stays v w → w.failure ≡ v.failure → is_running w.phase ≡ true → Answer (compared m ignore o w)
   compares None w s f runs = s
   compares (Some recorded) w s f runs = by_test (header_equal recorded m ignore)
     where
       by_test : (b : Bool) → Answer (if b then Done (tt {0}) w else Failed (about_last fault.CommandMismatch w) w)
-      by_test true = λ p. record { sends = stays_sends v w s; failure = f; left = runs }
+      by_test true = record { sends = stays_sends v w s; failure = f; left = runs }
       by_test false = s
 
   pops : (left : List RawMessage) → Answer (popped_from left (type_of m) u >>= λ raw w. compared m ignore (message_in raw.ty raw.body) w)
@@ -142,49 +142,49 @@ module _ (v : Machine) (handle : NotificationHandle) (P : Type 0) (m : Message) 
   unfolding replayed popped
   replays = pops u.commands
 
-  carries : (P → is_processing v.phase ≡ true → IsWhole m) → Answer (carried_out m ignore u)
+  carries : Answer (carried_out m ignore u)
   unfolding carried_out
-  carries readable = by_test (is_processing u.phase) refl
+  carries = by_test (is_processing u.phase) refl
     where
       by_test : (b : Bool) → is_processing u.phase ≡ b → Answer (if b then Done (tt {0}) (written m u) else replayed m ignore u)
-      by_test true e = λ p. record {
+      by_test true e = record {
         sends = record { messages = m ∷ []; output = ap (λ l. l ++ encoding m ∷ []) same.0; version = same.1; options = same.2 };
         failure = failure;
         left = writing_runs u.phase e;
       }
       by_test false e = replays
 
-counts : (o : Option NamedFault) (m : Message) (unstable : Bool) (v : Machine) → Happens (CanBeRead m v) RunsOn v (counted o m unstable v)
+counts : (o : Option NamedFault) (m : Message) (unstable : Bool) (v : Machine) → Happens RunsOn v (counted o m unstable v)
 counts (Some name) m unstable v = (refl, refl, refl)
-counts None m unstable v = carries v (record { 0 = v.counters.handle }) (CanBeRead m v) (with_ids v.counters.completion m) (ignores_payloads v.options.non_determinism_checks unstable) (prepared m v) (refl, refl, refl) refl refl (λ readable. readable)
+counts None m unstable v = carries v (record { 0 = v.counters.handle }) (with_ids v.counters.completion m) (ignores_payloads v.options.non_determinism_checks unstable) (prepared m v) (refl, refl, refl) refl refl
 
-issues : (m : Message) (unstable : Bool) (v : Machine) → Happens (CanBeRead m v) RunsOn v (issued m unstable v)
+issues : (m : Message) (unstable : Bool) (v : Machine) → Happens RunsOn v (issued m unstable v)
 unfolding issued
 issues m unstable v = by_test (is_running v.phase)
   where
-    by_test : (b : Bool) → Happens (CanBeRead m v) RunsOn v (if b then counted (missing (ids_of m) 0 (ids_of m) v.counters) m unstable v else (let w = entered (shown_type m) (name_of m) v in Failed (about_last (state_fault v.phase) w) w))
+    by_test : (b : Bool) → Happens RunsOn v (if b then counted (missing (ids_of m) 0 (ids_of m) v.counters) m unstable v else (let w = entered (shown_type m) (name_of m) v in Failed (about_last (state_fault v.phase) w) w))
     by_test true = counts (missing (ids_of m) 0 (ids_of m) v.counters) m unstable v
     by_test false = (refl, refl, refl)
 
-commands : (refusal : Option NamedFault) (m : Message) (unstable : Bool) (v : Machine) → Happens (CanBeRead m v) RunsOn v (commanded_unless refusal m unstable v)
+commands : (refusal : Option NamedFault) (m : Message) (unstable : Bool) (v : Machine) → Happens RunsOn v (commanded_unless refusal m unstable v)
 commands (Some name) m unstable v = (refl, refl, refl)
 commands None m unstable v = issues m unstable v
 
 -- ---- calls without a command
 
-awakeable_is : (o : Option NamedFault) (v : Machine) → is_running v.phase ≡ true → Happens (Unit {0}) RunsOn v (awakeable_counted o v)
+awakeable_is : (o : Option NamedFault) (v : Machine) → is_running v.phase ≡ true → Happens RunsOn v (awakeable_counted o v)
 awakeable_is (Some name) v runs = (refl, refl, refl)
-awakeable_is None v runs = λ p. record { sends = stays_sends v _ (refl, refl, refl); failure = refl; left = runs }
+awakeable_is None v runs = record { sends = stays_sends v _ (refl, refl, refl); failure = refl; left = runs }
 
-awakeables : (v : Machine) → Happens (Unit {0}) RunsOn v (awakeable_step v)
+awakeables : (v : Machine) → Happens RunsOn v (awakeable_step v)
 unfolding awakeable_step
 awakeables v = by_test (is_running v.phase) refl
   where
-    by_test : (b : Bool) → is_running v.phase ≡ b → Happens (Unit {0}) RunsOn v (if b then awakeable_counted (missing_signals 1 1 v.counters) v else refused (state_fault v.phase) v)
+    by_test : (b : Bool) → is_running v.phase ≡ b → Happens RunsOn v (if b then awakeable_counted (missing_signals 1 1 v.counters) v else refused (state_fault v.phase) v)
     by_test true e = awakeable_is (missing_signals 1 1 v.counters) v e
     by_test false e = (refl, refl, refl)
 
-new_awakeables : (b : Bool) (v : Machine) → Happens (Unit {0}) RunsOn v (if b then refused {A = AwakeableHandle} fault.UnsupportedFeature v else awakeable_step v)
+new_awakeables : (b : Bool) (v : Machine) → Happens RunsOn v (if b then refused {A = AwakeableHandle} fault.UnsupportedFeature v else awakeable_step v)
 new_awakeables true v = (refl, refl, refl)
 new_awakeables false v = awakeables v
 
@@ -203,48 +203,48 @@ module _ (handle : ℕ) (v u : Machine) (same : Stays v u) (failure : u.failure 
         left = refl;
       }
 
-  pends : Happens (Unit {0}) AwaitLeaves v (pending handle u)
+  pends : Happens AwaitLeaves v (pending handle u)
   pends = by_tests (is_replaying u.phase) u.input_closed
     where
       by_tests : (a b : Bool)
-          → Happens (Unit {0}) AwaitLeaves v (if a then refused fault.UncompletedDoProgressDuringReplay u
+          → Happens AwaitLeaves v (if a then refused fault.UncompletedDoProgressDuringReplay u
           else if b then Done (Err (named_error fault.Suspended None)) (suspended (future_of (id_at handle u.results.handles)) u)
           else Done (Ok (WaitingExternalProgress true false)) u)
       by_tests true b = same
-      by_tests false true = λ p. suspends
-      by_tests false false = λ p. record { sends = stays_sends v u same; failure = failure; left = runs }
+      by_tests false true = suspends
+      by_tests false false = record { sends = stays_sends v u same; failure = failure; left = runs }
 
-  tries : Happens (Unit {0}) AwaitLeaves v (tried handle u)
+  tries : Happens AwaitLeaves v (tried handle u)
   tries = by_test (has_result_for (id_at handle u.results.handles) u.results.ready)
     where
-      by_test : (b : Bool) → Happens (Unit {0}) AwaitLeaves v (if b then Done (Ok AnyCompleted) u else pending handle u)
-      by_test true = λ p. record { sends = stays_sends v u same; failure = failure; left = runs }
+      by_test : (b : Bool) → Happens AwaitLeaves v (if b then Done (Ok AnyCompleted) u else pending handle u)
+      by_test true = record { sends = stays_sends v u same; failure = failure; left = runs }
       by_test false = pends
 
-awaits : (handle : ℕ) (v : Machine) → Happens (Unit {0}) AwaitLeaves v (await_step handle v)
+awaits : (handle : ℕ) (v : Machine) → Happens AwaitLeaves v (await_step handle v)
 unfolding await_step
 awaits handle v = by_test (is_running v.phase) refl
   where
-    by_test : (b : Bool) → is_running v.phase ≡ b → Happens (Unit {0}) AwaitLeaves v (if b then tried handle (record v { results = used_for handle v.results }) else refused (state_fault v.phase) v)
+    by_test : (b : Bool) → is_running v.phase ≡ b → Happens AwaitLeaves v (if b then tried handle (record v { results = used_for handle v.results }) else refused (state_fault v.phase) v)
     by_test true e = tries handle v (record v { results = used_for handle v.results }) (refl, refl, refl) refl e
     by_test false e = (refl, refl, refl)
 
-futures : (future : UnresolvedFuture) (v : Machine) → Happens (Unit {0}) AwaitLeaves v (future_step future v)
+futures : (future : UnresolvedFuture) (v : Machine) → Happens AwaitLeaves v (future_step future v)
 futures (Single handle) v = awaits handle.0 v
 
-values : (o : Option Value) (v u : Machine) → Stays v u → u.failure ≡ v.failure → is_running u.phase ≡ true → Happens (Unit {0}) RunsOn v (value_taken o u)
+values : (o : Option Value) (v u : Machine) → Stays v u → u.failure ≡ v.failure → is_running u.phase ≡ true → Happens RunsOn v (value_taken o u)
 values None v u s f runs = s
-values (Some value) v u s f runs = λ p. record { sends = stays_sends v u s; failure = f; left = runs }
+values (Some value) v u s f runs = record { sends = stays_sends v u s; failure = f; left = runs }
 
-results : (o : Option NotificationResult) (v u : Machine) → Stays v u → u.failure ≡ v.failure → is_running u.phase ≡ true → Happens (Unit {0}) RunsOn v (result_taken o u)
-results None v u s f runs = λ p. record { sends = stays_sends v u s; failure = f; left = runs }
+results : (o : Option NotificationResult) (v u : Machine) → Stays v u → u.failure ≡ v.failure → is_running u.phase ≡ true → Happens RunsOn v (result_taken o u)
+results None v u s f runs = record { sends = stays_sends v u s; failure = f; left = runs }
 results (Some result) v u s f runs = values (value_of result) v u s f runs
 
-takes : (handle : ℕ) (v : Machine) → Happens (Unit {0}) RunsOn v (take_step handle v)
+takes : (handle : ℕ) (v : Machine) → Happens RunsOn v (take_step handle v)
 unfolding take_step
 takes handle v = by_test (is_running v.phase) refl
   where
-    by_test : (b : Bool) → is_running v.phase ≡ b → Happens (Unit {0}) RunsOn v (if b then taken_at handle (id_at handle v.results.handles) v else refused (state_fault v.phase) v)
+    by_test : (b : Bool) → is_running v.phase ≡ b → Happens RunsOn v (if b then taken_at handle (id_at handle v.results.handles) v else refused (state_fault v.phase) v)
     by_test true e =
         let found = present_for v.options.signal_delivery (id_at handle v.results.handles) v.results.ready in
         results found v (record v { results = taken_by v.options.signal_delivery handle (id_at handle v.results.handles) found v.results }) (refl, refl, refl) refl e
@@ -254,16 +254,16 @@ takes handle v = by_test (is_running v.phase) refl
 abbrev HasClosed : Unit {0} → Machine → Type 0
 HasClosed t w = w.phase ≡ Closed
 
-ends : (ph : Phase) (v : Machine) → v.phase ≡ ph → Happens (Unit {0}) HasClosed v (end_at ph v)
+ends : (ph : Phase) (v : Machine) → v.phase ≡ ph → Happens HasClosed v (end_at ph v)
 ends WaitingStart v e = (refl, refl, refl)
 ends WaitingReplayEntries v e = (refl, refl, refl)
 ends Replaying v e = (refl, refl, refl)
-ends Processing v e = λ p. record {
+ends Processing v e = record {
   sends = record { messages = message.End ∷ []; output = refl; version = refl; options = refl };
   failure = refl;
   left = refl;
 }
-ends Closed v e = λ p. record { sends = stays_sends v v (refl, refl, refl); failure = refl; left = e }
+ends Closed v e = record { sends = stays_sends v v (refl, refl, refl); failure = refl; left = e }
 
 -- ---- what is replied
 
@@ -279,13 +279,13 @@ await_stands (Ok AnyCompleted) w h = h
 await_stands (Ok (WaitingExternalProgress input run)) w h = h
 await_stands (Err e) w h = h
 
-asked_leaves : (a : Ask) (v : Machine) → IsLive v → CallLeaves (IsReadable a v) StandsBy v (performed_by a v)
-asked_leaves (ask.Command c) v live = mapping (CanBeRead c.message v) RunsOn StandsBy _ (λ h w runs. runs) v (called (commanded c v) v) (calling (CanBeRead c.message v) RunsOn v (commanded c v) live.failure (commands c.refusal c.message c.unstable v))
-asked_leaves ask.Awakeable v live = mapping (Unit {0}) RunsOn StandsBy _ (λ h w runs. runs) v (called (new_awakeable_step v) v) (calling (Unit {0}) RunsOn v (new_awakeable_step v) live.failure (new_awakeables (skips_replay v.options.journal_replay) v))
-asked_leaves (ask.Await future) v live = mapping (Unit {0}) AwaitLeaves StandsBy await_reply await_stands v (called (future_step future v) v) (calling (Unit {0}) AwaitLeaves v (future_step future v) live.failure (futures future v))
-asked_leaves (ask.Take handle) v live = mapping (Unit {0}) RunsOn StandsBy _ (λ h w runs. runs) v (called (take_step handle.0 v) v) (calling (Unit {0}) RunsOn v (take_step handle.0 v) live.failure (takes handle.0 v))
-asked_leaves (ask.Completed handle) v live = λ p. record { sends = stays_sends v v (refl, refl, refl); failure = refl; left = live.phase }
-asked_leaves ask.End v live = mapping (Unit {0}) HasClosed StandsBy _ (λ h w closed. closed) v (called (end_step v) v) (calling (Unit {0}) HasClosed v (end_step v) live.failure (ends v.phase v refl))
+asked_leaves : (a : Ask) (v : Machine) → IsLive v → CallLeaves StandsBy v (performed_by a v)
+asked_leaves (ask.Command c) v live = mapping RunsOn StandsBy _ (λ h w runs. runs) v (called (commanded c v) v) (calling RunsOn v (commanded c v) live.failure (commands c.refusal c.message c.unstable v))
+asked_leaves ask.Awakeable v live = mapping RunsOn StandsBy _ (λ h w runs. runs) v (called (new_awakeable_step v) v) (calling RunsOn v (new_awakeable_step v) live.failure (new_awakeables (skips_replay v.options.journal_replay) v))
+asked_leaves (ask.Await future) v live = mapping AwaitLeaves StandsBy await_reply await_stands v (called (future_step future v) v) (calling AwaitLeaves v (future_step future v) live.failure (futures future v))
+asked_leaves (ask.Take handle) v live = mapping RunsOn StandsBy _ (λ h w runs. runs) v (called (take_step handle.0 v) v) (calling RunsOn v (take_step handle.0 v) live.failure (takes handle.0 v))
+asked_leaves (ask.Completed handle) v live = record { sends = stays_sends v v (refl, refl, refl); failure = refl; left = live.phase }
+asked_leaves ask.End v live = mapping HasClosed StandsBy _ (λ h w closed. closed) v (called (end_step v) v) (calling HasClosed v (end_step v) live.failure (ends v.phase v refl))
 
 -- what a step's call has written, and where it stands
 abbrev pub IsLeft : Machine → Result Reply Error → Machine → Type 0
@@ -295,10 +295,10 @@ IsLeft v (Err e) w = Sends v w × (w.failure ≡ Some e)
 starving : (v : Machine) (e : Error) (w : Machine) → v.failure ≡ None → IsStarved v e w → Sends v w × (w.failure ≡ Some e)
 starving v e w live s = (stays_sends v w (s.output, s.version, s.options), s.failure ∙ ap (λ (f : Option Error). Some (unwrap_or f no_memory)) live ∙ ap (λ x. Some x) (sym s.error))
 
-pub step_leaves : (st : Step) (v : Machine) → IsLive v → (x : Result Reply Error) (w : Machine) → Does (performed st v) x v w → OnOk x (ReadsBack st v) → IsLeft v x w
-step_leaves st v live (Ok a) w does h = subst (CallLeaves (ReadsBack st v) StandsBy v) does (asked_leaves (ask_of v.version st) v live) h
-step_leaves st v live (Err e) w does h =
+pub step_leaves : (st : Step) (v : Machine) → IsLive v → (x : Result Reply Error) (w : Machine) → Does (performed st v) x v w → IsLeft v x w
+step_leaves st v live (Ok a) w does = subst (CallLeaves StandsBy v) does (asked_leaves (ask_of v.version st) v live)
+step_leaves st v live (Err e) w does =
     ⊎_elim
-    (λ (x : performed st v ≡ Failed e w). subst (CallLeaves (ReadsBack st v) StandsBy v) x (asked_leaves (ask_of v.version st) v live))
+    (λ (x : performed st v ≡ Failed e w). subst (CallLeaves StandsBy v) x (asked_leaves (ask_of v.version st) v live))
     (λ (x : IsStarved v e w). starving v e w live.failure x)
     does
