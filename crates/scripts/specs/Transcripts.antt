@@ -1,5 +1,5 @@
 -- What a line of the script does, and what is printed for it.
-use Rattle.std.specs.Prelude.{ℕ, List, [], Option}
+use Rattle.std.specs.Prelude.{◌≡◌, ◌≢◌, ◌⊎◌, ℕ, List, [], ◌∷◌, ◌++◌, Option, All}
 use Rattle.std.proofs.Common.{Global}
 use Rattle.invocation_vm.specs.declared.core_vm.CoreVM.{CoreVM}
 use Rattle.scripts.specs.declared.request.Request.{Request}
@@ -13,3 +13,8 @@ pub record Transcribes (alloc : Global) (old new : Option CoreVM) (line : List �
   pub reply : Reply
   pub performed : Performed alloc request old reply new
   pub printed : Printed reply [] line
+
+-- the script's first line, without its end, and what follows it; the last line may have no end
+abbrev pub IsFirstLine : List ℕ → List ℕ → List ℕ → Type 0
+IsFirstLine script line rest =
+    All (λ b. b ≢ 10) line × ((script ≡ line ++ 10 ∷ rest) ⊎ ((script ≡ line) × (rest ≡ [])))

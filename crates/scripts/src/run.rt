@@ -1,6 +1,6 @@
 //! A run of the program: what a reader gives is a script, and its answers go to a writer.
 ghost use Rattle.std.specs.Prelude.{◌≡◌, ◌≢◌, ◌<◌, length, IfOk};
-ghost use Rattle.scripts.specs.Transcripts.{Transcribes};
+ghost use Rattle.scripts.specs.Transcripts.{IsFirstLine, Transcribes};
 ghost use Rattle.scripts.specs.declared.exit_status.ExitStatus.TheVariants as status;
 
 use crate::answer::print;
@@ -29,7 +29,8 @@ pub fn answer(alloc: Global, vm: &mut Option<CoreVM>, line: &[u8]) -> Result<Lin
 /// The first line, without its end, and what follows it.
 fn first_line(script: &[u8]) -> (&[u8], &[u8])
     requires { 0 < length script.now }
-    ensures { length result.1.now < length script.now }
+    ensures shorter { length result.1.now < length script.now }
+    ensures first { IsFirstLine script.now result.0.now result.1.now }
 {
     match script.iter().position(|byte| *byte == b'\n') {
         Some(at) => (&script[..at], &script[at + 1..]),
