@@ -15,15 +15,15 @@ use std::io::{self, Read, Write};
 /// The answer to a line, both without their ends.
 #[tactic(auto, using(crate::proofs::Told::transcribes))]
 pub fn answer(alloc: Global, vm: &mut Option<CoreVM>, line: &[u8]) -> Result<Line, AllocError>
-    ensures { IfOk result (λ answer. Transcribes alloc vm.old vm.new answer) }
+    ensures { IfOk result (λ answer. Transcribes alloc vm.old vm.new line.now answer) }
 {
     let request = parse(alloc, line)?;
     let reply = perform(alloc, vm, request);
-    let mut line = Line::new(alloc);
-    let printed = print(&reply, &mut line);
+    let mut answer = Line::new(alloc);
+    let printed = print(&reply, &mut answer);
     drop(reply);
     printed?;
-    Ok(line)
+    Ok(answer)
 }
 
 /// The first line, without its end, and what follows it.
