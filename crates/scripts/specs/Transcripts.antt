@@ -1,6 +1,7 @@
 -- What a line of the script does, and what is printed for it.
-use Rattle.std.specs.Prelude.{◌≡◌, ◌≢◌, ◌⊎◌, ℕ, List, [], ◌∷◌, ◌++◌, Option, All}
+use Rattle.std.specs.Prelude.{◌≡◌, ◌≢◌, ◌⊎◌, ℕ, List, [], ◌∷◌, ◌++◌, Option, None, All, IfSome}
 use Rattle.std.proofs.Common.{Global}
+use Rattle.std.specs.Io.KnownBytes.{Appends}
 use Rattle.invocation_vm.specs.declared.core_vm.CoreVM.{CoreVM}
 use Rattle.scripts.specs.declared.request.Request.{Request}
 use Rattle.scripts.specs.declared.reply.Reply.{Reply}
@@ -20,3 +21,30 @@ pub record Transcribes (alloc : Global) (old new : Option CoreVM) (line answer :
 abbrev pub IsFirstLine : List ℕ → List ℕ → List ℕ → Type 0
 IsFirstLine script line rest =
     All (λ b. b ≢ 10) line × ((script ≡ line ++ 10 ∷ rest) ⊎ ((script ≡ line) × (rest ≡ [])))
+
+-- the script is these lines
+abbrev pub AreLines : List (List ℕ) → List ℕ → Type 0
+AreLines [] script = script ≡ []
+AreLines (line ∷ lines) script = (script ≢ []) × ((rest : List ℕ) × IsFirstLine script line rest × AreLines lines rest)
+
+-- the lines are answered one after another, from one VM to the next, and each answer has an end
+abbrev pub AreAnswered : Global → List (List ℕ) → Option CoreVM → Option CoreVM → List ℕ → Type 0
+AreAnswered alloc [] old new transcript = (new ≡ old) × (transcript ≡ [])
+AreAnswered alloc (line ∷ lines) old new transcript =
+    (next : Option CoreVM) × (answer : List ℕ) × (others : List ℕ) × Transcribes alloc old next line answer × AreAnswered alloc lines next new others × (transcript ≡ answer ++ 10 ∷ others)
+
+-- the script's lines are answered
+pub record IsTranscript (alloc : Global) (script : List ℕ) (old new : Option CoreVM) (transcript : List ℕ) : Type 0 where
+  pub lines : List (List ℕ)
+  pub are_lines : AreLines lines script
+  pub are_answered : AreAnswered alloc lines old new transcript
+
+-- a script's transcript is written behind what was there before
+pub record IsWritten (alloc : Global) (script : List ℕ) (old new : Option CoreVM) (before after : Option (List ℕ)) : Type 0 where
+  pub transcript : List ℕ
+  pub is_transcript : IsTranscript alloc script old new transcript
+  pub appended : Appends before after transcript
+
+-- the transcript of what a reader held, from no VM on, is written
+abbrev pub IsRun : Global → Option (List ℕ) → Option (List ℕ) → Option (List ℕ) → Type 0
+IsRun alloc remaining before after = IfSome remaining (λ script. (last : Option CoreVM) × IsWritten alloc script None last before after)
