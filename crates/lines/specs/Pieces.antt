@@ -51,7 +51,7 @@ IsUncut separator text = (k : ℕ) → k < length text → slice_index text k �
 abbrev pub IsPiece : ℕ → List ℕ → Type 0
 IsPiece separator text = (place text ≡ outside) × IsUncut separator text
 
--- the text is these pieces, with a separator between each two
+-- The text is these pieces, with a separator between each two: with one behind each piece they are the text with one behind it.
 abbrev pub ArePieces : ℕ → List ℕ → List (Bor (List ℕ)) → Type 0
 ArePieces separator text pieces =
     All (λ p. IsPiece separator p.now) pieces × (text ++ separator ∷ [] ≡ flat_map (λ p. p.now ++ separator ∷ []) pieces)

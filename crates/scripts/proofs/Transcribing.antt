@@ -68,6 +68,9 @@ answered_all alloc script (b ∷ rest) old now before after so_far none = absurd
 
 -- what was read is answered, and a flush is behind it
 pub run_of : (alloc : Global) (remaining : Option (List ℕ)) (script : List ℕ) (last : Option CoreVM) (before after later : Option (List ℕ)) → IfSome remaining (λ xs. script ≡ xs) → IsWritten alloc script None last before after → Keeps after later → IsRun alloc remaining before later
-run_of alloc None script last before after later read written kept = tt
-run_of alloc (Some xs) script last before after later read written kept =
-    rw (sym read) (last, record { transcript = written.transcript; is_transcript = written.is_transcript; appended = appends_kept before after later written.transcript written.appended kept })
+run_of alloc remaining script last before after later read written kept = record {
+  script = script;
+  read = read;
+  last = last;
+  written = record { transcript = written.transcript; is_transcript = written.is_transcript; appended = appends_kept before after later written.transcript written.appended kept };
+}

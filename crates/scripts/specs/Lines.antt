@@ -13,11 +13,11 @@ use Rattle.scripts.specs.declared.request.Request.{Request}
 use Rattle.scripts.specs.declared.request.Request.TheVariants as request
 use Rattle.scripts.specs.Verbs.{IsAsked, text_at}
 
--- whether a line is empty or a comment
+-- whether a line without blanks at its ends is empty or a comment
 unfoldable pub says_nothing : List ℕ → Bool
 says_nothing text = length text == 0 || starts_with nat_eq text (codes "#")
 
--- whether the first word of a line is `vm`
+-- whether the first word of a line without blanks at its ends is `vm`
 unfoldable pub begins_with_vm : List ℕ → Bool
 begins_with_vm text = pointwise nat_eq text (codes "vm") || starts_with nat_eq text (codes "vm ")
 
@@ -36,7 +36,8 @@ MakesWith text content_type =
 abbrev pub AsksCall : List ℕ → Call → Type 0
 AsksCall text call = (words : List (Bor (List ℕ))) × AreWords text words × IsAsked words call
 
--- What a line without blanks at its ends asks for. One that begins with `vm` makes a VM or is bad, and so for any other and a call.
+-- What a line without blanks at its ends asks for. One that begins with `vm` makes a VM or is bad, and any other is a call or
+-- is bad.
 abbrev pub Asks : List ℕ → Request → Type 0
 Asks text request.Nothing = says_nothing text ≡ true
 Asks text request.Bad = (says_nothing text ≡ false) × (begins_with_vm text ≡ false)
@@ -44,6 +45,6 @@ Asks text request.BadMake = (says_nothing text ≡ false) × (begins_with_vm tex
 Asks text (request.Make content_type options) = (says_nothing text ≡ false) × (begins_with_vm text ≡ true) × MakesWith text content_type
 Asks text (request.Call call) = (says_nothing text ≡ false) × (begins_with_vm text ≡ false) × AsksCall text call
 
--- what a line asks for, blanks at its ends or not
+-- what a line asks for; blanks at its ends don't count
 abbrev pub Reads : List ℕ → Request → Type 0
 Reads line asked = (text : List ℕ) × IsTrimAscii line text × Asks text asked

@@ -45,6 +45,9 @@ pub record IsWritten (alloc : Global) (script : List ℕ) (old new : Option Core
   pub is_transcript : IsTranscript alloc script old new transcript
   pub appended : Appends before after transcript
 
--- the transcript of what a reader held, from no VM on, is written
-abbrev pub IsRun : Global → Option (List ℕ) → Option (List ℕ) → Option (List ℕ) → Type 0
-IsRun alloc remaining before after = IfSome remaining (λ script. (last : Option CoreVM) × IsWritten alloc script None last before after)
+-- the script that was read, all that is known to have been left to read, is answered from no VM on
+pub record IsRun (alloc : Global) (remaining before after : Option (List ℕ)) : Type 0 where
+  pub script : List ℕ
+  pub read : IfSome remaining (λ xs. script ≡ xs)
+  pub last : Option CoreVM
+  pub written : IsWritten alloc script None last before after
