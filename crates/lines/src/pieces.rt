@@ -1,5 +1,6 @@
 //! A text cut into pieces, none of them within quotes or brackets.
-ghost use Rattle.std.specs.Prelude.{◌≡◌, ◌++◌, IfOk};
+ghost use Rattle.std.specs.Prelude.{◌≡◌, ◌++◌, IfOk, IfSome, IsTrue, ◌↔◌, Some};
+ghost use Rattle.lines.specs.Pieces.{ArePieces, AreWords, behind, outside};
 
 use std::alloc::Global;
 use wire::Fault;
@@ -25,12 +26,17 @@ impl Nesting {
         quotes: Quotes::Outside,
     };
 
-    fn is_none(&self) -> bool {
+    fn is_none(&self) -> bool
+        ensures { IsTrue result ↔ (Some self.now ≡ outside) }
+    {
         self.brackets == 0 && self.quotes == Quotes::Outside
     }
 
     /// The nesting behind one byte more; nothing where it closes a bracket that wasn't opened.
-    fn behind(self, byte: u8) -> Option<Nesting> {
+    #[tactic(auto, unfolding(crate::specs::Pieces::behind))]
+    fn behind(self, byte: u8) -> Option<Nesting>
+        ensures { IfSome result (λ after. behind (Some self) byte ≡ Some after) }
+    {
         let Nesting {
             mut brackets,
             mut quotes,
@@ -49,7 +55,10 @@ impl Nesting {
 
 /// The pieces of a text between separators that stand in no quotes and no brackets. A text whose quotes or brackets
 /// aren't closed has none.
-pub fn pieces<'a>(alloc: Global, text: &'a [u8], separator: u8) -> Result<Vec<&'a [u8]>, Fault> {
+#[tactic(auto, using(crate::proofs::Cutting::cut_none, crate::proofs::Cutting::cut_within, crate::proofs::Cutting::cut_here, crate::proofs::Cutting::cut_all))]
+pub fn pieces<'a>(alloc: Global, text: &'a [u8], separator: u8) -> Result<Vec<&'a [u8]>, Fault>
+    ensures { IfOk result (λ pieces. ArePieces separator text.now pieces.items) }
+{
     let mut pieces = Vec::new(alloc);
     let mut start = 0;
     let mut nesting = Nesting::NONE;
@@ -86,11 +95,14 @@ pub fn first_word<'a>(text: &'a [u8]) -> Result<(&'a [u8], &'a [u8]), Fault>
 }
 
 /// The pieces between blanks.
-pub fn words<'a>(alloc: Global, text: &'a [u8]) -> Result<Vec<&'a [u8]>, Fault> {
+pub fn words<'a>(alloc: Global, text: &'a [u8]) -> Result<Vec<&'a [u8]>, Fault>
+    ensures { IfOk result (λ words. AreWords text.now words.items) }
+{
     let mut words = Vec::new(alloc);
-    for piece in pieces(alloc, text, b' ')? {
+    let pieces = pieces(alloc, text, b' ')?;
+    for piece in &pieces {
         if !piece.is_empty() {
-            words.push(piece)?;
+            words.push(*piece)?;
         }
     }
     Ok(words)

@@ -13,6 +13,7 @@ use Rattle.invocation_vm.specs.Views.{View, Leaves, TakesOutput}
 use Rattle.scripts.specs.declared.reply.Reply.{Reply}
 use Rattle.scripts.specs.declared.reply.Reply.TheVariants as reply
 use Rattle.scripts.specs.declared.request.Request.{Request}
+use Rattle.scripts.specs.Lines.{Reads}
 use Rattle.scripts.specs.Performed.{Performed}
 use Rattle.scripts.specs.Printed.{Printed}
 use Rattle.scripts.specs.Transcripts.{Transcribes}
@@ -30,5 +31,5 @@ feeds raws after given answer old new leaves told = record { given = given; leav
 pub drains : (given : Result (List ℕ) AllocError) (answer : Reply) (old new : View) → TakesOutput given old new → answer ≡ reply_or_memory reply.Output given → Drains answer old new
 drains given answer old new takes told = record { given = given; takes = takes; told = told }
 
-pub transcribes : (alloc : Global) (old new : Option CoreVM) (line : List ℕ) (request : Request) (reply : Reply) → Performed alloc request old reply new → Printed reply [] line → Transcribes alloc old new line
-transcribes alloc old new line request reply performed printed = record { request = request; reply = reply; performed = performed; printed = printed }
+pub transcribes : (alloc : Global) (old new : Option CoreVM) (line answer : List ℕ) (request : Request) (reply : Reply) → Reads line request → Performed alloc request old reply new → Printed reply [] answer → Transcribes alloc old new line answer
+transcribes alloc old new line answer request reply reads performed printed = record { request = request; reply = reply; reads = reads; performed = performed; printed = printed }

@@ -5,5 +5,6 @@ pub mod Performed
 pub mod Durations
 pub mod Reports
 pub mod Verbs
+pub mod Lines
 pub mod Printed
 pub mod Transcripts

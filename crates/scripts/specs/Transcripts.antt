@@ -1,15 +1,53 @@
 -- What a line of the script does, and what is printed for it.
-use Rattle.std.specs.Prelude.{ℕ, List, [], Option}
+use Rattle.std.specs.Prelude.{◌≡◌, ◌≢◌, ◌⊎◌, ℕ, List, [], ◌∷◌, ◌++◌, Option, None, All, IfSome}
 use Rattle.std.proofs.Common.{Global}
+use Rattle.std.specs.Io.KnownBytes.{Appends}
 use Rattle.invocation_vm.specs.declared.core_vm.CoreVM.{CoreVM}
 use Rattle.scripts.specs.declared.request.Request.{Request}
 use Rattle.scripts.specs.declared.reply.Reply.{Reply}
+use Rattle.scripts.specs.Lines.{Reads}
 use Rattle.scripts.specs.Performed.{Performed}
 use Rattle.scripts.specs.Printed.{Printed}
 
--- what the line asked for was done, and its reply is what is printed
-pub record Transcribes (alloc : Global) (old new : Option CoreVM) (line : List ℕ) : Type 0 where
+-- what the line asks for was done, and its reply is what is printed
+pub record Transcribes (alloc : Global) (old new : Option CoreVM) (line answer : List ℕ) : Type 0 where
   pub request : Request
   pub reply : Reply
+  pub reads : Reads line request
   pub performed : Performed alloc request old reply new
-  pub printed : Printed reply [] line
+  pub printed : Printed reply [] answer
+
+-- the script's first line, without its end, and what follows it; the last line may have no end
+abbrev pub IsFirstLine : List ℕ → List ℕ → List ℕ → Type 0
+IsFirstLine script line rest =
+    All (λ b. b ≢ 10) line × ((script ≡ line ++ 10 ∷ rest) ⊎ ((script ≡ line) × (rest ≡ [])))
+
+-- the script is these lines
+abbrev pub AreLines : List (List ℕ) → List ℕ → Type 0
+AreLines [] script = script ≡ []
+AreLines (line ∷ lines) script = (script ≢ []) × ((rest : List ℕ) × IsFirstLine script line rest × AreLines lines rest)
+
+-- the lines are answered one after another, from one VM to the next, and each answer has an end
+abbrev pub AreAnswered : Global → List (List ℕ) → Option CoreVM → Option CoreVM → List ℕ → Type 0
+AreAnswered alloc [] old new transcript = (new ≡ old) × (transcript ≡ [])
+AreAnswered alloc (line ∷ lines) old new transcript =
+    (next : Option CoreVM) × (answer : List ℕ) × (others : List ℕ) × Transcribes alloc old next line answer × AreAnswered alloc lines next new others × (transcript ≡ answer ++ 10 ∷ others)
+
+-- the script's lines are answered
+pub record IsTranscript (alloc : Global) (script : List ℕ) (old new : Option CoreVM) (transcript : List ℕ) : Type 0 where
+  pub lines : List (List ℕ)
+  pub are_lines : AreLines lines script
+  pub are_answered : AreAnswered alloc lines old new transcript
+
+-- a script's transcript is written behind what was there before
+pub record IsWritten (alloc : Global) (script : List ℕ) (old new : Option CoreVM) (before after : Option (List ℕ)) : Type 0 where
+  pub transcript : List ℕ
+  pub is_transcript : IsTranscript alloc script old new transcript
+  pub appended : Appends before after transcript
+
+-- the script that was read, all that is known to have been left to read, is answered from no VM on
+pub record IsRun (alloc : Global) (remaining before after : Option (List ℕ)) : Type 0 where
+  pub script : List ℕ
+  pub read : IfSome remaining (λ xs. script ≡ xs)
+  pub last : Option CoreVM
+  pub written : IsWritten alloc script None last before after

@@ -1,5 +1,5 @@
 -- The call that a line asks for: its first word names it, and its arguments are in their places.
-use Rattle.std.specs.Prelude.{◌≡◌, ℕ, zero, suc, List, [], ◌∷◌, codes}
+use Rattle.std.specs.Prelude.{◌≡◌, ℕ, zero, suc, List, [], ◌∷◌, length, codes}
 use Rattle.std.specs.Borrow.{Bor}
 use Rattle.std.specs.Duration.{as_nanos}
 use Rattle.std.specs.Str.Parse.{digits_value}
@@ -82,34 +82,43 @@ abbrev pub behind : List (Bor (List ℕ)) → List (Bor (List ℕ))
 behind [] = []
 behind (word ∷ words) = words
 
+-- one atom of these bytes, and no other word
+abbrev pub IsOneAtom : List (Bor (List ℕ)) → List ℕ → Type 0
+IsOneAtom words bytes = (length words ≡ 1) × IsAtom (text_at 0 words) bytes
+
+-- the digits of this handle, and no other word
+abbrev pub IsHandle : List (Bor (List ℕ)) → ℕ → Type 0
+IsHandle words handle = (length words ≡ 1) × (handle ≡ digits_value 10 (text_at 0 words))
+
 -- the words begin with this code and this text
 abbrev pub HasCodeAndText : ℕ → List ℕ → List (Bor (List ℕ)) → Type 0
 HasCodeAndText code message words = (code ≡ digits_value 10 (text_at 0 words)) × IsAtom (text_at 1 words) message
 
--- the arguments of a step that stand before a value, a target and the options, in their places
+-- The arguments of a step that stand before a value, a target and the options, in their places. A step without these has no
+-- other argument.
 abbrev pub HasStepArguments : List (Bor (List ℕ)) → Step → Type 0
-HasStepArguments arguments (step.Await (Single handle)) = handle.0 ≡ digits_value 10 (text_at 0 arguments)
-HasStepArguments arguments (step.Completed handle) = handle.0 ≡ digits_value 10 (text_at 0 arguments)
-HasStepArguments arguments (step.Take handle) = handle.0 ≡ digits_value 10 (text_at 0 arguments)
+HasStepArguments arguments (step.Await (Single handle)) = IsHandle arguments handle.0
+HasStepArguments arguments (step.Completed handle) = IsHandle arguments handle.0
+HasStepArguments arguments (step.Take handle) = IsHandle arguments handle.0
 HasStepArguments arguments (step.StateSet key value name options) = IsAtom (text_at 0 arguments) key × IsAtom (text_at 1 arguments) value
 HasStepArguments arguments (step.StateClear key name) = IsAtom (text_at 0 arguments) key
 HasStepArguments arguments (step.StateClearAll name) = Unit {0}
 HasStepArguments arguments (step.Sleep name until now) = IsAtom (text_at 0 arguments) name × IsDuration (text_at 1 arguments) (as_nanos until)
-HasStepArguments arguments step.Awakeable = Unit {0}
+HasStepArguments arguments step.Awakeable = arguments ≡ []
 HasStepArguments arguments (step.CompleteAwakeable id value options) = IsAtom (text_at 0 arguments) id
 HasStepArguments arguments (step.CompleteSignal target name value) = IsAtom (text_at 0 arguments) target × IsAtom (text_at 1 arguments) name
-HasStepArguments arguments (step.CancelInvocation target) = IsAtom (text_at 0 arguments) target
+HasStepArguments arguments (step.CancelInvocation target) = IsOneAtom arguments target
 HasStepArguments arguments (step.CompletePromise key value options) = IsAtom (text_at 0 arguments) key
 HasStepArguments arguments (step.AttachInvocation target) = Unit {0}
 HasStepArguments arguments (step.WriteOutput value options) = Unit {0}
-HasStepArguments arguments step.End = Unit {0}
+HasStepArguments arguments step.End = arguments ≡ []
 
--- the arguments that stand before a value and the options, in their places
+-- The arguments that stand before a value and the options, in their places. A call without these has no argument.
 abbrev pub HasArguments : List (Bor (List ℕ)) → Call → Type 0
-HasArguments arguments (call.Input bytes) = IsAtom (text_at 0 arguments) bytes
+HasArguments arguments (call.Input bytes) = IsOneAtom arguments bytes
 HasArguments arguments (call.Error error relationship) = HasCodeAndText error.code error.message arguments
 HasArguments arguments (call.Step s) = HasStepArguments arguments s
-HasArguments arguments other = Unit {0}
+HasArguments arguments other = arguments ≡ []
 
 -- a call of this name, with these words behind it
 abbrev pub IsLine : Verb → List (Bor (List ℕ)) → Call → Type 0

@@ -1,8 +1,7 @@
 //! The arguments of a line: values, options and single atoms, in their places.
-ghost use Rattle.std.specs.Prelude.{◌≡◌, IfOk};
-ghost use Rattle.std.specs.Str.Parse.{digits_value};
+ghost use Rattle.std.specs.Prelude.{◌≡◌, ◌≢◌, [], drop, IfErr, IfOk};
 ghost use Rattle.lines.specs.Atoms.{IsAtom};
-ghost use Rattle.scripts.specs.Verbs.{HasCodeAndText, text_at};
+ghost use Rattle.scripts.specs.Verbs.{HasCodeAndText, IsHandle, IsOneAtom, text_at};
 
 use crate::atoms::{duration_of, handle_of, shared_of, text_of, u16_of};
 use crate::request::Call;
@@ -173,7 +172,8 @@ pub fn value_alone(alloc: Global, words: &[&[u8]]) -> Result<NonEmptyValue, Faul
 
 /// A call without arguments.
 pub fn alone(arguments: &[&[u8]], call: Call) -> Result<Call, Fault>
-    ensures { IfOk result (λ it. it ≡ call) }
+    ensures ok { IfOk result (λ it. (it ≡ call) × (arguments.now ≡ [])) }
+    ensures err { IfErr result (λ _. arguments.now ≢ []) }
 {
     if arguments.is_empty() {
         return Ok(call);
@@ -184,7 +184,7 @@ pub fn alone(arguments: &[&[u8]], call: Call) -> Result<Call, Fault>
 
 /// `H` alone.
 pub fn handle_alone(arguments: &[&[u8]]) -> Result<NotificationHandle, Fault>
-    ensures { IfOk result (λ handle. handle.0 ≡ digits_value 10 (text_at 0 arguments.now)) }
+    ensures { IfOk result (λ handle. IsHandle arguments.now handle.0) }
 {
     match arguments {
         [handle] => handle_of(*handle),
@@ -194,7 +194,7 @@ pub fn handle_alone(arguments: &[&[u8]]) -> Result<NotificationHandle, Fault>
 
 /// `T` alone.
 pub fn text_alone(alloc: Global, arguments: &[&[u8]]) -> Result<Text, Fault>
-    ensures { IfOk result (λ text. IsAtom (text_at 0 arguments.now) text) }
+    ensures { IfOk result (λ text. IsOneAtom arguments.now text) }
 {
     match arguments {
         [text] => text_of(alloc, *text),
@@ -207,7 +207,9 @@ pub fn two_texts<'w, 'a>(
     alloc: Global,
     words: &'w [&'a [u8]],
 ) -> Result<(Text, Text, &'w [&'a [u8]]), Fault>
-    ensures { IfOk result (λ found. IsAtom (text_at 0 words.now) found.0 × IsAtom (text_at 1 words.now) found.1) }
+    ensures first { IfOk result (λ found. IsAtom (text_at 0 words.now) found.0) }
+    ensures second { IfOk result (λ found. IsAtom (text_at 1 words.now) found.1) }
+    ensures rest { IfOk result (λ found. found.2.now ≡ drop 2 words.now) }
 {
     let [first, second, rest @ ..] = words else {
         return Err(Fault::Malformed);
@@ -219,7 +221,7 @@ pub fn two_texts<'w, 'a>(
 
 /// `B` alone.
 pub fn bytes_alone(alloc: Global, arguments: &[&[u8]]) -> Result<Bytes, Fault>
-    ensures { IfOk result (λ bytes. IsAtom (text_at 0 arguments.now) bytes) }
+    ensures { IfOk result (λ bytes. IsOneAtom arguments.now bytes) }
 {
     match arguments {
         [bytes] => shared_of(alloc, *bytes),

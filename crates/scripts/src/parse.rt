@@ -1,6 +1,7 @@
 //! A line of the script, read as a whole: one row a call.
-ghost use Rattle.std.specs.Prelude.{◌≡◌, IfOk};
+ghost use Rattle.std.specs.Prelude.{◌≡◌, ◌⊎◌, IfOk, Ok, true, false};
 ghost use Rattle.scripts.specs.declared.verb.Verb.TheVariants as verb;
+ghost use Rattle.scripts.specs.Lines.{Asks, AsksCall, IsContentType, MakesWith, Reads, begins_with_vm, says_nothing};
 ghost use Rattle.scripts.specs.Verbs.{IsLine, IsAsked};
 
 use crate::arguments::{
@@ -14,7 +15,7 @@ use crate::report::error_of;
 use crate::request::{Call, Request};
 use crate::targets::target_of;
 use crate::verb::{Verb, verb_of_word};
-use invocation_vm::UnresolvedFuture;
+use invocation_vm::{UnresolvedFuture, VMOptions};
 use lines::fields::Fields;
 use lines::pieces::words;
 use std::alloc::{AllocError, Global};
@@ -177,7 +178,9 @@ fn call_of(alloc: Global, words: &[&[u8]]) -> Result<Call, Fault>
     call_named(alloc, verb_of_word(*word)?, arguments)
 }
 
-fn content_type_of(alloc: Global, text: &[u8]) -> Result<ContentType, Fault> {
+fn content_type_of(alloc: Global, text: &[u8]) -> Result<ContentType, Fault>
+    ensures { IfOk result (λ content_type. IsContentType text.now content_type) }
+{
     match text {
         b"-" => Ok(ContentType::Absent),
         b"!" => Ok(ContentType::Unreadable),
@@ -186,7 +189,9 @@ fn content_type_of(alloc: Global, text: &[u8]) -> Result<ContentType, Fault> {
 }
 
 /// The row `vm`.
-fn make_of(alloc: Global, line: &[u8]) -> Result<Request, Fault> {
+fn make_of(alloc: Global, line: &[u8]) -> Result<(ContentType, VMOptions), Fault>
+    ensures { IfOk result (λ made. MakesWith line.now made.0) }
+{
     let words = words(alloc, line)?;
     let [b"vm", content_type, options @ ..] = words.as_slice() else {
         return Err(Fault::Malformed);
@@ -194,45 +199,75 @@ fn make_of(alloc: Global, line: &[u8]) -> Result<Request, Fault> {
     let content_type = content_type_of(alloc, *content_type)?;
     let mut fields = Fields::of_pieces(alloc, options)?;
     let options = options_of(&mut fields)?;
-    Ok(Request::Make(content_type, options))
+    Ok((content_type, options))
 }
 
-fn request_of(alloc: Global, line: &[u8]) -> Result<Request, Fault> {
+/// Any other row that isn't empty.
+fn row_of(alloc: Global, line: &[u8]) -> Result<Call, Fault>
+    ensures { IfOk result (λ call. AsksCall line.now call) }
+{
     let words = words(alloc, line)?;
-    Ok(Request::Call(call_of(alloc, words.as_slice())?))
+    call_of(alloc, words.as_slice())
+}
+
+/// Whether a line is empty or a comment.
+#[tactic(auto, unfolding(crate::specs::Lines::says_nothing))]
+fn is_silent(line: &[u8]) -> bool
+    ensures { result ≡ says_nothing line.now }
+{
+    line.is_empty() || line.starts_with(b"#")
 }
 
 /// Whether the first word of the line is `vm`.
-fn makes(line: &[u8]) -> bool {
+#[tactic(auto, unfolding(crate::specs::Lines::begins_with_vm))]
+fn makes(line: &[u8]) -> bool
+    ensures { result ≡ begins_with_vm line.now }
+{
     line == b"vm".as_slice() || line.starts_with(b"vm ")
 }
 
-/// What was read, or what a line without a meaning asks for. An `Err` is want of memory.
-fn or_bad(read: Result<Request, Fault>, bad: Request) -> Result<Request, AllocError> {
-    match read {
-        Ok(request) => {
-            drop(bad);
-            Ok(request)
-        }
-        Err(Fault::Malformed) => Ok(bad),
-        Err(Fault::Memory) => {
-            drop(bad);
-            Err(AllocError)
-        }
+/// What a line that begins with `vm` asks for. An `Err` is want of memory.
+fn parse_make(alloc: Global, line: &[u8]) -> Result<Request, AllocError>
+    requires silent { says_nothing line.now ≡ false }
+    requires makes { begins_with_vm line.now ≡ true }
+    ensures { IfOk result (λ request. Asks line.now request) }
+{
+    if std::str::from_utf8(line).is_err() {
+        return Ok(Request::BadMake);
+    }
+    match make_of(alloc, line) {
+        Ok((content_type, options)) => Ok(Request::Make(content_type, options)),
+        Err(Fault::Malformed) => Ok(Request::BadMake),
+        Err(Fault::Memory) => Err(AllocError),
+    }
+}
+
+/// What any other line that isn't empty asks for. An `Err` is want of memory.
+fn parse_call(alloc: Global, line: &[u8]) -> Result<Request, AllocError>
+    requires silent { says_nothing line.now ≡ false }
+    requires makes { begins_with_vm line.now ≡ false }
+    ensures { IfOk result (λ request. Asks line.now request) }
+{
+    if std::str::from_utf8(line).is_err() {
+        return Ok(Request::Bad);
+    }
+    match row_of(alloc, line) {
+        Ok(call) => Ok(Request::Call(call)),
+        Err(Fault::Malformed) => Ok(Request::Bad),
+        Err(Fault::Memory) => Err(AllocError),
     }
 }
 
 /// What a line asks for.
-pub fn parse(alloc: Global, line: &[u8]) -> Result<Request, AllocError> {
+pub fn parse(alloc: Global, line: &[u8]) -> Result<Request, AllocError>
+    ensures { IfOk result (λ request. Reads line.now request) }
+{
     let line = line.trim_ascii();
-    if line.is_empty() || line.starts_with(b"#") {
+    if is_silent(line) {
         return Ok(Request::Nothing);
     }
-    let is_text = std::str::from_utf8(line).is_ok();
-    match (makes(line), is_text) {
-        (true, true) => or_bad(make_of(alloc, line), Request::BadMake),
-        (true, false) => Ok(Request::BadMake),
-        (false, true) => or_bad(request_of(alloc, line), Request::Bad),
-        (false, false) => Ok(Request::Bad),
+    if makes(line) {
+        return parse_make(alloc, line);
     }
+    parse_call(alloc, line)
 }

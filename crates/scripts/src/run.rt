@@ -1,6 +1,7 @@
 //! A run of the program: what a reader gives is a script, and its answers go to a writer.
-ghost use Rattle.std.specs.Prelude.{◌≡◌, ◌≢◌, ◌<◌, length, IfOk};
-ghost use Rattle.scripts.specs.Transcripts.{Transcribes};
+ghost use Rattle.std.specs.Prelude.{◌≡◌, ◌≢◌, ◌<◌, length, IfOk, OnOk, Option, None};
+ghost use Rattle.invocation_vm.specs.declared.core_vm.CoreVM.{CoreVM};
+ghost use Rattle.scripts.specs.Transcripts.{IsFirstLine, IsRun, IsWritten, Transcribes};
 ghost use Rattle.scripts.specs.declared.exit_status.ExitStatus.TheVariants as status;
 
 use crate::answer::print;
@@ -15,21 +16,22 @@ use std::io::{self, Read, Write};
 /// The answer to a line, both without their ends.
 #[tactic(auto, using(crate::proofs::Told::transcribes))]
 pub fn answer(alloc: Global, vm: &mut Option<CoreVM>, line: &[u8]) -> Result<Line, AllocError>
-    ensures { IfOk result (λ answer. Transcribes alloc vm.old vm.new answer) }
+    ensures { IfOk result (λ answer. Transcribes alloc vm.old vm.new line.now answer) }
 {
     let request = parse(alloc, line)?;
     let reply = perform(alloc, vm, request);
-    let mut line = Line::new(alloc);
-    let printed = print(&reply, &mut line);
+    let mut answer = Line::new(alloc);
+    let printed = print(&reply, &mut answer);
     drop(reply);
     printed?;
-    Ok(line)
+    Ok(answer)
 }
 
 /// The first line, without its end, and what follows it.
 fn first_line(script: &[u8]) -> (&[u8], &[u8])
     requires { 0 < length script.now }
-    ensures { length result.1.now < length script.now }
+    ensures shorter { length result.1.now < length script.now }
+    ensures first { IsFirstLine script.now result.0.now result.1.now }
 {
     match script.iter().position(|byte| *byte == b'\n') {
         Some(at) => (&script[..at], &script[at + 1..]),
@@ -37,13 +39,16 @@ fn first_line(script: &[u8]) -> (&[u8], &[u8])
     }
 }
 
-/// Answers the lines one after another. The last may have no end.
+/// Answers the lines one after another, and writes each answer at once. The last line may have no end.
+#[tactic(auto, using(crate::proofs::Transcribing::answered_none))]
 fn answer_all<W: Write>(
     alloc: Global,
     vm: &mut Option<CoreVM>,
     script: &[u8],
     writer: &mut W,
-) -> io::Result<()> {
+) -> io::Result<()>
+    ensures { OnOk result (IsWritten alloc script.now vm.old vm.new (W.contents writer.old) (W.contents writer.new)) }
+{
     let mut rest = script;
     while !rest.is_empty() {
         let (line, behind) = first_line(rest);
@@ -55,14 +60,19 @@ fn answer_all<W: Write>(
     Ok(())
 }
 
-fn drive<W: Write>(alloc: Global, script: &[u8], writer: &mut W) -> io::Result<()> {
+fn drive<W: Write>(alloc: Global, script: &[u8], writer: &mut W) -> io::Result<()>
+    ensures { OnOk result ((last : Option CoreVM) × IsWritten alloc script.now None last (W.contents writer.old) (W.contents writer.new)) }
+{
     let mut vm = None;
     let answered = answer_all(alloc, &mut vm, script, writer);
     drop(vm);
     answered
 }
 
-fn try_run<R: Read, W: Write>(alloc: Global, reader: &mut R, writer: &mut W) -> io::Result<()> {
+#[tactic(auto, using(crate::proofs::Transcribing::run_of))]
+fn try_run<R: Read, W: Write>(alloc: Global, reader: &mut R, writer: &mut W) -> io::Result<()>
+    ensures { OnOk result (IsRun alloc (R.remaining reader.old) (W.contents writer.old) (W.contents writer.new)) }
+{
     let mut script = Vec::new(alloc);
     reader.read_to_end(&mut script)?;
     drive(alloc, script.as_slice(), writer)?;
@@ -71,7 +81,8 @@ fn try_run<R: Read, W: Write>(alloc: Global, reader: &mut R, writer: &mut W) -> 
 
 /// Reads a script to its end, and writes its transcript: for each line one line of answer.
 pub fn run<R: Read, W: Write>(alloc: Global, reader: &mut R, writer: &mut W) -> ExitStatus
-    ensures { result ≢ status.Usage }
+    ensures usage { result ≢ status.Usage }
+    ensures done { result ≡ status.Done → IsRun alloc (R.remaining reader.old) (W.contents writer.old) (W.contents writer.new) }
 {
     match try_run(alloc, reader, writer) {
         Ok(()) => ExitStatus::Done,

@@ -1,0 +1,50 @@
+-- What a line of the script asks for.
+use Rattle.std.specs.Prelude.{◌≡◌, ◌==◌, ◌||◌, ℕ, Bool, true, false, List, length, nat_eq, codes, string_bytes}
+use Rattle.std.specs.Borrow.{Bor}
+use Rattle.std.specs.Cmp.Lexicographic.{pointwise}
+use Rattle.std.specs.List.{starts_with}
+use Rattle.std.specs.Str.{IsTrimAscii}
+use Rattle.lines.specs.Atoms.{IsAtom}
+use Rattle.lines.specs.Pieces.{AreWords}
+use Rattle.scripts.specs.declared.content_type.ContentType.{ContentType}
+use Rattle.scripts.specs.declared.content_type.ContentType.TheVariants.{Absent, Unreadable, Named}
+use Rattle.scripts.specs.declared.request.Call.{Call}
+use Rattle.scripts.specs.declared.request.Request.{Request}
+use Rattle.scripts.specs.declared.request.Request.TheVariants as request
+use Rattle.scripts.specs.Verbs.{IsAsked, text_at}
+
+-- whether a line without blanks at its ends is empty or a comment
+unfoldable pub says_nothing : List ℕ → Bool
+says_nothing text = length text == 0 || starts_with nat_eq text (codes "#")
+
+-- whether the first word of a line without blanks at its ends is `vm`
+unfoldable pub begins_with_vm : List ℕ → Bool
+begins_with_vm text = pointwise nat_eq text (codes "vm") || starts_with nat_eq text (codes "vm ")
+
+-- the content type that a word of a `vm` line names
+abbrev pub IsContentType : List ℕ → ContentType → Type 0
+IsContentType word Absent = word ≡ codes "-"
+IsContentType word Unreadable = word ≡ codes "!"
+IsContentType word (Named text) = IsAtom word (string_bytes text)
+
+-- the words of the line are `vm` and a content type, and options behind them
+abbrev pub MakesWith : List ℕ → ContentType → Type 0
+MakesWith text content_type =
+    (words : List (Bor (List ℕ))) × AreWords text words × (text_at 0 words ≡ codes "vm") × IsContentType (text_at 1 words) content_type
+
+-- the words of the line ask for this call
+abbrev pub AsksCall : List ℕ → Call → Type 0
+AsksCall text call = (words : List (Bor (List ℕ))) × AreWords text words × IsAsked words call
+
+-- What a line without blanks at its ends asks for. One that begins with `vm` makes a VM or is bad, and any other is a call or
+-- is bad.
+abbrev pub Asks : List ℕ → Request → Type 0
+Asks text request.Nothing = says_nothing text ≡ true
+Asks text request.Bad = (says_nothing text ≡ false) × (begins_with_vm text ≡ false)
+Asks text request.BadMake = (says_nothing text ≡ false) × (begins_with_vm text ≡ true)
+Asks text (request.Make content_type options) = (says_nothing text ≡ false) × (begins_with_vm text ≡ true) × MakesWith text content_type
+Asks text (request.Call call) = (says_nothing text ≡ false) × (begins_with_vm text ≡ false) × AsksCall text call
+
+-- what a line asks for; blanks at its ends don't count
+abbrev pub Reads : List ℕ → Request → Type 0
+Reads line asked = (text : List ℕ) × IsTrimAscii line text × Asks text asked
