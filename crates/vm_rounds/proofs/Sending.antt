@@ -13,7 +13,6 @@ use Rattle.journal_protocol.specs.Errors.{error_message, named_error, no_memory}
 use Rattle.journal_protocol.specs.HeaderEqual.{header_equal}
 use Rattle.journal_protocol.specs.Message.{encoding, type_of}
 use Rattle.journal_protocol.specs.Reading.{message_in}
-
 use Rattle.journal_protocol.specs.Types.{type_number}
 use Rattle.vm_parts.specs.declared.types.AwaitResponse.{AwaitResponse}
 use Rattle.vm_parts.specs.declared.types.AwaitResponse.TheVariants.{AnyCompleted, WaitingExternalProgress}
