@@ -1,18 +1,20 @@
 -- What a call does, from what its event gave and what the error rule made of it.
-use Rattle.std.proofs.Common.{◌≡◌, inl, inr, ◌∙◌, sym, ap, refl, subst, Option, Some, None, Result, Ok, Err, false}
-use Rattle.std.specs.Prelude.{OnOk, OnErr, unwrap_or}
+use Rattle.std.proofs.Common.{◌≡◌, ◌+◌, ◌<◌, ◌^◌, arith, inl, inr, ◌∙◌, sym, ap, refl, subst, Option, Some, None, Result, Ok, Err, false}
+use Rattle.std.specs.Prelude.{IfOk, OnOk, OnErr, unwrap_or}
 use Rattle.std.proofs.lemmas.Bool.{false≢true}
 use Rattle.journal_protocol.specs.declared.error.Error.{Error}
 use Rattle.journal_protocol.specs.Errors.{no_memory}
 use Rattle.vm_parts.specs.declared.context.Counters.{Counters}
+use Rattle.vm_parts.specs.declared.types.NotificationHandle.{NotificationHandle}
 use Rattle.vm_machine.specs.declared.fault.Fault.{Fault}
 use Rattle.vm_machine.specs.declared.fault.Fault.TheVariants as fault
 use Rattle.vm_machine.specs.declared.machine.Machine.{Machine}
 use Rattle.journal_protocol.specs.declared.message.Message.{Message}
 use Rattle.vm_machine.specs.declared.phase.Phase.TheVariants.{Closed}
 use Rattle.vm_machine.specs.Phases.{is_closed}
-use Rattle.vm_machine.specs.Commands.{CanBeRead, unit_of}
-use Rattle.invocation_vm.specs.Calls.{unanswered}
+use Rattle.vm_machine.specs.Requests.{ids_of}
+use Rattle.vm_machine.specs.Commands.{CanBeRead, Fits, answered_by}
+use Rattle.invocation_vm.specs.Calls.{result_by}
 use Rattle.vm_machine.specs.Outcomes.{Outcome, Done, Failed, Gives, Does, Lives, Settles, settled, called, called_at, IsStarved, Lasting, lasting, starved, ruled, failed, flat, flattened}
 
 -- a machine that hasn't failed, and finds no memory
@@ -89,32 +91,44 @@ settles_sent m v (Err fault.Memory) r before mid new s h = rw s.0 tt
 settles_sent m v (Err (fault.Refused e)) r before mid new s h =
     elim s as (λ _. OnOk r (CanBeRead m v)) [ inl x ↦ rw x.0 tt | inr x ↦ rw x.0 tt ]
 
--- ---- a call that answers nothing
+-- where a call is answered, its event was, and its handles fit
+pub settles_fits : (m : Message) (given : Result NotificationHandle Fault) (r : Result NotificationHandle Error) (before : Counters) (mid new : Machine) → Settles before given r mid new → IfOk given (Fits m) → IfOk r (Fits m)
+settles_fits m (Ok a) r before mid new s h = rw s.0 h
+settles_fits m (Err fault.Memory) r before mid new s h = rw s.0 tt
+settles_fits m (Err (fault.Refused e)) r before mid new s h =
+    elim s as (λ _. IfOk r (Fits m)) [ inl x ↦ rw x.0 tt | inr x ↦ rw x.0 tt ]
 
-unit_at : {A : Type 0} (f : Option Error) (o : Outcome A) (r : Result A Error) (old new : Machine) → Does (called_at f o old) r old new → Does (called_at f (unit_of o) old) (unanswered r) old new
-unit_at None (Done a w) (Ok b) old new h = cc
-unit_at {A = A} None (Done a w) (Err e) old new h = elim h as (λ _. Does (Done (tt {0}) w) (Err e) old new) [ inl x ↦ absurd (no_failure x) | inr x ↦ inr x ]
+-- both handles of a call fit
+pub fits_both : (m : Message) (r : Result NotificationHandle Error) → ids_of m ≡ 2 → IfOk r (Fits m) → IfOk r (λ handle. handle.0 + 1 < 2 ^ 32)
+fits_both m (Ok handle) two fits = omega (arith, two, fits)
+fits_both m (Err e) two fits = tt
+
+-- ---- a call that is answered by something of its first handle
+
+by_at : {A B : Type 0} (f : A → B) (g : Option Error) (o : Outcome A) (r : Result A Error) (old new : Machine) → Does (called_at g o old) r old new → Does (called_at g (answered_by f o) old) (result_by f r) old new
+by_at f None (Done a w) (Ok b) old new h = cc
+by_at {B = B} f None (Done a w) (Err e) old new h = elim h as (λ _. Does {A = B} (Done (f a) w) (Err e) old new) [ inl x ↦ absurd (no_failure x) | inr x ↦ inr x ]
   where
     no_failure : Done a w ≡ Failed e new → ⊥
     no_failure x = cc
-unit_at None (Failed d w) (Ok b) old new h = absurd (no_done h)
+by_at f None (Failed d w) (Ok b) old new h = absurd (no_done h)
   where
     no_done : Failed (ruled w d) (failed (ruled w d) w) ≡ Done b new → ⊥
     no_done x = cc
-unit_at {A = A} None (Failed d w) (Err e) old new h = elim h as (λ _. Does {A = Unit} (Failed (ruled w d) (failed (ruled w d) w)) (Err e) old new) [ inl x ↦ inl cc | inr x ↦ inr x ]
-unit_at (Some d) o (Ok b) old new h = absurd (no_done h)
+by_at {B = B} f None (Failed d w) (Err e) old new h = elim h as (λ _. Does {A = B} (Failed (ruled w d) (failed (ruled w d) w)) (Err e) old new) [ inl x ↦ inl cc | inr x ↦ inr x ]
+by_at f (Some d) o (Ok b) old new h = absurd (no_done h)
   where
     no_done : Failed d old ≡ Done b new → ⊥
     no_done x = cc
-unit_at (Some d) o (Err e) old new h = elim h as (λ _. Does {A = Unit} (Failed d old) (Err e) old new) [ inl x ↦ inl cc | inr x ↦ inr x ]
+by_at {B = B} f (Some d) o (Err e) old new h = elim h as (λ _. Does {A = B} (Failed d old) (Err e) old new) [ inl x ↦ inl cc | inr x ↦ inr x ]
 
-pub unit_called : {A : Type 0} (o : Outcome A) (r : Result A Error) (old new : Machine) → Does (called o old) r old new → Does (called (unit_of o) old) (unanswered r) old new
+pub called_by : {A B : Type 0} (f : A → B) (o : Outcome A) (r : Result A Error) (old new : Machine) → Does (called o old) r old new → Does (called (answered_by f o) old) (result_by f r) old new
 unfolding called
-unit_called o r old new h = unit_at old.failure o r old new h
+called_by f o r old new h = by_at f old.failure o r old new h
 
-pub unit_sent : {A : Type 0} (m : Message) (v : Machine) (r : Result A Error) → OnOk r (CanBeRead m v) → OnOk (unanswered r) (CanBeRead m v)
-unit_sent m v (Ok a) h = h
-unit_sent m v (Err e) h = tt
+pub sent_by : {A B : Type 0} (f : A → B) (m : Message) (v : Machine) (r : Result A Error) → OnOk r (CanBeRead m v) → OnOk (result_by f r) (CanBeRead m v)
+sent_by f m v (Ok a) h = h
+sent_by f m v (Err e) h = tt
 
 -- ---- calls that take no memory
 

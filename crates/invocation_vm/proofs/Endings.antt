@@ -23,7 +23,7 @@ use Rattle.vm_parts.specs.declared.values.Input.{Input}
 use Rattle.vm_parts.specs.declared.values.Value.{Value}
 use Rattle.vm_machine.specs.declared.machine.Machine.{Machine}
 use Rattle.vm_machine.specs.declared.asks.Command.{Command}
-use Rattle.vm_machine.specs.Commands.{commanded, unit_of}
+use Rattle.vm_machine.specs.Commands.{answered_by, commanded}
 use Rattle.vm_machine.specs.Endings.{EndsIf, EndsOnce, EventWrites, Writes, is_over, is_terminal}
 use Rattle.vm_machine.specs.Awaits.{take_step}
 use Rattle.vm_machine.specs.Inputs.{close_step, end_step, input_step, malformed_step, message_step}
@@ -31,7 +31,7 @@ use Rattle.vm_machine.specs.Signals.{awakeable_step}
 use Rattle.vm_machine.specs.Outcomes.{Does, IsStarved, Outcome, Done, Failed, called, flat, refused}
 use Rattle.vm_machine.specs.Reports.{report_step}
 use Rattle.vm_machine.proofs.Endings.{answered, await_writes, awakeable_writes, called_writes, close_writes, end_writes, input_writes, commanded_event, malformed_writes, message_writes, nothing_behind, report_writes, same, take_writes, writes_nothing}
-use Rattle.invocation_vm.specs.Calls.{CallsCommand, CallsUnit, future_step, new_awakeable_step, skips_replay}
+use Rattle.invocation_vm.specs.Calls.{CallsCommand, CallsFor, future_step, new_awakeable_step, skips_replay}
 use Rattle.invocation_vm.specs.Endings.{EndsOnceAfter, StaysSo}
 use Rattle.invocation_vm.specs.Frames.{Tail, Rest, Garbage, frames_of}
 use Rattle.invocation_vm.specs.Making.{made}
@@ -130,9 +130,9 @@ leaves_stay raws after (Err e) old new w l = stays old new (quiet_writes old.mac
 pub command_stays : (c : Command) (r : Result NotificationHandle Error) (old new : View) → is_terminal c.message ≡ false → CallsCommand c r old new → StaysSo old new
 command_stays c r old new goes h = calls_stay (commanded c) r old new (called_writes old.machine (commanded c old.machine) (commanded_event c old.machine goes)) h.0
 
-pub unit_stays : (c : Command) (r : Result Unit Error) (old new : View) → is_terminal c.message ≡ false → CallsUnit c r old new → StaysSo old new
-unit_stays c r old new goes h =
-    calls_stay (λ v. unit_of (commanded c v)) r old new (called_writes old.machine (unit_of (commanded c old.machine)) (λ live. answered old.machine (commanded c old.machine) tt (commanded_event c old.machine goes live))) h.0
+pub answer_stays : {A : Type 0} (f : NotificationHandle → A) (c : Command) (r : Result A Error) (old new : View) → is_terminal c.message ≡ false → CallsFor f c r old new → StaysSo old new
+answer_stays f c r old new goes h =
+    calls_stay (λ v. answered_by f (commanded c v)) r old new (called_writes old.machine (answered_by f (commanded c old.machine)) (λ live. answered old.machine (commanded c old.machine) f (commanded_event c old.machine goes live))) h.0
 
 new_awakeable_writes : (b : Bool) (v : Machine) → EventWrites v (called (if b then refused fault.UnsupportedFeature v else awakeable_step v) v)
 new_awakeable_writes true v = called_writes v (refused {A = AwakeableHandle} fault.UnsupportedFeature v) (λ live. same v)

@@ -1,5 +1,5 @@
 -- The calls of a VM, as events of its machine.
-use Rattle.std.specs.Prelude.{ℕ, Bool, true, false, if◌then◌else◌, List, [], Option, Some, None, Result, Ok, Err, OnOk, string_bytes}
+use Rattle.std.specs.Prelude.{ℕ, Bool, true, false, if◌then◌else◌, List, [], Option, Some, None, Result, Ok, Err, IfOk, OnOk, string_bytes}
 use Rattle.std.proofs.Common.{Global}
 use Rattle.std.specs.declared.string.String.{String}
 use Rattle.journal_protocol.specs.declared.error.Error.{Error}
@@ -14,23 +14,27 @@ use Rattle.vm_parts.specs.declared.types.UnresolvedFuture.TheVariants.{Single}
 use Rattle.vm_machine.specs.declared.asks.Command.{Command}
 use Rattle.vm_machine.specs.declared.machine.Machine.{Machine}
 use Rattle.vm_machine.specs.Awaits.{await_step}
-use Rattle.vm_machine.specs.Commands.{CanBeRead, commanded, unit_of}
+use Rattle.vm_machine.specs.Commands.{CanBeRead, Fits, answered_by, commanded}
 use Rattle.vm_machine.specs.Outcomes.{Outcome, refused}
 use Rattle.vm_machine.specs.Signals.{awakeable_step}
 use Rattle.invocation_vm.specs.Views.{View, Calls}
 
--- A call that has a command: it is answered by its first handle, and what it wrote can be read back.
+-- A call that has a command: it is answered by its first handle; what it wrote can be read back, and its handles fit.
 abbrev pub CallsCommand : Command → Result NotificationHandle Error → View → View → Type 0
-CallsCommand c r old new = Calls (commanded c) r old new × OnOk r (CanBeRead c.message old.machine)
+CallsCommand c r old new = Calls (commanded c) r old new × OnOk r (CanBeRead c.message old.machine) × IfOk r (Fits c.message)
+
+-- A call that has a command, answered by this of its first handle.
+abbrev pub CallsFor : {A : Type 0} → (NotificationHandle → A) → Command → Result A Error → View → View → Type 0
+CallsFor f c r old new = Calls (λ v. answered_by f (commanded c v)) r old new × OnOk r (CanBeRead c.message old.machine)
 
 -- A call that has a command and answers nothing.
 abbrev pub CallsUnit : Command → Result Unit Error → View → View → Type 0
-CallsUnit c r old new = Calls (λ v. unit_of (commanded c v)) r old new × OnOk r (CanBeRead c.message old.machine)
+CallsUnit c r old new = CallsFor (λ _. tt {0}) c r old new
 
--- an answer is dropped
-abbrev pub unanswered : {A : Type 0} → Result A Error → Result Unit Error
-unanswered (Ok a) = Ok tt
-unanswered (Err e) = Err e
+-- a result with this of its answer
+abbrev pub result_by : {A B : Type 0} → (A → B) → Result A Error → Result B Error
+result_by f (Ok a) = Ok (f a)
+result_by f (Err e) = Err e
 
 -- recorded commands are skipped
 abbrev pub skips_replay : JournalReplay → Bool

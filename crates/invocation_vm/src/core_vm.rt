@@ -2,13 +2,14 @@
 ghost use Rattle.std.specs.Prelude.{◌≡◌, [], IfOk, is_some};
 ghost use Rattle.std.specs.List.{concat};
 ghost use Rattle.vm_parts.specs.Outboxes.{WholeFrames, WholeStream, len_of};
-ghost use Rattle.vm_machine.specs.Asks.{ask_of};
+ghost use Rattle.vm_machine.specs.Asks.{ask_of, call_handles, send_handle};
+ghost use Rattle.vm_machine.specs.Requests.{ids_of};
 ghost use Rattle.vm_machine.specs.Outcomes.{Lives};
-ghost use Rattle.invocation_vm.specs.Calls.{CallsCommand, CallsUnit, future_step};
+ghost use Rattle.invocation_vm.specs.Calls.{CallsCommand, CallsFor, CallsUnit, future_step};
 ghost use Rattle.invocation_vm.specs.Seen.{seen};
 ghost use Rattle.invocation_vm.specs.Views.{Calls};
 
-use crate::shared::{make_awakeable, name_text, unanswered};
+use crate::shared::{both_handles, id_handle, make_awakeable, name_text, unanswered};
 use crate::versions::{response_head, version_in};
 use crate::vm::VM;
 use bytes::Bytes;
@@ -19,9 +20,9 @@ use std::time::Duration;
 use vm_machine::settle::flatten;
 use vm_machine::{Ask, Command, Machine, asks};
 use vm_parts::{
-    AttachInvocationTarget, AwaitResponse, AwakeableHandle, CommandRelationship, Input,
-    NonEmptyValue, NotificationHandle, PayloadOptions, ResponseHead, State, Step, UnresolvedFuture,
-    VMOptions, VMResult, Value,
+    AttachInvocationTarget, AwaitResponse, AwakeableHandle, CallHandle, CommandRelationship, Input,
+    NonEmptyValue, NotificationHandle, PayloadOptions, ResponseHead, SendHandle, State, Step,
+    Target, UnresolvedFuture, VMOptions, VMResult, Value,
 };
 use wire::Text;
 
@@ -43,7 +44,7 @@ impl fmt::Debug for CoreVM {
     }
 }
 
-#[tactic(auto, using(crate::proofs::Calls::does_called, crate::proofs::Calls::does_failed, crate::proofs::Calls::settles_sent, crate::proofs::Calls::unit_called, crate::proofs::Calls::unit_sent))]
+#[tactic(auto, using(crate::proofs::Calls::does_called, crate::proofs::Calls::does_failed, crate::proofs::Calls::settles_fits, crate::proofs::Calls::settles_sent, crate::proofs::Calls::called_by, crate::proofs::Calls::sent_by, crate::proofs::Calls::fits_both))]
 impl CoreVM {
     /// The version of the journal protocol that the VM was made for.
     pub fn version(&self) -> Version
@@ -97,6 +98,21 @@ impl CoreVM {
         ensures { CallsUnit command result (seen self.old) (seen self.new) }
     {
         unanswered(self.command(command))
+    }
+
+    /// A call of another handler.
+    fn call_of(&mut self, command: Command) -> VMResult<CallHandle>
+        requires { ids_of command.message ≡ 2 }
+        ensures { CallsFor call_handles command result (seen self.old) (seen self.new) }
+    {
+        both_handles(self.command(command))
+    }
+
+    /// A call whose result nobody waits for.
+    fn send_of(&mut self, command: Command) -> VMResult<SendHandle>
+        ensures { CallsFor send_handle command result (seen self.old) (seen self.new) }
+    {
+        id_handle(self.command(command))
     }
 
     /// As `do_await`, where an error by which the VM doesn't fail is an answer.
@@ -265,6 +281,34 @@ impl VM for CoreVM {
         self.unit(asks::clear_all_state(name))
     }
 
+    fn sys_call(
+        &mut self,
+        target: Target,
+        input: Bytes,
+        name: Option<String>,
+        options: PayloadOptions,
+    ) -> VMResult<CallHandle> {
+        let alloc = self.machine.alloc;
+        let version = self.machine.version;
+        let name = name_text(alloc, name);
+        self.call_of(asks::call(alloc, target, input, name, options, version))
+    }
+
+    fn sys_send(
+        &mut self,
+        target: Target,
+        input: Bytes,
+        execution_time_since_unix_epoch: Option<Duration>,
+        name: Option<String>,
+        options: PayloadOptions,
+    ) -> VMResult<SendHandle> {
+        let alloc = self.machine.alloc;
+        let version = self.machine.version;
+        let name = name_text(alloc, name);
+        let time = execution_time_since_unix_epoch;
+        self.send_of(asks::send(alloc, target, input, time, name, options, version))
+    }
+
     fn sys_awakeable(&mut self) -> VMResult<AwakeableHandle> {
         if let Err(error) = self.machine.live() {
             return Err(error);
@@ -299,6 +343,14 @@ impl VM for CoreVM {
         self.unit(asks::cancel_invocation(Text::from_string(target_invocation_id)))
     }
 
+    fn sys_get_promise(&mut self, key: String) -> VMResult<NotificationHandle> {
+        self.command(asks::get_promise(Text::from_string(key)))
+    }
+
+    fn sys_peek_promise(&mut self, key: String) -> VMResult<NotificationHandle> {
+        self.command(asks::peek_promise(Text::from_string(key)))
+    }
+
     fn sys_complete_promise(
         &mut self,
         key: String,
@@ -315,6 +367,14 @@ impl VM for CoreVM {
     ) -> VMResult<NotificationHandle> {
         let version = self.machine.version;
         self.command(asks::attach_invocation(target, version))
+    }
+
+    fn sys_get_invocation_output(
+        &mut self,
+        target: AttachInvocationTarget,
+    ) -> VMResult<NotificationHandle> {
+        let version = self.machine.version;
+        self.command(asks::get_invocation_output(target, version))
     }
 
     fn sys_write_output(&mut self, value: NonEmptyValue, options: PayloadOptions) -> VMResult<()> {

@@ -9,18 +9,20 @@ ghost use Rattle.vm_parts.specs.declared.command_type.CommandRelationship.{Comma
 ghost use Rattle.vm_parts.specs.declared.options.VMOptions.{VMOptions};
 ghost use Rattle.vm_parts.specs.declared.types.AwaitResponse.{AwaitResponse};
 ghost use Rattle.vm_parts.specs.declared.types.AwakeableHandle.{AwakeableHandle};
+ghost use Rattle.vm_parts.specs.declared.types.CallHandle.{CallHandle};
 ghost use Rattle.vm_parts.specs.declared.types.NotificationHandle.{NotificationHandle};
+ghost use Rattle.vm_parts.specs.declared.types.SendHandle.{SendHandle};
 ghost use Rattle.vm_parts.specs.declared.types.UnresolvedFuture.{UnresolvedFuture};
 ghost use Rattle.vm_parts.specs.declared.values.Input.{Input};
 ghost use Rattle.vm_parts.specs.declared.values.Value.{Value};
 ghost use Rattle.vm_machine.specs.declared.machine.Machine.{Machine};
 ghost use Rattle.vm_machine.specs.declared.asks.Command.{Command};
-ghost use Rattle.vm_machine.specs.Asks.{sleep_command};
+ghost use Rattle.vm_machine.specs.Asks.{call_handles, send_handle, sleep_command};
 ghost use Rattle.vm_machine.specs.Awaits.{take_step};
 ghost use Rattle.vm_machine.specs.Endings.{is_terminal};
 ghost use Rattle.vm_machine.specs.Inputs.{end_step, input_step};
 ghost use Rattle.vm_machine.specs.Outcomes.{IsStarved, Outcome};
-ghost use Rattle.invocation_vm.specs.Calls.{CallsCommand, CallsUnit, future_step, new_awakeable_step};
+ghost use Rattle.invocation_vm.specs.Calls.{CallsCommand, CallsFor, CallsUnit, future_step, new_awakeable_step};
 ghost use Rattle.invocation_vm.specs.Endings.{EndsOnceAfter, StaysSo};
 ghost use Rattle.invocation_vm.specs.Making.{made};
 ghost use Rattle.invocation_vm.specs.Sleeps.{MaySleep, sleeping};
@@ -40,6 +42,8 @@ pub fn all_output_ends_once()
     ensures inputs { (r : Result Input Error) (old new : View) → Calls input_step r old new → StaysSo old new }
     ensures commands { (c : Command) (r : Result NotificationHandle Error) (old new : View) → is_terminal c.message ≡ false → CallsCommand c r old new → StaysSo old new }
     ensures unanswered { (c : Command) (r : Result Unit Error) (old new : View) → is_terminal c.message ≡ false → CallsUnit c r old new → StaysSo old new }
+    ensures calls { (c : Command) (r : Result CallHandle Error) (old new : View) → is_terminal c.message ≡ false → CallsFor call_handles c r old new → StaysSo old new }
+    ensures sends { (c : Command) (r : Result SendHandle Error) (old new : View) → is_terminal c.message ≡ false → CallsFor send_handle c r old new → StaysSo old new }
     ensures awakeables { (r : Result AwakeableHandle Error) (old new : View) → Calls new_awakeable_step r old new → StaysSo old new }
     ensures ends { (r : Result Unit Error) (old new : View) → Calls end_step r old new → StaysSo old new }
 {}

@@ -15,8 +15,9 @@ pub use laws::{all_output_ends_once, first_error_is_answered, sleep_is_written};
 pub use vm::VM;
 pub use vm_parts::{
     AttachInvocationTarget, AwaitResponse, AwaitingOnPolicy, AwakeableHandle,
-    CANCEL_NOTIFICATION_HANDLE, CommandRelationship, CommandType, EphemeralCompletionId,
-    ImplicitCancellationOption, Input, JournalMismatchRetryBehavior, JournalReplay,
-    NonDeterministicChecksOption, NonEmptyValue, NotificationHandle, PayloadOptions, ResponseHead,
-    SignalDelivery, State, TerminalFailure, UnresolvedFuture, VMOptions, VMResult, Value,
+    CANCEL_NOTIFICATION_HANDLE, CallHandle, CommandRelationship, CommandType,
+    EphemeralCompletionId, ImplicitCancellationOption, Input, JournalMismatchRetryBehavior,
+    JournalReplay, NonDeterministicChecksOption, NonEmptyValue, NotificationHandle, PayloadOptions,
+    ResponseHead, SendHandle, SignalDelivery, State, Target, TerminalFailure, UnresolvedFuture,
+    VMOptions, VMResult, Value,
 };

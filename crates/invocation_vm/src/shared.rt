@@ -1,14 +1,18 @@
 //! What the calls share that have a command, and what is checked of the call that makes an awakeable.
-ghost use Rattle.std.specs.Prelude.{◌≡◌};
+ghost use Rattle.std.specs.Prelude.{◌≡◌, ◌+◌, ◌<◌, ◌^◌, IfOk};
+ghost use Rattle.vm_machine.specs.Asks.{call_handles, send_handle};
 ghost use Rattle.vm_machine.specs.Outcomes.{Gives};
-ghost use Rattle.invocation_vm.specs.Calls.{name_or_empty, new_awakeable_step, skips_replay, unanswered};
+ghost use Rattle.invocation_vm.specs.Calls.{name_or_empty, new_awakeable_step, result_by, skips_replay};
 
 use journal_protocol::NamedFault;
 use std::alloc::Global;
+use vm_machine::asks::{call_handles, send_handle};
 use vm_machine::fault::refuse;
 use vm_machine::machine::empty_text;
 use vm_machine::{Fault, Machine};
-use vm_parts::{AwakeableHandle, JournalReplay, NotificationHandle, VMResult};
+use vm_parts::{
+    AwakeableHandle, CallHandle, JournalReplay, NotificationHandle, SendHandle, VMResult,
+};
 use wire::Text;
 
 /// An absent name is empty.
@@ -22,10 +26,31 @@ pub(crate) fn name_text(alloc: Global, name: Option<String>) -> Text
 }
 
 pub(crate) fn unanswered(given: VMResult<NotificationHandle>) -> VMResult<()>
-    ensures { result ≡ unanswered given }
+    ensures { result ≡ result_by (λ _. tt {0}) given }
 {
     match given {
         Ok(_) => Ok(()),
+        Err(error) => Err(error),
+    }
+}
+
+/// The answer to a call of another handler: both handles.
+pub(crate) fn both_handles(given: VMResult<NotificationHandle>) -> VMResult<CallHandle>
+    requires { IfOk given (λ handle. handle.0 + 1 < 2 ^ 32) }
+    ensures { result ≡ result_by call_handles given }
+{
+    match given {
+        Ok(handle) => Ok(call_handles(handle)),
+        Err(error) => Err(error),
+    }
+}
+
+/// The answer to a call whose result nobody waits for.
+pub(crate) fn id_handle(given: VMResult<NotificationHandle>) -> VMResult<SendHandle>
+    ensures { result ≡ result_by send_handle given }
+{
+    match given {
+        Ok(handle) => Ok(send_handle(handle)),
         Err(error) => Err(error),
     }
 }

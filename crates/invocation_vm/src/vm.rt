@@ -1,12 +1,12 @@
 //! The calls of a VM, each with what it does to the view of it.
 ghost use Rattle.std.specs.Prelude.{◌≡◌, ◌/◌, [], IfOk, OnErr, None, Ok, true, string_bytes, codes};
 ghost use Rattle.std.specs.Duration.{as_nanos};
-ghost use Rattle.vm_machine.specs.Asks.{attach_invocation_command, cancel_invocation_command, clear_all_state_command, clear_state_command, complete_awakeable_command, complete_promise_command, complete_signal_command, output_command, set_state_command, sleep_command};
+ghost use Rattle.vm_machine.specs.Asks.{attach_invocation_command, call_command, call_handles, cancel_invocation_command, clear_all_state_command, clear_state_command, complete_awakeable_command, complete_promise_command, complete_signal_command, get_invocation_output_command, get_promise_command, millis_of, output_command, peek_promise_command, send_command, send_handle, set_state_command, sleep_command};
 ghost use Rattle.vm_machine.specs.Awaits.{IsReadyAt, is_completed, last_index, state_of, take_step};
 ghost use Rattle.vm_machine.specs.Inputs.{end_step, input_step};
 ghost use Rattle.vm_machine.specs.declared.phase.Phase.TheVariants.{Closed};
 ghost use Rattle.vm_machine.specs.Phases.{is_waiting};
-ghost use Rattle.invocation_vm.specs.Calls.{CallsCommand, CallsUnit, future_step, name_or_empty, new_awakeable_step};
+ghost use Rattle.invocation_vm.specs.Calls.{CallsCommand, CallsFor, CallsUnit, future_step, name_or_empty, new_awakeable_step};
 ghost use Rattle.invocation_vm.specs.Making.{Makes, response_head, version_in};
 ghost use Rattle.invocation_vm.specs.Views.{View, Calls, CallsFlat, Leaves, TakesOutput, after_closing, after_error, after_input, brought};
 
@@ -15,9 +15,9 @@ use journal_protocol::{Error, HeaderMap};
 use std::alloc::{AllocError, Global};
 use std::time::Duration;
 use vm_parts::{
-    AttachInvocationTarget, AwaitResponse, AwakeableHandle, CommandRelationship, Input,
-    NonEmptyValue, NotificationHandle, PayloadOptions, ResponseHead, State, UnresolvedFuture,
-    VMOptions, VMResult, Value,
+    AttachInvocationTarget, AwaitResponse, AwakeableHandle, CallHandle, CommandRelationship, Input,
+    NonEmptyValue, NotificationHandle, PayloadOptions, ResponseHead, SendHandle, State, Target,
+    UnresolvedFuture, VMOptions, VMResult, Value,
 };
 
 /// One attempt of an invocation: the bytes of its journal come in, the handler's calls are answered, and the bytes
@@ -108,6 +108,29 @@ pub trait VM: Sized {
     fn sys_state_clear_all(&mut self, name: Option<String>) -> VMResult<()>
         ensures { CallsUnit (clear_all_state_command (name_or_empty name)) result (view self.old) (view self.new) };
 
+    /// Calls another handler, and answers the handles of the invocation's id and of its result. Of the target's texts an empty
+    /// idempotency key, scope or limit key is refused; a scope and a limit key need V7.
+    fn sys_call(
+        &mut self,
+        target: Target,
+        input: Bytes,
+        name: Option<String>,
+        options: PayloadOptions,
+    ) -> VMResult<CallHandle>
+        ensures { CallsFor call_handles (call_command target input (name_or_empty name) options (view self.old).machine.version) result (view self.old) (view self.new) };
+
+    /// As `sys_call`, but nobody waits for the result; the handler is called at once, or at a time, in ms since the Unix epoch
+    /// rounded down. A time that no `u64` holds is refused.
+    fn sys_send(
+        &mut self,
+        target: Target,
+        input: Bytes,
+        execution_time_since_unix_epoch: Option<Duration>,
+        name: Option<String>,
+        options: PayloadOptions,
+    ) -> VMResult<SendHandle>
+        ensures { CallsFor send_handle (send_command target input (millis_of execution_time_since_unix_epoch) (name_or_empty name) options (view self.old).machine.version) result (view self.old) (view self.new) };
+
     /// Makes an awakeable: an id for others to complete it by, and a handle to await it by. It has no command, and is
     /// refused where the options disable replay.
     fn sys_awakeable(&mut self) -> VMResult<AwakeableHandle>
@@ -135,6 +158,14 @@ pub trait VM: Sized {
     fn sys_cancel_invocation(&mut self, target_invocation_id: String) -> VMResult<()>
         ensures { CallsUnit (cancel_invocation_command (string_bytes target_invocation_id)) result (view self.old) (view self.new) };
 
+    /// Awaits a promise of the workflow, and answers the handle of its value.
+    fn sys_get_promise(&mut self, key: String) -> VMResult<NotificationHandle>
+        ensures { CallsCommand (get_promise_command (string_bytes key)) result (view self.old) (view self.new) };
+
+    /// Looks whether a promise of the workflow is completed, and answers the handle of its value, or of nothing.
+    fn sys_peek_promise(&mut self, key: String) -> VMResult<NotificationHandle>
+        ensures { CallsCommand (peek_promise_command (string_bytes key)) result (view self.old) (view self.new) };
+
     /// Completes a promise of the workflow, and answers the handle of whether that was done: void, or a failure where it had been
     /// completed before. A failure with metadata needs V6.
     fn sys_complete_promise(
@@ -151,6 +182,14 @@ pub trait VM: Sized {
         target: AttachInvocationTarget,
     ) -> VMResult<NotificationHandle>
         ensures { CallsCommand (attach_invocation_command target (view self.old).machine.version) result (view self.old) (view self.new) };
+
+    /// Looks whether another invocation has an output, and answers the handle of it, or of nothing. An empty scope is refused; a
+    /// scope needs V7.
+    fn sys_get_invocation_output(
+        &mut self,
+        target: AttachInvocationTarget,
+    ) -> VMResult<NotificationHandle>
+        ensures { CallsCommand (get_invocation_output_command target (view self.old).machine.version) result (view self.old) (view self.new) };
 
     /// The handler's result. A failure with metadata needs V6.
     fn sys_write_output(&mut self, value: NonEmptyValue, options: PayloadOptions) -> VMResult<()>

@@ -75,7 +75,7 @@ pub record TellsReady (machine : Machine) (answer : Reply) : Type 0 where
 
 -- what the call does that is asked for
 abbrev pub DoneAsAsked : Ask → Reply → View → View → Type 0
-DoneAsAsked (ask.Command c) told old new = Answers (λ handle. reply.Answer (command_answer (ids_of c.message) handle)) (commanded c) told old new
+DoneAsAsked (ask.Command c) told old new = Answers (λ handle. reply.Answer (command_answer c.message handle)) (commanded c) told old new
 DoneAsAsked ask.Awakeable told old new = Answers (λ made. reply.Answer (answer.Awakeable made)) new_awakeable_step told old new
 DoneAsAsked (ask.Await future) told old new = Awaits future told old new
 DoneAsAsked (ask.Take handle) told old new = Answers (λ value. reply.Answer (answer.Taken value)) (take_step handle.0) told old new

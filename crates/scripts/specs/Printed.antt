@@ -10,6 +10,8 @@ use Rattle.scripts.specs.declared.reply.Reply.TheVariants as reply
 -- what stands behind `ok` of what a handler's call answered
 abbrev pub AnswerPrinted : Answer → List ℕ → List ℕ → Type 0
 AnswerPrinted (answer.Handle handle) old new = new ≡ old ++ decimal handle.0
+AnswerPrinted (answer.Call handles) old new = new ≡ old ++ decimal handles.invocation_id_notification_handle.0 ++ codes " " ++ decimal handles.call_notification_handle.0
+AnswerPrinted (answer.Send handles) old new = new ≡ old ++ decimal handles.invocation_id_notification_handle.0
 AnswerPrinted (answer.Awakeable made) old new = new ≡ old ++ decimal made.handle.0 ++ codes " " ++ quoted made.id
 AnswerPrinted given old new = Unit {0}
 

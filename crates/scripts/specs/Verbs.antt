@@ -31,12 +31,17 @@ verb_name verb.Set = codes "set"
 verb_name verb.Clear = codes "clear"
 verb_name verb.ClearAll = codes "clear_all"
 verb_name verb.Sleep = codes "sleep"
+verb_name verb.Call = codes "call"
+verb_name verb.Send = codes "send"
 verb_name verb.Awakeable = codes "awakeable"
 verb_name verb.CompleteAwakeable = codes "complete_awakeable"
 verb_name verb.CompleteSignal = codes "complete_signal"
 verb_name verb.Cancel = codes "cancel"
+verb_name verb.GetPromise = codes "get_promise"
+verb_name verb.PeekPromise = codes "peek_promise"
 verb_name verb.CompletePromise = codes "complete_promise"
 verb_name verb.Attach = codes "attach"
+verb_name verb.GetOutput = codes "get_output"
 verb_name verb.WriteOutput = codes "write_output"
 verb_name verb.End = codes "end"
 
@@ -49,12 +54,17 @@ verb_of_step (step.StateSet key value name options) = verb.Set
 verb_of_step (step.StateClear key name) = verb.Clear
 verb_of_step (step.StateClearAll name) = verb.ClearAll
 verb_of_step (step.Sleep name until now) = verb.Sleep
+verb_of_step (step.Call target input name options) = verb.Call
+verb_of_step (step.Send target input time name options) = verb.Send
 verb_of_step step.Awakeable = verb.Awakeable
 verb_of_step (step.CompleteAwakeable id value options) = verb.CompleteAwakeable
 verb_of_step (step.CompleteSignal target name value) = verb.CompleteSignal
 verb_of_step (step.CancelInvocation target) = verb.Cancel
+verb_of_step (step.GetPromise key) = verb.GetPromise
+verb_of_step (step.PeekPromise key) = verb.PeekPromise
 verb_of_step (step.CompletePromise key value options) = verb.CompletePromise
 verb_of_step (step.AttachInvocation target) = verb.Attach
+verb_of_step (step.GetInvocationOutput target) = verb.GetOutput
 verb_of_step (step.WriteOutput value options) = verb.WriteOutput
 verb_of_step step.End = verb.End
 
@@ -94,6 +104,10 @@ IsHandle words handle = (length words ≡ 1) × (handle ≡ digits_value 10 (tex
 abbrev pub HasCodeAndText : ℕ → List ℕ → List (Bor (List ℕ)) → Type 0
 HasCodeAndText code message words = (code ≡ digits_value 10 (text_at 0 words)) × IsAtom (text_at 1 words) message
 
+-- the words begin with this service, this handler and this input
+abbrev pub HasCallee : List (Bor (List ℕ)) → List ℕ → List ℕ → List ℕ → Type 0
+HasCallee words service handler input = IsAtom (text_at 0 words) service × IsAtom (text_at 1 words) handler × IsAtom (text_at 2 words) input
+
 -- The arguments of a step that stand before a value, a target and the options, in their places. A step without these has no
 -- other argument.
 abbrev pub HasStepArguments : List (Bor (List ℕ)) → Step → Type 0
@@ -104,12 +118,17 @@ HasStepArguments arguments (step.StateSet key value name options) = IsAtom (text
 HasStepArguments arguments (step.StateClear key name) = IsAtom (text_at 0 arguments) key
 HasStepArguments arguments (step.StateClearAll name) = Unit {0}
 HasStepArguments arguments (step.Sleep name until now) = IsAtom (text_at 0 arguments) name × IsDuration (text_at 1 arguments) (as_nanos until)
+HasStepArguments arguments (step.Call target input name options) = HasCallee arguments target.service target.handler input
+HasStepArguments arguments (step.Send target input time name options) = HasCallee arguments target.service target.handler input
 HasStepArguments arguments step.Awakeable = arguments ≡ []
 HasStepArguments arguments (step.CompleteAwakeable id value options) = IsAtom (text_at 0 arguments) id
 HasStepArguments arguments (step.CompleteSignal target name value) = IsAtom (text_at 0 arguments) target × IsAtom (text_at 1 arguments) name
 HasStepArguments arguments (step.CancelInvocation target) = IsOneAtom arguments target
+HasStepArguments arguments (step.GetPromise key) = IsOneAtom arguments key
+HasStepArguments arguments (step.PeekPromise key) = IsOneAtom arguments key
 HasStepArguments arguments (step.CompletePromise key value options) = IsAtom (text_at 0 arguments) key
 HasStepArguments arguments (step.AttachInvocation target) = Unit {0}
+HasStepArguments arguments (step.GetInvocationOutput target) = Unit {0}
 HasStepArguments arguments (step.WriteOutput value options) = Unit {0}
 HasStepArguments arguments step.End = arguments ≡ []
 

@@ -6,8 +6,8 @@ ghost use Rattle.scripts.specs.Printed.{AnswerPrinted, Printed, ValuePrinted};
 
 use crate::reply::Reply;
 use invocation_vm::{
-    AwaitResponse, AwakeableHandle, Error, Input, ResponseHead, State, TerminalFailure, Value,
-    Version,
+    AwaitResponse, AwakeableHandle, CallHandle, Error, Input, ResponseHead, State, TerminalFailure,
+    Value, Version,
 };
 use journal_protocol::Header;
 use lines::line::Line;
@@ -182,6 +182,15 @@ fn input(input: &Input, line: &mut Line) -> Result<(), AllocError> {
     optional(&input.idempotency_key, line)
 }
 
+/// The handles of a call: the invocation's id, and the result.
+fn both_handles(handles: CallHandle, line: &mut Line) -> Result<(), AllocError>
+    ensures { OnOk result (line.new ≡ line.old ++ decimal handles.invocation_id_notification_handle.0 ++ codes " " ++ decimal handles.call_notification_handle.0) }
+{
+    line.number(u64::from(handles.invocation_id_notification_handle.0))?;
+    line.word(" ")?;
+    line.number(u64::from(handles.call_notification_handle.0))
+}
+
 /// The handle of an awakeable, and its id.
 fn awakeable(given: &AwakeableHandle, line: &mut Line) -> Result<(), AllocError>
     ensures { OnOk result (line.new ≡ line.old ++ decimal given.now.handle.0 ++ codes " " ++ quoted given.now.id) }
@@ -206,6 +215,10 @@ fn answered(given: &Answer, line: &mut Line) -> Result<(), AllocError>
     match given {
         Answer::Input(given) => input(given, line),
         Answer::Handle(handle) => line.number(u64::from(handle.0)),
+        Answer::Call(handles) => both_handles(*handles, line),
+        Answer::Send(handles) => {
+            line.number(u64::from(handles.invocation_id_notification_handle.0))
+        }
         Answer::Awakeable(given) => awakeable(given, line),
         Answer::Unit => Ok(()),
         Answer::Awake => line.word("any"),

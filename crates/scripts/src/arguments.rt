@@ -21,7 +21,7 @@ pub struct Extras {
 }
 
 /// The words but `unstable`, which may stand once, and whether it stands there.
-fn without_unstable<'a>(
+pub fn without_unstable<'a>(
     alloc: Global,
     words: &[&'a [u8]],
 ) -> Result<(Vec<&'a [u8]>, PayloadOptions), Fault> {
@@ -73,19 +73,27 @@ pub fn extras_of(alloc: Global, words: &[&[u8]]) -> Result<Extras, Fault> {
     Ok(Extras { name, payload })
 }
 
+/// `[NAME=D]`, among other fields.
+pub fn take_optional_duration(
+    fields: &mut Fields<'_>,
+    name: &str,
+) -> Result<Option<Duration>, Fault> {
+    match fields.take_text(name) {
+        Some(text) => Ok(Some(duration_of(text)?)),
+        None => Ok(None),
+    }
+}
+
 /// `[now=D]`.
 pub fn now_of(alloc: Global, words: &[&[u8]]) -> Result<Option<Duration>, Fault> {
     let mut fields = Fields::of_pieces(alloc, words)?;
-    let now = match fields.take_text("now") {
-        Some(text) => Some(duration_of(text)?),
-        None => None,
-    };
+    let now = take_optional_duration(&mut fields, "now")?;
     fields.end()?;
     Ok(now)
 }
 
 /// `{T T}`.
-fn pair_of(alloc: Global, text: &[u8]) -> Result<(Text, Text), Fault> {
+pub fn pair_of(alloc: Global, text: &[u8]) -> Result<(Text, Text), Fault> {
     let pair = words(alloc, between(text, b'{', b'}')?)?;
     match pair.as_slice() {
         [first, second] => {

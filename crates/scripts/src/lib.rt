@@ -4,6 +4,7 @@
 pub mod answer;
 pub mod arguments;
 pub mod atoms;
+pub mod callees;
 pub mod content_type;
 pub mod exit_status;
 pub mod options;

@@ -9,6 +9,7 @@ use crate::arguments::{
     value_alone, value_and_payload,
 };
 use crate::atoms::{duration_of, shared_of, string_of, text_of};
+use crate::callees::{call_line, send_line};
 use crate::content_type::ContentType;
 use crate::options::options_of;
 use crate::report::error_of;
@@ -98,6 +99,20 @@ fn cancel_of(alloc: Global, arguments: &[&[u8]]) -> Result<Call, Fault>
     }))
 }
 
+fn get_promise_of(alloc: Global, arguments: &[&[u8]]) -> Result<Call, Fault>
+    ensures { IfOk result (λ call. IsLine verb.GetPromise arguments.now call) }
+{
+    let key = text_alone(alloc, arguments)?;
+    Ok(Call::Step(Step::GetPromise { key }))
+}
+
+fn peek_promise_of(alloc: Global, arguments: &[&[u8]]) -> Result<Call, Fault>
+    ensures { IfOk result (λ call. IsLine verb.PeekPromise arguments.now call) }
+{
+    let key = text_alone(alloc, arguments)?;
+    Ok(Call::Step(Step::PeekPromise { key }))
+}
+
 fn complete_promise_of(alloc: Global, arguments: &[&[u8]]) -> Result<Call, Fault>
     ensures { IfOk result (λ call. IsLine verb.CompletePromise arguments.now call) }
 {
@@ -118,6 +133,13 @@ fn attach_of(alloc: Global, arguments: &[&[u8]]) -> Result<Call, Fault>
 {
     let target = target_of(alloc, arguments)?;
     Ok(Call::Step(Step::AttachInvocation(target)))
+}
+
+fn get_output_of(alloc: Global, arguments: &[&[u8]]) -> Result<Call, Fault>
+    ensures { IfOk result (λ call. IsLine verb.GetOutput arguments.now call) }
+{
+    let target = target_of(alloc, arguments)?;
+    Ok(Call::Step(Step::GetInvocationOutput(target)))
 }
 
 fn write_output_of(alloc: Global, arguments: &[&[u8]]) -> Result<Call, Fault>
@@ -157,12 +179,17 @@ fn call_named(alloc: Global, verb: Verb, arguments: &[&[u8]]) -> Result<Call, Fa
             name: name_of(alloc, arguments)?,
         })),
         Verb::Sleep => sleep_of(alloc, arguments),
+        Verb::Call => call_line(alloc, arguments),
+        Verb::Send => send_line(alloc, arguments),
         Verb::Awakeable => alone(arguments, Call::Step(Step::Awakeable)),
         Verb::CompleteAwakeable => complete_awakeable_of(alloc, arguments),
         Verb::CompleteSignal => complete_signal_of(alloc, arguments),
         Verb::Cancel => cancel_of(alloc, arguments),
+        Verb::GetPromise => get_promise_of(alloc, arguments),
+        Verb::PeekPromise => peek_promise_of(alloc, arguments),
         Verb::CompletePromise => complete_promise_of(alloc, arguments),
         Verb::Attach => attach_of(alloc, arguments),
+        Verb::GetOutput => get_output_of(alloc, arguments),
         Verb::WriteOutput => write_output_of(alloc, arguments),
         Verb::End => alone(arguments, Call::Step(Step::End)),
     }

@@ -107,13 +107,13 @@ fn ended(given: VMResult<()>) -> Reply
 }
 
 /// Makes a call that has a command.
-#[tactic(auto, using(crate::proofs::Told::answers))]
+#[tactic(auto, using(crate::proofs::Told::answers, vm_machine::proofs::Answering::handles_fit))]
 fn carry(vm: &mut CoreVM, command: Command) -> Reply
-    ensures { Answers (λ handle. reply.Answer (command_answer (ids_of command.message) handle)) (commanded command) result (seen vm.old) (seen vm.new) }
+    ensures { Answers (λ handle. reply.Answer (command_answer command.message handle)) (commanded command) result (seen vm.old) (seen vm.new) }
 {
-    let ids = command.ids();
+    let kind = command.answer_kind();
     match vm.command(command) {
-        Ok(handle) => Reply::Answer(command_answer(ids, handle)),
+        Ok(handle) => Reply::Answer(command_answer(kind, handle)),
         Err(error) => Reply::Refused(error),
     }
 }

@@ -8,6 +8,8 @@ mod awakeables;
 #[cfg(test)]
 mod calls;
 #[cfg(test)]
+mod calls_and_sends;
+#[cfg(test)]
 mod commands;
 pub mod frames;
 pub mod headers;

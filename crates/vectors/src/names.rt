@@ -87,7 +87,7 @@ pub fn frame_of(name: &str) -> Result<&'static [u8], Fail> {
     Err("no such frame")?
 }
 
-const TYPES: [(&str, u8); 10] = [
+const TYPES: [(&str, u8); 11] = [
     ("Suspension", 2),
     ("Error", 3),
     ("End", 4),
@@ -95,6 +95,7 @@ const TYPES: [(&str, u8); 10] = [
     ("ClearState", 16),
     ("ClearAllState", 17),
     ("Sleep", 18),
+    ("OneWayCall", 20),
     ("CompleteAwakeable", 21),
     ("SendSignal", 22),
     ("Output", 29),

@@ -1,4 +1,4 @@
-// A promise that is completed: written, answered, replayed, and refused.
+// Promises of a workflow: got, looked at and completed; written, answered, replayed, and refused.
 use crate::table::assert_table;
 use std::test::Fail;
 
@@ -51,4 +51,50 @@ output                                                                     => ok
 #[test]
 fn promises_are_completed(rt: HostRuntime) -> Result<(), Fail> {
     assert_table(&rt, rt.alloc(), PROMISES)
+}
+
+const AWAITED: &str = r#"
+vm "application/vnd.restate.invocation.v5"                     => ok V5
+input <start_1 input_till>                                     => ok
+sys_input                                                      => ok id="abc" seed=0 key="" headers=[] value="Till" scope=- limit=- idem=-
+get_promise "p"                                                => ok 17
+peek_promise "p"                                               => ok 18
+index                                                          => ok 2
+output                                                         => ok 0x0017000000000000000d000000000000000170000000010018000000000000000d00000000000000017000000002
+await 17                                                       => ok wait true false
+input <completion_1>                                           => ok
+await 17                                                       => ok any
+completed 18                                                   => ok false
+take 17                                                        => ok void
+get_promise                                                    => bad
+peek_promise "p" "q"                                           => bad
+
+vm "application/vnd.restate.invocation.v7"                     => ok V7
+input <start_2 input_till>                                     => ok
+input 0x0017000000000000000d00000000000000017000000001         => ok
+sys_input                                                      => ok id="abc" seed=0 key="" headers=[] value="Till" scope=- limit=- idem=-
+get_promise "p"                                                => ok 17
+state                                                          => ok Processing
+output                                                         => ok 0x
+
+vm "application/vnd.restate.invocation.v7"                     => ok V7
+input <start_2 input_till>                                     => ok
+input 0x0018000000000000000d00000000000000017000000001         => ok
+sys_input                                                      => ok id="abc" seed=0 key="" headers=[] value="Till" scope=- limit=- idem=-
+peek_promise "q"                                               => err 570 "CommandMismatchError"
+output                                                         => frames Error
+failed                                                         => err 570 "CommandMismatchError"
+
+vm "application/vnd.restate.invocation.v7"                     => ok V7
+input <start_2 input_till>                                     => ok
+input 0x0018000000000000000d00000000000000017000000001         => ok
+sys_input                                                      => ok id="abc" seed=0 key="" headers=[] value="Till" scope=- limit=- idem=-
+get_promise "p"                                                => err 570 "CommandTypeMismatchError"
+output                                                         => frames Error
+failed                                                         => err 570 "CommandTypeMismatchError"
+"#;
+
+#[test]
+fn promises_are_awaited(rt: HostRuntime) -> Result<(), Fail> {
+    assert_table(&rt, rt.alloc(), AWAITED)
 }

@@ -207,9 +207,9 @@ carried_event : (m : Message) (ignore : Bool) (v u : Machine) → Same v u → i
 unfolding carried_out
 carried_event m ignore v u s goes c t = carried_at m ignore (is_processing u.phase) v u s goes c t
 
-pub answered : {A B : Type 0} (v : Machine) (o : Outcome A) (b : B) → Event v o → Event v (o >>= λ _ w. Done b w)
-answered v (Done a w) b h = h
-answered v (Failed e w) b h = h
+pub answered : {A B : Type 0} (v : Machine) (o : Outcome A) (f : A → B) → Event v o → Event v (o >>= λ a w. Done (f a) w)
+answered v (Done a w) f h = h
+answered v (Failed e w) f h = h
 
 counted_event : (found : Option NamedFault) (m : Message) (unstable : Bool) (v : Machine) → is_terminal m ≡ false → is_over v ≡ false → is_closed v.phase ≡ false → Event v (counted found m unstable v)
 counted_event (Some name) m unstable v command goes c = same v
@@ -217,7 +217,7 @@ counted_event None m unstable v command goes c =
     let handle : NotificationHandle = record { 0 = v.counters.handle } in
     let n = with_ids v.counters.completion m in
     let ignore = ignores_payloads v.options.non_determinism_checks unstable in
-    answered v (carried_out n ignore (prepared m v)) handle (carried_event n ignore v (prepared m v) (prepared_same m v) goes c (command_goes_on m v.counters.completion command))
+    answered v (carried_out n ignore (prepared m v)) (λ _. handle) (carried_event n ignore v (prepared m v) (prepared_same m v) goes c (command_goes_on m v.counters.completion command))
 
 issued_at : (m : Message) (unstable : Bool) (v : Machine) (b : Bool) → is_terminal m ≡ false → is_running v.phase ≡ b → v.failure ≡ None
     → Event v (if b then counted (missing (ids_of m) 0 (ids_of m) v.counters) m unstable v else (let w = entered (shown_type m) (name_of m) v in Failed (about_last (state_fault v.phase) w) w))

@@ -1,3 +1,4 @@
+pub mod Answering
 pub mod Carried
 pub mod Endings
 pub mod Preparing

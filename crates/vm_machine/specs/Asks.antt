@@ -1,6 +1,9 @@
 -- What each step of a handler asks of the machine: one table over steps. A command is given without its numbers.
-use Rattle.std.specs.Prelude.{ℕ, zero, suc, ◌/◌, Bool, true, false, ◌&&◌, not, nat_lt, min, if◌then◌else◌, List, [], ◌∷◌, Option, Some, None}
+use Rattle.std.specs.Prelude.{ℕ, zero, suc, ◌+◌, ◌<◌, ◌^◌, ◌/◌, Bool, true, false, ◌&&◌, not, nat_lt, min, if◌then◌else◌, List, [], ◌∷◌, Option, Some, None}
 use Rattle.std.specs.Duration.{as_nanos}
+use Rattle.std.specs.Option.{option_or}
+use Rattle.std.specs.declared.time.Duration.{Duration}
+use Rattle.journal_protocol.specs.declared.calls.CallRequest.{CallRequest}
 use Rattle.journal_protocol.specs.declared.faults.NamedFault.{NamedFault}
 use Rattle.journal_protocol.specs.declared.faults.NamedFault.TheVariants as fault
 use Rattle.journal_protocol.specs.declared.invocations.InvocationTarget.{InvocationTarget}
@@ -18,14 +21,20 @@ use Rattle.vm_parts.specs.declared.steps.Answer.{Answer}
 use Rattle.vm_parts.specs.declared.steps.Answer.TheVariants as answer
 use Rattle.vm_parts.specs.declared.steps.Step.{Step}
 use Rattle.vm_parts.specs.declared.steps.Step.TheVariants as step
+use Rattle.vm_parts.specs.declared.types.CallHandle.{CallHandle}
 use Rattle.vm_parts.specs.declared.types.NotificationHandle.{NotificationHandle}
+use Rattle.vm_parts.specs.declared.types.SendHandle.{SendHandle}
 use Rattle.vm_parts.specs.declared.values.NonEmptyValue.{NonEmptyValue}
 use Rattle.vm_parts.specs.declared.values.NonEmptyValue.TheVariants.{Success, Failure}
+use Rattle.vm_parts.specs.declared.values.Target.{Target}
 use Rattle.vm_parts.specs.Values.{value_message}
+use Rattle.vm_machine.specs.declared.asks.AnswerKind.{AnswerKind}
+use Rattle.vm_machine.specs.declared.asks.AnswerKind.TheVariants as kind
 use Rattle.vm_machine.specs.declared.asks.Ask.{Ask}
 use Rattle.vm_machine.specs.declared.asks.Ask.TheVariants as ask
 use Rattle.vm_machine.specs.declared.asks.Command.{Command}
 use Rattle.vm_machine.specs.Phases.{is_from_v6, is_from_v7}
+use Rattle.vm_machine.specs.Requests.{ids_of}
 
 -- ---- checks
 
@@ -46,6 +55,35 @@ value_fault value version = if has_metadata value && not (is_from_v6 version) th
 -- a time in whole milliseconds that no u64 holds
 abbrev pub time_fault : ℕ → Option NamedFault
 time_fault millis = if nat_lt millis 18446744073709551616 then None else Some fault.OutOfBoundsDuration
+
+-- a text that is there and empty
+abbrev pub empty_fault : NamedFault → Option (List ℕ) → Option NamedFault
+empty_fault name None = None
+empty_fault name (Some text) = if is_empty text then Some name else None
+
+-- a text that is there before V7
+abbrev pub early_fault : Version → Option (List ℕ) → Option NamedFault
+early_fault version None = None
+early_fault version (Some text) = if is_from_v7 version then None else Some fault.UnsupportedFeatureForNegotiatedVersion
+
+-- the first fault that there is
+abbrev pub first_fault : List (Option NamedFault) → Option NamedFault
+first_fault [] = None
+first_fault (f ∷ fs) = option_or f (first_fault fs)
+
+-- a scope that can't be sent: an empty one, and before V7 each
+abbrev pub scope_fault : Option (List ℕ) → Version → Option NamedFault
+scope_fault scope version = first_fault (empty_fault fault.EmptyScope scope ∷ early_fault version scope ∷ [])
+
+-- a target that can't be called: of its texts these may not be empty, and these need V7
+abbrev pub target_fault : Target → Version → Option NamedFault
+target_fault target version =
+    first_fault (empty_fault fault.EmptyIdempotencyKey target.idempotency_key
+    ∷ empty_fault fault.EmptyScope target.scope
+    ∷ empty_fault fault.EmptyLimitKey target.limit_key
+    ∷ early_fault version target.scope
+    ∷ early_fault version target.limit_key
+    ∷ [])
 
 -- ---- commands
 
@@ -106,6 +144,14 @@ complete_signal_command target signal value version = record {
 abbrev pub cancel_invocation_command : List ℕ → Command
 cancel_invocation_command target = allowed (message.SendSignal (record { target_invocation_id = target; signal = Index 1; result = sent.Void })) false
 
+-- a promise of the workflow is awaited
+abbrev pub get_promise_command : List ℕ → Command
+get_promise_command key = allowed (message.GetPromise (record { key = key; result_completion_id = 0 })) false
+
+-- the handler looks whether a promise of the workflow is completed
+abbrev pub peek_promise_command : List ℕ → Command
+peek_promise_command key = allowed (message.PeekPromise (record { key = key; result_completion_id = 0 })) false
+
 -- a promise of the workflow is completed
 abbrev pub complete_promise_command : List ℕ → NonEmptyValue → PayloadOptions → Version → Command
 complete_promise_command key value options version = record {
@@ -120,14 +166,6 @@ scope_of (target.InvocationId id) = None
 scope_of (target.WorkflowId workflow) = workflow.scope
 scope_of (target.IdempotencyId call) = call.scope
 
--- a scope that can't be sent: an empty one, and before V7 each
-abbrev pub scope_fault : Option (List ℕ) → Version → Option NamedFault
-scope_fault None version = None
-scope_fault (Some scope) version =
-    if is_empty scope then Some fault.EmptyScope
-    else if is_from_v7 version then None
-    else Some fault.UnsupportedFeatureForNegotiatedVersion
-
 -- the handler attaches to an invocation
 abbrev pub attach_invocation_command : InvocationTarget → Version → Command
 attach_invocation_command target version = record {
@@ -136,12 +174,56 @@ attach_invocation_command target version = record {
   unstable = false;
 }
 
--- ---- the table
+-- the handler looks whether an invocation has an output
+abbrev pub get_invocation_output_command : InvocationTarget → Version → Command
+get_invocation_output_command target version = record {
+  refusal = scope_fault (scope_of target) version;
+  message = message.GetInvocationOutput (record { target = target; result_completion_id = 0 });
+  unstable = false;
+}
 
 -- an absent name is empty
 abbrev pub name_in : Option (List ℕ) → List ℕ
 name_in None = []
 name_in (Some name) = name
+
+-- what is asked of the handler that is called
+abbrev pub request_of : Target → List ℕ → List ℕ → CallRequest
+request_of target input name = record {
+  service_name = target.service;
+  handler_name = target.handler;
+  key = name_in target.key;
+  idempotency_key = target.idempotency_key;
+  scope = target.scope;
+  limit_key = target.limit_key;
+  headers = target.headers;
+  parameter = input;
+  invocation_id_notification_idx = 0;
+  name = name;
+}
+
+-- another handler is called
+abbrev pub call_command : Target → List ℕ → List ℕ → PayloadOptions → Version → Command
+call_command target input name options version = record {
+  refusal = target_fault target version;
+  message = message.Call (record { request = request_of target input name; result_completion_id = 0 });
+  unstable = options.unstable_serialization;
+}
+
+-- another handler is called at a time in whole milliseconds, 0 for at once, and its result isn't waited for
+abbrev pub send_command : Target → List ℕ → ℕ → List ℕ → PayloadOptions → Version → Command
+send_command target input millis name options version = record {
+  refusal = option_or (target_fault target version) (time_fault millis);
+  message = message.OneWayCall (record { request = request_of target input name; invoke_time = min millis 18446744073709551615 });
+  unstable = options.unstable_serialization;
+}
+
+-- a time in whole milliseconds, 0 where there is none
+abbrev pub millis_of : Option Duration → ℕ
+millis_of None = 0
+millis_of (Some time) = as_nanos time / 1000000
+
+-- ---- the table
 
 -- what a step asks for, in an attempt of this version
 abbrev pub ask_of : Version → Step → Ask
@@ -149,19 +231,53 @@ ask_of version (step.Sleep name wake_up_time now) = ask.Command (sleep_command (
 ask_of version (step.StateSet key value name options) = ask.Command (set_state_command key value (name_in name) options)
 ask_of version (step.StateClear key name) = ask.Command (clear_state_command key (name_in name))
 ask_of version (step.StateClearAll name) = ask.Command (clear_all_state_command (name_in name))
+ask_of version (step.Call target input name options) = ask.Command (call_command target input (name_in name) options version)
+ask_of version (step.Send target input time name options) = ask.Command (send_command target input (millis_of time) (name_in name) options version)
 ask_of version step.Awakeable = ask.Awakeable
 ask_of version (step.CompleteAwakeable id value options) = ask.Command (complete_awakeable_command id value options version)
 ask_of version (step.CompleteSignal target signal value) = ask.Command (complete_signal_command target signal value version)
 ask_of version (step.CancelInvocation target) = ask.Command (cancel_invocation_command target)
+ask_of version (step.GetPromise key) = ask.Command (get_promise_command key)
+ask_of version (step.PeekPromise key) = ask.Command (peek_promise_command key)
 ask_of version (step.CompletePromise key value options) = ask.Command (complete_promise_command key value options version)
 ask_of version (step.AttachInvocation target) = ask.Command (attach_invocation_command target version)
+ask_of version (step.GetInvocationOutput target) = ask.Command (get_invocation_output_command target version)
 ask_of version (step.WriteOutput value options) = ask.Command (output_command value options version)
 ask_of version (step.Await future) = ask.Await future
 ask_of version (step.Take handle) = ask.Take handle
 ask_of version (step.Completed handle) = ask.Completed handle
 ask_of version step.End = ask.End
 
--- a command is answered by its first handle, where it has one
-abbrev pub command_answer : ℕ → NotificationHandle → Answer
-command_answer zero handle = answer.Unit
-command_answer (suc n) handle = answer.Handle handle
+-- how a command is answered: a call by two handles, a send by that of the invocation's id, another by its handle, where it has one
+abbrev pub kind_by_ids : ℕ → AnswerKind
+kind_by_ids zero = kind.Unit
+kind_by_ids (suc n) = kind.Handle
+
+abbrev pub answer_kind : Message → AnswerKind
+answer_kind (message.Call c) = kind.Call
+answer_kind (message.OneWayCall c) = kind.Send
+answer_kind m = kind_by_ids (ids_of m)
+
+-- the two handles of a call
+abbrev pub call_handles : NotificationHandle → CallHandle
+call_handles handle = record { invocation_id_notification_handle = handle; call_notification_handle = record { 0 = handle.0 + 1 } }
+
+-- the handle of a send
+abbrev pub send_handle : NotificationHandle → SendHandle
+send_handle handle = record { invocation_id_notification_handle = handle }
+
+-- the answer of this kind, by the first handle
+abbrev pub answer_by : AnswerKind → NotificationHandle → Answer
+answer_by kind.Unit handle = answer.Unit
+answer_by kind.Handle handle = answer.Handle handle
+answer_by kind.Call handle = answer.Call (call_handles handle)
+answer_by kind.Send handle = answer.Send (send_handle handle)
+
+-- the answer of a command, by its first handle
+abbrev pub command_answer : Message → NotificationHandle → Answer
+command_answer m handle = answer_by (answer_kind m) handle
+
+-- both handles of a call are there
+abbrev pub HandlesFit : AnswerKind → NotificationHandle → Type 0
+HandlesFit kind.Call handle = handle.0 + 1 < 2 ^ 32
+HandlesFit other handle = Unit {0}

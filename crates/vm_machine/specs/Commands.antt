@@ -1,5 +1,5 @@
 -- What a call with a command does: in Processing its command is written, in replay the recorded one is popped.
-use Rattle.std.specs.Prelude.{◌≡◌, ℕ, zero, suc, ◌+◌, Bool, true, false, ◌||◌, ◌==◌, if◌then◌else◌, List, [], ◌∷◌, ◌++◌, Option, Some, None, Result, OnOk}
+use Rattle.std.specs.Prelude.{◌≡◌, ℕ, zero, suc, ◌+◌, ◌<◌, ◌^◌, Bool, true, false, ◌||◌, ◌==◌, if◌then◌else◌, List, [], ◌∷◌, ◌++◌, Option, Some, None, Result, IfOk, OnOk}
 use Rattle.journal_protocol.specs.declared.error.Error.{Error}
 use Rattle.journal_protocol.specs.declared.faults.NamedFault.{NamedFault}
 use Rattle.journal_protocol.specs.declared.faults.NamedFault.TheVariants as fault
@@ -129,9 +129,13 @@ issued m unstable v =
 abbrev pub CanBeRead : Message → Machine → Type 0
 CanBeRead m v = is_processing v.phase ≡ true → IsWhole (with_ids v.counters.completion m)
 
--- A call that has a command, and what it wrote can be read back.
+-- each handle of a call fits
+abbrev pub Fits : Message → NotificationHandle → Type 0
+Fits m handle = handle.0 + ids_of m < 2 ^ 32
+
+-- A call that has a command: what it wrote can be read back, and its handles fit.
 abbrev pub Issues : Message → Bool → Result NotificationHandle Fault → Machine → Machine → Type 0
-Issues m unstable r old new = Gives (issued m unstable old) r old new × OnOk r (CanBeRead m old)
+Issues m unstable r old new = Gives (issued m unstable old) r old new × OnOk r (CanBeRead m old) × IfOk r (Fits m)
 
 -- a call that has a command, unless it is refused
 abbrev pub commanded_unless : Option NamedFault → Message → Bool → Machine → Outcome NotificationHandle
@@ -142,10 +146,10 @@ commanded_unless None m unstable v = issued m unstable v
 abbrev pub commanded : Command → Machine → Outcome NotificationHandle
 commanded c v = commanded_unless c.refusal c.message c.unstable v
 
--- A call that has a command, and what it wrote can be read back.
+-- A call that has a command: what it wrote can be read back, and its handles fit.
 abbrev pub Carries : Command → Result NotificationHandle Fault → Machine → Machine → Type 0
-Carries c r old new = Gives (commanded c old) r old new × OnOk r (CanBeRead c.message old)
+Carries c r old new = Gives (commanded c old) r old new × OnOk r (CanBeRead c.message old) × IfOk r (Fits c.message)
 
--- a call that answers nothing
-abbrev pub unit_of : {A : Type 0} → Outcome A → Outcome Unit
-unit_of o = o >>= λ _ w. Done tt w
+-- a call that is answered by this of its answer
+abbrev pub answered_by : {A B : Type 0} → (A → B) → Outcome A → Outcome B
+answered_by f o = o >>= λ a w. Done (f a) w

@@ -1,23 +1,25 @@
 //! What each step of a handler asks of the machine: one table over steps. A command is given without its numbers.
-ghost use Rattle.std.specs.Prelude.{◌≡◌, ◌/◌};
+ghost use Rattle.std.specs.Prelude.{◌≡◌, ◌+◌, ◌<◌, ◌^◌, ◌/◌, min};
 ghost use Rattle.std.specs.Duration.{as_nanos};
 ghost use Rattle.std.specs.Option.{option_copied};
-ghost use Rattle.vm_machine.specs.Asks.{allowed, ask_of, attach_invocation_command, cancel_invocation_command, clear_all_state_command, clear_state_command, command_answer, complete_awakeable_command, complete_promise_command, complete_signal_command, has_metadata, name_in, output_command, scope_fault, scope_of, set_state_command, signal_result, sleep_command, time_fault, value_fault};
+ghost use Rattle.vm_machine.specs.Asks.{HandlesFit, allowed, answer_by, answer_kind, ask_of, attach_invocation_command, call_command, call_handles, cancel_invocation_command, clear_all_state_command, clear_state_command, complete_awakeable_command, complete_promise_command, complete_signal_command, early_fault, empty_fault, get_invocation_output_command, get_promise_command, has_metadata, millis_of, name_in, output_command, peek_promise_command, request_of, scope_fault, scope_of, send_command, send_handle, set_state_command, signal_result, sleep_command, target_fault, time_fault, value_fault};
 ghost use Rattle.vm_machine.specs.Requests.{ids_of};
 
+use crate::machine::empty_text;
 use crate::request;
 use bytes::Bytes;
 use journal_protocol::{
-    ClearAllStateCommand, ClearStateCommand, CompleteAwakeableCommand, CompletePromiseCommand,
-    InvocationCommand, InvocationTarget, Message, NamedFault, OutputCommand, SendSignalCommand,
-    SetStateCommand, Signal, SignalResult, SleepCommand, ValueOrFailure, Version,
+    CallCommand, CallRequest, ClearAllStateCommand, ClearStateCommand, CompleteAwakeableCommand,
+    CompletePromiseCommand, InvocationCommand, InvocationTarget, Message, NamedFault,
+    OneWayCallCommand, OutputCommand, PromiseCommand, SendSignalCommand, SetStateCommand, Signal,
+    SignalResult, SleepCommand, ValueOrFailure, Version,
 };
 use std::alloc::Global;
 use std::time::Duration;
 use vm_parts::values::write_value;
 use vm_parts::{
-    Answer, AttachInvocationTarget, NonEmptyValue, NotificationHandle, PayloadOptions, Step,
-    UnresolvedFuture,
+    Answer, AttachInvocationTarget, CallHandle, NonEmptyValue, NotificationHandle, PayloadOptions,
+    SendHandle, Step, Target, UnresolvedFuture,
 };
 use wire::Text;
 
@@ -82,7 +84,7 @@ fn name_in(alloc: Global, name: Option<Text>) -> Text
 {
     match name {
         Some(name) => name,
-        None => Text::from_string(String::new(alloc)),
+        None => empty_text(alloc),
     }
 }
 
@@ -96,15 +98,23 @@ fn allowed(message: Message, unstable: bool) -> Command
     }
 }
 
-pub fn sleep(name: Text, wake_up_time: Duration) -> Command
-    ensures { result ≡ sleep_command (as_nanos wake_up_time / 1_000_000) name }
+/// A time in whole milliseconds, as far as a `u64` goes, and why it can't be sent.
+fn millis_of(time: Duration) -> (Option<NamedFault>, u64)
+    ensures fault { result.0 ≡ time_fault (as_nanos time / 1_000_000) }
+    ensures millis { result.1 ≡ min (as_nanos time / 1_000_000) 18446744073709551615 }
 {
-    let millis = wake_up_time.as_millis();
-    let (refusal, wake_up_time) = if millis > u64::MAX as u128 {
+    let millis = time.as_millis();
+    if millis > u64::MAX as u128 {
         (Some(NamedFault::OutOfBoundsDuration), u64::MAX)
     } else {
         (None, millis as u64)
-    };
+    }
+}
+
+pub fn sleep(name: Text, wake_up_time: Duration) -> Command
+    ensures { result ≡ sleep_command (as_nanos wake_up_time / 1_000_000) name }
+{
+    let (refusal, wake_up_time) = millis_of(wake_up_time);
     Command {
         refusal,
         message: Message::Sleep(SleepCommand {
@@ -195,6 +205,26 @@ pub fn cancel_invocation(target_invocation_id: Text) -> Command
     allowed(message, false)
 }
 
+pub fn get_promise(key: Text) -> Command
+    ensures { result ≡ get_promise_command key }
+{
+    let message = Message::GetPromise(PromiseCommand {
+        key,
+        result_completion_id: 0,
+    });
+    allowed(message, false)
+}
+
+pub fn peek_promise(key: Text) -> Command
+    ensures { result ≡ peek_promise_command key }
+{
+    let message = Message::PeekPromise(PromiseCommand {
+        key,
+        result_completion_id: 0,
+    });
+    allowed(message, false)
+}
+
 pub fn complete_promise(
     key: Text,
     value: NonEmptyValue,
@@ -225,17 +255,112 @@ fn scope_of(target: &InvocationTarget) -> Option<&Text>
     }
 }
 
+/// Why a text that may not be empty can't be sent.
+fn empty_fault(fault: NamedFault, text: Option<&Text>) -> Option<NamedFault>
+    ensures { result ≡ empty_fault fault (option_copied text.entry) }
+{
+    if text?.as_str().is_empty() {
+        Some(fault)
+    } else {
+        None
+    }
+}
+
+/// Why a text that needs V7 can't be sent in this version.
+fn early_fault(version: Version, text: Option<&Text>) -> Option<NamedFault>
+    ensures { result ≡ early_fault version (option_copied text.entry) }
+{
+    let _ = text?;
+    if version >= Version::V7 {
+        None
+    } else {
+        Some(NamedFault::UnsupportedFeatureForNegotiatedVersion)
+    }
+}
+
 /// Why a scope can't be sent in this version.
 fn scope_fault(scope: Option<&Text>, version: Version) -> Option<NamedFault>
     ensures { result ≡ scope_fault (option_copied scope.entry) version }
 {
-    let scope = scope?;
-    if scope.as_str().is_empty() {
-        Some(NamedFault::EmptyScope)
-    } else if version >= Version::V7 {
-        None
-    } else {
-        Some(NamedFault::UnsupportedFeatureForNegotiatedVersion)
+    empty_fault(NamedFault::EmptyScope, scope).or(early_fault(version, scope))
+}
+
+/// Why a target can't be called in this version.
+fn target_fault(target: &Target, version: Version) -> Option<NamedFault>
+    ensures { result ≡ target_fault target.now version }
+{
+    let scope = target.scope.as_ref();
+    let limit_key = target.limit_key.as_ref();
+    let early = early_fault(version, scope).or(early_fault(version, limit_key));
+    let limit_key = empty_fault(NamedFault::EmptyLimitKey, limit_key).or(early);
+    let scope = empty_fault(NamedFault::EmptyScope, scope).or(limit_key);
+    empty_fault(
+        NamedFault::EmptyIdempotencyKey,
+        target.idempotency_key.as_ref(),
+    )
+    .or(scope)
+}
+
+fn request_of(alloc: Global, target: Target, input: Bytes, name: Text) -> CallRequest
+    ensures { result ≡ request_of target input name }
+{
+    CallRequest {
+        service_name: target.service,
+        handler_name: target.handler,
+        key: name_in(alloc, target.key),
+        idempotency_key: target.idempotency_key,
+        scope: target.scope,
+        limit_key: target.limit_key,
+        headers: target.headers,
+        parameter: input,
+        invocation_id_notification_idx: 0,
+        name,
+    }
+}
+
+pub fn call(
+    alloc: Global,
+    target: Target,
+    input: Bytes,
+    name: Text,
+    options: PayloadOptions,
+    version: Version,
+) -> Command
+    ensures { result ≡ call_command target input name options version }
+{
+    Command {
+        refusal: target_fault(&target, version),
+        message: Message::Call(CallCommand {
+            request: request_of(alloc, target, input, name),
+            result_completion_id: 0,
+        }),
+        unstable: options.unstable_serialization,
+    }
+}
+
+/// A call whose result nobody waits for, at a time since the Unix epoch, or at once.
+pub fn send(
+    alloc: Global,
+    target: Target,
+    input: Bytes,
+    time: Option<Duration>,
+    name: Text,
+    options: PayloadOptions,
+    version: Version,
+) -> Command
+    ensures { result ≡ send_command target input (millis_of time) name options version }
+{
+    let (late, invoke_time) = match time {
+        Some(time) => millis_of(time),
+        None => (None, 0),
+    };
+    Command {
+        refusal: target_fault(&target, version).or(late),
+        message: Message::OneWayCall(OneWayCallCommand {
+            request: request_of(alloc, target, input, name),
+            invoke_time,
+        }),
+        unstable: options.unstable_serialization,
     }
 }
 
@@ -245,6 +370,19 @@ pub fn attach_invocation(target: AttachInvocationTarget, version: Version) -> Co
     Command {
         refusal: scope_fault(scope_of(&target), version),
         message: Message::AttachInvocation(InvocationCommand {
+            target,
+            result_completion_id: 0,
+        }),
+        unstable: false,
+    }
+}
+
+pub fn get_invocation_output(target: AttachInvocationTarget, version: Version) -> Command
+    ensures { result ≡ get_invocation_output_command target version }
+{
+    Command {
+        refusal: scope_fault(scope_of(&target), version),
+        message: Message::GetInvocationOutput(InvocationCommand {
             target,
             result_completion_id: 0,
         }),
@@ -270,6 +408,26 @@ pub fn ask_of(alloc: Global, version: Version, step: Step) -> Ask
         } => Ask::Command(set_state(key, value, name_in(alloc, name), options)),
         Step::StateClear { key, name } => Ask::Command(clear_state(key, name_in(alloc, name))),
         Step::StateClearAll { name } => Ask::Command(clear_all_state(name_in(alloc, name))),
+        Step::Call {
+            target,
+            input,
+            name,
+            options,
+        } => {
+            let name = name_in(alloc, name);
+            Ask::Command(call(alloc, target, input, name, options, version))
+        }
+        Step::Send {
+            target,
+            input,
+            execution_time_since_unix_epoch,
+            name,
+            options,
+        } => {
+            let name = name_in(alloc, name);
+            let time = execution_time_since_unix_epoch;
+            Ask::Command(send(alloc, target, input, time, name, options, version))
+        }
         Step::Awakeable => Ask::Awakeable,
         Step::CompleteAwakeable { id, value, options } => {
             Ask::Command(complete_awakeable(id, value, options, version))
@@ -282,12 +440,15 @@ pub fn ask_of(alloc: Global, version: Version, step: Step) -> Ask
         Step::CancelInvocation {
             target_invocation_id,
         } => Ask::Command(cancel_invocation(target_invocation_id)),
+        Step::GetPromise { key } => Ask::Command(get_promise(key)),
+        Step::PeekPromise { key } => Ask::Command(peek_promise(key)),
         Step::CompletePromise {
             key,
             value,
             options,
         } => Ask::Command(complete_promise(key, value, options, version)),
         Step::AttachInvocation(target) => Ask::Command(attach_invocation(target, version)),
+        Step::GetInvocationOutput(target) => Ask::Command(get_invocation_output(target, version)),
         Step::WriteOutput(value, options) => Ask::Command(output(value, options, version)),
         Step::Await(future) => Ask::Await(future),
         Step::Take(handle) => Ask::Take(handle),
@@ -296,22 +457,67 @@ pub fn ask_of(alloc: Global, version: Version, step: Step) -> Ask
     }
 }
 
+/// How a command is answered, by its first handle.
+#[derive(Clone, Copy, Debug, PartialEq, Eq)]
+pub enum AnswerKind {
+    /// By nothing.
+    Unit,
+    /// By its handle.
+    Handle,
+    /// By two handles: the invocation's id, and the result.
+    Call,
+    /// By the handle of the invocation's id.
+    Send,
+}
+
 impl Command {
-    /// How many completion ids the command takes, with a handle for each.
-    pub fn ids(&self) -> u32
-        ensures { result ≡ ids_of self.now.message }
+    /// How the command is answered.
+    pub fn answer_kind(&self) -> AnswerKind
+        ensures { result ≡ answer_kind self.now.message }
     {
-        request::ids_of(&self.message)
+        match &self.message {
+            Message::Call(_) => AnswerKind::Call,
+            Message::OneWayCall(_) => AnswerKind::Send,
+            message => {
+                if request::ids_of(message) == 0 {
+                    AnswerKind::Unit
+                } else {
+                    AnswerKind::Handle
+                }
+            }
+        }
     }
 }
 
-/// A command is answered by its first handle, where it has one.
-pub fn command_answer(ids: u32, handle: NotificationHandle) -> Answer
-    ensures { result ≡ command_answer ids handle }
+/// The two handles of a call.
+pub fn call_handles(handle: NotificationHandle) -> CallHandle
+    requires { handle.0 + 1 < 2 ^ 32 }
+    ensures { result ≡ call_handles handle }
 {
-    if ids == 0 {
-        Answer::Unit
-    } else {
-        Answer::Handle(handle)
+    CallHandle {
+        invocation_id_notification_handle: handle,
+        call_notification_handle: NotificationHandle(handle.0 + 1),
+    }
+}
+
+/// The handle of a send.
+pub fn send_handle(handle: NotificationHandle) -> SendHandle
+    ensures { result ≡ send_handle handle }
+{
+    SendHandle {
+        invocation_id_notification_handle: handle,
+    }
+}
+
+/// The answer of this kind, by the first handle.
+pub fn command_answer(kind: AnswerKind, handle: NotificationHandle) -> Answer
+    requires { HandlesFit kind handle }
+    ensures { result ≡ answer_by kind handle }
+{
+    match kind {
+        AnswerKind::Unit => Answer::Unit,
+        AnswerKind::Handle => Answer::Handle(handle),
+        AnswerKind::Call => Answer::Call(call_handles(handle)),
+        AnswerKind::Send => Answer::Send(send_handle(handle)),
     }
 }

@@ -121,9 +121,9 @@ commanded c d = record d {
 abbrev pub demand_of : Setup → Command → Derived → Demand
 demand_of s c d = record { command = with_ids d.counters.completion c.message; ignores_payload = ignores_payloads s.options.non_determinism_checks c.unstable }
 
--- a command with results is answered by its first handle, another by nothing
+-- a command is answered by its first handles
 abbrev pub answer_of : Command → Derived → Answer
-answer_of c d = command_answer (ids_of c.message) (record { 0 = d.counters.handle })
+answer_of c d = command_answer c.message (record { 0 = d.counters.handle })
 
 -- a call with a command, by the first kind of number that is missing
 abbrev pub numbered : Setup → Command → Option NamedFault → Derived → Move

@@ -28,10 +28,10 @@ pub use queue::Queue;
 pub use run_state::{KeptProposal, PendingRun, RunExecution, TrackedCall};
 pub use steps::{Answer, Step};
 pub use types::{
-    AwaitResponse, AwakeableHandle, CANCEL_NOTIFICATION_HANDLE, EphemeralCompletionId,
-    NotificationHandle, State, UnresolvedFuture,
+    AwaitResponse, AwakeableHandle, CANCEL_NOTIFICATION_HANDLE, CallHandle, EphemeralCompletionId,
+    NotificationHandle, SendHandle, State, UnresolvedFuture,
 };
-pub use values::{Input, NonEmptyValue, ResponseHead, TerminalFailure, Value};
+pub use values::{Input, NonEmptyValue, ResponseHead, Target, TerminalFailure, Value};
 
 /// What a call of the VM answers.
 pub type VMResult<T> = Result<T, journal_protocol::Error>;

@@ -1,8 +1,8 @@
 //! What a handler asks for next, and what it was answered.
 
 use crate::options::PayloadOptions;
-use crate::types::{AwakeableHandle, NotificationHandle, UnresolvedFuture};
-use crate::values::{Input, NonEmptyValue, Value};
+use crate::types::{AwakeableHandle, CallHandle, NotificationHandle, SendHandle, UnresolvedFuture};
+use crate::values::{Input, NonEmptyValue, Target, Value};
 use bytes::Bytes;
 use journal_protocol::InvocationTarget;
 use std::time::Duration;
@@ -29,6 +29,19 @@ pub enum Step {
     StateClearAll {
         name: Option<Text>,
     },
+    Call {
+        target: Target,
+        input: Bytes,
+        name: Option<Text>,
+        options: PayloadOptions,
+    },
+    Send {
+        target: Target,
+        input: Bytes,
+        execution_time_since_unix_epoch: Option<Duration>,
+        name: Option<Text>,
+        options: PayloadOptions,
+    },
     Awakeable,
     CompleteAwakeable {
         id: Text,
@@ -43,12 +56,19 @@ pub enum Step {
     CancelInvocation {
         target_invocation_id: Text,
     },
+    GetPromise {
+        key: Text,
+    },
+    PeekPromise {
+        key: Text,
+    },
     CompletePromise {
         key: Text,
         value: NonEmptyValue,
         options: PayloadOptions,
     },
     AttachInvocation(InvocationTarget),
+    GetInvocationOutput(InvocationTarget),
     WriteOutput(NonEmptyValue, PayloadOptions),
     Await(UnresolvedFuture),
     Take(NotificationHandle),
@@ -61,6 +81,8 @@ pub enum Step {
 pub enum Answer {
     Input(Input),
     Handle(NotificationHandle),
+    Call(CallHandle),
+    Send(SendHandle),
     Awakeable(AwakeableHandle),
     Unit,
     Awake,

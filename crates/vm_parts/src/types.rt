@@ -56,6 +56,19 @@ pub struct AwakeableHandle {
     pub handle: NotificationHandle,
 }
 
+/// A call of another handler: the handle of the invocation's id, and that of its result, which is the next one.
+#[derive(Clone, Copy, Debug, PartialEq, Eq)]
+pub struct CallHandle {
+    pub invocation_id_notification_handle: NotificationHandle,
+    pub call_notification_handle: NotificationHandle,
+}
+
+/// A call whose result nobody waits for: the handle of the invocation's id.
+#[derive(Clone, Copy, Debug, PartialEq, Eq)]
+pub struct SendHandle {
+    pub invocation_id_notification_handle: NotificationHandle,
+}
+
 /// What an await answers.
 #[derive(Clone, Copy, Debug, PartialEq, Eq)]
 pub enum AwaitResponse {

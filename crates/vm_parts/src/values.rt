@@ -28,6 +28,18 @@ pub struct Input {
     pub idempotency_key: Option<Text>,
 }
 
+/// Which handler is called, and how.
+#[derive(Debug, Drop, Clone, PartialEq, Eq)]
+pub struct Target {
+    pub service: Text,
+    pub handler: Text,
+    pub key: Option<Text>,
+    pub idempotency_key: Option<Text>,
+    pub scope: Option<Text>,
+    pub limit_key: Option<Text>,
+    pub headers: Items<Header>,
+}
+
 /// A failure that isn't retried.
 #[derive(Debug, Drop, Clone, PartialEq, Eq)]
 pub struct TerminalFailure {

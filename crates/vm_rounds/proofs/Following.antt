@@ -118,10 +118,10 @@ Reads s given written aside c p = CanBeRead c.message (machine_at s given writte
 
 -- a call with a command, by why its arguments refuse it
 commands_follow : (s : Setup) (given : StateMap) (written : List RawMessage) (aside : Aside) (p : Point) (c : Command) → IsCommand c.message → (o : Option NamedFault) → IfDone (commanded_unless o c.message c.unstable (machine_at s given written aside p)) (Reads s given written aside c p)
-    → LeadsOn s given written aside p (command_answer (ids_of c.message)) (commanding s c o p.derived) (commanded_unless o c.message c.unstable (machine_at s given written aside p))
-commands_follow s given written aside p c command (Some name) own = refuses_here s given written aside p (command_answer (ids_of c.message)) name
+    → LeadsOn s given written aside p (command_answer c.message) (commanding s c o p.derived) (commanded_unless o c.message c.unstable (machine_at s given written aside p))
+commands_follow s given written aside p c command (Some name) own = refuses_here s given written aside p (command_answer c.message) name
 commands_follow s given written aside p c command None own =
-    issues s given written aside c p (λ h. command_answer (ids_of c.message) h ∷ []) refl (Reads s given written aside c p) (λ (whole : Reads s given written aside c p) spent. stands_for_itself s c p.derived command (whole (ap (λ l. is_processing (phase_after l)) spent))) own
+    issues s given written aside c p (λ h. command_answer c.message h ∷ []) refl (Reads s given written aside c p) (λ (whole : Reads s given written aside c p) spent. stands_for_itself s c p.derived command (whole (ap (λ l. is_processing (phase_after l)) spent))) own
 
 -- ---- the end
 
@@ -162,7 +162,7 @@ end_asked version st is = absurd cc
 -- what is asked for, in a machine that agrees with a point
 asked_follows : (s : Setup) (m : Meaning) (given : StateMap) (written : List RawMessage) (aside : Aside) (p : Point) → s.identity ≡ identity_of aside.start → (a : Ask) → ask_of s.version (m p.answers) ≡ a → AsksCommand a → IfDone (performed_by a (machine_at s given written aside p)) (IsReadable a (machine_at s given written aside p)) → Follows s m given written p (machine_at s given written aside p) (performed_by a (machine_at s given written aside p))
 asked_follows s m given written aside p identity (ask.Command c) is command whole =
-    follows_from s m given written aside p (command_answer (ids_of c.message)) _ _ identity (ap (λ a. asked s a p.derived) is) (commands_follow s given written aside p c command c.refusal (event_done _ _ s given written aside p _ whole))
+    follows_from s m given written aside p (command_answer c.message) _ _ identity (ap (λ a. asked s a p.derived) is) (commands_follow s given written aside p c command c.refusal (event_done _ _ s given written aside p _ whole))
 asked_follows s m given written aside p identity ask.Awakeable is command whole =
     follows_from s m given written aside p answer.Awakeable _ _ identity (ap (λ a. asked s a p.derived) is) (makes_awakeable s given written aside p identity (skips_replay s.options.journal_replay))
 asked_follows s m given written aside p identity (ask.Await future) is command whole = awaits_follow s m given written aside p future identity (awaits_asked s.version (m p.answers) future is)

@@ -32,9 +32,9 @@ abbrev pub result_mapped : {A B : Type 0} → (A → B) → Result A Error → R
 result_mapped f (Ok a) = Ok (f a)
 result_mapped f (Err e) = Err e
 
--- a call that has a command: the answer is its first handle, where it has one
+-- a call that has a command: the answer is by its first handle
 abbrev pub carried : Command → Machine → Outcome Reply
-carried c v = mapped (λ handle. reply.Answer (command_answer (ids_of c.message) handle)) (called (commanded c v) v)
+carried c v = mapped (λ handle. reply.Answer (command_answer c.message handle)) (called (commanded c v) v)
 
 -- an awakeable: the answer is its id and its handle
 abbrev pub awakeable_made : Machine → Outcome Reply

@@ -10,14 +10,14 @@ use vm_machine::asks::command_answer;
 use vm_machine::{Ask, Command};
 use vm_parts::{Answer, Step};
 
-#[tactic(auto, using(crate::proofs::Replies::replies, crate::proofs::Replies::replies_sent))]
+#[tactic(auto, using(crate::proofs::Replies::replies, crate::proofs::Replies::replies_sent, vm_machine::proofs::Answering::handles_fit))]
 fn carry(vm: &mut CoreVM, command: Command) -> VMResult<Reply>
     ensures does { Asked (carried command) result (seen vm.old) (seen vm.new) }
     ensures sent { OnOk result (CanBeRead command.message (seen vm.old).machine) }
 {
-    let ids = command.ids();
+    let kind = command.answer_kind();
     match vm.command(command) {
-        Ok(handle) => Ok(Reply::Answer(command_answer(ids, handle))),
+        Ok(handle) => Ok(Reply::Answer(command_answer(kind, handle))),
         Err(error) => Err(error),
     }
 }

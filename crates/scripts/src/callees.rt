@@ -1,0 +1,111 @@
+//! The lines that call another handler: which one, with what, and how.
+ghost use Rattle.std.specs.Prelude.{◌≡◌, IfOk};
+ghost use Rattle.scripts.specs.declared.verb.Verb.TheVariants as verb;
+ghost use Rattle.scripts.specs.Verbs.{HasCallee, IsLine};
+
+use crate::arguments::{pair_of, take_optional_duration, take_optional_text, without_unstable};
+use crate::atoms::{shared_of, text_of};
+use crate::request::Call;
+use bytes::Bytes;
+use invocation_vm::{PayloadOptions, Target};
+use journal_protocol::Header;
+use lines::fields::Fields;
+use std::alloc::Global;
+use vm_parts::Step;
+use wire::{Fault, Items, Text};
+
+/// What a call is made with.
+#[derive(Debug, Drop)]
+struct Callee {
+    target: Target,
+    input: Bytes,
+    name: Option<Text>,
+    options: PayloadOptions,
+}
+
+/// `[header={T T}]..`, at most so many.
+fn headers_of(fields: &mut Fields<'_>, most: usize) -> Result<Items<Header>, Fault> {
+    let alloc = fields.alloc();
+    let mut headers = Items::new(alloc);
+    for _ in 0..most {
+        let Some(text) = fields.take_text("header") else {
+            break;
+        };
+        let (key, value) = pair_of(alloc, text)?;
+        headers.push(Header { key, value })?;
+    }
+    Ok(headers)
+}
+
+/// `T T B [key=T] [idem=T] [scope=T] [limit=T] [header={T T}].. [name=T] [unstable]`, and the fields behind them.
+fn callee_of<'a>(alloc: Global, words: &[&'a [u8]]) -> Result<(Callee, Fields<'a>), Fault>
+    ensures { IfOk result (λ found. HasCallee words.now found.0.target.service found.0.target.handler found.0.input) }
+{
+    let [service, handler, input, options @ ..] = words else {
+        return Err(Fault::Malformed);
+    };
+    let service = text_of(alloc, *service)?;
+    let handler = text_of(alloc, *handler)?;
+    let input = shared_of(alloc, *input)?;
+    let (others, options) = without_unstable(alloc, options)?;
+    let mut fields = Fields::of_pieces(alloc, others.as_slice())?;
+    let target = Target {
+        service,
+        handler,
+        key: take_optional_text(&mut fields, "key")?,
+        idempotency_key: take_optional_text(&mut fields, "idem")?,
+        scope: take_optional_text(&mut fields, "scope")?,
+        limit_key: take_optional_text(&mut fields, "limit")?,
+        headers: headers_of(&mut fields, others.len())?,
+    };
+    let name = take_optional_text(&mut fields, "name")?;
+    let callee = Callee {
+        target,
+        input,
+        name,
+        options,
+    };
+    Ok((callee, fields))
+}
+
+/// The row `call`.
+pub fn call_line(alloc: Global, arguments: &[&[u8]]) -> Result<Call, Fault>
+    ensures { IfOk result (λ call. IsLine verb.Call arguments.now call) }
+{
+    let (callee, fields) = callee_of(alloc, arguments)?;
+    fields.end()?;
+    let Callee {
+        target,
+        input,
+        name,
+        options,
+    } = callee;
+    Ok(Call::Step(Step::Call {
+        target,
+        input,
+        name,
+        options,
+    }))
+}
+
+/// The row `send`, which may have a time, `[at=D]`.
+pub fn send_line(alloc: Global, arguments: &[&[u8]]) -> Result<Call, Fault>
+    ensures { IfOk result (λ call. IsLine verb.Send arguments.now call) }
+{
+    let (callee, mut fields) = callee_of(alloc, arguments)?;
+    let execution_time_since_unix_epoch = take_optional_duration(&mut fields, "at")?;
+    fields.end()?;
+    let Callee {
+        target,
+        input,
+        name,
+        options,
+    } = callee;
+    Ok(Call::Step(Step::Send {
+        target,
+        input,
+        execution_time_since_unix_epoch,
+        name,
+        options,
+    }))
+}
