@@ -248,11 +248,12 @@ ask_of version (step.Take handle) = ask.Take handle
 ask_of version (step.Completed handle) = ask.Completed handle
 ask_of version step.End = ask.End
 
--- how a command is answered: a call by two handles, a send by that of the invocation's id, another by its handle, where it has one
+-- by its handle, where it has one
 abbrev pub kind_by_ids : ℕ → AnswerKind
 kind_by_ids zero = kind.Unit
 kind_by_ids (suc n) = kind.Handle
 
+-- how a command is answered: a call by two handles, a send by that of the invocation's id, another by its own
 abbrev pub answer_kind : Message → AnswerKind
 answer_kind (message.Call c) = kind.Call
 answer_kind (message.OneWayCall c) = kind.Send
