@@ -1,10 +1,13 @@
 //! The lines that call another handler: which one, with what, and how.
 ghost use Rattle.std.specs.Prelude.{◌≡◌, IfOk};
+ghost use Rattle.lines.specs.Atoms.{IsAtom};
 ghost use Rattle.scripts.specs.declared.verb.Verb.TheVariants as verb;
-ghost use Rattle.scripts.specs.Verbs.{HasCallee, IsLine};
+ghost use Rattle.scripts.specs.Verbs.{HasCallee, IsLine, text_at};
 
-use crate::arguments::{pair_of, take_optional_duration, take_optional_text, without_unstable};
-use crate::atoms::{shared_of, text_of};
+use crate::arguments::{
+    pair_of, take_optional_duration, take_optional_text, two_texts, without_unstable,
+};
+use crate::atoms::shared_of;
 use crate::request::Call;
 use bytes::Bytes;
 use invocation_vm::{PayloadOptions, Target};
@@ -37,27 +40,47 @@ fn headers_of(fields: &mut Fields<'_>, most: usize) -> Result<Items<Header>, Fau
     Ok(headers)
 }
 
-/// `T T B [key=T] [idem=T] [scope=T] [limit=T] [header={T T}].. [name=T] [unstable]`, and the fields behind them.
-fn callee_of<'a>(alloc: Global, words: &[&'a [u8]]) -> Result<(Callee, Fields<'a>), Fault>
-    ensures { IfOk result (λ found. HasCallee words.now found.0.target.service found.0.target.handler found.0.input) }
+/// `[key=T] [idem=T] [scope=T] [limit=T] [header={T T}]..`, among other fields.
+fn target_with(
+    service: Text,
+    handler: Text,
+    fields: &mut Fields<'_>,
+    most: usize,
+) -> Result<Target, Fault>
+    ensures service { IfOk result (λ target. target.service ≡ service) }
+    ensures handler { IfOk result (λ target. target.handler ≡ handler) }
 {
-    let [service, handler, input, options @ ..] = words else {
-        return Err(Fault::Malformed);
-    };
-    let service = text_of(alloc, *service)?;
-    let handler = text_of(alloc, *handler)?;
-    let input = shared_of(alloc, *input)?;
-    let (others, options) = without_unstable(alloc, options)?;
-    let mut fields = Fields::of_pieces(alloc, others.as_slice())?;
-    let target = Target {
+    let key = take_optional_text(fields, "key")?;
+    let idempotency_key = take_optional_text(fields, "idem")?;
+    let scope = take_optional_text(fields, "scope")?;
+    let limit_key = take_optional_text(fields, "limit")?;
+    let headers = headers_of(fields, most)?;
+    Ok(Target {
         service,
         handler,
-        key: take_optional_text(&mut fields, "key")?,
-        idempotency_key: take_optional_text(&mut fields, "idem")?,
-        scope: take_optional_text(&mut fields, "scope")?,
-        limit_key: take_optional_text(&mut fields, "limit")?,
-        headers: headers_of(&mut fields, others.len())?,
-    };
+        key,
+        idempotency_key,
+        scope,
+        limit_key,
+        headers,
+    })
+}
+
+/// What stands behind service, handler and input, and the fields behind that.
+fn callee_with<'a>(
+    alloc: Global,
+    service: Text,
+    handler: Text,
+    input: Bytes,
+    words: &[&'a [u8]],
+) -> Result<(Callee, Fields<'a>), Fault>
+    ensures service { IfOk result (λ found. found.0.target.service ≡ service) }
+    ensures handler { IfOk result (λ found. found.0.target.handler ≡ handler) }
+    ensures input { IfOk result (λ found. found.0.input ≡ input) }
+{
+    let (others, options) = without_unstable(alloc, words)?;
+    let mut fields = Fields::of_pieces(alloc, others.as_slice())?;
+    let target = target_with(service, handler, &mut fields, others.len())?;
     let name = take_optional_text(&mut fields, "name")?;
     let callee = Callee {
         target,
@@ -66,6 +89,26 @@ fn callee_of<'a>(alloc: Global, words: &[&'a [u8]]) -> Result<(Callee, Fields<'a
         options,
     };
     Ok((callee, fields))
+}
+
+/// `B`, and the words behind it.
+fn input_of<'w, 'a>(alloc: Global, words: &'w [&'a [u8]]) -> Result<(Bytes, &'w [&'a [u8]]), Fault>
+    ensures { IfOk result (λ found. IsAtom (text_at 0 words.now) found.0) }
+{
+    let [input, options @ ..] = words else {
+        return Err(Fault::Malformed);
+    };
+    Ok((shared_of(alloc, *input)?, options))
+}
+
+/// `T T B [key=T] [idem=T] [scope=T] [limit=T] [header={T T}].. [name=T] [unstable]`, and the fields behind them.
+fn callee_of<'a>(alloc: Global, words: &[&'a [u8]]) -> Result<(Callee, Fields<'a>), Fault>
+    ensures { IfOk result (λ found. HasCallee words.now found.0.target.service found.0.target.handler found.0.input) }
+{
+    let (service, handler, rest) = two_texts(alloc, words)?;
+    let (input, options) = input_of(alloc, rest)?;
+    let found = callee_with(alloc, service, handler, input, options)?;
+    Ok(found)
 }
 
 /// The row `call`.
