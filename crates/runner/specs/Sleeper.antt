@@ -13,6 +13,8 @@ use Rattle.vm_parts.specs.declared.values.NonEmptyValue.TheVariants.{Success, Fa
 abbrev pub handle_of : Option Answer → NotificationHandle
 handle_of (Some (answer.Handle handle)) = handle
 handle_of (Some (answer.Input input)) = record { 0 = 0 }
+handle_of (Some (answer.Call handles)) = record { 0 = 0 }
+handle_of (Some (answer.Send handle)) = record { 0 = 0 }
 handle_of (Some (answer.Awakeable awakeable)) = record { 0 = 0 }
 handle_of (Some answer.Unit) = record { 0 = 0 }
 handle_of (Some answer.Awake) = record { 0 = 0 }
@@ -26,6 +28,8 @@ abbrev pub is_cancelled : Option Answer → Bool
 is_cancelled (Some answer.Cancelled) = true
 is_cancelled (Some (answer.Handle handle)) = false
 is_cancelled (Some (answer.Input input)) = false
+is_cancelled (Some (answer.Call handles)) = false
+is_cancelled (Some (answer.Send handle)) = false
 is_cancelled (Some (answer.Awakeable awakeable)) = false
 is_cancelled (Some answer.Unit) = false
 is_cancelled (Some answer.Awake) = false
