@@ -99,7 +99,7 @@ fn allowed(message: Message, unstable: bool) -> Command
 }
 
 /// A time in whole milliseconds, as far as a `u64` goes, and why it can't be sent.
-fn millis_of(time: Duration) -> (Option<NamedFault>, u64)
+fn whole_millis(time: Duration) -> (Option<NamedFault>, u64)
     ensures fault { result.0 ≡ time_fault (as_nanos time / 1_000_000) }
     ensures millis { result.1 ≡ min (as_nanos time / 1_000_000) 18446744073709551615 }
 {
@@ -114,7 +114,7 @@ fn millis_of(time: Duration) -> (Option<NamedFault>, u64)
 pub fn sleep(name: Text, wake_up_time: Duration) -> Command
     ensures { result ≡ sleep_command (as_nanos wake_up_time / 1_000_000) name }
 {
-    let (refusal, wake_up_time) = millis_of(wake_up_time);
+    let (refusal, wake_up_time) = whole_millis(wake_up_time);
     Command {
         refusal,
         message: Message::Sleep(SleepCommand {
@@ -351,7 +351,7 @@ pub fn send(
     ensures { result ≡ send_command target input (millis_of time) name options version }
 {
     let (late, invoke_time) = match time {
-        Some(time) => millis_of(time),
+        Some(time) => whole_millis(time),
         None => (None, 0),
     };
     Command {
