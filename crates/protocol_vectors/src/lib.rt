@@ -1,14 +1,8 @@
-//! The test bench of the wire: bytes of messages, frames and lines, written out by hand or by another program, that
-//! `journal_protocol` and `frame_lines` are held against.
+//! The test bench of the protocol: bytes of messages and their bodies, written out by hand, that `journal_protocol` is
+//! held against.
 #![tactic(auto)]
 
 #[cfg(test)]
-mod changes;
-#[cfg(test)]
-mod frame_rows;
-#[cfg(test)]
 mod messages;
-#[cfg(test)]
-mod printed_frames;
 #[cfg(test)]
 mod short_bodies;

@@ -1,0 +1,10 @@
+//! The test bench of frames as lines: frames whose bytes another program wrote, and their lines, that `frame_lines` and
+//! `journal_protocol` are held against.
+#![tactic(auto)]
+
+#[cfg(test)]
+mod changes;
+#[cfg(test)]
+mod frame_rows;
+#[cfg(test)]
+mod printed_frames;
