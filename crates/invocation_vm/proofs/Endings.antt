@@ -27,10 +27,10 @@ use Rattle.vm_machine.specs.Commands.{answered_by, commanded}
 use Rattle.vm_machine.specs.Endings.{EndsIf, EndsOnce, EventWrites, Writes, is_over, is_terminal}
 use Rattle.vm_machine.specs.Awaits.{take_step}
 use Rattle.vm_machine.specs.Inputs.{close_step, end_step, input_step, malformed_step, message_step}
-use Rattle.vm_machine.specs.Signals.{awakeable_step}
+use Rattle.vm_machine.specs.Signals.{awakeable_step, signal_step}
 use Rattle.vm_machine.specs.Outcomes.{Does, IsStarved, Outcome, Done, Failed, called, flat, refused}
 use Rattle.vm_machine.specs.Reports.{report_step}
-use Rattle.vm_machine.proofs.Endings.{answered, await_writes, awakeable_writes, called_writes, close_writes, end_writes, input_writes, commanded_event, malformed_writes, message_writes, nothing_behind, report_writes, same, take_writes, writes_nothing}
+use Rattle.vm_machine.proofs.Endings.{answered, await_writes, awakeable_writes, signal_writes, called_writes, close_writes, end_writes, input_writes, commanded_event, malformed_writes, message_writes, nothing_behind, report_writes, same, take_writes, writes_nothing}
 use Rattle.invocation_vm.specs.Calls.{CallsCommand, CallsFor, future_step, new_awakeable_step, skips_replay}
 use Rattle.invocation_vm.specs.Endings.{EndsOnceAfter, StaysSo}
 use Rattle.invocation_vm.specs.Frames.{Tail, Rest, Garbage, frames_of}
@@ -140,6 +140,9 @@ new_awakeable_writes false v = awakeable_writes v
 
 pub awakeable_stays : (r : Result AwakeableHandle Error) (old new : View) → Calls new_awakeable_step r old new → StaysSo old new
 awakeable_stays r old new c = calls_stay new_awakeable_step r old new (new_awakeable_writes (skips_replay old.machine.options.journal_replay) old.machine) c
+
+pub signal_stays : (name : List ℕ) (r : Result NotificationHandle Error) (old new : View) → Calls (signal_step name) r old new → StaysSo old new
+signal_stays name r old new c = calls_stay (signal_step name) r old new (signal_writes name old.machine) c
 
 pub input_stays : (r : Result Input Error) (old new : View) → Calls input_step r old new → StaysSo old new
 input_stays r old new c = calls_stay input_step r old new (input_writes old.machine) c

@@ -318,6 +318,15 @@ impl VM for CoreVM {
         self.machine.settle(before, given)
     }
 
+    fn create_signal_handle(&mut self, signal_name: String) -> VMResult<NotificationHandle> {
+        if let Err(error) = self.machine.live() {
+            return Err(error);
+        }
+        let before = self.machine.counters;
+        let given = self.machine.signal(Text::from_string(signal_name));
+        self.machine.settle(before, given)
+    }
+
     fn sys_complete_awakeable(
         &mut self,
         id: String,

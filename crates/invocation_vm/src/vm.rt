@@ -6,6 +6,7 @@ ghost use Rattle.vm_machine.specs.Awaits.{IsReadyAt, is_completed, last_index, s
 ghost use Rattle.vm_machine.specs.Inputs.{end_step, input_step};
 ghost use Rattle.vm_machine.specs.declared.phase.Phase.TheVariants.{Closed};
 ghost use Rattle.vm_machine.specs.Phases.{is_waiting};
+ghost use Rattle.vm_machine.specs.Signals.{signal_step};
 ghost use Rattle.invocation_vm.specs.Calls.{CallsCommand, CallsFor, CallsUnit, future_step, name_or_empty, new_awakeable_step};
 ghost use Rattle.invocation_vm.specs.Making.{Makes, response_head, version_in};
 ghost use Rattle.invocation_vm.specs.Views.{View, Calls, CallsFlat, Leaves, TakesOutput, after_closing, after_error, after_input, brought};
@@ -135,6 +136,11 @@ pub trait VM: Sized {
     /// refused where the options disable replay.
     fn sys_awakeable(&mut self) -> VMResult<AwakeableHandle>
         ensures { Calls new_awakeable_step result (view self.old) (view self.new) };
+
+    /// Gives a handle for the signal of this name. Where signals queue, each of its handles takes the next delivery. It has no
+    /// command.
+    fn create_signal_handle(&mut self, signal_name: String) -> VMResult<NotificationHandle>
+        ensures { Calls (signal_step (string_bytes signal_name)) result (view self.old) (view self.new) };
 
     /// Gives the awakeable of this id its result. A failure with metadata needs V6.
     fn sys_complete_awakeable(

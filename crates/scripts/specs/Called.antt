@@ -19,6 +19,7 @@ use Rattle.vm_machine.specs.Commands.{commanded}
 use Rattle.vm_machine.specs.Inputs.{end_step, input_step}
 use Rattle.vm_machine.specs.Outcomes.{Outcome}
 use Rattle.vm_machine.specs.Requests.{ids_of}
+use Rattle.vm_machine.specs.Signals.{signal_step}
 use Rattle.invocation_vm.specs.Calls.{future_step, new_awakeable_step}
 use Rattle.invocation_vm.specs.Making.{response_head}
 use Rattle.invocation_vm.specs.Views.{View, Calls, CallsFlat, Leaves, TakesOutput, after_closing, after_error, after_input, brought}
@@ -77,6 +78,7 @@ pub record TellsReady (machine : Machine) (answer : Reply) : Type 0 where
 abbrev pub DoneAsAsked : Ask → Reply → View → View → Type 0
 DoneAsAsked (ask.Command c) told old new = Answers (λ handle. reply.Answer (command_answer c.message handle)) (commanded c) told old new
 DoneAsAsked ask.Awakeable told old new = Answers (λ made. reply.Answer (answer.Awakeable made)) new_awakeable_step told old new
+DoneAsAsked (ask.Signal name) told old new = Answers (λ handle. reply.Answer (answer.Handle handle)) (signal_step name) told old new
 DoneAsAsked (ask.Await future) told old new = Awaits future told old new
 DoneAsAsked (ask.Take handle) told old new = Answers (λ value. reply.Answer (answer.Taken value)) (take_step handle.0) told old new
 DoneAsAsked (ask.Completed handle) told old new = (told ≡ reply.Answer (answer.Completed (is_completed handle.0 old.machine))) × (new ≡ old)

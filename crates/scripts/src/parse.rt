@@ -99,6 +99,13 @@ fn cancel_of(alloc: Global, arguments: &[&[u8]]) -> Result<Call, Fault>
     }))
 }
 
+fn signal_of(alloc: Global, arguments: &[&[u8]]) -> Result<Call, Fault>
+    ensures { IfOk result (λ call. IsLine verb.Signal arguments.now call) }
+{
+    let name = text_alone(alloc, arguments)?;
+    Ok(Call::Step(Step::Signal { name }))
+}
+
 fn get_promise_of(alloc: Global, arguments: &[&[u8]]) -> Result<Call, Fault>
     ensures { IfOk result (λ call. IsLine verb.GetPromise arguments.now call) }
 {
@@ -182,6 +189,7 @@ fn call_named(alloc: Global, verb: Verb, arguments: &[&[u8]]) -> Result<Call, Fa
         Verb::Call => call_line(alloc, arguments),
         Verb::Send => send_line(alloc, arguments),
         Verb::Awakeable => alone(arguments, Call::Step(Step::Awakeable)),
+        Verb::Signal => signal_of(alloc, arguments),
         Verb::CompleteAwakeable => complete_awakeable_of(alloc, arguments),
         Verb::CompleteSignal => complete_signal_of(alloc, arguments),
         Verb::Cancel => cancel_of(alloc, arguments),

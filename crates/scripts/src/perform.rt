@@ -16,8 +16,8 @@ use crate::reply::Reply;
 use crate::request::{Call, Request};
 use bytes::Bytes;
 use invocation_vm::{
-    AwaitResponse, AwakeableHandle, CoreVM, Error, Input, ResponseHead, VM, VMOptions, VMResult,
-    Value,
+    AwaitResponse, AwakeableHandle, CoreVM, Error, Input, NotificationHandle, ResponseHead, VM,
+    VMOptions, VMResult, Value,
 };
 use std::alloc::{AllocError, Global};
 use vm_machine::asks::command_answer;
@@ -88,6 +88,15 @@ fn awakeable(given: VMResult<AwakeableHandle>) -> Reply
     }
 }
 
+fn handle(given: VMResult<NotificationHandle>) -> Reply
+    ensures { result ≡ reply_of (λ handle. reply.Answer (answer.Handle handle)) given }
+{
+    match given {
+        Ok(handle) => Reply::Answer(Answer::Handle(handle)),
+        Err(error) => Reply::Refused(error),
+    }
+}
+
 fn taken(given: VMResult<Option<Value>>) -> Reply
     ensures { result ≡ reply_of (λ value. reply.Answer (answer.Taken value)) given }
 {
@@ -126,6 +135,7 @@ fn perform_step(vm: &mut CoreVM, step: Step) -> Reply
     match vm.ask_of(step) {
         Ask::Command(command) => carry(vm, command),
         Ask::Awakeable => awakeable(vm.sys_awakeable()),
+        Ask::Signal(name) => handle(vm.create_signal_handle(name.into_string())),
         Ask::Await(future) => awaited(vm.do_await(future)),
         Ask::Take(handle) => taken(vm.take_notification(handle)),
         Ask::Completed(handle) => Reply::Answer(Answer::Completed(vm.is_completed(handle))),

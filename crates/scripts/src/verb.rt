@@ -26,6 +26,7 @@ pub enum Verb {
     Call,
     Send,
     Awakeable,
+    Signal,
     CompleteAwakeable,
     CompleteSignal,
     Cancel,
@@ -39,7 +40,7 @@ pub enum Verb {
 }
 
 /// Each verb.
-const VERBS: [Verb; 29] = [
+const VERBS: [Verb; 30] = [
     Verb::Head,
     Verb::Input,
     Verb::Close,
@@ -59,6 +60,7 @@ const VERBS: [Verb; 29] = [
     Verb::Call,
     Verb::Send,
     Verb::Awakeable,
+    Verb::Signal,
     Verb::CompleteAwakeable,
     Verb::CompleteSignal,
     Verb::Cancel,
@@ -96,6 +98,7 @@ fn name_of_verb(verb: Verb) -> &'static str
         Verb::Call => "call",
         Verb::Send => "send",
         Verb::Awakeable => "awakeable",
+        Verb::Signal => "signal",
         Verb::CompleteAwakeable => "complete_awakeable",
         Verb::CompleteSignal => "complete_signal",
         Verb::Cancel => "cancel",

@@ -184,6 +184,16 @@ pub const SIGNAL_18: &[u8] = b"\0\x1e\0\0\0\0\0\0\0\x0f\
     \x01\0\0\0\x12\
     \x01\0\0\0\0\0\0\0\x01x";
 
+/// The signal "a" comes, with "1".
+pub const SIGNAL_A_1: &[u8] = b"\0\x1e\0\0\0\0\0\0\0\x14\
+    \x02\0\0\0\0\0\0\0\x01a\
+    \x01\0\0\0\0\0\0\0\x011";
+
+/// The signal "a" comes, with "2".
+pub const SIGNAL_A_2: &[u8] = b"\0\x1e\0\0\0\0\0\0\0\x14\
+    \x02\0\0\0\0\0\0\0\x01a\
+    \x01\0\0\0\0\0\0\0\x012";
+
 /// A notification whose body is the byte 7.
 pub const NO_NOTIFICATION: &[u8] = b"\0\x1e\0\0\0\0\0\0\0\x01\
     \x07";

@@ -18,6 +18,8 @@ mod journals;
 #[cfg(test)]
 mod meanings;
 #[cfg(test)]
+mod named_signals;
+#[cfg(test)]
 mod names;
 #[cfg(test)]
 mod parts;

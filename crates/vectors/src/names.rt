@@ -7,13 +7,13 @@ use crate::frames::{
     ERROR_UNSUPPORTED, FAILURE_1, INPUT_TILL, KEYS_1, MISMATCH_FAILED, MISMATCH_PAUSED,
     MISMATCH_RETRIED, NO_NOTIFICATION, NO_START, OF_A_CALL, OF_A_FIRST_SLEEP, OF_A_THIRD_SLEEP,
     OF_NOTHING, OF_START, OF_THE_CLEARING, OUTPUT_EMPTY, OUTPUT_X, SET_K, SET_K_TO_2, SIGNAL_17,
-    SIGNAL_18, SIGNAL_V, SIGNAL_W, SLEEP_TO_1000, SLEEP_TO_2024, SLEEP_TO_THE_END, SLEEP_UNDER_2,
+    SIGNAL_18, SIGNAL_A_1, SIGNAL_A_2, SIGNAL_V, SIGNAL_W, SLEEP_TO_1000, SLEEP_TO_2024, SLEEP_TO_THE_END, SLEEP_UNDER_2,
     START_0, START_1, START_2, START_3, START_AB, START_FB_FF, START_WITH_A_BAD_KEY,
     SUSPENSION_ON_1, TYPE_31, TYPE_MISMATCH, UNCOMPLETED,
 };
 use std::test::Fail;
 
-const FRAMES: [(&str, &[u8]); 61] = [
+const FRAMES: [(&str, &[u8]); 63] = [
     ("start_0", START_0),
     ("start_1", START_1),
     ("start_2", START_2),
@@ -36,6 +36,8 @@ const FRAMES: [(&str, &[u8]); 61] = [
     ("keys_1", KEYS_1),
     ("signal_17", SIGNAL_17),
     ("signal_18", SIGNAL_18),
+    ("signal_a_1", SIGNAL_A_1),
+    ("signal_a_2", SIGNAL_A_2),
     ("no_notification", NO_NOTIFICATION),
     ("suspension_on_1", SUSPENSION_ON_1),
     ("uncompleted", UNCOMPLETED),

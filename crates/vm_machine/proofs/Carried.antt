@@ -1,5 +1,5 @@
 -- What calls that are carried out leave of the state and of the counters, in replay as in Processing.
-use Rattle.std.proofs.Common.{◌≡◌, Bool, true, false, List, [], ◌∷◌, Option, Some, None, refl, sym, ap, subst, arith}
+use Rattle.std.proofs.Common.{◌≡◌, ℕ, Bool, true, false, List, [], ◌∷◌, Option, Some, None, refl, sym, ap, subst, arith}
 use native.Mathlib.Nat.{add-zero}
 use Rattle.std.specs.Prelude.{if◌then◌else◌, ◌==◌}
 use Rattle.journal_protocol.specs.declared.error.Error.{Error}
@@ -19,7 +19,7 @@ use Rattle.vm_machine.specs.Commands.{written, ignores_payloads, phase_after, po
 use Rattle.vm_machine.specs.Outcomes.{Outcome, Done, Failed, ◌>>=◌, about_last}
 use Rattle.vm_machine.specs.Phases.{is_running, is_processing}
 use Rattle.vm_machine.specs.Requests.{changed, ids_of, with_ids}
-use Rattle.vm_machine.specs.Signals.{awakeable_step, awakeable_counted}
+use Rattle.vm_machine.specs.Signals.{awakeable_step, awakeable_counted, signal_counted, signal_step}
 use Rattle.vm_machine.specs.Numbers.{Counted}
 
 -- the same state and the same counters
@@ -130,3 +130,25 @@ awakeable_at false a v w u e h = absurd (no_answer e a u w h)
 pub awakeable_makes : (a : AwakeableHandle) (v w : Machine) → awakeable_step v ≡ Done a w → Makes a v w
 unfolding awakeable_step
 awakeable_makes a v w h = awakeable_at (is_running v.phase) a v w _ _ h
+
+-- ---- named signals
+
+-- a handle is given, and nothing else counts on
+abbrev pub HandleGiven : NotificationHandle → Machine → Machine → Type 0
+HandleGiven handle v w = Counted 0 0 1 v.counters w.counters × (handle.0 ≡ v.counters.handle)
+
+signal_counts : (o : Option NamedFault) (name : List ℕ) (handle : NotificationHandle) (v w : Machine) → signal_counted o name v ≡ Done handle w → HandleGiven handle v w
+signal_counts (Some fault) name handle v w h = absurd (no_answer _ handle v w h)
+signal_counts None name handle v w h = (
+  subst (λ u. Counted 0 0 1 v.counters u.counters) (same_machine _ handle _ w h) (record { completions = omega arith; signals = omega arith; handles = refl }),
+  ap (λ x. x.0) (same_answer _ handle _ w h),
+)
+
+signal_at : (b : Bool) (name : List ℕ) (handle : NotificationHandle) (v w u : Machine) (e : Error)
+    → (if b then signal_counted (missing_signals 0 1 v.counters) name v else Failed e u) ≡ Done handle w → HandleGiven handle v w
+signal_at true name handle v w u e h = signal_counts (missing_signals 0 1 v.counters) name handle v w h
+signal_at false name handle v w u e h = absurd (no_answer e handle u w h)
+
+pub signal_makes : (name : List ℕ) (handle : NotificationHandle) (v w : Machine) → signal_step name v ≡ Done handle w → HandleGiven handle v w
+unfolding signal_step
+signal_makes name handle v w h = signal_at (is_running v.phase) name handle v w _ _ h

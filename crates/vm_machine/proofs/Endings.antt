@@ -42,7 +42,7 @@ use Rattle.vm_machine.specs.Asks.{ask_of}
 use Rattle.vm_machine.specs.Awaits.{await_step, future_of, pending, result_taken, suspended, take_step, taken_at, tried, value_taken}
 use Rattle.vm_machine.specs.Inputs.{close_step, closed_at, counted_entry, end_at, end_step, ended, enqueued, entries_in, entry_step, input_at, input_counted, input_read, input_step, malformed_step, message_step, notification_step, queued, start_step, started, started_with}
 use Rattle.vm_machine.specs.Reports.{is_retry, related_to, report_step}
-use Rattle.vm_machine.specs.Signals.{awakeable_counted, awakeable_step}
+use Rattle.vm_machine.specs.Signals.{awakeable_counted, awakeable_step, signal_counted, signal_step}
 use Rattle.vm_machine.specs.Commands.{entered, written, ignores_payloads, phase_after, popped, popped_from, compared, replayed, carried_out, prepared, counted, issued, commanded, commanded_unless}
 use Rattle.vm_machine.specs.Endings.{EndsOnce, EventWrites, Writes, is_over, is_terminal}
 use Rattle.vm_machine.specs.Outcomes.{Outcome, Done, Failed, ◌>>=◌, about_last, called, called_at, failed, refused, ruled}
@@ -238,6 +238,7 @@ GoesOn _ = Unit {0}
 
 pub asks_go_on : (version : Version) (s : Step) → GoesOn (ask_of version s)
 asks_go_on version step.Awakeable = tt
+asks_go_on version (step.Signal name) = tt
 asks_go_on version (step.Await future) = tt
 asks_go_on version (step.Take handle) = tt
 asks_go_on version (step.Completed handle) = tt
@@ -255,7 +256,7 @@ commanded_at None m unstable v command live = issued_event m unstable v command 
 pub commanded_event : (c : Command) (v : Machine) → is_terminal c.message ≡ false → v.failure ≡ None → Event v (commanded c v)
 commanded_event c v command live = commanded_at c.refusal c.message c.unstable v command live
 
--- ---- awakeables and reported errors
+-- ---- awakeables, named signals and reported errors
 
 awakeable_at : (found : Option NamedFault) (v : Machine) → Quiet v (awakeable_counted found v)
 awakeable_at (Some name) v = same v
@@ -268,6 +269,18 @@ awakeable_so false v = same v
 pub awakeable_writes : (v : Machine) → EventWrites v (called (awakeable_step v) v)
 unfolding awakeable_step
 awakeable_writes v = called_writes v (awakeable_step v) (λ live. quiet_event v (awakeable_step v) (awakeable_so (is_running v.phase) v))
+
+signal_at : (found : Option NamedFault) (name : List ℕ) (v : Machine) → Quiet v (signal_counted found name v)
+signal_at (Some fault) name v = same v
+signal_at None name v = record { output = refl; closed = refl; failure = refl }
+
+signal_so : (b : Bool) (name : List ℕ) (v : Machine) → Quiet v (if b then signal_counted (missing_signals 0 1 v.counters) name v else refused (state_fault v.phase) v)
+signal_so true name v = signal_at (missing_signals 0 1 v.counters) name v
+signal_so false name v = same v
+
+pub signal_writes : (name : List ℕ) (v : Machine) → EventWrites v (called (signal_step name v) v)
+unfolding signal_step
+signal_writes name v = called_writes v (signal_step name v) (λ live. quiet_event v (signal_step name v) (signal_so (is_running v.phase) name v))
 
 report_so : (b : Bool) (e : Error) (relationship : Option CommandRelationship) (v : Machine)
     → Quiet {A = Unit} v (if b then refused fault.UnsupportedFeatureForNegotiatedVersion v else Failed (related_to relationship e v) v)

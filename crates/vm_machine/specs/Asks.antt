@@ -234,6 +234,7 @@ ask_of version (step.StateClearAll name) = ask.Command (clear_all_state_command 
 ask_of version (step.Call target input name options) = ask.Command (call_command target input (name_in name) options version)
 ask_of version (step.Send target input time name options) = ask.Command (send_command target input (millis_of time) (name_in name) options version)
 ask_of version step.Awakeable = ask.Awakeable
+ask_of version (step.Signal name) = ask.Signal name
 ask_of version (step.CompleteAwakeable id value options) = ask.Command (complete_awakeable_command id value options version)
 ask_of version (step.CompleteSignal target signal value) = ask.Command (complete_signal_command target signal value version)
 ask_of version (step.CancelInvocation target) = ask.Command (cancel_invocation_command target)

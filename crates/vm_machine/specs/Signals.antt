@@ -1,11 +1,12 @@
--- Awakeables: signals of the invocation's own.
+-- Signals that the handler waits for: awakeables, which are signals of the invocation's own, and signals by name.
 use Rattle.std.specs.Prelude.{ℕ, ◌+◌, if◌then◌else◌, List, [], ◌∷◌, ◌++◌, codes, Option, Some, None}
 use Rattle.std.specs.Int.{w32, to_be_bytes}
 use Rattle.base64.specs.Engines.{url_safe_no_pad}
 use Rattle.base64.specs.GeneralPurpose.{encode_of}
 use Rattle.journal_protocol.specs.declared.faults.NamedFault.{NamedFault}
-use Rattle.journal_protocol.specs.declared.notification.NotificationId.TheVariants.{SignalId}
+use Rattle.journal_protocol.specs.declared.notification.NotificationId.TheVariants.{SignalId, SignalName}
 use Rattle.vm_parts.specs.declared.types.AwakeableHandle.{AwakeableHandle}
+use Rattle.vm_parts.specs.declared.types.NotificationHandle.{NotificationHandle}
 use Rattle.vm_parts.specs.Counting.{missing_signals}
 use Rattle.vm_machine.specs.declared.machine.Machine.{Machine}
 use Rattle.vm_machine.specs.Outcomes.{Outcome, Done, refused}
@@ -34,4 +35,23 @@ awakeable_counted None v =
 unfoldable pub awakeable_step : Machine → Outcome AwakeableHandle
 awakeable_step v =
     if is_running v.phase then awakeable_counted (missing_signals 1 1 v.counters) v
+    else refused (state_fault v.phase) v
+
+-- the next handle stands for a signal's name
+abbrev pub name_handed_out : List ℕ → Machine → Machine
+name_handed_out name v =
+    record v {
+      results = record v.results { handles = v.results.handles ++ record { handle = v.counters.handle; id = SignalName name } ∷ [] };
+      counters = record v.counters { handle = v.counters.handle + 1 };
+    }
+
+-- the handle of a named signal, where one is left
+abbrev pub signal_counted : Option NamedFault → List ℕ → Machine → Outcome NotificationHandle
+signal_counted (Some fault) name v = refused fault v
+signal_counted None name v = Done (record { 0 = v.counters.handle }) (name_handed_out name v)
+
+-- The handler gets a handle for a named signal, in replay too; it has no command.
+unfoldable pub signal_step : List ℕ → Machine → Outcome NotificationHandle
+signal_step name v =
+    if is_running v.phase then signal_counted (missing_signals 0 1 v.counters) name v
     else refused (state_fault v.phase) v

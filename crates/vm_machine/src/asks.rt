@@ -39,6 +39,8 @@ pub struct Command {
 pub enum Ask {
     Command(Command),
     Awakeable,
+    /// A handle for the signal of this name.
+    Signal(Text),
     Await(UnresolvedFuture),
     Take(NotificationHandle),
     Completed(NotificationHandle),
@@ -429,6 +431,7 @@ pub fn ask_of(alloc: Global, version: Version, step: Step) -> Ask
             Ask::Command(send(alloc, target, input, time, name, options, version))
         }
         Step::Awakeable => Ask::Awakeable,
+        Step::Signal { name } => Ask::Signal(name),
         Step::CompleteAwakeable { id, value, options } => {
             Ask::Command(complete_awakeable(id, value, options, version))
         }

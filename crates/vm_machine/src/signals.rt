@@ -1,7 +1,7 @@
-//! Awakeables: signals of the invocation's own, which others complete by an id.
+//! The signals that a handler waits for: awakeables, which others complete by an id, and signals by name.
 ghost use Rattle.std.specs.Prelude.{◌≡◌, IfOk};
 ghost use Rattle.vm_machine.specs.Outcomes.{Gives};
-ghost use Rattle.vm_machine.specs.Signals.{awakeable_id, awakeable_step};
+ghost use Rattle.vm_machine.specs.Signals.{awakeable_id, awakeable_step, signal_step};
 
 use crate::fault::{Fault, refuse};
 use crate::machine::Machine;
@@ -48,5 +48,23 @@ impl Machine {
             id,
             handle: NotificationHandle(handle),
         })
+    }
+
+    /// Gives a handle for a named signal: each of its handles takes the next of its deliveries.
+    #[tactic(auto, unfolding(crate::specs::Signals::signal_step))]
+    pub fn signal(&mut self, name: Text) -> Result<NotificationHandle, Fault>
+        ensures { Gives (signal_step name self.old) result self.old self.new }
+    {
+        if !self.phase.is_running() {
+            return Err(refuse(self.phase.fault()));
+        }
+        if let Some(fault) = self.counters.missing_signals(0, 1) {
+            return Err(refuse(fault));
+        }
+        let handle = self.counters.handle;
+        self.results
+            .map_handle(handle, NotificationId::SignalName(name))?;
+        self.counters.handle += 1;
+        Ok(NotificationHandle(handle))
     }
 }

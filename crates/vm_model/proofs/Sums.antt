@@ -21,10 +21,10 @@ use Rattle.vm_machine.specs.declared.asks.Command.{Command}
 use Rattle.vm_machine.specs.Asks.{ask_of}
 use Rattle.vm_machine.specs.Requests.{ids_of}
 use Rattle.invocation_vm.specs.Calls.{skips_replay}
-use Rattle.vm_model.specs.Calls.{Setup, Meaning, Derived, Demand, Move, asked, awakeable_made, awaiting, call_of, commanded, commanding, is_awake, making_awakeable, numbered, ready_in, result_taken, value_taken}
+use Rattle.vm_model.specs.Calls.{Setup, Meaning, Derived, Demand, Move, asked, awakeable_made, awaiting, call_of, commanded, commanding, is_awake, making_awakeable, numbered, ready_in, result_taken, signal_made, value_taken}
 use Rattle.vm_model.specs.Calls.Move.{Answers, Needs, Awaits, Ends, Refuses}
 use Rattle.vm_model.specs.Moves.{Point, after, command_used, move_at, moved, next, stands_for, start, uses_arrival, uses_command}
-use Rattle.vm_model.specs.Sums.{calls_after, calls_for, completion_ids, completion_ids_in, handles, signal_ids, signal_ids_in, total}
+use Rattle.vm_model.specs.Sums.{calls_after, calls_for, completion_ids, completion_ids_in, handles, signal_ids, signal_ids_in, handles_in, total}
 use Rattle.vm_model.proofs.Runs.{and_then_some, none_some}
 
 -- so many numbers were given
@@ -34,90 +34,95 @@ record Given (ids signals numbers : ℕ) (d e : Derived) : Type 0 where
   handle : e.counters.handle ≡ d.counters.handle + numbers
 
 -- a move that answers gives one answer and so many numbers
-abbrev GivenAfter : ℕ → ℕ → Derived → Move → Type 0
-GivenAfter ids signals d (Answers gives e) = (a : Answer) × (gives ≡ a ∷ []) × Given ids signals (ids + signals) d e
-GivenAfter ids signals d (Needs demand gives e) = (a : Answer) × (gives ≡ a ∷ []) × Given ids signals (ids + signals) d e
-GivenAfter ids signals d Awaits = Unit {0}
-GivenAfter ids signals d Ends = Unit {0}
-GivenAfter ids signals d (Refuses name) = Unit {0}
+abbrev GivenAfter : ℕ → ℕ → ℕ → Derived → Move → Type 0
+GivenAfter ids signals numbers d (Answers gives e) = (a : Answer) × (gives ≡ a ∷ []) × Given ids signals numbers d e
+GivenAfter ids signals numbers d (Needs demand gives e) = (a : Answer) × (gives ≡ a ∷ []) × Given ids signals numbers d e
+GivenAfter ids signals numbers d Awaits = Unit {0}
+GivenAfter ids signals numbers d Ends = Unit {0}
+GivenAfter ids signals numbers d (Refuses name) = Unit {0}
 
-commanded_given : (c : Command) (d : Derived) → Given (ids_of c.message) 0 (ids_of c.message + 0) d (commanded c d)
-commanded_given c d = record { completion = refl; signal = sym (add-zero d.counters.signal); handle = ap (λ n. d.counters.handle + n) (sym (add-zero (ids_of c.message))) }
+commanded_given : (c : Command) (d : Derived) → Given (ids_of c.message) 0 (ids_of c.message) d (commanded c d)
+commanded_given c d = record { completion = refl; signal = sym (add-zero d.counters.signal); handle = refl }
 
-numbered_given : (s : Setup) (c : Command) (o : Option NamedFault) (d : Derived) → GivenAfter (ids_of c.message) 0 d (numbered s c o d)
+numbered_given : (s : Setup) (c : Command) (o : Option NamedFault) (d : Derived) → GivenAfter (ids_of c.message) 0 (ids_of c.message) d (numbered s c o d)
 numbered_given s c (Some fault) d = tt
 numbered_given s c None d = (_, refl, commanded_given c d)
 
-commanding_given : (s : Setup) (c : Command) (o : Option NamedFault) (d : Derived) → GivenAfter (ids_of c.message) 0 d (commanding s c o d)
+commanding_given : (s : Setup) (c : Command) (o : Option NamedFault) (d : Derived) → GivenAfter (ids_of c.message) 0 (ids_of c.message) d (commanding s c o d)
 commanding_given s c (Some fault) d = tt
 commanding_given s c None d = numbered_given s c (missing (ids_of c.message) 0 (ids_of c.message) d.counters) d
 
-awakeable_given : (s : Setup) (o : Option NamedFault) (d : Derived) → GivenAfter 0 1 d (awakeable_made s o d)
+awakeable_given : (s : Setup) (o : Option NamedFault) (d : Derived) → GivenAfter 0 1 1 d (awakeable_made s o d)
 awakeable_given s (Some fault) d = tt
 awakeable_given s None d = (_, refl, record { completion = sym (add-zero d.counters.completion); signal = refl; handle = refl })
 
-making_given : (s : Setup) (b : Bool) (d : Derived) → GivenAfter 0 1 d (making_awakeable s b d)
+making_given : (s : Setup) (b : Bool) (d : Derived) → GivenAfter 0 1 1 d (making_awakeable s b d)
 making_given s true d = tt
 making_given s false d = awakeable_given s (missing_signals 1 1 d.counters) d
+
+signal_given : (name : List ℕ) (o : Option NamedFault) (d : Derived) → GivenAfter 0 0 1 d (signal_made name o d)
+signal_given name (Some fault) d = tt
+signal_given name None d = (_, refl, record { completion = sym (add-zero d.counters.completion); signal = sym (add-zero d.counters.signal); handle = refl })
 
 nothing_given : (d e : Derived) → e.counters ≡ d.counters → Given 0 0 0 d e
 nothing_given d e is = record { completion = ap (λ c. c.completion) is ∙ sym (add-zero d.counters.completion); signal = ap (λ c. c.signal) is ∙ sym (add-zero d.counters.signal); handle = ap (λ c. c.handle) is ∙ sym (add-zero d.counters.handle) }
 
-awaiting_given : (b : Bool) (d : Derived) → GivenAfter 0 0 d (awaiting b d)
+awaiting_given : (b : Bool) (d : Derived) → GivenAfter 0 0 0 d (awaiting b d)
 awaiting_given true d = (_, refl, nothing_given d d refl)
 awaiting_given false d = tt
 
-value_given : (handle : NotificationHandle) (id : NotificationId) (o : Option Value) (d : Derived) → GivenAfter 0 0 d (value_taken handle id o d)
+value_given : (handle : NotificationHandle) (id : NotificationId) (o : Option Value) (d : Derived) → GivenAfter 0 0 0 d (value_taken handle id o d)
 value_given handle id None d = tt
 value_given handle id (Some value) d = (_, refl, nothing_given d _ refl)
 
-result_given : (handle : NotificationHandle) (id : Option NotificationId) (o : Option NotificationResult) (d : Derived) → GivenAfter 0 0 d (result_taken handle id o d)
+result_given : (handle : NotificationHandle) (id : Option NotificationId) (o : Option NotificationResult) (d : Derived) → GivenAfter 0 0 0 d (result_taken handle id o d)
 result_given handle (Some id) (Some result) d = value_given handle id (value_of result) d
 result_given handle (Some id) None d = (_, refl, nothing_given d d refl)
 result_given handle None o d = (_, refl, nothing_given d d refl)
 
-asked_given : (s : Setup) (a : Ask) (d : Derived) → GivenAfter (completion_ids_in a) (signal_ids_in a) d (asked s a d)
+asked_given : (s : Setup) (a : Ask) (d : Derived) → GivenAfter (completion_ids_in a) (signal_ids_in a) (handles_in a) d (asked s a d)
 asked_given s (ask.Command c) d = commanding_given s c c.refusal d
 asked_given s ask.Awakeable d = making_given s (skips_replay s.options.journal_replay) d
+asked_given s (ask.Signal name) d = signal_given name (missing_signals 0 1 d.counters) d
 asked_given s (ask.Await future) d = awaiting_given (is_awake s future d) d
 asked_given s (ask.Take handle) d = result_given handle (id_at handle.0 d.handles) (present_for s.options.signal_delivery (id_at handle.0 d.handles) (ready_in s d)) d
 asked_given s (ask.Completed handle) d = (_, refl, nothing_given d d refl)
 asked_given s ask.End d = tt
 
-call_given : (s : Setup) (st : Step) (d : Derived) → GivenAfter (completion_ids s.version st) (signal_ids s.version st) d (call_of s st d)
+call_given : (s : Setup) (st : Step) (d : Derived) → GivenAfter (completion_ids s.version st) (signal_ids s.version st) (handles s.version st) d (call_of s st d)
 call_given s st d = asked_given s (ask_of s.version st) d
 
 -- ---- one move
 
 -- one answer came and so many numbers were given, or nothing changed but what was used
-Moves : ℕ → ℕ → Point → Point → Type 0
-Moves ids signals p q = ((a : Answer) × (q.answers ≡ p.answers ++ a ∷ []) × Given ids signals (ids + signals) p.derived q.derived) ⊎ ((q.answers ≡ p.answers) × (q.derived.counters ≡ p.derived.counters))
+Moves : ℕ → ℕ → ℕ → Point → Point → Type 0
+Moves ids signals numbers p q = ((a : Answer) × (q.answers ≡ p.answers ++ a ∷ []) × Given ids signals numbers p.derived q.derived) ⊎ ((q.answers ≡ p.answers) × (q.derived.counters ≡ p.derived.counters))
 
-command_moves : (ids signals : ℕ) (b : Bool) (e : Demand) (gives : List Answer) (d : Derived) (left : List RawMessage) (p q : Point) → (a : Answer) × (gives ≡ a ∷ []) × Given ids signals (ids + signals) p.derived d → command_used b e gives d left p ≡ Some q → Moves ids signals p q
+command_moves : (ids signals numbers : ℕ) (b : Bool) (e : Demand) (gives : List Answer) (d : Derived) (left : List RawMessage) (p q : Point) → (a : Answer) × (gives ≡ a ∷ []) × Given ids signals numbers p.derived d → command_used b e gives d left p ≡ Some q → Moves ids signals numbers p q
 unfolding Moves
-command_moves ids signals false e gives d left p q g m = none_some m
-command_moves ids signals true e gives d left p q g m =
+command_moves ids signals numbers false e gives d left p q g m = none_some m
+command_moves ids signals numbers true e gives d left p q g m =
     let is = same_Some _ q m in
-    inl (g.0, ap (λ z. z.answers) (sym is) ∙ ap (λ l. p.answers ++ l) g.1, subst (λ z. Given ids signals (ids + signals) p.derived z.derived) is g.2)
+    inl (g.0, ap (λ z. z.answers) (sym is) ∙ ap (λ l. p.answers ++ l) g.1, subst (λ z. Given ids signals numbers p.derived z.derived) is g.2)
 
-uses_moves : (ids signals : ℕ) (e : Demand) (gives : List Answer) (d : Derived) (left : List RawMessage) (p q : Point) → (a : Answer) × (gives ≡ a ∷ []) × Given ids signals (ids + signals) p.derived d → uses_command e gives d left p ≡ Some q → Moves ids signals p q
-uses_moves ids signals e gives d [] p q g m = none_some m
-uses_moves ids signals e gives d (c ∷ left) p q g m = command_moves ids signals (stands_for e c) e gives d left p q g m
+uses_moves : (ids signals numbers : ℕ) (e : Demand) (gives : List Answer) (d : Derived) (left : List RawMessage) (p q : Point) → (a : Answer) × (gives ≡ a ∷ []) × Given ids signals numbers p.derived d → uses_command e gives d left p ≡ Some q → Moves ids signals numbers p q
+uses_moves ids signals numbers e gives d [] p q g m = none_some m
+uses_moves ids signals numbers e gives d (c ∷ left) p q g m = command_moves ids signals numbers (stands_for e c) e gives d left p q g m
 
-arrival_moves : (ids signals : ℕ) (queue : List Notification) (p q : Point) → uses_arrival queue p ≡ Some q → Moves ids signals p q
+arrival_moves : (ids signals numbers : ℕ) (queue : List Notification) (p q : Point) → uses_arrival queue p ≡ Some q → Moves ids signals numbers p q
 unfolding Moves
-arrival_moves ids signals [] p q m = none_some m
-arrival_moves ids signals (n ∷ queue) p q m = let is = same_Some _ q m in inr (ap (λ z. z.answers) (sym is), ap (λ z. z.derived.counters) (sym is))
+arrival_moves ids signals numbers [] p q m = none_some m
+arrival_moves ids signals numbers (n ∷ queue) p q m = let is = same_Some _ q m in inr (ap (λ z. z.answers) (sym is), ap (λ z. z.derived.counters) (sym is))
 
-moved_moves : (ids signals : ℕ) (mv : Move) (p q : Point) → GivenAfter ids signals p.derived mv → moved mv p ≡ Some q → Moves ids signals p q
+moved_moves : (ids signals numbers : ℕ) (mv : Move) (p q : Point) → GivenAfter ids signals numbers p.derived mv → moved mv p ≡ Some q → Moves ids signals numbers p q
 unfolding Moves
-moved_moves ids signals (Answers gives d) p q g m =
+moved_moves ids signals numbers (Answers gives d) p q g m =
     let is = same_Some _ q m in
-    inl (g.0, ap (λ z. z.answers) (sym is) ∙ ap (λ l. p.answers ++ l) g.1, subst (λ z. Given ids signals (ids + signals) p.derived z.derived) is g.2)
-moved_moves ids signals (Needs e gives d) p q g m = uses_moves ids signals e gives d p.left p q g m
-moved_moves ids signals Awaits p q g m = arrival_moves ids signals p.queue p q m
-moved_moves ids signals Ends p q g m = none_some m
-moved_moves ids signals (Refuses name) p q g m = none_some m
+    inl (g.0, ap (λ z. z.answers) (sym is) ∙ ap (λ l. p.answers ++ l) g.1, subst (λ z. Given ids signals numbers p.derived z.derived) is g.2)
+moved_moves ids signals numbers (Needs e gives d) p q g m = uses_moves ids signals numbers e gives d p.left p q g m
+moved_moves ids signals numbers Awaits p q g m = arrival_moves ids signals numbers p.queue p q m
+moved_moves ids signals numbers Ends p q g m = none_some m
+moved_moves ids signals numbers (Refuses name) p q g m = none_some m
 
 -- ---- so many moves
 
@@ -130,7 +135,7 @@ record Sums (s : Setup) (m : Meaning) (p q : Point) : Type 0 where
 sums_none : (s : Setup) (m : Meaning) (p : Point) → Sums s m p p
 sums_none s m p = record { gained = []; answers = sym (append-nil p.answers); numbers = nothing_given p.derived p.derived refl }
 
-sums_answer : (s : Setup) (m : Meaning) (p r q : Point) (a : Answer) → r.answers ≡ p.answers ++ a ∷ [] → Given (completion_ids s.version (m p.answers)) (signal_ids s.version (m p.answers)) (completion_ids s.version (m p.answers) + signal_ids s.version (m p.answers)) p.derived r.derived → Sums s m r q → Sums s m p q
+sums_answer : (s : Setup) (m : Meaning) (p r q : Point) (a : Answer) → r.answers ≡ p.answers ++ a ∷ [] → Given (completion_ids s.version (m p.answers)) (signal_ids s.version (m p.answers)) (handles s.version (m p.answers)) p.derived r.derived → Sums s m r q → Sums s m p q
 sums_answer s m p r q a is g t =
     let n = subst (λ l. Given (total (completion_ids s.version) (calls_after m l t.gained)) (total (signal_ids s.version) (calls_after m l t.gained)) (total (handles s.version) (calls_after m l t.gained)) r.derived q.derived) is t.numbers in
     let c1 = n.completion in
@@ -164,9 +169,9 @@ after_sums s m zero p q e = subst (λ z. Sums s m p z) (same_Some _ q e) (sums_n
 after_sums s m (suc n) p q e =
     let x = and_then_some (next s m p) (after s m n) q e in
     ⊎_elim
-    (λ (y : (a : Answer) × (x.0.answers ≡ p.answers ++ a ∷ []) × Given (completion_ids s.version (m p.answers)) (signal_ids s.version (m p.answers)) (completion_ids s.version (m p.answers) + signal_ids s.version (m p.answers)) p.derived x.0.derived). sums_answer s m p x.0 q y.0 y.1 y.2 (after_sums s m n x.0 q x.2))
+    (λ (y : (a : Answer) × (x.0.answers ≡ p.answers ++ a ∷ []) × Given (completion_ids s.version (m p.answers)) (signal_ids s.version (m p.answers)) (handles s.version (m p.answers)) p.derived x.0.derived). sums_answer s m p x.0 q y.0 y.1 y.2 (after_sums s m n x.0 q x.2))
     (λ (y : (x.0.answers ≡ p.answers) × (x.0.derived.counters ≡ p.derived.counters)). sums_arrival s m p x.0 q y.0 y.1 (after_sums s m n x.0 q x.2))
-    (moved_moves (completion_ids s.version (m p.answers)) (signal_ids s.version (m p.answers)) (move_at s m p) p x.0 (call_given s (m p.answers) p.derived) x.1)
+    (moved_moves (completion_ids s.version (m p.answers)) (signal_ids s.version (m p.answers)) (handles s.version (m p.answers)) (move_at s m p) p x.0 (call_given s (m p.answers) p.derived) x.1)
 
 -- in a run that a journal tells: completion ids from 1, signal ids and handles from 17
 pub told_sums : (s : Setup) (m : Meaning) (n : ℕ) (input : InputCommand) (ns : List Notification) (cs : List RawMessage) (q : Point) → after s m n (start s input ns cs) ≡ Some q

@@ -19,7 +19,7 @@ use Rattle.vm_machine.specs.declared.asks.Command.{Command}
 use Rattle.vm_machine.specs.Asks.{ask_of}
 use Rattle.vm_machine.specs.Requests.{ids_of}
 use Rattle.invocation_vm.specs.Calls.{skips_replay}
-use Rattle.vm_model.specs.Calls.{Setup, Meaning, Derived, Demand, Move, asked, awakeable_made, awaiting, commanding, is_awake, making_awakeable, numbered, ready_in, result_taken, value_taken}
+use Rattle.vm_model.specs.Calls.{Setup, Meaning, Derived, Demand, Move, asked, awakeable_made, awaiting, commanding, is_awake, making_awakeable, numbered, ready_in, result_taken, signal_made, value_taken}
 use Rattle.vm_model.specs.Calls.Move.{Answers, Needs, Awaits, Ends, Refuses}
 use Rattle.vm_model.specs.Moves.{Point, after, command_used, move_at, moved, next, stands_for, start, uses_arrival, uses_command}
 use Rattle.vm_model.specs.Deliveries.{EachTookAResult}
@@ -52,6 +52,10 @@ making_took : (s : Setup) (b : Bool) (d : Derived) → Took s d → TookAfter s 
 making_took s true d h = tt
 making_took s false d h = awakeable_took s (missing_signals 1 1 d.counters) d h
 
+signal_took : (s : Setup) (name : List ℕ) (o : Option NamedFault) (d : Derived) → Took s d → TookAfter s (signal_made name o d)
+signal_took s name (Some fault) d h = tt
+signal_took s name None d h = h
+
 awaiting_took : (s : Setup) (b : Bool) (d : Derived) → Took s d → TookAfter s (awaiting b d)
 awaiting_took s true d h = h
 awaiting_took s false d h = tt
@@ -68,6 +72,7 @@ result_took s handle None o d is h = h
 asked_took : (s : Setup) (a : Ask) (d : Derived) → Took s d → TookAfter s (asked s a d)
 asked_took s (ask.Command c) d h = commanding_took s c c.refusal d h
 asked_took s ask.Awakeable d h = making_took s (skips_replay s.options.journal_replay) d h
+asked_took s (ask.Signal name) d h = signal_took s name (missing_signals 0 1 d.counters) d h
 asked_took s (ask.Await future) d h = awaiting_took s (is_awake s future d) d h
 asked_took s (ask.Take handle) d h = result_took s handle (id_at handle.0 d.handles) (present_for s.options.signal_delivery (id_at handle.0 d.handles) (ready_in s d)) d refl h
 asked_took s (ask.Completed handle) d h = h

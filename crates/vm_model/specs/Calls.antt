@@ -5,7 +5,7 @@ use Rattle.journal_protocol.specs.declared.faults.NamedFault.TheVariants as faul
 use Rattle.journal_protocol.specs.declared.message.Message.{Message}
 use Rattle.journal_protocol.specs.declared.notification.Notification.{Notification}
 use Rattle.journal_protocol.specs.declared.notification.NotificationId.{NotificationId}
-use Rattle.journal_protocol.specs.declared.notification.NotificationId.TheVariants.{SignalId}
+use Rattle.journal_protocol.specs.declared.notification.NotificationId.TheVariants.{SignalId, SignalName}
 use Rattle.journal_protocol.specs.declared.notification.NotificationResult.{NotificationResult}
 use Rattle.journal_protocol.specs.declared.version.Version.{Version}
 use Rattle.vm_parts.specs.declared.async_results.Mapping.{Mapping}
@@ -21,8 +21,9 @@ use Rattle.vm_parts.specs.declared.types.NotificationHandle.{NotificationHandle}
 use Rattle.vm_parts.specs.declared.types.UnresolvedFuture.{UnresolvedFuture}
 use Rattle.vm_parts.specs.declared.types.UnresolvedFuture.TheVariants.{Single}
 use Rattle.vm_parts.specs.declared.values.Value.{Value}
+use Rattle.vm_parts.specs.Arrived.{Ready}
 use Rattle.vm_parts.specs.Counting.{missing, missing_signals, next_index}
-use Rattle.vm_parts.specs.Deliveries.{has_result_for, id_at, left_ready, present_for, unmapped}
+use Rattle.vm_parts.specs.Deliveries.{has_result_for, id_at, left_ready, none_ready, present_for, unmapped, with_delivered, with_eager}
 use Rattle.vm_parts.specs.Values.{value_of}
 use Rattle.vm_machine.specs.declared.asks.Ask.{Ask}
 use Rattle.vm_machine.specs.declared.asks.Ask.TheVariants as ask
@@ -59,9 +60,10 @@ Meaning = List Answer → Step
 
 -- ---- what follows from the steps and answers so far
 
--- an arrival was used by an await, or the present result of an id was taken
+-- an arrival was used by an await, an eager read gave a completion id its result, or the present result of an id was taken
 pub data Usage : Type 0 where
   Used : Notification → Usage
+  Read : ℕ → NotificationResult → Usage
   Taken : NotificationId → Usage
 
 -- The next numbers, the last command's type and name, the id that each handle stands for, and what was used and
@@ -72,14 +74,15 @@ pub record Derived : Type 0 where
   pub handles : List Mapping
   pub usage : List Usage
 
--- the notifications whose result is ready: those that were used and not taken
-abbrev pub ready_after : SignalDelivery → List Usage → List Notification
-ready_after delivery [] = []
-ready_after delivery (Used n ∷ us) = ready_after delivery us ++ n ∷ []
+-- the results that are ready: those that were used or read, and not taken
+abbrev pub ready_after : SignalDelivery → List Usage → Ready
+ready_after delivery [] = none_ready
+ready_after delivery (Used n ∷ us) = with_delivered n (ready_after delivery us)
+ready_after delivery (Read id result ∷ us) = with_eager id result (ready_after delivery us)
 ready_after delivery (Taken id ∷ us) = left_ready delivery id (ready_after delivery us)
 
--- the notifications that are ready at this point
-abbrev pub ready_in : Setup → Derived → List Notification
+-- the results that are ready at this point
+abbrev pub ready_in : Setup → Derived → Ready
 ready_in s d = ready_after s.options.signal_delivery d.usage
 
 -- whether a handle has a result
@@ -155,6 +158,15 @@ abbrev pub making_awakeable : Setup → Bool → Derived → Move
 making_awakeable s true d = Refuses fault.UnsupportedFeature
 making_awakeable s false d = awakeable_made s (missing_signals 1 1 d.counters) d
 
+-- the next handle stands for a signal's name
+abbrev pub signal_made : List ℕ → Option NamedFault → Derived → Move
+signal_made name (Some fault) d = Refuses fault
+signal_made name None d =
+    Answers (answer.Handle (record { 0 = d.counters.handle }) ∷ []) (record d {
+      handles = d.handles ++ record { handle = d.counters.handle; id = SignalName name } ∷ [];
+      counters = record d.counters { handle = d.counters.handle + 1 };
+    })
+
 -- an await ends once its future is awake
 abbrev pub awaiting : Bool → Derived → Move
 awaiting true d = Answers (answer.Awake ∷ []) d
@@ -185,6 +197,7 @@ taking s handle id d = result_taken handle id (present_for s.options.signal_deli
 abbrev pub asked : Setup → Ask → Derived → Move
 asked s (ask.Command c) d = commanding s c c.refusal d
 asked s ask.Awakeable d = making_awakeable s (skips_replay s.options.journal_replay) d
+asked s (ask.Signal name) d = signal_made name (missing_signals 0 1 d.counters) d
 asked s (ask.Await future) d = awaiting (is_awake s future d) d
 asked s (ask.Take handle) d = taking s handle (id_at handle.0 d.handles) d
 asked s (ask.Completed handle) d = Answers (answer.Completed (has_result_in s handle d) ∷ []) d

@@ -19,6 +19,13 @@ abbrev pub signal_ids_in : Ask → ℕ
 signal_ids_in ask.Awakeable = 1
 signal_ids_in a = 0
 
+-- how many handles are asked for
+abbrev pub handles_in : Ask → ℕ
+handles_in (ask.Command c) = ids_of c.message
+handles_in ask.Awakeable = 1
+handles_in (ask.Signal name) = 1
+handles_in a = 0
+
 -- how many completion ids a call takes, in a run of this version
 abbrev pub completion_ids : Version → Step → ℕ
 completion_ids version s = completion_ids_in (ask_of version s)
@@ -27,9 +34,9 @@ completion_ids version s = completion_ids_in (ask_of version s)
 abbrev pub signal_ids : Version → Step → ℕ
 signal_ids version s = signal_ids_in (ask_of version s)
 
--- how many handles: one for each of both
+-- how many handles: one for each of both, and one for a named signal
 abbrev pub handles : Version → Step → ℕ
-handles version s = completion_ids version s + signal_ids version s
+handles version s = handles_in (ask_of version s)
 
 -- the calls that brought these answers behind those
 abbrev pub calls_after : Meaning → List Answer → List Answer → List Step

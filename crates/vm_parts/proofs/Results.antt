@@ -6,8 +6,9 @@ use Rattle.journal_protocol.specs.declared.notification.Notification.{Notificati
 use Rattle.journal_protocol.specs.declared.notification.NotificationId.{NotificationId}
 use Rattle.journal_protocol.specs.declared.notification.NotificationResult.{NotificationResult}
 use Rattle.vm_parts.specs.declared.async_results.Mapping.{Mapping}
-use Rattle.vm_parts.specs.Arrived.{Arrived}
-use Rattle.vm_parts.specs.Deliveries.{same_id, unmapped, results_of, first, newest, newest_after, without_first, without_all, has_result, has_result_for, used_until, id_at, is_listed, present, Taken}
+use Rattle.vm_parts.specs.Arrived.{Arrived, Ready}
+use Rattle.std.specs.Option.{option_or}
+use Rattle.vm_parts.specs.Deliveries.{same_id, unmapped, results_of, first, newest, newest_after, without_first, without_all, has_result_among, has_result_for, is_wanted, left_among, left_ready, present, present_among, used_until, with_delivered, id_at, is_listed, Taken}
 use Rattle.vm_parts.specs.declared.options.SignalDelivery.{SignalDelivery}
 use Rattle.vm_parts.proofs.Places.{from_place, same_item}
 
@@ -57,55 +58,62 @@ none_newest id (n ∷ ns) e = none_newest_at id n ns (same_id n.id id) refl (non
 
 -- ---- notifications that are used one by one
 
-or_false : (b : Bool) → (b || false) ≡ b
-or_false true = refl
-or_false false = refl
-
 or_assoc : (a b c : Bool) → (a || (b || c)) ≡ ((a || b) || c)
 or_assoc true b c = refl
 or_assoc false b c = refl
 
-has_result-append : (id : NotificationId) (xs ys : List Notification) → has_result id (xs ++ ys) ≡ (has_result id xs || has_result id ys)
-has_result-append id [] ys = refl
-has_result-append id (x ∷ xs) ys = rw (has_result-append id xs ys) (or_assoc (same_id x.id id) (has_result id xs) (has_result id ys))
+among-append : (id : NotificationId) (xs ys : List Notification) → has_result_among id (xs ++ ys) ≡ (has_result_among id xs || has_result_among id ys)
+among-append id [] ys = refl
+among-append id (x ∷ xs) ys = rw (among-append id xs ys) (or_assoc (same_id x.id id) (has_result_among id xs) (has_result_among id ys))
+
+-- neither of two holds
+neither : (a b c : Bool) → (a || b) ≡ false → ((a || (c || false)) || b) ≡ c
+neither true b c e = cc
+neither false true c e = cc
+neither false false true e = refl
+neither false false false e = refl
 
 -- with one more notification
-has_one_more : (id : NotificationId) (ns : List Notification) (n : Notification) → has_result id ns ≡ false → has_result id (ns ++ n ∷ []) ≡ has_result id (n ∷ [])
-has_one_more id ns n e = has_result-append id ns (n ∷ []) ∙ rw e refl
+pub has_for_more : (wanted : Option NotificationId) (ready : Ready) (n : Notification) → has_result_for wanted ready ≡ false → has_result_for wanted (with_delivered n ready) ≡ is_wanted wanted n
+has_for_more None ready n e = refl
+has_for_more (Some id) ready n e =
+    ap (λ b. b || has_result_among id ready.eager) (among-append id ready.delivered (n ∷ []))
+    ∙ neither (has_result_among id ready.delivered) (has_result_among id ready.eager) (same_id n.id id) e
 
-pub has_for_more : (wanted : Option NotificationId) (ns : List Notification) (n : Notification) → has_result_for wanted ns ≡ false → has_result_for wanted (ns ++ n ∷ []) ≡ has_result_for wanted (n ∷ [])
-has_for_more None ns n e = refl
-has_for_more (Some id) ns n e = has_one_more id ns n e
-
-pub used_ready : (wanted : Option NotificationId) (ready queued : List Notification) → has_result_for wanted ready ≡ true → used_until wanted ready queued ≡ (ready, queued)
+pub used_ready : (wanted : Option NotificationId) (ready : Ready) (queued : List Notification) → has_result_for wanted ready ≡ true → used_until wanted ready queued ≡ (ready, queued)
 used_ready wanted ready [] e = refl
 used_ready wanted ready (n ∷ ns) e = rw e refl
 
-pub used_next : (wanted : Option NotificationId) (ready : List Notification) (n : Notification) (ns : List Notification) → has_result_for wanted ready ≡ false
-    → used_until wanted ready (n ∷ ns) ≡ used_until wanted (ready ++ n ∷ []) ns
+pub used_next : (wanted : Option NotificationId) (ready : Ready) (n : Notification) (ns : List Notification) → has_result_for wanted ready ≡ false
+    → used_until wanted ready (n ∷ ns) ≡ used_until wanted (with_delivered n ready) ns
 used_next wanted ready n ns e = rw e refl
 
--- ---- a handle without a result
+-- ---- an id without a result
 
-present_first : (delivery : SignalDelivery) (id : NotificationId) (ns : List Notification) → is_listed delivery id ≡ true → present delivery id ns ≡ first (results_of id ns)
-present_first delivery id ns e = rw e refl
+none_left_at : (b : Bool) (id : NotificationId) (ns : List Notification) → cond b (first (results_of id ns)) (newest (results_of id ns)) ≡ None → cond b (without_first id ns) (without_all id ns) ≡ ns
+none_left_at true id ns e = none_first id ns e
+none_left_at false id ns e = none_newest id ns e
 
-present_newest : (delivery : SignalDelivery) (id : NotificationId) (ns : List Notification) → is_listed delivery id ≡ false → present delivery id ns ≡ newest (results_of id ns)
-present_newest delivery id ns e = rw e refl
+none_left : (delivery : SignalDelivery) (id : NotificationId) (ns : List Notification) → present_among delivery id ns ≡ None → left_among delivery id ns ≡ ns
+none_left delivery id ns e = none_left_at (is_listed delivery id) id ns e
 
-none_taken : (delivery : SignalDelivery) (handle : ℕ) (v : Arrived) (id : NotificationId) (answer : Option NotificationResult) (ready : List Notification)
-    → Some id ≡ id_at handle v.handles → present delivery id v.ready ≡ None → answer ≡ None → ready ≡ v.ready → Taken delivery handle v answer (record v { ready = ready })
-none_taken delivery handle v id answer ready i p a r =
-    record { result = rw (← i, p) a; left = rw (← i, p) (ap (λ t. record v { ready = t }) r) }
+-- of two that may be there, none is
+first_none : {X : Type 0} (a b : Option X) → option_or a b ≡ None → a ≡ None
+first_none None b e = refl
+first_none (Some x) b e = cc
 
-pub none_listed : (delivery : SignalDelivery) (handle : ℕ) (v : Arrived) (id : NotificationId) (answer : Option NotificationResult) (ready : List Notification)
-    → Some id ≡ id_at handle v.handles → is_listed delivery id ≡ true → None ≡ first (results_of id v.ready) → ready ≡ without_first id v.ready → answer ≡ None
-    → Taken delivery handle v answer (record v { ready = ready })
-none_listed delivery handle v id answer ready i l f w a =
-    none_taken delivery handle v id answer ready i (present_first delivery id v.ready l ∙ sym f) a (w ∙ none_first id v.ready (sym f))
+second_none : {X : Type 0} (a b : Option X) → option_or a b ≡ None → b ≡ None
+second_none None b e = e
+second_none (Some x) b e = cc
 
-pub none_replaced : (delivery : SignalDelivery) (handle : ℕ) (v : Arrived) (id : NotificationId) (answer : Option NotificationResult) (ready : List Notification)
-    → Some id ≡ id_at handle v.handles → is_listed delivery id ≡ false → None ≡ newest (results_of id v.ready) → ready ≡ without_all id v.ready → answer ≡ None
-    → Taken delivery handle v answer (record v { ready = ready })
-none_replaced delivery handle v id answer ready i l f w a =
-    none_taken delivery handle v id answer ready i (present_newest delivery id v.ready l ∙ sym f) a (w ∙ none_newest id v.ready (sym f))
+-- where an id has no result nothing is taken
+nothing_left : (delivery : SignalDelivery) (id : NotificationId) (r : Ready) → present delivery id r ≡ None → left_ready delivery id r ≡ r
+nothing_left delivery id r e = λ i. record {
+  delivered = none_left delivery id r.delivered (first_none (present_among delivery id r.delivered) (present_among delivery id r.eager) e) i;
+  eager = none_left delivery id r.eager (second_none (present_among delivery id r.delivered) (present_among delivery id r.eager) e) i;
+}
+
+pub none_taken : (delivery : SignalDelivery) (handle : ℕ) (v : Arrived) (id : NotificationId) (answer : Option NotificationResult) (ready : Ready)
+    → Some id ≡ id_at handle v.handles → None ≡ present delivery id v.ready → ready ≡ left_ready delivery id v.ready → answer ≡ None → Taken delivery handle v answer (record v { ready = ready })
+none_taken delivery handle v id answer ready i p r a =
+    record { result = rw (← i, sym p) a; left = rw (← i, sym p) (ap (λ t. record v { ready = t }) (r ∙ nothing_left delivery id v.ready (sym p))) }

@@ -3,11 +3,17 @@ use Rattle.std.specs.Prelude.{List}
 use Rattle.journal_protocol.specs.declared.notification.Notification.{Notification}
 use Rattle.vm_parts.specs.declared.async_results.Mapping.{Mapping}
 
--- the notifications that came, and the ids that handles stand for
+-- The results that are ready, and not taken: those that an await used, and those that eager reads gave, which were never
+-- delivered.
+pub record Ready : Type 0 where
+  pub delivered : List Notification
+  pub eager : List Notification
+
+-- the notifications that came, the results that are ready, and the ids that handles stand for
 pub record Arrived : Type 0 where
   -- no await has used it yet
   pub queued : List Notification
-  -- used by an await, and not taken
-  pub ready : List Notification
+  -- what can be taken
+  pub ready : Ready
   -- the handles that can still be answered
   pub handles : List Mapping

@@ -2,6 +2,7 @@
 -- the used ones that were not taken.
 use Rattle.std.specs.Prelude.{ℕ, ◌≡◌, ◌==◌, Bool, true, false, ◌||◌, cond, nat_eq, List, [], ◌∷◌, ◌++◌, Option, Some, None}
 use Rattle.std.specs.Cmp.Lexicographic.{pointwise}
+use Rattle.std.specs.Option.{option_or}
 use Rattle.journal_protocol.specs.declared.notification.Notification.{Notification}
 use Rattle.journal_protocol.specs.declared.notification.NotificationId.{NotificationId}
 use Rattle.journal_protocol.specs.declared.notification.NotificationId.TheVariants.{CompletionId, SignalId, SignalName}
@@ -9,7 +10,7 @@ use Rattle.journal_protocol.specs.declared.notification.NotificationResult.{Noti
 use Rattle.vm_parts.specs.declared.async_results.Mapping.{Mapping}
 use Rattle.vm_parts.specs.declared.options.SignalDelivery.{SignalDelivery}
 use Rattle.vm_parts.specs.declared.options.SignalDelivery.TheVariants.{Queued, Overwrite}
-use Rattle.vm_parts.specs.Arrived.{Arrived}
+use Rattle.vm_parts.specs.Arrived.{Arrived, Ready}
 
 -- whether two ids are one
 abbrev pub same_id : NotificationId → NotificationId → Bool
@@ -18,9 +19,13 @@ same_id (SignalId a) (SignalId b) = a == b
 same_id (SignalName a) (SignalName b) = pointwise nat_eq a b
 same_id _ _ = false
 
+-- no result is ready
+abbrev pub none_ready : Ready
+none_ready = record { delivered = []; eager = [] }
+
 -- before any notification: the cancel handle stands for signal 1
 abbrev pub no_results : Arrived
-no_results = record { queued = []; ready = []; handles = record { handle = 1; id = SignalId 1 } ∷ [] }
+no_results = record { queued = []; ready = none_ready; handles = record { handle = 1; id = SignalId 1 } ∷ [] }
 
 -- the id that a handle stands for
 abbrev pub id_at : ℕ → List Mapping → Option NotificationId
@@ -37,15 +42,24 @@ abbrev pub results_of : NotificationId → List Notification → List Notificati
 results_of id [] = []
 results_of id (n ∷ ns) = cond (same_id n.id id) (n.result ∷ results_of id ns) (results_of id ns)
 
--- whether there is a result of an id
-abbrev pub has_result : NotificationId → List Notification → Bool
-has_result id [] = false
-has_result id (n ∷ ns) = same_id n.id id || has_result id ns
+-- whether there is a result of an id among these
+abbrev pub has_result_among : NotificationId → List Notification → Bool
+has_result_among id [] = false
+has_result_among id (n ∷ ns) = same_id n.id id || has_result_among id ns
+
+-- whether an id has a result, delivered or of its eager read
+abbrev pub has_result : NotificationId → Ready → Bool
+has_result id r = has_result_among id r.delivered || has_result_among id r.eager
 
 -- a handle that stands for no id never has a result
-abbrev pub has_result_for : Option NotificationId → List Notification → Bool
-has_result_for None ns = false
-has_result_for (Some id) ns = has_result id ns
+abbrev pub has_result_for : Option NotificationId → Ready → Bool
+has_result_for None r = false
+has_result_for (Some id) r = has_result id r
+
+-- whether a notification is one of this id
+abbrev pub is_wanted : Option NotificationId → Notification → Bool
+is_wanted None n = false
+is_wanted (Some id) n = same_id n.id id
 
 -- the first item, if there is one
 abbrev pub first : {X : Type 0} → List X → Option X
@@ -69,9 +83,13 @@ is_listed Queued (CompletionId _) = false
 is_listed Queued (SignalId _) = true
 is_listed Queued (SignalName _) = true
 
--- the present result of an id
-abbrev pub present : SignalDelivery → NotificationId → List Notification → Option NotificationResult
-present delivery id ns = cond (is_listed delivery id) (first (results_of id ns)) (newest (results_of id ns))
+-- the present result of an id among these
+abbrev pub present_among : SignalDelivery → NotificationId → List Notification → Option NotificationResult
+present_among delivery id ns = cond (is_listed delivery id) (first (results_of id ns)) (newest (results_of id ns))
+
+-- the present result of an id: what was delivered, else what its eager read gave
+abbrev pub present : SignalDelivery → NotificationId → Ready → Option NotificationResult
+present delivery id r = option_or (present_among delivery id r.delivered) (present_among delivery id r.eager)
 
 -- without the oldest of an id
 abbrev pub without_first : NotificationId → List Notification → List Notification
@@ -83,17 +101,29 @@ abbrev pub without_all : NotificationId → List Notification → List Notificat
 without_all id [] = []
 without_all id (n ∷ ns) = cond (same_id n.id id) (without_all id ns) (n ∷ without_all id ns)
 
+-- what stays among these when the present result of an id is taken
+abbrev pub left_among : SignalDelivery → NotificationId → List Notification → List Notification
+left_among delivery id ns = cond (is_listed delivery id) (without_first id ns) (without_all id ns)
+
 -- what stays ready when the present result of an id is taken
-abbrev pub left_ready : SignalDelivery → NotificationId → List Notification → List Notification
-left_ready delivery id ns = cond (is_listed delivery id) (without_first id ns) (without_all id ns)
+abbrev pub left_ready : SignalDelivery → NotificationId → Ready → Ready
+left_ready delivery id r = record { delivered = left_among delivery id r.delivered; eager = left_among delivery id r.eager }
+
+-- one more is delivered
+abbrev pub with_delivered : Notification → Ready → Ready
+with_delivered n r = record r { delivered = r.delivered ++ n ∷ [] }
+
+-- An eager read gave the result of a completion id: it takes the place of what was delivered before.
+abbrev pub with_eager : ℕ → NotificationResult → Ready → Ready
+with_eager id result r = record { delivered = without_all (CompletionId id) r.delivered; eager = r.eager ++ record { id = CompletionId id; result = result } ∷ [] }
 
 -- notifications are used one by one until the id has a result among those that are ready
-abbrev pub used_until : Option NotificationId → List Notification → List Notification → List Notification × List Notification
+abbrev pub used_until : Option NotificationId → Ready → List Notification → Ready × List Notification
 used_until id ready [] = (ready, [])
-used_until id ready (n ∷ ns) = cond (has_result_for id ready) (ready, n ∷ ns) (used_until id (ready ++ n ∷ []) ns)
+used_until id ready (n ∷ ns) = cond (has_result_for id ready) (ready, n ∷ ns) (used_until id (with_delivered n ready) ns)
 
 -- so many are used
-abbrev pub with_used : List Notification × List Notification → Arrived → Arrived
+abbrev pub with_used : Ready × List Notification → Arrived → Arrived
 with_used used v = record v { ready = used.0; queued = used.1 }
 
 -- notifications are used until the handle has a result
@@ -106,9 +136,9 @@ taken_from delivery handle id v =
     record v { ready = left_ready delivery id v.ready; handles = cond (handle == 1) v.handles (unmapped handle v.handles) }
 
 -- the result that a handle has
-abbrev pub present_for : SignalDelivery → Option NotificationId → List Notification → Option NotificationResult
-present_for delivery None ns = None
-present_for delivery (Some id) ns = present delivery id ns
+abbrev pub present_for : SignalDelivery → Option NotificationId → Ready → Option NotificationResult
+present_for delivery None r = None
+present_for delivery (Some id) r = present delivery id r
 
 -- what a take leaves, where there was a result
 abbrev pub taken_by : SignalDelivery → ℕ → Option NotificationId → Option NotificationResult → Arrived → Arrived

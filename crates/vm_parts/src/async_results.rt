@@ -1,8 +1,9 @@
 //! The notifications of an attempt: those that no await has used yet, the results that are ready, and which id
 //! each handle stands for.
 ghost use Rattle.std.specs.Prelude.{◌≡◌, ◌∷◌, ◌++◌, [], false, OnOk, OnErr, IfOk};
+ghost use Rattle.vm_parts.specs.Arrived.{Ready};
 ghost use Rattle.std.specs.Option.{option_copied};
-ghost use Rattle.vm_parts.specs.Deliveries.{same_id, id_at, no_results, is_listed, results_of, first, newest, without_first, without_all, unmapped, has_result, has_result_for, used_for, used_until, Taken};
+ghost use Rattle.vm_parts.specs.Deliveries.{same_id, id_at, no_results, is_listed, results_of, first, newest, without_first, without_all, is_wanted, left_among, left_ready, none_ready, present, present_among, unmapped, has_result, has_result_among, has_result_for, used_for, used_until, with_delivered, with_eager, Taken};
 
 use crate::options::SignalDelivery;
 use crate::types::NotificationHandle;
@@ -19,13 +20,29 @@ pub struct Mapping {
     pub id: NotificationId,
 }
 
+/// The results that can be taken, each list in order: those that the handler's awaits have used, and those that its eager
+/// reads gave.
+#[derive(Debug, Drop)]
+struct ReadyResults {
+    delivered: Vec<Notification>,
+    eager: Vec<Notification>,
+}
+
 /// Notifications in order of arrival, those that the handler's awaits have used apart from those that they haven't,
 /// and the handles that can still be answered.
 #[derive(Debug, Drop)]
 pub struct AsyncResults {
     queued: VecDeque<Notification>,
-    ready: Vec<Notification>,
+    ready: ReadyResults,
     handles: Vec<Mapping>,
+}
+
+impl Model for ReadyResults {
+    ghost use Rattle.vm_parts.specs.Arrived.{Ready};
+
+    ghost Value = { Ready };
+
+    ghost view = { λ s. record { delivered = s.delivered.items; eager = s.eager.items } };
 }
 
 impl Model for AsyncResults {
@@ -33,7 +50,7 @@ impl Model for AsyncResults {
 
     ghost Value = { Arrived };
 
-    ghost view = { λ s. record { queued = s.queued.items; ready = s.ready.items; handles = s.handles.items } };
+    ghost view = { λ s. record { queued = s.queued.items; ready = s.ready; handles = s.handles.items } };
 }
 
 fn is_id(a: &NotificationId, b: &NotificationId) -> bool
@@ -69,8 +86,8 @@ fn find_id(handles: &[Mapping], handle: u32) -> Option<&NotificationId>
     None
 }
 
-fn has_ready(ready: &[Notification], id: &NotificationId) -> bool
-    ensures { result ≡ has_result id.now ready.now }
+fn is_among(ready: &[Notification], id: &NotificationId) -> bool
+    ensures { result ≡ has_result_among id.now ready.now }
 {
     for notification in ready {
         if is_id(&notification.id, id) {
@@ -112,9 +129,73 @@ fn take_newest(ready: &mut Vec<Notification>, id: &NotificationId) -> Option<Not
     found
 }
 
+/// Takes the present result of an id.
+fn take_present(
+    delivery: SignalDelivery,
+    ready: &mut Vec<Notification>,
+    id: &NotificationId,
+) -> Option<NotificationResult>
+    ensures found { result ≡ present_among delivery id.now ready.old.items }
+    ensures left { ready.new.items ≡ left_among delivery id.now ready.old.items }
+{
+    if is_queued_id(delivery, id) {
+        take_first(ready, id)
+    } else {
+        take_newest(ready, id)
+    }
+}
+
+impl ReadyResults {
+    fn new(alloc: Global) -> ReadyResults
+        ensures { result ≡ none_ready }
+    {
+        ReadyResults {
+            delivered: Vec::new(alloc),
+            eager: Vec::new(alloc),
+        }
+    }
+
+    fn has(&self, id: &NotificationId) -> bool
+        ensures { result ≡ has_result id.now self.now }
+    {
+        is_among(&self.delivered, id) || is_among(&self.eager, id)
+    }
+
+    /// Takes the present result of an id: what was delivered, else what its eager read gave.
+    fn take(&mut self, delivery: SignalDelivery, id: &NotificationId) -> Option<NotificationResult>
+        ensures found { result ≡ present delivery id.now self.old }
+        ensures left { self.new ≡ left_ready delivery id.now self.old }
+    {
+        let delivered = take_present(delivery, &mut self.delivered, id);
+        let eager = take_present(delivery, &mut self.eager, id);
+        delivered.or(eager)
+    }
+
+    fn deliver(&mut self, notification: Notification) -> Result<(), AllocError>
+        ensures ok { OnOk result (self.new ≡ with_delivered notification self.old) }
+        ensures err { OnErr result (self.new ≡ self.old) }
+    {
+        self.delivered.push(notification)?;
+        Ok(())
+    }
+
+    /// Adds the result of an eager read, which takes the place of what was delivered before.
+    fn put_eager(&mut self, id: u32, given: NotificationResult) -> Result<(), AllocError>
+        ensures ok { OnOk result (self.new ≡ with_eager id given self.old) }
+        ensures err { OnErr result (self.new ≡ self.old) }
+    {
+        self.eager.push(Notification {
+            id: NotificationId::CompletionId(id),
+            result: given,
+        })?;
+        take_newest(&mut self.delivered, &NotificationId::CompletionId(id));
+        Ok(())
+    }
+}
+
 /// Whether a notification is one of this id.
 fn is_for(notification: &Notification, wanted: Option<&NotificationId>) -> bool
-    ensures { result ≡ has_result_for (option_copied wanted.entry) (notification.now ∷ []) }
+    ensures { result ≡ is_wanted (option_copied wanted.entry) notification.now }
 {
     match wanted {
         None => false,
@@ -126,16 +207,16 @@ fn is_for(notification: &Notification, wanted: Option<&NotificationId>) -> bool
 #[tactic(auto, using(crate::proofs::Results::has_for_more, crate::proofs::Results::used_ready, crate::proofs::Results::used_next))]
 fn use_until(
     queued: &mut VecDeque<Notification>,
-    ready: &mut Vec<Notification>,
+    ready: &mut ReadyResults,
     wanted: Option<&NotificationId>,
 ) -> Result<bool, AllocError>
-    requires { has_result_for (option_copied wanted) ready.old.items ≡ false }
-    ensures used { OnOk result (used_until (option_copied wanted.entry) ready.old.items queued.old.items ≡ (ready.new.items, queued.new.items)) }
-    ensures answer { IfOk result (λ found. found ≡ has_result_for (option_copied wanted.entry) ready.new.items) }
+    requires { has_result_for (option_copied wanted) ready.old ≡ false }
+    ensures used { OnOk result (used_until (option_copied wanted.entry) ready.old queued.old.items ≡ (ready.new, queued.new.items)) }
+    ensures answer { IfOk result (λ found. found ≡ has_result_for (option_copied wanted.entry) ready.new) }
 {
     'arrivals: while let Some(notification) = queued.pop_front() {
         let found = is_for(&notification, wanted);
-        ready.push(notification)?;
+        ready.deliver(notification)?;
         if found {
             return Ok(true);
         }
@@ -167,7 +248,7 @@ impl AsyncResults {
         })?;
         Ok(AsyncResults {
             queued: VecDeque::new(alloc),
-            ready: Vec::new(alloc),
+            ready: ReadyResults::new(alloc),
             handles,
         })
     }
@@ -206,7 +287,7 @@ impl AsyncResults {
     {
         match find_id(&self.handles, handle) {
             None => false,
-            Some(id) => has_ready(&self.ready, id),
+            Some(id) => self.ready.has(id),
         }
     }
 
@@ -234,14 +315,18 @@ impl AsyncResults {
         ensures { Taken delivery handle.0 self.old result self.new }
     {
         let id = find_id(&self.handles, handle.0)?;
-        let taken = if is_queued_id(delivery, id) {
-            take_first(&mut self.ready, id)?
-        } else {
-            take_newest(&mut self.ready, id)?
-        };
+        let taken = self.ready.take(delivery, id)?;
         if handle.0 != 1 {
             unmap(&mut self.handles, handle.0);
         }
         Some(taken)
+    }
+
+    /// Gives a completion id the result of its eager read.
+    pub fn read_eagerly(&mut self, id: u32, given: NotificationResult) -> Result<(), AllocError>
+        ensures ok { OnOk result (self.new ≡ record self.old { ready = with_eager id given self.old.ready }) }
+        ensures err { OnErr result (self.new ≡ self.old) }
+    {
+        self.ready.put_eager(id, given)
     }
 }

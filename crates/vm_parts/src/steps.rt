@@ -43,6 +43,9 @@ pub enum Step {
         options: PayloadOptions,
     },
     Awakeable,
+    Signal {
+        name: Text,
+    },
     CompleteAwakeable {
         id: Text,
         value: NonEmptyValue,

@@ -1,5 +1,5 @@
 -- Each call of a handler, in a machine that agrees with a point, does what the moves from there lead to.
-use Rattle.std.proofs.Common.{◌≡◌, ◌+◌, Bool, true, false, cond, List, [], ◌∷◌, ◌++◌, Option, Some, None, refl, sym, ap, ◌∙◌, subst, append-nil}
+use Rattle.std.proofs.Common.{◌≡◌, ℕ, ◌+◌, Bool, true, false, cond, List, [], ◌∷◌, ◌++◌, Option, Some, None, refl, sym, ap, ◌∙◌, subst, append-nil}
 use Rattle.std.specs.Prelude.{if◌then◌else◌, ◌==◌}
 use Rattle.journal_protocol.specs.declared.faults.NamedFault.{NamedFault}
 use Rattle.journal_protocol.specs.declared.faults.NamedFault.TheVariants as fault
@@ -16,7 +16,7 @@ use Rattle.vm_parts.specs.declared.types.NotificationHandle.{NotificationHandle}
 use Rattle.vm_parts.specs.declared.values.Value.{Value}
 use Rattle.vm_parts.specs.Counting.{missing_signals}
 use Rattle.vm_parts.specs.Deliveries.{id_at, present_for, taken_by, unmapped}
-use Rattle.journal_protocol.specs.declared.notification.NotificationId.TheVariants.{SignalId}
+use Rattle.journal_protocol.specs.declared.notification.NotificationId.TheVariants.{SignalId, SignalName}
 use Rattle.vm_parts.specs.Values.{value_of}
 use Rattle.vm_machine.specs.declared.machine.Machine.{Machine}
 use Rattle.journal_protocol.specs.declared.version.Version.{Version}
@@ -32,9 +32,9 @@ use Rattle.vm_machine.specs.Commands.{CanBeRead, commanded_unless, phase_after}
 use Rattle.vm_machine.specs.Inputs.{end_at}
 use Rattle.vm_machine.specs.Outcomes.{Outcome, Done, Failed, called, refused, ruled}
 use Rattle.vm_machine.specs.Phases.{is_closed, is_processing, state_fault}
-use Rattle.vm_machine.specs.Signals.{awakeable_counted, awakeable_id, awakeable_step}
+use Rattle.vm_machine.specs.Signals.{awakeable_counted, awakeable_id, awakeable_step, signal_counted, signal_step}
 use Rattle.invocation_vm.specs.Calls.{skips_replay}
-use Rattle.vm_model.specs.Calls.{Setup, Meaning, Derived, Move, asked, awakeable_made, call_of, commanding, making_awakeable, has_result_in, identity_of, ready_in, result_taken, taking, value_taken}
+use Rattle.vm_model.specs.Calls.{Setup, Meaning, Derived, Move, asked, awakeable_made, call_of, commanding, making_awakeable, has_result_in, identity_of, ready_in, result_taken, signal_made, taking, value_taken}
 use Rattle.vm_model.specs.Calls.Usage.{Taken}
 use Rattle.vm_model.specs.Calls.Move.{Answers, Ends, Refuses}
 use Rattle.vm_model.specs.Refusals.{IsRefusedFor}
@@ -104,6 +104,19 @@ makes_awakeable : (s : Setup) (given : StateMap) (written : List RawMessage) (as
 makes_awakeable s given written aside p identity true = refuses_here s given written aside p answer.Awakeable fault.UnsupportedFeature
 makes_awakeable s given written aside p identity false = counts_awakeable s given written aside p identity
 
+-- ---- named signals
+
+signals_follow : (s : Setup) (given : StateMap) (written : List RawMessage) (aside : Aside) (p : Point) (name : List ℕ) (o : Option NamedFault) → LeadsOn s given written aside p answer.Handle (signal_made name o p.derived) (signal_counted o name (machine_at s given written aside p))
+signals_follow s given written aside p name (Some fault) = refuses_here s given written aside p answer.Handle fault
+signals_follow s given written aside p name None = answers s given written aside p answer.Handle (record { 0 = p.derived.counters.handle }) (record p.derived {
+  handles = p.derived.handles ++ record { handle = p.derived.counters.handle; id = SignalName name } ∷ [];
+  counters = record p.derived.counters { handle = p.derived.counters.handle + 1 };
+})
+
+makes_signal : (s : Setup) (given : StateMap) (written : List RawMessage) (aside : Aside) (p : Point) (name : List ℕ) → LeadsOn s given written aside p answer.Handle (signal_made name (missing_signals 0 1 p.derived.counters) p.derived) (signal_step name (machine_at s given written aside p))
+unfolding signal_step
+makes_signal s given written aside p name = rw (runs_at p.left) (signals_follow s given written aside p name (missing_signals 0 1 p.derived.counters))
+
 -- ---- calls with a command
 
 -- what holds where an event is done, holds where its call is
@@ -165,6 +178,8 @@ asked_follows s m given written aside p identity (ask.Command c) is command whol
     follows_from s m given written aside p (command_answer c.message) _ _ identity (ap (λ a. asked s a p.derived) is) (commands_follow s given written aside p c command c.refusal (event_done _ _ s given written aside p _ whole))
 asked_follows s m given written aside p identity ask.Awakeable is command whole =
     follows_from s m given written aside p answer.Awakeable _ _ identity (ap (λ a. asked s a p.derived) is) (makes_awakeable s given written aside p identity (skips_replay s.options.journal_replay))
+asked_follows s m given written aside p identity (ask.Signal name) is command whole =
+    follows_from s m given written aside p answer.Handle _ _ identity (ap (λ a. asked s a p.derived) is) (makes_signal s given written aside p name)
 asked_follows s m given written aside p identity (ask.Await future) is command whole = awaits_follow s m given written aside p future identity (awaits_asked s.version (m p.answers) future is)
 asked_follows s m given written aside p identity (ask.Take h) is command whole =
     follows_from s m given written aside p answer.Taken _ _ identity (ap (λ a. asked s a p.derived) is) (takes_follow s given written aside p h)

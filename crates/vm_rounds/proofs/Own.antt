@@ -33,6 +33,7 @@ AsksCommand a = Unit {0}
 
 pub asks_command : (version : Version) (s : Step) → AsksCommand (ask_of version s)
 asks_command version step.Awakeable = tt
+asks_command version (step.Signal name) = tt
 asks_command version (step.Await future) = tt
 asks_command version (step.Take handle) = tt
 asks_command version (step.Completed handle) = tt

@@ -37,7 +37,7 @@ use Rattle.vm_machine.specs.Inputs.{end_at, end_step}
 use Rattle.vm_machine.specs.Outcomes.{Does, IsStarved, Outcome, Done, Failed, ◌>>=◌, about_last, called, called_at, failed, refused, ruled, settled}
 use Rattle.vm_machine.specs.Phases.{is_closed, is_processing, is_replaying, is_running, state_fault}
 use Rattle.vm_machine.specs.Requests.{ids_of, name_of, shown_type, with_ids}
-use Rattle.vm_machine.specs.Signals.{awakeable_counted, awakeable_step}
+use Rattle.vm_machine.specs.Signals.{awakeable_counted, awakeable_step, signal_counted, signal_step}
 use Rattle.invocation_vm.specs.Calls.{future_step, new_awakeable_step, skips_replay}
 use Rattle.vm_model.specs.Journal.{stored_form}
 use Rattle.vm_rounds.specs.declared.progress.Reply.{Reply}
@@ -187,6 +187,18 @@ new_awakeables : (b : Bool) (v : Machine) → Happens RunsOn v (if b then refuse
 new_awakeables true v = (refl, refl, refl)
 new_awakeables false v = awakeables v
 
+signal_is : (o : Option NamedFault) (name : List ℕ) (v : Machine) → is_running v.phase ≡ true → Happens RunsOn v (signal_counted o name v)
+signal_is (Some fault) name v runs = (refl, refl, refl)
+signal_is None name v runs = record { sends = stays_sends v _ (refl, refl, refl); failure = refl; left = runs }
+
+signals : (name : List ℕ) (v : Machine) → Happens RunsOn v (signal_step name v)
+unfolding signal_step
+signals name v = by_test (is_running v.phase) refl
+  where
+    by_test : (b : Bool) → is_running v.phase ≡ b → Happens RunsOn v (if b then signal_counted (missing_signals 0 1 v.counters) name v else refused (state_fault v.phase) v)
+    by_test true e = signal_is (missing_signals 0 1 v.counters) name v e
+    by_test false e = (refl, refl, refl)
+
 -- an await that is answered or waits lets the handler run; one that is refused has closed the machine
 abbrev AwaitLeaves : Result AwaitResponse Error → Machine → Type 0
 AwaitLeaves (Ok response) w = is_running w.phase ≡ true
@@ -281,6 +293,7 @@ await_stands (Err e) w h = h
 asked_leaves : (a : Ask) (v : Machine) → IsLive v → CallLeaves StandsBy v (performed_by a v)
 asked_leaves (ask.Command c) v live = mapping RunsOn StandsBy _ (λ h w runs. runs) v (called (commanded c v) v) (calling RunsOn v (commanded c v) live.failure (commands c.refusal c.message c.unstable v))
 asked_leaves ask.Awakeable v live = mapping RunsOn StandsBy _ (λ h w runs. runs) v (called (new_awakeable_step v) v) (calling RunsOn v (new_awakeable_step v) live.failure (new_awakeables (skips_replay v.options.journal_replay) v))
+asked_leaves (ask.Signal name) v live = mapping RunsOn StandsBy _ (λ h w runs. runs) v (called (signal_step name v) v) (calling RunsOn v (signal_step name v) live.failure (signals name v))
 asked_leaves (ask.Await future) v live = mapping AwaitLeaves StandsBy await_reply await_stands v (called (future_step future v) v) (calling AwaitLeaves v (future_step future v) live.failure (futures future v))
 asked_leaves (ask.Take handle) v live = mapping RunsOn StandsBy _ (λ h w runs. runs) v (called (take_step handle.0 v) v) (calling RunsOn v (take_step handle.0 v) live.failure (takes handle.0 v))
 asked_leaves (ask.Completed handle) v live = record { sends = stays_sends v v (refl, refl, refl); failure = refl; left = live.phase }

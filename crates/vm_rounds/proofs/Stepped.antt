@@ -36,7 +36,7 @@ use Rattle.vm_machine.specs.Requests.{ids_of}
 use Rattle.invocation_vm.specs.Calls.{skips_replay}
 use Rattle.invocation_vm.specs.Frames.{Rest}
 use Rattle.invocation_vm.specs.Views.{View}
-use Rattle.vm_model.specs.Calls.{Setup, Meaning, Derived, Move, asked as asked_move, awakeable_made, awaiting, call_of, commanding, is_awake, making_awakeable, numbered, ready_in, result_taken, value_taken}
+use Rattle.vm_model.specs.Calls.{Setup, Meaning, Derived, Move, asked as asked_move, awakeable_made, awaiting, call_of, commanding, is_awake, making_awakeable, numbered, signal_made, ready_in, result_taken, value_taken}
 use Rattle.vm_model.specs.Calls.Move.{Answers, Needs, Awaits, Ends, Refuses}
 use Rattle.vm_model.specs.Journal.{stored_form}
 use Rattle.vm_model.specs.Moves.{Point, move_at, start, supplied, supply}
@@ -86,6 +86,10 @@ making_needs : (s : Setup) (b : Bool) (d : Derived) → NeedsCommand (making_awa
 making_needs s true d = tt
 making_needs s false d = awakeable_needs s (missing_signals 1 1 d.counters) d
 
+signal_needs : (name : List ℕ) (o : Option NamedFault) (d : Derived) → NeedsCommand (signal_made name o d)
+signal_needs name (Some fault) d = tt
+signal_needs name None d = tt
+
 awaiting_needs : (b : Bool) (d : Derived) → NeedsCommand (awaiting b d)
 awaiting_needs true d = tt
 awaiting_needs false d = tt
@@ -102,6 +106,7 @@ result_needs h None o d = tt
 asked_needs : (s : Setup) (a : Ask) (d : Derived) → AsksCommand a → NeedsCommand (asked_move s a d)
 asked_needs s (ask.Command c) d is = commanding_needs s c c.refusal d is
 asked_needs s ask.Awakeable d is = making_needs s (skips_replay s.options.journal_replay) d
+asked_needs s (ask.Signal name) d is = signal_needs name (missing_signals 0 1 d.counters) d
 asked_needs s (ask.Await future) d is = awaiting_needs (is_awake s future d) d
 asked_needs s (ask.Take handle) d is = result_needs handle (id_at handle.0 d.handles) (present_for s.options.signal_delivery (id_at handle.0 d.handles) (ready_in s d)) d
 asked_needs s (ask.Completed handle) d is = tt

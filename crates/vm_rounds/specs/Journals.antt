@@ -13,7 +13,7 @@ use Rattle.vm_parts.specs.declared.context.StateMap.{StateMap}
 use Rattle.vm_parts.specs.declared.options.VMOptions.{VMOptions}
 use Rattle.vm_parts.specs.declared.values.Input.{Input}
 use Rattle.vm_parts.specs.Counting.{fresh_counters}
-use Rattle.vm_parts.specs.Deliveries.{no_results}
+use Rattle.vm_parts.specs.Deliveries.{no_results, none_ready}
 use Rattle.vm_machine.specs.declared.machine.Machine.{Machine}
 use Rattle.vm_machine.specs.declared.phase.Phase.{Phase}
 use Rattle.vm_machine.specs.declared.phase.Phase.TheVariants.{WaitingReplayEntries, Replaying}
@@ -77,7 +77,7 @@ machine_fed s given aside cs ns phase = record {
   counters = fresh_counters;
   last_command = record { ty = type.Start; name = [] };
   wrote_command = false;
-  results = record { queued = ns; ready = []; handles = no_results.handles };
+  results = record { queued = ns; ready = none_ready; handles = no_results.handles };
   state = given;
   runs = [];
   proposals = [];

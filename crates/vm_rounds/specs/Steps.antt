@@ -1,5 +1,5 @@
 -- The call that a step of a handler is, and what its answer is to the handler: one row a kind of what steps ask for.
-use Rattle.std.specs.Prelude.{◌≡◌, Result, Ok, Err, OnOk}
+use Rattle.std.specs.Prelude.{◌≡◌, ℕ, List, Result, Ok, Err, OnOk}
 use Rattle.journal_protocol.specs.declared.error.Error.{Error}
 use Rattle.vm_parts.specs.declared.steps.Answer.TheVariants as answer
 use Rattle.vm_parts.specs.declared.steps.Step.{Step}
@@ -17,6 +17,7 @@ use Rattle.vm_machine.specs.Awaits.{is_completed, take_step}
 use Rattle.vm_machine.specs.Commands.{CanBeRead, commanded}
 use Rattle.vm_machine.specs.Inputs.{end_step}
 use Rattle.vm_machine.specs.Outcomes.{Outcome, Done, Failed, called, Does}
+use Rattle.vm_machine.specs.Signals.{signal_step}
 use Rattle.invocation_vm.specs.Calls.{future_step, new_awakeable_step}
 use Rattle.invocation_vm.specs.Views.{View}
 use Rattle.vm_rounds.specs.declared.progress.Reply.{Reply}
@@ -40,6 +41,10 @@ carried c v = mapped (λ handle. reply.Answer (command_answer c.message handle))
 abbrev pub awakeable_made : Machine → Outcome Reply
 awakeable_made v = mapped (λ awakeable. reply.Answer (answer.Awakeable awakeable)) (called (new_awakeable_step v) v)
 
+-- a named signal: the answer is its handle
+abbrev pub signalled : List ℕ → Machine → Outcome Reply
+signalled name v = mapped (λ handle. reply.Answer (answer.Handle handle)) (called (signal_step name v) v)
+
 -- an await that is answered, that waits, or by which the invocation is suspended
 abbrev pub await_reply : Result AwaitResponse Error → Reply
 await_reply (Ok AnyCompleted) = reply.Answer answer.Awake
@@ -62,6 +67,7 @@ ended v = mapped (λ _. reply.Ended) (called (end_step v) v)
 abbrev pub performed_by : Ask → Machine → Outcome Reply
 performed_by (ask.Command c) v = carried c v
 performed_by ask.Awakeable v = awakeable_made v
+performed_by (ask.Signal name) v = signalled name v
 performed_by (ask.Await future) v = awaited future v
 performed_by (ask.Take handle) v = taken handle v
 performed_by (ask.Completed handle) v = Done (reply.Answer (answer.Completed (is_completed handle.0 v))) v

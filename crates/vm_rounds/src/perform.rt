@@ -2,13 +2,14 @@
 ghost use Rattle.std.specs.Prelude.{◌≡◌, OnOk};
 ghost use Rattle.vm_machine.specs.Commands.{CanBeRead};
 ghost use Rattle.invocation_vm.specs.Seen.{seen};
-ghost use Rattle.vm_rounds.specs.Steps.{ended, awaited, await_reply, awakeable_made, carried, taken, Asked, StepMade};
+ghost use Rattle.vm_rounds.specs.Steps.{ended, awaited, await_reply, awakeable_made, carried, signalled, taken, Asked, StepMade};
 
 use crate::progress::Reply;
 use invocation_vm::{AwaitResponse, CoreVM, NotificationHandle, UnresolvedFuture, VM, VMResult};
 use vm_machine::asks::command_answer;
 use vm_machine::{Ask, Command};
 use vm_parts::{Answer, Step};
+use wire::Text;
 
 #[tactic(auto, using(crate::proofs::Replies::replies, crate::proofs::Replies::replies_sent, vm_machine::proofs::Answering::handles_fit))]
 fn carry(vm: &mut CoreVM, command: Command) -> VMResult<Reply>
@@ -28,6 +29,16 @@ fn awakeable(vm: &mut CoreVM) -> VMResult<Reply>
 {
     match vm.sys_awakeable() {
         Ok(awakeable) => Ok(Reply::Answer(Answer::Awakeable(awakeable))),
+        Err(error) => Err(error),
+    }
+}
+
+#[tactic(auto, using(crate::proofs::Replies::replies))]
+fn signal(vm: &mut CoreVM, name: Text) -> VMResult<Reply>
+    ensures { Asked (signalled name) result (seen vm.old) (seen vm.new) }
+{
+    match vm.create_signal_handle(name.into_string()) {
+        Ok(handle) => Ok(Reply::Answer(Answer::Handle(handle))),
         Err(error) => Err(error),
     }
 }
@@ -87,6 +98,7 @@ pub fn perform(vm: &mut CoreVM, step: Step) -> VMResult<Reply>
     match vm.ask_of(step) {
         Ask::Command(command) => carry(vm, command),
         Ask::Awakeable => awakeable(vm),
+        Ask::Signal(name) => signal(vm, name),
         Ask::Await(future) => wait(vm, future),
         Ask::Take(handle) => take(vm, handle),
         Ask::Completed(handle) => Ok(Reply::Answer(Answer::Completed(vm.is_completed(handle)))),

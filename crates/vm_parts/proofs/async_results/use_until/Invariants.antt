@@ -5,8 +5,8 @@ use Rattle.vm_parts.proofs.async_results.use_until.Given as goal
 
 abbrev pub invariant-arrivals : goal.invariant-arrivals
 invariant-arrivals l = record {
-  none : has_result_for (option_copied l.wanted) l.ready.items ≡ false;
-  same : used_until (option_copied l.wanted) l.initial.ready.items l.initial.queued.items ≡ used_until (option_copied l.wanted) l.ready.items l.queued.items;
+  none : has_result_for (option_copied l.wanted) l.ready ≡ false;
+  same : used_until (option_copied l.wanted) l.initial.ready l.initial.queued.items ≡ used_until (option_copied l.wanted) l.ready l.queued.items;
 }
 
 abbrev pub decreases-arrivals : goal.decreases-arrivals
