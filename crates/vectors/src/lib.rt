@@ -34,6 +34,8 @@ mod reports;
 #[cfg(test)]
 mod sleeps;
 #[cfg(test)]
+mod state_maps;
+#[cfg(test)]
 mod states;
 #[cfg(test)]
 mod table;

@@ -1,8 +1,10 @@
 -- The handed-out state as it is read, pair by pair.
-use Rattle.std.proofs.Common.{◌≡◌, ℕ, ◌+◌, ◌<◌, Bool, false, List, [], ◌∷◌, ◌++◌, length, take, drop, get_or, map, refl, ap, ◌∙◌}
+use Rattle.std.proofs.Common.{◌≡◌, ℕ, ◌+◌, ◌<◌, Bool, false, List, [], length, take, drop, get_or, Some, refl, ap, ◌∙◌}
 use Rattle.std.specs.List.{list_all}
 use Rattle.std.specs.Str.{IsUtf8, is_utf8}
 use Rattle.std.proofs.lemmas.Str.{is_utf8-from_IsUtf8}
+use Rattle.std.proofs.lemmas.List.Sums.{fold_push}
+use Rattle.vm_parts.specs.Entries.{entries_of, with_entry}
 use Rattle.vm_parts.proofs.Places.{from_place}
 use Rattle.vm_parts.proofs.Texts.{not_text, take_next}
 
@@ -22,10 +24,6 @@ pub key_text_more : (pairs : List Pair) (i : ℕ) (p : Pair) → i < length pair
 key_text_more pairs i p l e holds rest =
     rest ∙ ap (list_all key_is_text) (from_place pairs i p l e) ∙ rw (is_utf8-from_IsUtf8 p.0 holds) refl
 
-map_push : {X Y : Type 0} (f : X → Y) (xs : List X) (x : X) → map f (xs ++ x ∷ []) ≡ map f xs ++ f x ∷ []
-map_push f [] x = refl
-map_push f (y ∷ ys) x = ap (λ t. f y ∷ t) (map_push f ys x)
-
-pub entry_more : {Y : Type 0} (f : Pair → Y) (pairs : List Pair) (i : ℕ) (p : Pair) → i < length pairs → p ≡ get_or pairs i p
-    → map f (take (i + 1) pairs) ≡ map f (take i pairs) ++ f p ∷ []
-entry_more f pairs i p l e = ap (map f) (take_next pairs i p l e) ∙ map_push f (take i pairs) p
+pub entry_more : (pairs : List Pair) (i : ℕ) (p : Pair) → i < length pairs → p ≡ get_or pairs i p
+    → entries_of (take (i + 1) pairs) ≡ with_entry p.0 (Some p.1) (entries_of (take i pairs))
+entry_more pairs i p l e = ap entries_of (take_next pairs i p l e) ∙ fold_push (λ es p. with_entry p.0 (Some p.1) es) [] (take i pairs) p

@@ -1,5 +1,5 @@
 -- What comes to a machine: messages, the closing of the input, and a handler that reads its input.
-use Rattle.std.specs.Prelude.{◌≡◌, ◌⊎◌, ℕ, ◌-◌, Bool, true, false, ◌&&◌, ◌==◌, if◌then◌else◌, nat_lt, nat_le, List, [], ◌∷◌, ◌++◌, map, Option, Some, None, Result, Ok, Err, IsErr}
+use Rattle.std.specs.Prelude.{◌≡◌, ◌⊎◌, ℕ, ◌-◌, Bool, true, false, ◌&&◌, ◌==◌, if◌then◌else◌, nat_lt, nat_le, List, [], ◌∷◌, ◌++◌, Option, Some, None, Result, Ok, Err, IsErr}
 use Rattle.std.specs.List.{list_all}
 use Rattle.std.specs.Str.{is_utf8}
 use Rattle.std.specs.declared.alloc.AllocError.{AllocError}
@@ -21,6 +21,7 @@ use Rattle.vm_parts.specs.declared.context.StateCoverage.{StateCoverage}
 use Rattle.vm_parts.specs.declared.context.StateCoverage.TheVariants.{Partial, Complete}
 use Rattle.vm_parts.specs.declared.values.Input.{Input}
 use Rattle.vm_parts.specs.Counting.{missing}
+use Rattle.vm_parts.specs.Entries.{entries_of}
 use Rattle.vm_machine.specs.declared.fault.Fault.{Fault}
 use Rattle.vm_machine.specs.declared.fault.Fault.TheVariants as stopped
 use Rattle.vm_machine.specs.declared.machine.Machine.{Machine}
@@ -58,9 +59,9 @@ abbrev pub coverage_of : Bool → StateCoverage
 coverage_of true = Partial
 coverage_of false = Complete
 
--- the handed-out state; its keys have to be texts
+-- the entries of the handed-out state; its keys have to be texts
 abbrev pub entries_in : List (List ℕ × List ℕ) → Option (List (List ℕ × Option (List ℕ)))
-entries_in pairs = if list_all (λ p. is_utf8 p.0) pairs then Some (map (λ p. (p.0, Some p.1)) pairs) else None
+entries_in pairs = if list_all (λ p. is_utf8 p.0) pairs then Some (entries_of pairs) else None
 
 -- Start is kept, where its state keys are texts and it tells of at least one entry
 abbrev pub started_with : Start → Option (List (List ℕ × Option (List ℕ))) → Machine → Outcome Unit

@@ -91,10 +91,7 @@ impl Machine {
             },
             wrote_command: false,
             results,
-            state: StateMap {
-                entries: Items::new(alloc),
-                coverage: StateCoverage::Partial,
-            },
+            state: StateMap::new(alloc, StateCoverage::Partial),
             runs: Items::new(alloc),
             proposals: Items::new(alloc),
             tracked: Items::new(alloc),

@@ -10,7 +10,7 @@ use crate::phase::Phase;
 use bytes::Bytes;
 use journal_protocol::{NamedFault, RawMessage, Start, Version};
 use std::alloc::{AllocError, Global};
-use vm_parts::{StartInfo, StateCoverage, StateMap};
+use vm_parts::{Entries, StartInfo, StateCoverage, StateMap};
 use wire::{Items, Text};
 
 fn coverage_of(partial: bool) -> StateCoverage
@@ -24,20 +24,17 @@ fn coverage_of(partial: bool) -> StateCoverage
 }
 
 /// The handed-out state; none where a key is no text.
-fn read_state(
-    alloc: Global,
-    pairs: &Items<(Bytes, Bytes)>,
-) -> Result<Option<Items<(Text, Option<Bytes>)>>, AllocError>
+fn read_state(alloc: Global, pairs: &Items<(Bytes, Bytes)>) -> Result<Option<Entries>, AllocError>
     ensures { IfOk result (λ entries. entries ≡ entries_in pairs.now) }
 {
-    let mut entries = Items::new(alloc);
+    let mut entries = Entries::new(alloc);
     for pair in pairs.as_slice() {
         let Ok(key) = std::str::from_utf8(pair.0.as_slice()) else {
             return Ok(None);
         };
         let key = Text::from_str(alloc, key)?;
         let value = pair.1.clone()?;
-        entries.push((key, Some(value)))?;
+        entries.put(key, Some(value))?;
     }
     Ok(Some(entries))
 }

@@ -1,4 +1,5 @@
 pub mod Changes
+pub mod Keys
 pub mod Outboxes
 pub mod Places
 pub mod Results

@@ -2,6 +2,7 @@ pub mod Arrived
 pub mod CommandTypes
 pub mod Counting
 pub mod Deliveries
+pub mod Entries
 pub mod Options
 pub mod Outboxes
 pub mod Values

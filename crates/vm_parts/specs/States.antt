@@ -1,43 +1,45 @@
--- The state as it was handed out and as the handler has changed it since: of several entries of one key the last counts.
-use Rattle.std.specs.Prelude.{ℕ, List, [], ◌∷◌, ◌++◌, cond, nat_eq, Option, Some, None}
-use Rattle.std.specs.Cmp.Lexicographic.{pointwise}
+-- The state as it was handed out and as the handler has changed it since.
+use Rattle.std.specs.Prelude.{ℕ, Bool, true, false, List, [], Option, Some, None}
+use Rattle.vm_parts.specs.declared.context.Known.{Known}
+use Rattle.vm_parts.specs.declared.context.Known.TheVariants.{Unknown, Empty, Value}
 use Rattle.vm_parts.specs.declared.context.StateCoverage.{StateCoverage}
 use Rattle.vm_parts.specs.declared.context.StateCoverage.TheVariants.{Partial, Complete}
 use Rattle.vm_parts.specs.declared.context.StateMap.{StateMap}
+use Rattle.vm_parts.specs.Entries.{entry_of, with_entry, keys_with_value}
 
 -- a key gets a value
 abbrev pub state_set : List ℕ → List ℕ → StateMap → StateMap
-state_set key value s = record s { entries = s.entries ++ (key, Some value) ∷ [] }
+state_set key value s = record s { entries = with_entry key (Some value) s.entries }
 
 -- a key loses its value
 abbrev pub state_cleared : List ℕ → StateMap → StateMap
-state_cleared key s = record s { entries = s.entries ++ (key, None) ∷ [] }
+state_cleared key s = record s { entries = with_entry key None s.entries }
 
 -- each key loses its value
 abbrev pub all_cleared : StateMap → StateMap
 all_cleared s = record { entries = []; coverage = Complete }
 
+-- what a key's entry says, or where it has none the coverage
+abbrev pub known_by : StateCoverage → Option (Option (List ℕ)) → Known
+known_by coverage (Some (Some value)) = Value value
+known_by coverage (Some None) = Empty
+known_by Partial None = Unknown
+known_by Complete None = Empty
+
 -- what is known of a key: nothing, that it has no value, or its value
-pub data Known : Type 0 where
-  Unknown : Known
-  Empty : Known
-  Is : List ℕ → Known
-
--- what an entry says
-abbrev pub known_value : Option (List ℕ) → Known
-known_value None = Empty
-known_value (Some value) = Is value
-
--- where no entry speaks of it
-abbrev pub otherwise : StateCoverage → Known
-otherwise Partial = Unknown
-otherwise Complete = Empty
-
--- what the entries say of a key; the last that speaks of it counts
-abbrev pub known_among : List ℕ → Known → List (List ℕ × Option (List ℕ)) → Known
-known_among key before [] = before
-known_among key before (e ∷ es) = known_among key (cond (pointwise nat_eq e.0 key) (known_value e.1) before) es
-
--- what is known of a key
 abbrev pub known : List ℕ → StateMap → Known
-known key s = known_among key (otherwise s.coverage) s.entries
+known key s = known_by s.coverage (entry_of key s.entries)
+
+-- whether a value is known
+abbrev pub has_value : Known → Bool
+has_value (Value value) = true
+has_value _ = false
+
+-- keys with a value, where they are known to be all
+abbrev pub keys_by : StateCoverage → List (List ℕ) → Option (List (List ℕ))
+keys_by Partial keys = None
+keys_by Complete keys = Some keys
+
+-- the keys that have a value, in order, where this is known of each key
+abbrev pub known_keys : StateMap → Option (List (List ℕ))
+known_keys s = keys_by s.coverage (keys_with_value s.entries)

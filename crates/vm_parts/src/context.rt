@@ -1,12 +1,17 @@
 //! What an attempt knows of itself: its counters, its last command, what Start told it, and the state.
-ghost use Rattle.std.specs.Prelude.{◌≡◌, ◌≢◌, List, ℕ, ◌<◌, ◌+◌, ◌^◌, IfNone, OnOk, OnErr};
+ghost use Rattle.std.specs.Prelude.{◌≡◌, ◌≢◌, List, [], ◌∷◌, ◌++◌, ℕ, ◌<◌, ◌+◌, ◌^◌, IfNone, IfSome, IfOk, OnOk, OnErr};
+ghost use Rattle.std.specs.List.Sorted.{IsStrictlySortedBy};
+ghost use Rattle.vm_parts.specs.declared.context.StateCoverage.{StateCoverage as Coverage};
 ghost use Rattle.vm_parts.specs.declared.context.StateMap.{StateMap as State};
-ghost use Rattle.vm_parts.specs.States.{state_set, state_cleared, all_cleared, known, Is, Empty};
+ghost use Rattle.vm_parts.specs.declared.context.Known.TheVariants.{Empty, Value};
+ghost use Rattle.vm_parts.specs.Entries.{IsInOrder, by_bytes, entries_of, is_among};
+ghost use Rattle.vm_parts.specs.States.{state_set, state_cleared, all_cleared, known, has_value, known_keys};
 ghost use Rattle.vm_parts.specs.Counting.{fresh_counters, next_index, missing, missing_signals};
 
+use crate::entries::Entries;
 use bytes::Bytes;
 use journal_protocol::{MessageType, NamedFault};
-use std::alloc::AllocError;
+use std::alloc::{AllocError, Global};
 use wire::{Items, Text, copy_of};
 
 /// The next numbers, each one's place; a counter at `u32::MAX` hands nothing out.
@@ -52,11 +57,21 @@ pub enum StateCoverage {
     Complete,
 }
 
-/// The state as it was handed out: of several entries of one key the last counts.
+/// The state as it was handed out and as the handler has changed it since.
 #[derive(Debug, Drop)]
 pub struct StateMap {
-    pub entries: Items<(Text, Option<Bytes>)>,
+    pub entries: Entries,
     pub coverage: StateCoverage,
+}
+
+/// What is known of a key's value.
+#[derive(Debug, Drop)]
+pub enum Known {
+    /// The key's value was not handed out, and the handler hasn't changed it.
+    Unknown,
+    /// The key has no value.
+    Empty,
+    Value(Bytes),
 }
 
 impl Counters {
@@ -119,13 +134,23 @@ impl Counters {
 }
 
 impl StateMap {
+    /// A state of which this much is known and no entry was handed out.
+    pub fn new(alloc: Global, coverage: StateCoverage) -> StateMap
+        ensures { result ≡ record { entries = []; coverage = coverage } }
+    {
+        StateMap {
+            entries: Entries::new(alloc),
+            coverage,
+        }
+    }
+
     /// A key gets a value.
     pub fn set(&mut self, key: &Text, value: &Bytes) -> Result<(), AllocError>
         ensures ok { OnOk result (self.new ≡ state_set key.now value.now self.old) }
         ensures err { OnErr result (self.new ≡ self.old) }
     {
-        let entry = (copy_of(key)?, Some(value.clone()?));
-        self.entries.push(entry)
+        let (key, value) = (copy_of(key)?, value.clone()?);
+        self.entries.put(key, Some(value))
     }
 
     /// A key loses its value.
@@ -133,8 +158,7 @@ impl StateMap {
         ensures ok { OnOk result (self.new ≡ state_cleared key.now self.old) }
         ensures err { OnErr result (self.new ≡ self.old) }
     {
-        let entry = (copy_of(key)?, None);
-        self.entries.push(entry)
+        self.entries.put(copy_of(key)?, None)
     }
 
     /// Each key loses its value.
@@ -144,15 +168,48 @@ impl StateMap {
         self.entries.clear();
         self.coverage = StateCoverage::Complete;
     }
+
+    /// What is known of a key.
+    pub fn get(&self, key: &Text) -> Result<Known, AllocError>
+        ensures { IfOk result (λ found. found ≡ known key.now self.now) }
+    {
+        match self.entries.get(key) {
+            Some(Some(value)) => Ok(Known::Value(value.clone()?)),
+            Some(None) => Ok(Known::Empty),
+            None => match self.coverage {
+                StateCoverage::Partial => Ok(Known::Unknown),
+                StateCoverage::Complete => Ok(Known::Empty),
+            },
+        }
+    }
+
+    /// The keys that have a value; none where the whole state isn't known.
+    #[tactic(auto, using(crate::proofs::Keys::keys_in_order, crate::proofs::Keys::key_listed))]
+    pub fn keys(&self, alloc: Global) -> Result<Option<Items<Text>>, AllocError>
+        ensures keys { IfOk result (λ keys. keys ≡ known_keys self.now) }
+        ensures sorted { IfOk result (λ keys. IfSome keys (IsStrictlySortedBy by_bytes)) }
+        ensures listed { IfOk result (λ keys. IfSome keys (λ found. (key : List ℕ) → is_among key found ≡ has_value (known key self.now))) }
+    {
+        match self.coverage {
+            StateCoverage::Partial => Ok(None),
+            StateCoverage::Complete => Ok(Some(self.entries.keys_with_value(alloc)?)),
+        }
+    }
 }
 
 /// What the changes of the state leave, key by key: a set gives its key its value, a clear takes it away, each leaves
-/// the other keys as they were, and a clear of all takes each key's value away.
-#[tactic(auto, using(crate::proofs::Changes::known_set, crate::proofs::Changes::known_besides_set, crate::proofs::Changes::known_cleared, crate::proofs::Changes::known_besides_cleared))]
+/// the other keys as they were, and a clear of all takes each key's value away. Each pair that is handed out is a set.
+/// There stays one entry a key, in order.
+#[tactic(auto, using(crate::proofs::Changes::known_set, crate::proofs::Changes::known_besides_set, crate::proofs::Changes::known_cleared, crate::proofs::Changes::known_besides_cleared, crate::proofs::Changes::stays_in_order, crate::proofs::Changes::known_last, crate::proofs::Changes::known_besides_last, crate::proofs::Changes::pairs_in_order))]
 pub fn state_changes()
-    ensures set { (key value : List ℕ) (s : State) → known key (state_set key value s) ≡ Is value }
+    ensures set { (key value : List ℕ) (s : State) → known key (state_set key value s) ≡ Value value }
     ensures besides_set { (key other value : List ℕ) (s : State) → other ≢ key → known other (state_set key value s) ≡ known other s }
     ensures cleared { (key : List ℕ) (s : State) → known key (state_cleared key s) ≡ Empty }
     ensures besides_cleared { (key other : List ℕ) (s : State) → other ≢ key → known other (state_cleared key s) ≡ known other s }
     ensures all_cleared { (key : List ℕ) (s : State) → known key (all_cleared s) ≡ Empty }
+    ensures last_pair { (key value : List ℕ) (pairs : List (List ℕ × List ℕ)) (c : Coverage) → known key (record { entries = entries_of (pairs ++ (key, value) ∷ []); coverage = c }) ≡ Value value }
+    ensures besides_last_pair { (key other value : List ℕ) (pairs : List (List ℕ × List ℕ)) (c : Coverage) → other ≢ key → known other (record { entries = entries_of (pairs ++ (key, value) ∷ []); coverage = c }) ≡ known other (record { entries = entries_of pairs; coverage = c }) }
+    ensures pairs_in_order { (pairs : List (List ℕ × List ℕ)) → IsInOrder (entries_of pairs) }
+    ensures set_in_order { (key value : List ℕ) (s : State) → IsInOrder s.entries → IsInOrder (state_set key value s).entries }
+    ensures cleared_in_order { (key : List ℕ) (s : State) → IsInOrder s.entries → IsInOrder (state_cleared key s).entries }
 {}

@@ -5,6 +5,7 @@
 pub mod async_results;
 pub mod command_type;
 pub mod context;
+pub mod entries;
 pub mod ephemeral;
 pub mod options;
 pub mod outbox;
@@ -16,7 +17,8 @@ pub mod values;
 
 pub use async_results::{AsyncResults, Mapping};
 pub use command_type::{CommandRelationship, CommandType};
-pub use context::{Counters, LastCommand, StartInfo, StateCoverage, StateMap};
+pub use context::{Counters, Known, LastCommand, StartInfo, StateCoverage, StateMap};
+pub use entries::Entries;
 pub use ephemeral::EphemeralCommand;
 pub use journal_protocol::InvocationTarget as AttachInvocationTarget;
 pub use options::{

@@ -1,4 +1,4 @@
-use Rattle.std.proofs.Common.{◌<◌, length, Some, sym, ap, arith, refl}
+use Rattle.std.proofs.Common.{◌<◌, length, sym, ap, arith, refl}
 use Rattle.vm_machine.proofs.States.{some_key_no_text, key_text_more, entry_more}
 use Rattle.vm_machine.proofs.receive.read_state.Goals as goal
 
@@ -15,6 +15,6 @@ loop-pair-preserved c =
     let is = rw c.as_slice-pair-items.ensures at c.pair-item.is in
     let below : c.loop-pair.pair-index < length pairs = omega (arith, c.loop-pair-test.true, ap length c.as_slice-pair-items.ensures) in
     record {
-      read = rw (c.in_ok-push.ensures.ok, c.loop-pair.invariant.read, c.in_ok-key.ensures, c.in-Ok.ensures.cases.0, c.as_slice.ensures, c.in_ok-value.ensures.cases) (sym (entry_more (λ p. (p.0, Some p.1)) pairs c.loop-pair.pair-index c.pair-item.result below is));
+      read = rw (c.in_ok-put.ensures.ok, c.loop-pair.invariant.read, c.in_ok-key.ensures, c.in-Ok.ensures.cases.0, c.as_slice.ensures, c.in_ok-value.ensures.cases) (sym (entry_more pairs c.loop-pair.pair-index c.pair-item.result below is));
       rest = key_text_more pairs c.loop-pair.pair-index c.pair-item.result below is (rw c.as_slice.ensures at c.in-Ok.ensures.cases.1) c.loop-pair.invariant.rest;
     }

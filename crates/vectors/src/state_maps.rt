@@ -1,0 +1,105 @@
+// The state map: what is known of keys, and the known keys in order.
+use bytes::Bytes;
+use std::alloc::{AllocError, Global};
+use std::test::Fail;
+use vm_parts::{Known, StateCoverage, StateMap};
+use wire::Text;
+
+/// A state to which each key was set, in this order.
+fn state_of(
+    alloc: Global,
+    coverage: StateCoverage,
+    pairs: &[(&str, &'static [u8])],
+) -> Result<StateMap, AllocError> {
+    let mut state = StateMap::new(alloc, coverage);
+    for (key, value) in pairs {
+        state.set(&Text::from_str(alloc, key)?, &Bytes::from_static(value))?;
+    }
+    Ok(state)
+}
+
+/// What is known of a key, as a line.
+fn shown(alloc: Global, state: &StateMap, key: &str) -> Result<String, AllocError> {
+    match state.get(&Text::from_str(alloc, key)?)? {
+        Known::Unknown => format!(in alloc; "unknown"),
+        Known::Empty => format!(in alloc; "empty"),
+        Known::Value(value) => format!(in alloc; "value of {} bytes", value.len()),
+    }
+}
+
+/// The known keys, each with a comma behind it.
+fn keys_of(alloc: Global, state: &StateMap) -> Result<Option<String>, AllocError> {
+    let Some(keys) = state.keys(alloc)? else {
+        return Ok(None);
+    };
+    let mut line = String::new(alloc);
+    for key in keys.as_slice() {
+        line.push_str(key.as_str())?;
+        line.push(',')?;
+    }
+    Ok(Some(line))
+}
+
+#[test]
+fn keys_are_known_where_all_are(rt: HostRuntime) -> Result<(), Fail> {
+    let alloc = rt.alloc();
+    let pairs: [(&str, &[u8]); 2] = [("b", b"1"), ("a", b"22")];
+    let state = state_of(alloc, StateCoverage::Partial, &pairs)?;
+    assert_eq!(rt; shown(alloc, &state, "a")?.as_str(), "value of 2 bytes");
+    assert_eq!(rt; shown(alloc, &state, "c")?.as_str(), "unknown");
+    assert!(rt; keys_of(alloc, &state)?.is_none());
+    let state = state_of(alloc, StateCoverage::Complete, &pairs)?;
+    assert_eq!(rt; shown(alloc, &state, "b")?.as_str(), "value of 1 bytes");
+    assert_eq!(rt; shown(alloc, &state, "c")?.as_str(), "empty");
+    assert!(rt; keys_of(alloc, &state)?.is_some_and(|line| line.as_str() == "a,b,"));
+    Ok(())
+}
+
+#[test]
+fn keys_are_in_the_order_of_their_bytes(rt: HostRuntime) -> Result<(), Fail> {
+    let alloc = rt.alloc();
+    let pairs: [(&str, &[u8]); 8] = [
+        ("b", b"1"),
+        ("é", b"2"),
+        ("aa", b"3"),
+        ("", b"4"),
+        ("a", b"5"),
+        ("Z", b"6"),
+        ("b", b"77"),
+        ("😀", b"8"),
+    ];
+    let state = state_of(alloc, StateCoverage::Complete, &pairs)?;
+    assert!(rt; keys_of(alloc, &state)?.is_some_and(|line| line.as_str() == ",Z,a,aa,b,é,😀,"));
+    assert_eq!(rt; shown(alloc, &state, "b")?.as_str(), "value of 2 bytes");
+    Ok(())
+}
+
+#[test]
+fn cleared_keys_are_empty(rt: HostRuntime) -> Result<(), Fail> {
+    let alloc = rt.alloc();
+    let pairs: [(&str, &[u8]); 3] = [("c", b"1"), ("a", b"2"), ("b", b"3")];
+    let mut state = state_of(alloc, StateCoverage::Complete, &pairs)?;
+    state.clear(&Text::from_str(alloc, "b")?)?;
+    state.clear(&Text::from_str(alloc, "d")?)?;
+    assert_eq!(rt; shown(alloc, &state, "b")?.as_str(), "empty");
+    assert!(rt; keys_of(alloc, &state)?.is_some_and(|line| line.as_str() == "a,c,"));
+    let mut state = state_of(alloc, StateCoverage::Partial, &pairs)?;
+    state.clear(&Text::from_str(alloc, "d")?)?;
+    assert_eq!(rt; shown(alloc, &state, "d")?.as_str(), "empty");
+    assert_eq!(rt; shown(alloc, &state, "e")?.as_str(), "unknown");
+    Ok(())
+}
+
+#[test]
+fn after_a_clear_of_all_each_key_is_known(rt: HostRuntime) -> Result<(), Fail> {
+    let alloc = rt.alloc();
+    let pairs: [(&str, &[u8]); 2] = [("b", b"1"), ("a", b"2")];
+    let mut state = state_of(alloc, StateCoverage::Partial, &pairs)?;
+    state.clear_all();
+    assert_eq!(rt; shown(alloc, &state, "a")?.as_str(), "empty");
+    assert_eq!(rt; shown(alloc, &state, "c")?.as_str(), "empty");
+    assert!(rt; keys_of(alloc, &state)?.is_some_and(|line| line.as_str() == ""));
+    state.set(&Text::from_str(alloc, "c")?, &Bytes::from_static(b"3"))?;
+    assert!(rt; keys_of(alloc, &state)?.is_some_and(|line| line.as_str() == "c,"));
+    Ok(())
+}
