@@ -30,8 +30,10 @@ use Rattle.vm_machine.specs.Inputs.{close_step, end_step, input_step, malformed_
 use Rattle.vm_machine.specs.Signals.{awakeable_step, signal_step}
 use Rattle.vm_machine.specs.Outcomes.{Does, IsStarved, Outcome, Done, Failed, called, flat, refused}
 use Rattle.vm_machine.specs.Reports.{report_step}
-use Rattle.vm_machine.proofs.Endings.{answered, await_writes, awakeable_writes, signal_writes, called_writes, close_writes, end_writes, input_writes, commanded_event, malformed_writes, message_writes, nothing_behind, report_writes, same, take_writes, writes_nothing}
-use Rattle.invocation_vm.specs.Calls.{CallsCommand, CallsFor, future_step, new_awakeable_step, skips_replay}
+use Rattle.vm_machine.proofs.Endings.{answered, await_writes, awakeable_writes, signal_writes, read_writes, called_writes, close_writes, end_writes, input_writes, commanded_event, malformed_writes, message_writes, nothing_behind, report_writes, same, take_writes, writes_nothing}
+use Rattle.vm_machine.specs.declared.reads.StateRead.{StateRead}
+use Rattle.vm_machine.specs.Reads.{read_step}
+use Rattle.invocation_vm.specs.Calls.{CallsCommand, CallsFor, CallsRead, future_step, new_awakeable_step, skips_replay}
 use Rattle.invocation_vm.specs.Endings.{EndsOnceAfter, StaysSo}
 use Rattle.invocation_vm.specs.Frames.{Tail, Rest, Garbage, frames_of}
 use Rattle.invocation_vm.specs.Making.{made}
@@ -143,6 +145,9 @@ awakeable_stays r old new c = calls_stay new_awakeable_step r old new (new_awake
 
 pub signal_stays : (name : List ℕ) (r : Result NotificationHandle Error) (old new : View) → Calls (signal_step name) r old new → StaysSo old new
 signal_stays name r old new c = calls_stay (signal_step name) r old new (signal_writes name old.machine) c
+
+pub read_stays : (read : StateRead) (r : Result NotificationHandle Error) (old new : View) → CallsRead read r old new → StaysSo old new
+read_stays read r old new c = calls_stay (read_step read) r old new (read_writes read old.machine) c.0
 
 pub input_stays : (r : Result Input Error) (old new : View) → Calls input_step r old new → StaysSo old new
 input_stays r old new c = calls_stay input_step r old new (input_writes old.machine) c

@@ -16,6 +16,8 @@ use Rattle.vm_machine.specs.declared.machine.Machine.{Machine}
 use Rattle.vm_machine.specs.Awaits.{await_step}
 use Rattle.vm_machine.specs.Commands.{CanBeRead, Fits, answered_by, commanded}
 use Rattle.vm_machine.specs.Outcomes.{Outcome, refused}
+use Rattle.vm_machine.specs.declared.reads.StateRead.{StateRead}
+use Rattle.vm_machine.specs.Reads.{ReadCanBeRead, read_step}
 use Rattle.vm_machine.specs.Signals.{awakeable_step}
 use Rattle.invocation_vm.specs.Views.{View, Calls}
 
@@ -30,6 +32,10 @@ CallsFor f c r old new = Calls (λ v. answered_by f (commanded c v)) r old new �
 -- A call that has a command and answers nothing.
 abbrev pub CallsUnit : Command → Result Unit Error → View → View → Type 0
 CallsUnit c r old new = CallsFor (λ _. tt {0}) c r old new
+
+-- A state read: what it wrote can be read back.
+abbrev pub CallsRead : StateRead → Result NotificationHandle Error → View → View → Type 0
+CallsRead r result old new = Calls (read_step r) result old new × OnOk result (ReadCanBeRead r old.machine)
 
 -- a result with this of its answer
 abbrev pub result_by : {A B : Type 0} → (A → B) → Result A Error → Result B Error

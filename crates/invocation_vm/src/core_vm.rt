@@ -5,7 +5,7 @@ ghost use Rattle.vm_parts.specs.Outboxes.{WholeFrames, WholeStream, len_of};
 ghost use Rattle.vm_machine.specs.Asks.{ask_of, call_handles, send_handle};
 ghost use Rattle.vm_machine.specs.Requests.{ids_of};
 ghost use Rattle.vm_machine.specs.Outcomes.{Lives};
-ghost use Rattle.invocation_vm.specs.Calls.{CallsCommand, CallsFor, CallsUnit, future_step};
+ghost use Rattle.invocation_vm.specs.Calls.{CallsCommand, CallsFor, CallsRead, CallsUnit, future_step};
 ghost use Rattle.invocation_vm.specs.Seen.{seen};
 ghost use Rattle.invocation_vm.specs.Views.{Calls};
 
@@ -18,7 +18,7 @@ use std::alloc::{AllocError, Global};
 use std::fmt;
 use std::time::Duration;
 use vm_machine::settle::flatten;
-use vm_machine::{Ask, Command, Machine, asks};
+use vm_machine::{Ask, Command, Machine, StateRead, asks};
 use vm_parts::{
     AttachInvocationTarget, AwaitResponse, AwakeableHandle, CallHandle, CommandRelationship, Input,
     NonEmptyValue, NotificationHandle, PayloadOptions, ResponseHead, SendHandle, State, Step,
@@ -91,6 +91,18 @@ impl CoreVM {
         let given = self.call(&mut command);
         drop(command);
         given
+    }
+
+    /// A state read.
+    pub fn read(&mut self, read: StateRead) -> VMResult<NotificationHandle>
+        ensures { CallsRead read result (seen self.old) (seen self.new) }
+    {
+        if let Err(error) = self.machine.live() {
+            return Err(error);
+        }
+        let before = self.machine.counters;
+        let given = self.machine.read(&read);
+        self.machine.settle(before, given)
     }
 
     /// A call that has a command and answers nothing.
@@ -307,6 +319,22 @@ impl VM for CoreVM {
         let name = name_text(alloc, name);
         let time = execution_time_since_unix_epoch;
         self.send_of(asks::send(alloc, target, input, time, name, options, version))
+    }
+
+    fn sys_state_get(
+        &mut self,
+        key: String,
+        name: Option<String>,
+        _: PayloadOptions,
+    ) -> VMResult<NotificationHandle> {
+        let name = name_text(self.machine.alloc, name);
+        let key = Text::from_string(key);
+        self.read(StateRead::Value { key, name })
+    }
+
+    fn sys_state_get_keys(&mut self, name: Option<String>) -> VMResult<NotificationHandle> {
+        let name = name_text(self.machine.alloc, name);
+        self.read(StateRead::Keys { name })
     }
 
     fn sys_awakeable(&mut self) -> VMResult<AwakeableHandle> {

@@ -23,7 +23,8 @@ ghost use Rattle.vm_machine.specs.Endings.{is_terminal};
 ghost use Rattle.vm_machine.specs.Inputs.{end_step, input_step};
 ghost use Rattle.vm_machine.specs.Outcomes.{IsStarved, Outcome};
 ghost use Rattle.vm_machine.specs.Signals.{signal_step};
-ghost use Rattle.invocation_vm.specs.Calls.{CallsCommand, CallsFor, CallsUnit, future_step, new_awakeable_step};
+ghost use Rattle.vm_machine.specs.declared.reads.StateRead.{StateRead};
+ghost use Rattle.invocation_vm.specs.Calls.{CallsCommand, CallsFor, CallsRead, CallsUnit, future_step, new_awakeable_step};
 ghost use Rattle.invocation_vm.specs.Endings.{EndsOnceAfter, StaysSo};
 ghost use Rattle.invocation_vm.specs.Making.{made};
 ghost use Rattle.invocation_vm.specs.Sleeps.{MaySleep, sleeping};
@@ -45,6 +46,7 @@ pub fn all_output_ends_once()
     ensures unanswered { (c : Command) (r : Result Unit Error) (old new : View) → is_terminal c.message ≡ false → CallsUnit c r old new → StaysSo old new }
     ensures calls { (c : Command) (r : Result CallHandle Error) (old new : View) → is_terminal c.message ≡ false → CallsFor call_handles c r old new → StaysSo old new }
     ensures sends { (c : Command) (r : Result SendHandle Error) (old new : View) → is_terminal c.message ≡ false → CallsFor send_handle c r old new → StaysSo old new }
+    ensures reads { (read : StateRead) (r : Result NotificationHandle Error) (old new : View) → CallsRead read r old new → StaysSo old new }
     ensures awakeables { (r : Result AwakeableHandle Error) (old new : View) → Calls new_awakeable_step r old new → StaysSo old new }
     ensures signals { (name : List ℕ) (r : Result NotificationHandle Error) (old new : View) → Calls (signal_step name) r old new → StaysSo old new }
     ensures ends { (r : Result Unit Error) (old new : View) → Calls end_step r old new → StaysSo old new }

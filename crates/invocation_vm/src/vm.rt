@@ -7,7 +7,8 @@ ghost use Rattle.vm_machine.specs.Inputs.{end_step, input_step};
 ghost use Rattle.vm_machine.specs.declared.phase.Phase.TheVariants.{Closed};
 ghost use Rattle.vm_machine.specs.Phases.{is_waiting};
 ghost use Rattle.vm_machine.specs.Signals.{signal_step};
-ghost use Rattle.invocation_vm.specs.Calls.{CallsCommand, CallsFor, CallsUnit, future_step, name_or_empty, new_awakeable_step};
+ghost use Rattle.vm_machine.specs.declared.reads.StateRead.TheVariants as reads;
+ghost use Rattle.invocation_vm.specs.Calls.{CallsCommand, CallsFor, CallsRead, CallsUnit, future_step, name_or_empty, new_awakeable_step};
 ghost use Rattle.invocation_vm.specs.Making.{Makes, response_head, version_in};
 ghost use Rattle.invocation_vm.specs.Views.{View, Calls, CallsFlat, Leaves, TakesOutput, after_closing, after_error, after_input, brought};
 
@@ -131,6 +132,20 @@ pub trait VM: Sized {
         options: PayloadOptions,
     ) -> VMResult<SendHandle>
         ensures { CallsFor send_handle (send_command target input (millis_of execution_time_since_unix_epoch) (name_or_empty name) options (view self.old).machine.version) result (view self.old) (view self.new) };
+
+    /// Reads the value of a state key. Where the VM knows the key, the answer's result is ready at once; in replay where the recorded
+    /// command has it, whatever the VM knows. The options change nothing: a recorded result is taken as it is.
+    fn sys_state_get(
+        &mut self,
+        key: String,
+        name: Option<String>,
+        options: PayloadOptions,
+    ) -> VMResult<NotificationHandle>
+        ensures { CallsRead (reads.Value (string_bytes key) (name_or_empty name)) result (view self.old) (view self.new) };
+
+    /// As `sys_state_get`, of the keys that have a value, sorted by their bytes.
+    fn sys_state_get_keys(&mut self, name: Option<String>) -> VMResult<NotificationHandle>
+        ensures { CallsRead (reads.Keys (name_or_empty name)) result (view self.old) (view self.new) };
 
     /// Makes an awakeable: an id for others to complete it by, and a handle to await it by. It has no command, and is
     /// refused where the options disable replay.

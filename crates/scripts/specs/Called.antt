@@ -19,6 +19,7 @@ use Rattle.vm_machine.specs.Commands.{commanded}
 use Rattle.vm_machine.specs.Inputs.{end_step, input_step}
 use Rattle.vm_machine.specs.Outcomes.{Outcome}
 use Rattle.vm_machine.specs.Requests.{ids_of}
+use Rattle.vm_machine.specs.Reads.{read_step}
 use Rattle.vm_machine.specs.Signals.{signal_step}
 use Rattle.invocation_vm.specs.Calls.{future_step, new_awakeable_step}
 use Rattle.invocation_vm.specs.Making.{response_head}
@@ -99,4 +100,5 @@ Called call.State told old new = (told ≡ reply.State (state_of old.machine)) �
 Called call.Index told old new = (told ≡ reply.Index (last_index old.machine.counters.command)) × (new ≡ old)
 Called (call.Error error relationship) told old new = Feeds [] (after_error old error relationship) told old new
 Called call.SysInput told old new = Answers (λ input. reply.Answer (answer.Input input)) input_step told old new
+Called (call.Read read) told old new = Answers (λ handle. reply.Answer (answer.Handle handle)) (read_step read) told old new
 Called (call.Step step) told old new = StepDone step told old new

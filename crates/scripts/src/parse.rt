@@ -20,8 +20,29 @@ use invocation_vm::{UnresolvedFuture, VMOptions};
 use lines::fields::Fields;
 use lines::pieces::words;
 use std::alloc::{AllocError, Global};
+use vm_machine::StateRead;
+use vm_machine::asks::name_in;
 use vm_parts::Step;
 use wire::Fault;
+
+fn get_of(alloc: Global, arguments: &[&[u8]]) -> Result<Call, Fault>
+    ensures { IfOk result (λ call. IsLine verb.Get arguments.now call) }
+{
+    let [key, others @ ..] = arguments else {
+        return Err(Fault::Malformed);
+    };
+    let key = text_of(alloc, *key)?;
+    let Extras { name, payload: _ } = extras_of(alloc, others)?;
+    let name = name_in(alloc, name);
+    Ok(Call::Read(StateRead::Value { key, name }))
+}
+
+fn keys_of(alloc: Global, arguments: &[&[u8]]) -> Result<Call, Fault>
+    ensures { IfOk result (λ call. IsLine verb.Keys arguments.now call) }
+{
+    let name = name_in(alloc, name_of(alloc, arguments)?);
+    Ok(Call::Read(StateRead::Keys { name }))
+}
 
 fn set_of(alloc: Global, arguments: &[&[u8]]) -> Result<Call, Fault>
     ensures { IfOk result (λ call. IsLine verb.Set arguments.now call) }
@@ -180,6 +201,8 @@ fn call_named(alloc: Global, verb: Verb, arguments: &[&[u8]]) -> Result<Call, Fa
         Verb::Await => await_of(arguments),
         Verb::Completed => Ok(Call::Step(Step::Completed(handle_alone(arguments)?))),
         Verb::Take => Ok(Call::Step(Step::Take(handle_alone(arguments)?))),
+        Verb::Get => get_of(alloc, arguments),
+        Verb::Keys => keys_of(alloc, arguments),
         Verb::Set => set_of(alloc, arguments),
         Verb::Clear => clear_of(alloc, arguments),
         Verb::ClearAll => Ok(Call::Step(Step::StateClearAll {

@@ -158,6 +158,7 @@ fn perform_call(vm: &mut CoreVM, call: Call) -> Reply
         Call::Index => Reply::Index(vm.last_command_index()),
         Call::Error(error, relationship) => fed(vm.notify_error(error, relationship)),
         Call::SysInput => input(vm.sys_input()),
+        Call::Read(read) => handle(vm.read(read)),
         Call::Step(step) => perform_step(vm, step),
     }
 }

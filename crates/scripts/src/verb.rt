@@ -19,6 +19,8 @@ pub enum Verb {
     Completed,
     Take,
     SysInput,
+    Get,
+    Keys,
     Set,
     Clear,
     ClearAll,
@@ -40,7 +42,7 @@ pub enum Verb {
 }
 
 /// Each verb.
-const VERBS: [Verb; 30] = [
+const VERBS: [Verb; 32] = [
     Verb::Head,
     Verb::Input,
     Verb::Close,
@@ -53,6 +55,8 @@ const VERBS: [Verb; 30] = [
     Verb::Completed,
     Verb::Take,
     Verb::SysInput,
+    Verb::Get,
+    Verb::Keys,
     Verb::Set,
     Verb::Clear,
     Verb::ClearAll,
@@ -91,6 +95,8 @@ fn name_of_verb(verb: Verb) -> &'static str
         Verb::Completed => "completed",
         Verb::Take => "take",
         Verb::SysInput => "sys_input",
+        Verb::Get => "get",
+        Verb::Keys => "keys",
         Verb::Set => "set",
         Verb::Clear => "clear",
         Verb::ClearAll => "clear_all",

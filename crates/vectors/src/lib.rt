@@ -16,6 +16,8 @@ pub mod headers;
 #[cfg(test)]
 mod journals;
 #[cfg(test)]
+mod many_signals;
+#[cfg(test)]
 mod meanings;
 #[cfg(test)]
 mod named_signals;
@@ -27,6 +29,7 @@ mod parts;
 mod places;
 #[cfg(test)]
 mod promises;
+mod read_frames;
 #[cfg(test)]
 mod refusals;
 #[cfg(test)]
@@ -35,6 +38,8 @@ mod reports;
 mod sleeps;
 #[cfg(test)]
 mod state_maps;
+#[cfg(test)]
+mod state_reads;
 #[cfg(test)]
 mod states;
 #[cfg(test)]

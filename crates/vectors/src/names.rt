@@ -11,9 +11,12 @@ use crate::frames::{
     START_0, START_1, START_2, START_3, START_AB, START_FB_FF, START_WITH_A_BAD_KEY,
     SUSPENSION_ON_1, TYPE_31, TYPE_MISMATCH, UNCOMPLETED,
 };
+use crate::read_frames::{
+    EAGER_KEYS_A_B, EAGER_KEYS_B, EAGER_KEYS_UNSAID, EAGER_K_1, EAGER_K_UNSAID, EAGER_K_VOID, EAGER_NO_KEYS, EAGER_U_VOID, ERROR_NO_KEYS, ERROR_NO_VALUE, ERROR_READ_TOO_EARLY, LAZY_K, LAZY_KEYS_3, LAZY_U, START_1_A_B, START_1_K, START_1_PART_K, START_3_EMPTY,
+};
 use std::test::Fail;
 
-const FRAMES: [(&str, &[u8]); 63] = [
+const FRAMES: [(&str, &[u8]); 81] = [
     ("start_0", START_0),
     ("start_1", START_1),
     ("start_2", START_2),
@@ -75,6 +78,24 @@ const FRAMES: [(&str, &[u8]); 63] = [
     ("mismatch_retried", MISMATCH_RETRIED),
     ("mismatch_paused", MISMATCH_PAUSED),
     ("mismatch_failed", MISMATCH_FAILED),
+    ("start_1_k", START_1_K),
+    ("start_3_empty", START_3_EMPTY),
+    ("start_1_part_k", START_1_PART_K),
+    ("start_1_a_b", START_1_A_B),
+    ("eager_k_1", EAGER_K_1),
+    ("eager_k_void", EAGER_K_VOID),
+    ("eager_k_unsaid", EAGER_K_UNSAID),
+    ("eager_u_void", EAGER_U_VOID),
+    ("lazy_u", LAZY_U),
+    ("lazy_k", LAZY_K),
+    ("eager_no_keys", EAGER_NO_KEYS),
+    ("eager_keys_a_b", EAGER_KEYS_A_B),
+    ("eager_keys_b", EAGER_KEYS_B),
+    ("eager_keys_unsaid", EAGER_KEYS_UNSAID),
+    ("lazy_keys_3", LAZY_KEYS_3),
+    ("error_no_value", ERROR_NO_VALUE),
+    ("error_no_keys", ERROR_NO_KEYS),
+    ("error_read_too_early", ERROR_READ_TOO_EARLY),
     ("type_31", TYPE_31),
     ("cut", CUT),
 ];

@@ -28,14 +28,14 @@ fn shown(alloc: Global, state: &StateMap, key: &str) -> Result<String, AllocErro
 }
 
 /// The known keys, each with a comma behind it.
-fn keys_of(alloc: Global, state: &StateMap) -> Result<Option<String>, AllocError> {
+fn keys_of(alloc: Global, state: &StateMap) -> Result<Option<Vec<u8>>, AllocError> {
     let Some(keys) = state.keys(alloc)? else {
         return Ok(None);
     };
-    let mut line = String::new(alloc);
+    let mut line = Vec::new(alloc);
     for key in keys.as_slice() {
-        line.push_str(key.as_str())?;
-        line.push(',')?;
+        line.extend_from_slice(key.as_slice())?;
+        line.push(b',')?;
     }
     Ok(Some(line))
 }
@@ -51,7 +51,7 @@ fn keys_are_known_where_all_are(rt: HostRuntime) -> Result<(), Fail> {
     let state = state_of(alloc, StateCoverage::Complete, &pairs)?;
     assert_eq!(rt; shown(alloc, &state, "b")?.as_str(), "value of 1 bytes");
     assert_eq!(rt; shown(alloc, &state, "c")?.as_str(), "empty");
-    assert!(rt; keys_of(alloc, &state)?.is_some_and(|line| line.as_str() == "a,b,"));
+    assert!(rt; keys_of(alloc, &state)?.is_some_and(|line| line.as_slice() == "a,b,".as_bytes()));
     Ok(())
 }
 
@@ -69,7 +69,7 @@ fn keys_are_in_the_order_of_their_bytes(rt: HostRuntime) -> Result<(), Fail> {
         ("😀", b"8"),
     ];
     let state = state_of(alloc, StateCoverage::Complete, &pairs)?;
-    assert!(rt; keys_of(alloc, &state)?.is_some_and(|line| line.as_str() == ",Z,a,aa,b,é,😀,"));
+    assert!(rt; keys_of(alloc, &state)?.is_some_and(|line| line.as_slice() == ",Z,a,aa,b,é,😀,".as_bytes()));
     assert_eq!(rt; shown(alloc, &state, "b")?.as_str(), "value of 2 bytes");
     Ok(())
 }
@@ -82,7 +82,7 @@ fn cleared_keys_are_empty(rt: HostRuntime) -> Result<(), Fail> {
     state.clear(&Text::from_str(alloc, "b")?)?;
     state.clear(&Text::from_str(alloc, "d")?)?;
     assert_eq!(rt; shown(alloc, &state, "b")?.as_str(), "empty");
-    assert!(rt; keys_of(alloc, &state)?.is_some_and(|line| line.as_str() == "a,c,"));
+    assert!(rt; keys_of(alloc, &state)?.is_some_and(|line| line.as_slice() == "a,c,".as_bytes()));
     let mut state = state_of(alloc, StateCoverage::Partial, &pairs)?;
     state.clear(&Text::from_str(alloc, "d")?)?;
     assert_eq!(rt; shown(alloc, &state, "d")?.as_str(), "empty");
@@ -98,8 +98,8 @@ fn after_a_clear_of_all_each_key_is_known(rt: HostRuntime) -> Result<(), Fail> {
     state.clear_all();
     assert_eq!(rt; shown(alloc, &state, "a")?.as_str(), "empty");
     assert_eq!(rt; shown(alloc, &state, "c")?.as_str(), "empty");
-    assert!(rt; keys_of(alloc, &state)?.is_some_and(|line| line.as_str() == ""));
+    assert!(rt; keys_of(alloc, &state)?.is_some_and(|line| line.as_slice() == "".as_bytes()));
     state.set(&Text::from_str(alloc, "c")?, &Bytes::from_static(b"3"))?;
-    assert!(rt; keys_of(alloc, &state)?.is_some_and(|line| line.as_str() == "c,"));
+    assert!(rt; keys_of(alloc, &state)?.is_some_and(|line| line.as_slice() == "c,".as_bytes()));
     Ok(())
 }

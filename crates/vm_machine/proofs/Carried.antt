@@ -1,5 +1,5 @@
 -- What calls that are carried out leave of the state and of the counters, in replay as in Processing.
-use Rattle.std.proofs.Common.{◌≡◌, ℕ, Bool, true, false, List, [], ◌∷◌, Option, Some, None, refl, sym, ap, subst, arith}
+use Rattle.std.proofs.Common.{◌≡◌, ℕ, ◌+◌, Bool, true, false, List, [], ◌∷◌, Option, Some, None, refl, sym, ap, subst, arith}
 use native.Mathlib.Nat.{add-zero}
 use Rattle.std.specs.Prelude.{if◌then◌else◌, ◌==◌}
 use Rattle.journal_protocol.specs.declared.error.Error.{Error}
@@ -13,12 +13,18 @@ use Rattle.journal_protocol.specs.Reading.{message_in}
 use Rattle.journal_protocol.specs.Types.{type_number}
 use Rattle.vm_parts.specs.declared.types.AwakeableHandle.{AwakeableHandle}
 use Rattle.vm_parts.specs.declared.types.NotificationHandle.{NotificationHandle}
-use Rattle.vm_parts.specs.Counting.{missing, missing_signals}
+use Rattle.vm_parts.specs.Counting.{missing, missing_signals, next_index}
 use Rattle.vm_machine.specs.declared.machine.Machine.{Machine}
 use Rattle.vm_machine.specs.Commands.{written, ignores_payloads, phase_after, popped, popped_from, compared, replayed, carried_out, prepared, counted, issued}
 use Rattle.vm_machine.specs.Outcomes.{Outcome, Done, Failed, ◌>>=◌, about_last}
 use Rattle.vm_machine.specs.Phases.{is_running, is_processing}
 use Rattle.vm_machine.specs.Requests.{changed, ids_of, with_ids}
+use Rattle.journal_protocol.specs.declared.notification.NotificationResult.{NotificationResult}
+use Rattle.std.specs.Prelude.{Result, Ok, Err}
+use Rattle.vm_machine.specs.declared.reads.StateRead.{StateRead}
+use Rattle.vm_parts.specs.declared.context.Counters.{Counters}
+use Rattle.vm_machine.specs.Commands.{entered, given_on, handed_out}
+use Rattle.vm_machine.specs.Reads.{eager_type, name_read, own_form, own_result, read_back, read_counted, read_popped, read_step, read_written, recorded_as, recorded_type, result_in, with_result}
 use Rattle.vm_machine.specs.Signals.{awakeable_step, awakeable_counted, signal_counted, signal_step}
 use Rattle.vm_machine.specs.Numbers.{Counted}
 
@@ -152,3 +158,46 @@ signal_at false name handle v w u e h = absurd (no_answer e handle u w h)
 pub signal_makes : (name : List ℕ) (handle : NotificationHandle) (v w : Machine) → signal_step name v ≡ Done handle w → HandleGiven handle v w
 unfolding signal_step
 signal_makes name handle v w h = signal_at (is_running v.phase) name handle v w _ _ h
+
+-- ---- state reads
+
+-- one completion id and one handle are given, and the state stays
+abbrev pub GivesOne : Machine → Outcome NotificationHandle → Type 0
+GivesOne v (Done handle w) = Counted 1 0 1 v.counters w.counters × (handle.0 ≡ v.counters.handle) × (w.state ≡ v.state)
+GivesOne v (Failed e w) = Unit {0}
+
+one_given : (c : Counters) (command : Option ℕ) → Counted 1 0 1 c (given_on 1 (record c { command = command }))
+one_given c command = record { completions = refl; signals = omega arith; handles = refl }
+
+written_gives : (r : StateRead) (id : ℕ) (given : Option NotificationResult) (m : Message) (v : Machine)
+    → GivesOne v (Done (record { 0 = v.counters.handle }) (with_result id given (written m (handed_out 1 (entered (type_of m) (name_read r) v)))))
+written_gives r id None m v = (one_given v.counters (Some (next_index v.counters.command)), refl, refl)
+written_gives r id (Some result) m v = (one_given v.counters (Some (next_index v.counters.command)), refl, refl)
+
+back_gives : (r : StateRead) (id : ℕ) (given : Result (Option NotificationResult) NamedFault) (raw : RawMessage) (rest : List RawMessage) (v : Machine)
+    → GivesOne v (read_back v.counters.handle id given (record (handed_out 1 (entered (eager_type r) [] v)) { commands = rest; phase = phase_after rest; last_command = record { ty = recorded_type r raw; name = [] } }))
+back_gives r id (Err name) raw rest v = tt
+back_gives r id (Ok None) raw rest v = (one_given v.counters (Some (next_index v.counters.command)), refl, refl)
+back_gives r id (Ok (Some result)) raw rest v = (one_given v.counters (Some (next_index v.counters.command)), refl, refl)
+
+popped_gives : (r : StateRead) (commands : List RawMessage) (v : Machine) → GivesOne v (read_popped r v.counters.handle v.counters.completion commands (handed_out 1 (entered (eager_type r) [] v)))
+popped_gives r [] v = tt
+popped_gives r (raw ∷ rest) v = back_gives r v.counters.completion (recorded_as r v.counters.completion raw) raw rest v
+
+numbered_gives : (r : StateRead) (v : Machine) (b : Bool)
+    → GivesOne v (if b then Done (record { 0 = v.counters.handle }) (read_written r v.counters.completion (own_form r v.counters.completion v.state) v)
+      else read_popped r v.counters.handle v.counters.completion v.commands (handed_out 1 (entered (eager_type r) [] v)))
+numbered_gives r v true = let m = own_form r v.counters.completion v.state in written_gives r v.counters.completion (own_result (result_in m)) m v
+numbered_gives r v false = popped_gives r v.commands v
+
+read_counts : (o : Option NamedFault) (r : StateRead) (v : Machine) → GivesOne v (read_counted o r v)
+read_counts (Some name) r v = tt
+read_counts None r v = numbered_gives r v (is_processing v.phase)
+
+running_gives : (b : Bool) (o : Option NamedFault) (e : Error) (r : StateRead) (v : Machine) → GivesOne v (if b then read_counted o r v else Failed e v)
+running_gives true o e r v = read_counts o r v
+running_gives false o e r v = tt
+
+pub read_gives : (r : StateRead) (handle : NotificationHandle) (v w : Machine) → read_step r v ≡ Done handle w → Counted 1 0 1 v.counters w.counters × (handle.0 ≡ v.counters.handle) × (w.state ≡ v.state)
+unfolding read_step
+read_gives r handle v w h = subst (GivesOne v) h (running_gives (is_running v.phase) (missing 1 0 1 v.counters) _ r v)

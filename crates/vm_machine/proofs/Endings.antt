@@ -42,8 +42,16 @@ use Rattle.vm_machine.specs.Asks.{ask_of}
 use Rattle.vm_machine.specs.Awaits.{await_step, future_of, pending, result_taken, suspended, take_step, taken_at, tried, value_taken}
 use Rattle.vm_machine.specs.Inputs.{close_step, closed_at, counted_entry, end_at, end_step, ended, enqueued, entries_in, entry_step, input_at, input_counted, input_read, input_step, malformed_step, message_step, notification_step, queued, start_step, started, started_with}
 use Rattle.vm_machine.specs.Reports.{is_retry, related_to, report_step}
+use Rattle.journal_protocol.specs.declared.notification.NotificationResult.{NotificationResult}
+use Rattle.vm_parts.specs.declared.context.Known.{Known}
+use Rattle.vm_parts.specs.declared.context.Known.TheVariants as known_as
+use Rattle.vm_parts.specs.declared.context.StateMap.{StateMap}
+use Rattle.vm_parts.specs.States.{known, known_keys}
+use Rattle.vm_machine.specs.declared.reads.StateRead.{StateRead}
+use Rattle.vm_machine.specs.declared.reads.StateRead.TheVariants as reads
+use Rattle.vm_machine.specs.Reads.{eager_type, keys_form, lazy_type, name_read, own_form, own_result, read_back, read_counted, read_popped, read_step, read_written, recorded_as, recorded_type, result_in, value_form, with_result}
 use Rattle.vm_machine.specs.Signals.{awakeable_counted, awakeable_step, signal_counted, signal_step}
-use Rattle.vm_machine.specs.Commands.{entered, written, ignores_payloads, phase_after, popped, popped_from, compared, replayed, carried_out, prepared, counted, issued, commanded, commanded_unless}
+use Rattle.vm_machine.specs.Commands.{entered, written, ignores_payloads, phase_after, popped, popped_from, compared, replayed, carried_out, prepared, counted, issued, commanded, commanded_unless, about_next, handed_out}
 use Rattle.vm_machine.specs.Endings.{EndsOnce, EventWrites, Writes, is_over, is_terminal}
 use Rattle.vm_machine.specs.Outcomes.{Outcome, Done, Failed, ◌>>=◌, about_last, called, called_at, failed, refused, ruled}
 use Rattle.vm_machine.specs.Phases.{is_closed, is_from_v7, is_processing, is_replaying, is_running, state_fault}
@@ -281,6 +289,61 @@ signal_so false name v = same v
 pub signal_writes : (name : List ℕ) (v : Machine) → EventWrites v (called (signal_step name v) v)
 unfolding signal_step
 signal_writes name v = called_writes v (signal_step name v) (λ live. quiet_event v (signal_step name v) (signal_so (is_running v.phase) name v))
+
+-- ---- state reads
+
+value_goes_on : (key name : List ℕ) (id : ℕ) (k : Known) → is_terminal (value_form key name id k) ≡ false
+value_goes_on key name id known_as.Unknown = refl
+value_goes_on key name id known_as.Empty = refl
+value_goes_on key name id (known_as.Value value) = refl
+
+keys_go_on : (name : List ℕ) (id : ℕ) (keys : Option (List (List ℕ))) → is_terminal (keys_form name id keys) ≡ false
+keys_go_on name id None = refl
+keys_go_on name id (Some keys) = refl
+
+own_goes_on : (r : StateRead) (id : ℕ) (state : StateMap) → is_terminal (own_form r id state) ≡ false
+own_goes_on (reads.Value key name) id state = value_goes_on key name id (known key state)
+own_goes_on (reads.Keys name) id state = keys_go_on name id (known_keys state)
+
+result_put : (id : ℕ) (given : Option NotificationResult) (v w : Machine) → Writes v w → Writes v (with_result id given w)
+result_put id None v w h = h
+result_put id (Some result) v w h = record { messages = h.messages; output = h.output; ends_once = h.ends_once }
+
+read_back_quiet : (handle id : ℕ) (given : Result (Option NotificationResult) NamedFault) (v u : Machine) → Same v u → Quiet v (read_back handle id given u)
+read_back_quiet handle id (Err name) v u s = s
+read_back_quiet handle id (Ok None) v u s = s
+read_back_quiet handle id (Ok (Some result)) v u s = record { output = s.output; closed = s.closed; failure = s.failure }
+
+read_popped_quiet : (r : StateRead) (handle id : ℕ) (commands : List RawMessage) (v u : Machine) → Same v u → is_closed v.phase ≡ false → Quiet v (read_popped r handle id commands u)
+read_popped_quiet r handle id [] v u s c = s
+read_popped_quiet r handle id (raw ∷ rest) v u s c =
+    read_back_quiet handle id (recorded_as r id raw) v (record u { commands = rest; phase = phase_after rest; last_command = record { ty = recorded_type r raw; name = [] } })
+    (record { output = s.output; closed = running_phase rest ∙ sym c; failure = s.failure })
+
+read_numbered_at : (r : StateRead) (v : Machine) (b : Bool) → is_over v ≡ false → is_closed v.phase ≡ false
+    → Event v (if b then Done (record { 0 = v.counters.handle }) (read_written r v.counters.completion (own_form r v.counters.completion v.state) v)
+      else read_popped r v.counters.handle v.counters.completion v.commands (handed_out 1 (entered (eager_type r) [] v)))
+read_numbered_at r v true goes c =
+    let id = v.counters.completion in
+    let m = own_form r id v.state in
+    let u = handed_out 1 (entered (type_of m) (name_read r) v) in
+    result_put id (own_result (result_in m)) v (written m u) (written_so v u m (record { output = refl; closed = refl; failure = refl }) goes (own_goes_on r id v.state))
+read_numbered_at r v false goes c =
+    let u = handed_out 1 (entered (eager_type r) [] v) in
+    quiet_event v (read_popped r v.counters.handle v.counters.completion v.commands u) (read_popped_quiet r v.counters.handle v.counters.completion v.commands v u (record { output = refl; closed = refl; failure = refl }) c)
+
+read_counted_event : (found : Option NamedFault) (r : StateRead) (v : Machine) → is_over v ≡ false → is_closed v.phase ≡ false → Event v (read_counted found r v)
+read_counted_event (Some name) r v goes c = same v
+read_counted_event None r v goes c = read_numbered_at r v (is_processing v.phase) goes c
+
+read_at : (r : StateRead) (v : Machine) (b : Bool) → is_running v.phase ≡ b → v.failure ≡ None
+    → Event v (if b then read_counted (missing 1 0 1 v.counters) r v else Failed (about_next (state_fault v.phase) (lazy_type r) [] v) v)
+read_at r v true e live = read_counted_event (missing 1 0 1 v.counters) r v (goes_on v live e) (not_closed v.phase e)
+read_at r v false e live = same v
+
+pub read_writes : (r : StateRead) (v : Machine) → EventWrites v (called (read_step r v) v)
+unfolding read_step
+read_writes r v = called_writes v (read_step r v) (λ live. read_at r v (is_running v.phase) refl live)
 
 report_so : (b : Bool) (e : Error) (relationship : Option CommandRelationship) (v : Machine)
     → Quiet {A = Unit} v (if b then refused fault.UnsupportedFeatureForNegotiatedVersion v else Failed (related_to relationship e v) v)

@@ -7,6 +7,7 @@ pub mod Making
 pub mod Numbers
 pub mod Outcomes
 pub mod Phases
+pub mod Reads
 pub mod Replays
 pub mod Reports
 pub mod Requests

@@ -81,7 +81,7 @@ fn signal_result(value: ValueOrFailure) -> SignalResult
 }
 
 /// An absent name is empty.
-fn name_in(alloc: Global, name: Option<Text>) -> Text
+pub fn name_in(alloc: Global, name: Option<Text>) -> Text
     ensures { result ≡ name_in name }
 {
     match name {

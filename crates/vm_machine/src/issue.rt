@@ -1,9 +1,9 @@
 //! The event of all calls that have a command: the command is written, or in replay the recorded one is popped.
-ghost use Rattle.std.specs.Prelude.{◌≡◌, ◌<◌, ◌+◌, ◌^◌, true, Some, IfOk, OnOk, OnErr};
+ghost use Rattle.std.specs.Prelude.{◌≡◌, ◌<◌, ◌+◌, ◌^◌, ◌∷◌, [], true, Some, IfNone, IfSome, IfOk, OnOk, OnErr};
 ghost use Rattle.journal_protocol.specs.Errors.{named_error};
 ghost use Rattle.journal_protocol.specs.Runs.{IsWhole};
 ghost use Rattle.vm_machine.specs.Outcomes.{Gives, about_last, last_related, lasting};
-ghost use Rattle.vm_machine.specs.Commands.{entered, written, popped, replayed, carried_out, handed_out, checks_are_off, Carries, Issues};
+ghost use Rattle.vm_machine.specs.Commands.{entered, phase_after, written, popped, replayed, carried_out, handed_out, checks_are_off, Carries, Issues};
 ghost use Rattle.vm_machine.specs.Phases.{is_processing};
 ghost use Rattle.vm_machine.specs.Requests.{changed, ids_of};
 
@@ -20,7 +20,7 @@ use vm_parts::{LastCommand, NonDeterministicChecksOption, NotificationHandle};
 use wire::{Text, copy_of};
 
 /// An error that relates to the command that would come next.
-fn about_next(fault: NamedFault, index: u32, ty: MessageType, name: Text) -> Error
+pub fn about_next(fault: NamedFault, index: u32, ty: MessageType, name: Text) -> Error
     ensures { result ≡ named_error fault (Some (record { index = index; ty = ty; name = name })) }
 {
     Error::named(fault, Some(RelatedCommand { index, ty, name }))
@@ -59,19 +59,28 @@ impl Machine {
         Ok(Error::named(fault, Some(self.last_related()?)))
     }
 
+    /// Pops the next recorded command, if one is left; behind the last the machine is in Processing.
+    pub fn pop_next(&mut self) -> Option<RawMessage>
+        ensures none { IfNone result ((self.old.commands ≡ []) × (self.new ≡ self.old)) }
+        ensures some { IfSome result (λ raw. (self.old.commands ≡ raw ∷ self.new.commands) × (self.new ≡ record self.old { commands = self.new.commands; phase = phase_after self.new.commands })) }
+    {
+        let raw = self.commands.pop()?;
+        self.phase = if self.commands.is_empty() {
+            Phase::Processing
+        } else {
+            Phase::Replaying
+        };
+        Some(raw)
+    }
+
     /// Pops the next recorded command, which has to be of this type.
     #[tactic(auto, unfolding(crate::specs::Commands::popped))]
     pub fn pop(&mut self, ty: MessageType) -> Result<RawMessage, Fault>
         ensures step { Gives (popped ty self.old) result self.old self.new }
         ensures quiet { lasting self.new ≡ lasting self.old }
     {
-        let Some(raw) = self.commands.pop() else {
+        let Some(raw) = self.pop_next() else {
             return Err(Fault::Refused(self.about_last(NamedFault::UnavailableEntry)?));
-        };
-        self.phase = if self.commands.is_empty() {
-            Phase::Processing
-        } else {
-            Phase::Replaying
         };
         if raw.ty.number() != ty.number() {
             return Err(Fault::Refused(self.about_last(NamedFault::CommandTypeMismatch)?));
@@ -99,7 +108,7 @@ impl Machine {
         Ok(())
     }
 
-    fn write(&mut self, message: &Message) -> Result<(), AllocError>
+    pub fn write(&mut self, message: &Message) -> Result<(), AllocError>
         ensures ok { OnOk result (self.new ≡ written message.now self.old) }
         ensures whole { OnOk result (IsWhole message.now) }
         ensures err { OnErr result (lasting self.new ≡ lasting self.old) }
@@ -122,7 +131,7 @@ impl Machine {
     }
 
     /// Gives so many next handles the next completion ids.
-    fn hand_out(&mut self, ids: u32) -> Result<(), AllocError>
+    pub fn hand_out(&mut self, ids: u32) -> Result<(), AllocError>
         requires ids { self.old.counters.completion + ids < 2 ^ 32 }
         requires handles { self.old.counters.handle + ids < 2 ^ 32 }
         ensures ok { OnOk result (self.new ≡ handed_out ids self.old) }

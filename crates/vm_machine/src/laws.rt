@@ -25,6 +25,8 @@ ghost use Rattle.vm_machine.specs.Outcomes.{Done, Failed, Outcome, called};
 ghost use Rattle.vm_machine.specs.Replays.{MayReplay, Pops, Refuses, is_header_equal, is_of_its_type};
 ghost use Rattle.vm_machine.specs.Requests.{changed, ids_of, with_ids};
 ghost use Rattle.vm_machine.specs.Signals.{awakeable_step, signal_step};
+ghost use Rattle.vm_machine.specs.declared.reads.StateRead.{StateRead};
+ghost use Rattle.vm_machine.specs.Reads.{read_step};
 
 /// The calls that change the state do so, whether their command is written or popped.
 #[tactic(auto, using(crate::proofs::Carried::issued_changes))]
@@ -33,11 +35,13 @@ pub fn state_is_changed()
 {}
 
 /// Numbers are given in order, each once: a call takes as many completion ids and handles as its command has, an
-/// awakeable one signal id and one handle, a named signal one handle; what is answered is the handle that came next.
-#[tactic(auto, using(crate::proofs::Carried::issued_counts, crate::proofs::Carried::issued_handle, crate::proofs::Carried::awakeable_makes, crate::proofs::Carried::signal_makes))]
+/// state read one of both, an awakeable one signal id and one handle, a named signal one handle; what is answered is the
+/// handle that came next. A state read leaves the state as it is.
+#[tactic(auto, using(crate::proofs::Carried::issued_counts, crate::proofs::Carried::issued_handle, crate::proofs::Carried::awakeable_makes, crate::proofs::Carried::signal_makes, crate::proofs::Carried::read_gives))]
 pub fn numbers_are_in_order()
     ensures calls { (m : Message) (unstable : Bool) (h : NotificationHandle) (v w : Machine) → issued m unstable v ≡ Done h w → Counted (ids_of m) 0 (ids_of m) v.counters w.counters }
     ensures handles { (m : Message) (unstable : Bool) (h : NotificationHandle) (v w : Machine) → issued m unstable v ≡ Done h w → h.0 ≡ v.counters.handle }
+    ensures reads { (r : StateRead) (h : NotificationHandle) (v w : Machine) → read_step r v ≡ Done h w → Counted 1 0 1 v.counters w.counters × (h.0 ≡ v.counters.handle) × (w.state ≡ v.state) }
     ensures awakeables { (a : AwakeableHandle) (v w : Machine) → awakeable_step v ≡ Done a w → Counted 0 1 1 v.counters w.counters × (a.handle.0 ≡ v.counters.handle) }
     ensures signals { (name : List ℕ) (h : NotificationHandle) (v w : Machine) → signal_step name v ≡ Done h w → Counted 0 0 1 v.counters w.counters × (h.0 ≡ v.counters.handle) }
 {}
@@ -48,6 +52,7 @@ pub fn output_ends_once()
     ensures commands { (m : Message) (unstable : Bool) (v : Machine) → is_terminal m ≡ false → EventWrites v (called (issued m unstable v) v) }
     ensures awakeables { (v : Machine) → EventWrites v (called (awakeable_step v) v) }
     ensures signals { (name : List ℕ) (v : Machine) → EventWrites v (called (signal_step name v) v) }
+    ensures reads { (r : StateRead) (v : Machine) → EventWrites v (called (read_step r v) v) }
     ensures awaits { (handle : ℕ) (v : Machine) → EventWrites v (called (await_step handle v) v) }
     ensures takes { (handle : ℕ) (v : Machine) → EventWrites v (called (take_step handle v) v) }
     ensures inputs { (v : Machine) → EventWrites v (called (input_step v) v) }

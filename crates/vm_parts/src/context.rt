@@ -185,7 +185,7 @@ impl StateMap {
 
     /// The keys that have a value; none where the whole state isn't known.
     #[tactic(auto, using(crate::proofs::Keys::keys_in_order, crate::proofs::Keys::key_listed))]
-    pub fn keys(&self, alloc: Global) -> Result<Option<Items<Text>>, AllocError>
+    pub fn keys(&self, alloc: Global) -> Result<Option<Items<Bytes>>, AllocError>
         ensures keys { IfOk result (λ keys. keys ≡ known_keys self.now) }
         ensures sorted { IfOk result (λ keys. IfSome keys (IsStrictlySortedBy by_bytes)) }
         ensures listed { IfOk result (λ keys. IfSome keys (λ found. (key : List ℕ) → is_among key found ≡ has_value (known key self.now))) }

@@ -57,14 +57,14 @@ impl Entries {
     }
 
     /// The keys whose entry has a value, in order.
-    pub fn keys_with_value(&self, alloc: Global) -> Result<Items<Text>, AllocError>
+    pub fn keys_with_value(&self, alloc: Global) -> Result<Items<Bytes>, AllocError>
         ensures keys { IfOk result (λ keys. keys ≡ keys_with_value self.now) }
         ensures ordered { IsInOrder self.now }
     {
         let mut keys = Items::new(alloc);
         for (key, value) in self.map.iter() {
             if value.is_some() {
-                keys.push(copy_of(key)?)?;
+                keys.push(Bytes::copy_from_slice(alloc, key.as_str().as_bytes())?)?;
             }
         }
         Ok(keys)

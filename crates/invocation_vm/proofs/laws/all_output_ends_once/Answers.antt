@@ -1,4 +1,4 @@
-use Rattle.invocation_vm.proofs.Endings.{made_ends, taken_ends, untaken_stays, bytes_stay, closing_stays, error_stays, await_stays, take_stays, input_stays, command_stays, answer_stays, awakeable_stays, signal_stays, end_stays}
+use Rattle.invocation_vm.proofs.Endings.{made_ends, taken_ends, untaken_stays, bytes_stay, closing_stays, error_stays, await_stays, take_stays, input_stays, command_stays, answer_stays, awakeable_stays, read_stays, signal_stays, end_stays}
 use Rattle.invocation_vm.proofs.laws.all_output_ends_once.Goals as goal
 
 pub returns-clause-fresh : goal.returns-clause-fresh
@@ -39,6 +39,9 @@ returns-clause-calls c = answer_stays _
 
 pub returns-clause-sends : goal.returns-clause-sends
 returns-clause-sends c = answer_stays _
+
+pub returns-clause-reads : goal.returns-clause-reads
+returns-clause-reads c = read_stays
 
 pub returns-clause-awakeables : goal.returns-clause-awakeables
 returns-clause-awakeables c = awakeable_stays
