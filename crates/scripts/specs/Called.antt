@@ -79,6 +79,7 @@ pub record TellsReady (machine : Machine) (answer : Reply) : Type 0 where
 abbrev pub DoneAsAsked : Ask → Reply → View → View → Type 0
 DoneAsAsked (ask.Command c) told old new = Answers (λ handle. reply.Answer (command_answer c.message handle)) (commanded c) told old new
 DoneAsAsked ask.Awakeable told old new = Answers (λ made. reply.Answer (answer.Awakeable made)) new_awakeable_step told old new
+DoneAsAsked (ask.Read r) told old new = Answers (λ handle. reply.Answer (answer.Handle handle)) (read_step r) told old new
 DoneAsAsked (ask.Signal name) told old new = Answers (λ handle. reply.Answer (answer.Handle handle)) (signal_step name) told old new
 DoneAsAsked (ask.Await future) told old new = Awaits future told old new
 DoneAsAsked (ask.Take handle) told old new = Answers (λ value. reply.Answer (answer.Taken value)) (take_step handle.0) told old new
@@ -100,5 +101,4 @@ Called call.State told old new = (told ≡ reply.State (state_of old.machine)) �
 Called call.Index told old new = (told ≡ reply.Index (last_index old.machine.counters.command)) × (new ≡ old)
 Called (call.Error error relationship) told old new = Feeds [] (after_error old error relationship) told old new
 Called call.SysInput told old new = Answers (λ input. reply.Answer (answer.Input input)) input_step told old new
-Called (call.Read read) told old new = Answers (λ handle. reply.Answer (answer.Handle handle)) (read_step read) told old new
 Called (call.Step step) told old new = StepDone step told old new

@@ -4,8 +4,6 @@ use Rattle.std.specs.Borrow.{Bor}
 use Rattle.std.specs.Duration.{as_nanos}
 use Rattle.std.specs.Str.Parse.{digits_value}
 use Rattle.lines.specs.Atoms.{IsAtom}
-use Rattle.vm_machine.specs.declared.reads.StateRead.{StateRead}
-use Rattle.vm_machine.specs.declared.reads.StateRead.TheVariants as reads
 use Rattle.vm_parts.specs.declared.steps.Step.{Step}
 use Rattle.vm_parts.specs.declared.steps.Step.TheVariants as step
 use Rattle.vm_parts.specs.declared.types.UnresolvedFuture.TheVariants.{Single}
@@ -55,6 +53,8 @@ abbrev pub verb_of_step : Step → Verb
 verb_of_step (step.Await future) = verb.Await
 verb_of_step (step.Completed handle) = verb.Completed
 verb_of_step (step.Take handle) = verb.Take
+verb_of_step (step.StateGet key name options) = verb.Get
+verb_of_step (step.StateGetKeys name) = verb.Keys
 verb_of_step (step.StateSet key value name options) = verb.Set
 verb_of_step (step.StateClear key name) = verb.Clear
 verb_of_step (step.StateClearAll name) = verb.ClearAll
@@ -74,11 +74,6 @@ verb_of_step (step.GetInvocationOutput target) = verb.GetOutput
 verb_of_step (step.WriteOutput value options) = verb.WriteOutput
 verb_of_step step.End = verb.End
 
--- the name of a state read
-abbrev pub verb_of_read : StateRead → Verb
-verb_of_read (reads.Value key name) = verb.Get
-verb_of_read (reads.Keys name) = verb.Keys
-
 -- the name of a call
 abbrev pub verb_of : Call → Verb
 verb_of call.Head = verb.Head
@@ -90,7 +85,6 @@ verb_of call.State = verb.State
 verb_of call.Index = verb.Index
 verb_of (call.Error error relationship) = verb.Error
 verb_of call.SysInput = verb.SysInput
-verb_of (call.Read read) = verb_of_read read
 verb_of (call.Step s) = verb_of_step s
 
 -- the text of a word, or nothing where there are no so many words
@@ -126,6 +120,8 @@ abbrev pub HasStepArguments : List (Bor (List ℕ)) → Step → Type 0
 HasStepArguments arguments (step.Await (Single handle)) = IsHandle arguments handle.0
 HasStepArguments arguments (step.Completed handle) = IsHandle arguments handle.0
 HasStepArguments arguments (step.Take handle) = IsHandle arguments handle.0
+HasStepArguments arguments (step.StateGet key name options) = IsAtom (text_at 0 arguments) key
+HasStepArguments arguments (step.StateGetKeys name) = Unit {0}
 HasStepArguments arguments (step.StateSet key value name options) = IsAtom (text_at 0 arguments) key × IsAtom (text_at 1 arguments) value
 HasStepArguments arguments (step.StateClear key name) = IsAtom (text_at 0 arguments) key
 HasStepArguments arguments (step.StateClearAll name) = Unit {0}
@@ -145,16 +141,10 @@ HasStepArguments arguments (step.GetInvocationOutput target) = Unit {0}
 HasStepArguments arguments (step.WriteOutput value options) = Unit {0}
 HasStepArguments arguments step.End = arguments ≡ []
 
--- the key of a state read stands first
-abbrev pub HasKey : List (Bor (List ℕ)) → StateRead → Type 0
-HasKey arguments (reads.Value key name) = IsAtom (text_at 0 arguments) key
-HasKey arguments (reads.Keys name) = Unit {0}
-
 -- The arguments that stand before a value and the options, in their places. A call without these has no argument.
 abbrev pub HasArguments : List (Bor (List ℕ)) → Call → Type 0
 HasArguments arguments (call.Input bytes) = IsOneAtom arguments bytes
 HasArguments arguments (call.Error error relationship) = HasCodeAndText error.code error.message arguments
-HasArguments arguments (call.Read read) = HasKey arguments read
 HasArguments arguments (call.Step s) = HasStepArguments arguments s
 HasArguments arguments other = arguments ≡ []
 

@@ -20,8 +20,6 @@ use invocation_vm::{UnresolvedFuture, VMOptions};
 use lines::fields::Fields;
 use lines::pieces::words;
 use std::alloc::{AllocError, Global};
-use vm_machine::StateRead;
-use vm_machine::asks::name_in;
 use vm_parts::Step;
 use wire::Fault;
 
@@ -32,16 +30,19 @@ fn get_of(alloc: Global, arguments: &[&[u8]]) -> Result<Call, Fault>
         return Err(Fault::Malformed);
     };
     let key = text_of(alloc, *key)?;
-    let Extras { name, payload: _ } = extras_of(alloc, others)?;
-    let name = name_in(alloc, name);
-    Ok(Call::Read(StateRead::Value { key, name }))
+    let Extras { name, payload } = extras_of(alloc, others)?;
+    Ok(Call::Step(Step::StateGet {
+        key,
+        name,
+        options: payload,
+    }))
 }
 
 fn keys_of(alloc: Global, arguments: &[&[u8]]) -> Result<Call, Fault>
     ensures { IfOk result (λ call. IsLine verb.Keys arguments.now call) }
 {
-    let name = name_in(alloc, name_of(alloc, arguments)?);
-    Ok(Call::Read(StateRead::Keys { name }))
+    let name = name_of(alloc, arguments)?;
+    Ok(Call::Step(Step::StateGetKeys { name }))
 }
 
 fn set_of(alloc: Global, arguments: &[&[u8]]) -> Result<Call, Fault>

@@ -135,6 +135,7 @@ fn perform_step(vm: &mut CoreVM, step: Step) -> Reply
     match vm.ask_of(step) {
         Ask::Command(command) => carry(vm, command),
         Ask::Awakeable => awakeable(vm.sys_awakeable()),
+        Ask::Read(read) => handle(vm.read(read)),
         Ask::Signal(name) => handle(vm.create_signal_handle(name.into_string())),
         Ask::Await(future) => awaited(vm.do_await(future)),
         Ask::Take(handle) => taken(vm.take_notification(handle)),
@@ -158,7 +159,6 @@ fn perform_call(vm: &mut CoreVM, call: Call) -> Reply
         Call::Index => Reply::Index(vm.last_command_index()),
         Call::Error(error, relationship) => fed(vm.notify_error(error, relationship)),
         Call::SysInput => input(vm.sys_input()),
-        Call::Read(read) => handle(vm.read(read)),
         Call::Step(step) => perform_step(vm, step),
     }
 }

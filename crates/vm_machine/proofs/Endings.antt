@@ -245,6 +245,8 @@ GoesOn (ask.Command c) = is_terminal c.message ≡ false
 GoesOn _ = Unit {0}
 
 pub asks_go_on : (version : Version) (s : Step) → GoesOn (ask_of version s)
+asks_go_on version (step.StateGet key name options) = tt
+asks_go_on version (step.StateGetKeys name) = tt
 asks_go_on version step.Awakeable = tt
 asks_go_on version (step.Signal name) = tt
 asks_go_on version (step.Await future) = tt

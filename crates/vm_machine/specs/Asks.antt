@@ -33,6 +33,7 @@ use Rattle.vm_machine.specs.declared.asks.AnswerKind.TheVariants as kind
 use Rattle.vm_machine.specs.declared.asks.Ask.{Ask}
 use Rattle.vm_machine.specs.declared.asks.Ask.TheVariants as ask
 use Rattle.vm_machine.specs.declared.asks.Command.{Command}
+use Rattle.vm_machine.specs.declared.reads.StateRead.TheVariants as reads
 use Rattle.vm_machine.specs.Phases.{is_from_v6, is_from_v7}
 use Rattle.vm_machine.specs.Requests.{ids_of}
 
@@ -231,6 +232,8 @@ ask_of version (step.Sleep name wake_up_time now) = ask.Command (sleep_command (
 ask_of version (step.StateSet key value name options) = ask.Command (set_state_command key value (name_in name) options)
 ask_of version (step.StateClear key name) = ask.Command (clear_state_command key (name_in name))
 ask_of version (step.StateClearAll name) = ask.Command (clear_all_state_command (name_in name))
+ask_of version (step.StateGet key name options) = ask.Read (reads.Value key (name_in name))
+ask_of version (step.StateGetKeys name) = ask.Read (reads.Keys (name_in name))
 ask_of version (step.Call target input name options) = ask.Command (call_command target input (name_in name) options version)
 ask_of version (step.Send target input time name options) = ask.Command (send_command target input (millis_of time) (name_in name) options version)
 ask_of version step.Awakeable = ask.Awakeable

@@ -6,6 +6,7 @@ ghost use Rattle.vm_machine.specs.Asks.{HandlesFit, allowed, answer_by, answer_k
 ghost use Rattle.vm_machine.specs.Requests.{ids_of};
 
 use crate::machine::empty_text;
+use crate::reads::StateRead;
 use crate::request;
 use bytes::Bytes;
 use journal_protocol::{
@@ -38,6 +39,8 @@ pub struct Command {
 #[derive(Debug, Drop)]
 pub enum Ask {
     Command(Command),
+    /// A read of the state.
+    Read(StateRead),
     Awakeable,
     /// A handle for the signal of this name.
     Signal(Text),
@@ -81,7 +84,7 @@ fn signal_result(value: ValueOrFailure) -> SignalResult
 }
 
 /// An absent name is empty.
-pub fn name_in(alloc: Global, name: Option<Text>) -> Text
+fn name_in(alloc: Global, name: Option<Text>) -> Text
     ensures { result ≡ name_in name }
 {
     match name {
@@ -410,6 +413,14 @@ pub fn ask_of(alloc: Global, version: Version, step: Step) -> Ask
         } => Ask::Command(set_state(key, value, name_in(alloc, name), options)),
         Step::StateClear { key, name } => Ask::Command(clear_state(key, name_in(alloc, name))),
         Step::StateClearAll { name } => Ask::Command(clear_all_state(name_in(alloc, name))),
+        Step::StateGet { key, name, .. } => {
+            let name = name_in(alloc, name);
+            Ask::Read(StateRead::Value { key, name })
+        }
+        Step::StateGetKeys { name } => {
+            let name = name_in(alloc, name);
+            Ask::Read(StateRead::Keys { name })
+        }
         Step::Call {
             target,
             input,

@@ -1,26 +1,34 @@
 -- Of two runs from one point, one goes on where the other stood.
-use Rattle.std.proofs.Common.{◌≡◌, ◌⊎◌, ℕ, zero, suc, Bool, true, false, List, [], ◌∷◌, ◌++◌, Some, None, refl, sym, ap, ◌∙◌, subst, inl, inr, ⊎_elim, append_assoc, append-nil}
+use Rattle.std.proofs.Common.{◌≡◌, ◌⊎◌, ℕ, zero, suc, List, [], ◌∷◌, ◌++◌, Some, None, refl, sym, ap, ◌∙◌, subst, inl, inr, ⊎_elim, append_assoc, append-nil}
+use Rattle.std.specs.Prelude.{Option, Result, Ok, Err}
 use Rattle.std.proofs.lemmas.Option.{same_Some}
 use Rattle.journal_protocol.specs.declared.commands.InputCommand.{InputCommand}
+use Rattle.journal_protocol.specs.declared.faults.NamedFault.{NamedFault}
+use Rattle.journal_protocol.specs.declared.message.Message.{Message}
 use Rattle.journal_protocol.specs.declared.message.RawMessage.{RawMessage}
 use Rattle.journal_protocol.specs.declared.notification.Notification.{Notification}
+use Rattle.journal_protocol.specs.declared.notification.NotificationResult.{NotificationResult}
+use Rattle.vm_parts.specs.declared.context.StateMap.{StateMap}
 use Rattle.vm_parts.specs.declared.steps.Answer.{Answer}
+use Rattle.vm_machine.specs.declared.reads.StateRead.TheVariants as reads
+use Rattle.vm_machine.specs.Reads.{keys_form, value_form}
 use Rattle.vm_model.specs.Calls.{Setup, Meaning, Derived, Demand, Move}
+use Rattle.vm_model.specs.Calls.Demand.{Exactly, Reads}
 use Rattle.vm_model.specs.Calls.Move.{Answers, Needs, Awaits, Ends, Refuses}
-use Rattle.vm_model.specs.Journal.{Entry, notifications_in}
-use Rattle.vm_model.specs.Moves.{Point, after, command_used, later, longer, move_at, moved, next, stands_for, start, supplied, supply, uses_arrival, uses_command}
-use Rattle.vm_model.specs.Histories.{History, IsPrefix, IsStuck, Made, OneBegins, Told, Undisturbed}
+use Rattle.vm_model.specs.Journal.{Entry, notifications_in, stored_form}
+use Rattle.vm_model.specs.Moves.{Point, after, changed_by, command_used, later, longer, move_at, moved, next, found, own, start, supplied, supply, uses_arrival, uses_command}
+use Rattle.vm_model.specs.Histories.{Handed, History, IsAllOf, IsPrefix, IsStuck, Knowledge, Made, OneBegins, Told, Undisturbed, Whole}
 use Rattle.vm_model.proofs.Runs.{after_later, after_longer, and_then_some, longer_nothing, made_after, made_later, made_spent, next_spent, none_some}
 
 -- ---- answers grow
 
-command_used_answers : (b : Bool) (e : Demand) (gives : List Answer) (d : Derived) (left : List RawMessage) (p q : Point) → command_used b e gives d left p ≡ Some q → IsPrefix p.answers q.answers
-command_used_answers false e gives d left p q h = none_some h
-command_used_answers true e gives d left p q h = (gives, ap (λ z. z.answers) (sym (same_Some _ _ h)))
+command_used_answers : (o : Result (Option NotificationResult) NamedFault) (e : Demand) (gives : List Answer) (d : Derived) (left : List RawMessage) (p q : Point) → command_used o e gives d left p ≡ Some q → IsPrefix p.answers q.answers
+command_used_answers (Err name) e gives d left p q h = none_some h
+command_used_answers (Ok result) e gives d left p q h = (gives, ap (λ z. z.answers) (sym (same_Some _ _ h)))
 
 uses_command_answers : (e : Demand) (gives : List Answer) (d : Derived) (left : List RawMessage) (p q : Point) → uses_command e gives d left p ≡ Some q → IsPrefix p.answers q.answers
 uses_command_answers e gives d [] p q h = none_some h
-uses_command_answers e gives d (c ∷ left) p q h = command_used_answers (stands_for e c) e gives d left p q h
+uses_command_answers e gives d (c ∷ left) p q h = command_used_answers (found e c) e gives d left p q h
 
 uses_arrival_answers : (queue : List Notification) (p q : Point) → uses_arrival queue p ≡ Some q → IsPrefix p.answers q.answers
 uses_arrival_answers [] p q h = none_some h
@@ -58,50 +66,66 @@ told_compare s m input ns more_notes cs more p q a b =
 
 -- ---- undisturbed runs
 
-made_compare : (s : Setup) (m : Meaning) (n k : ℕ) (p : Point) (cs ds : List RawMessage) (a b : Point) → Made s m n p cs a → Made s m k p ds b → OneBegins cs ds
-made_compare s m zero k p cs ds a b h e = inl (ds, ap (λ l. l ++ ds) (sym h.0))
-made_compare s m (suc n) zero p cs ds a b h e = inr (cs, ap (λ l. l ++ cs) (sym e.0))
-made_compare s m (suc n) (suc k) p cs ds a b (r, rest, is, moves, further) (r', rest', is', moves', further') =
-    let S = supplied s m p in
-    let at : r ≡ r' = same_Some _ _ (sym moves ∙ moves') in
-    ⊎_elim
-    (λ (x : IsPrefix rest rest'). inl (x.0, is' ∙ ap (λ l. S ++ l) x.1 ∙ sym (append_assoc S rest x.0) ∙ ap (λ l. l ++ x.0) (sym is)))
-    (λ (x : IsPrefix rest' rest). inr (x.0, is ∙ ap (λ l. S ++ l) x.1 ∙ sym (append_assoc S rest' x.0) ∙ ap (λ l. l ++ x.0) (sym is')))
-    (made_compare s m n k r rest rest' a b further (rw (← at) at further'))
+-- a call's own command depends alone on what is known
+own_same : (now state other : StateMap) (e : Demand) → IsAllOf now state → IsAllOf now other → own state e ≡ own other e
+own_same now state other (Exactly command ignore) a b = refl
+own_same now state other (Reads (reads.Value key name) id) a b = ap (value_form key name id) (a.at key ∙ sym (b.at key))
+own_same now state other (Reads (reads.Keys name) id) a b = ap (keys_form name id) (a.keys ∙ sym b.keys)
 
-pub undisturbed_compare : (s : Setup) (m : Meaning) (input : InputCommand) (ns more : List Notification) (cs ds : List RawMessage) → Undisturbed s m input ns cs → Undisturbed s m input (ns ++ more) ds → OneBegins cs ds
-undisturbed_compare s m input ns more cs ds a b = made_compare s m a.0 b.0 (start s input (ns ++ more) []) cs ds (later more a.1) b.1 (made_later s m more a.0 (start s input ns []) cs a.1 a.2) b.2
+supply_same : (now state other : StateMap) (mv : Move) (left : List RawMessage) → IsAllOf now state → IsAllOf now other → supply state mv left ≡ supply other mv left
+supply_same now state other (Needs e gives d) [] a b = ap (λ (c : Message). stored_form c ∷ []) (own_same now state other e a b)
+supply_same now state other (Needs e gives d) (c ∷ left) a b = refl
+supply_same now state other (Answers gives d) left a b = refl
+supply_same now state other Awaits left a b = refl
+supply_same now state other Ends left a b = refl
+supply_same now state other (Refuses name) left a b = refl
+
+made_compare : (s : Setup) (m : Meaning) (base : StateMap) (n k : ℕ) (p : Point) (cs ds : List RawMessage) (a b : Point) → Made s m (Whole base) n p cs a → Made s m (Whole base) k p ds b → OneBegins cs ds
+made_compare s m base zero k p cs ds a b h e = inl (ds, ap (λ l. l ++ ds) (sym h.0))
+made_compare s m base (suc n) zero p cs ds a b h e = inr (cs, ap (λ l. l ++ cs) (sym e.0))
+made_compare s m base (suc n) (suc k) p cs ds a b (state, r, rest, knows, is, moves, further) (state', r', rest', knows', is', moves', further') =
+    let S = supplied s m state p in
+    let same : S ≡ supplied s m state' p = supply_same (changed_by p.said base) state state' (move_at s m p) p.left knows knows' in
+    let is'' : ds ≡ S ++ rest' = is' ∙ ap (λ l. l ++ rest') (sym same) in
+    let at : r ≡ r' = same_Some _ _ (sym moves ∙ ap (λ l. next s m (longer l p)) same ∙ moves') in
+    ⊎_elim
+    (λ (x : IsPrefix rest rest'). inl (x.0, is'' ∙ ap (λ l. S ++ l) x.1 ∙ sym (append_assoc S rest x.0) ∙ ap (λ l. l ++ x.0) (sym is)))
+    (λ (x : IsPrefix rest' rest). inr (x.0, is ∙ ap (λ l. S ++ l) x.1 ∙ sym (append_assoc S rest' x.0) ∙ ap (λ l. l ++ x.0) (sym is'')))
+    (made_compare s m base n k r rest rest' a b further (rw (← at) at further'))
+
+pub undisturbed_compare : (s : Setup) (m : Meaning) (base : StateMap) (input : InputCommand) (ns more : List Notification) (cs ds : List RawMessage) → Undisturbed s m base input ns cs → Undisturbed s m base input (ns ++ more) ds → OneBegins cs ds
+undisturbed_compare s m base input ns more cs ds a b = made_compare s m base a.0 b.0 (start s input (ns ++ more) []) cs ds (later more a.1) b.1 (made_later s m (Whole base) more a.0 (start s input ns []) cs a.1 a.2) b.2
 
 -- ---- what was written was written where nothing recorded was left
 
-supply_left : (mv : Move) (left : List RawMessage) → (supply mv left ≡ []) ⊎ (left ≡ [])
-supply_left (Needs e gives d) [] = inr refl
-supply_left (Needs e gives d) (c ∷ left) = inl refl
-supply_left (Answers gives d) left = inl refl
-supply_left Awaits left = inl refl
-supply_left Ends left = inl refl
-supply_left (Refuses name) left = inl refl
+supply_left : (state : StateMap) (mv : Move) (left : List RawMessage) → (supply state mv left ≡ []) ⊎ (left ≡ [])
+supply_left state (Needs e gives d) [] = inr refl
+supply_left state (Needs e gives d) (c ∷ left) = inl refl
+supply_left state (Answers gives d) left = inl refl
+supply_left state Awaits left = inl refl
+supply_left state Ends left = inl refl
+supply_left state (Refuses name) left = inl refl
 
-pub wrote_left : (s : Setup) (m : Meaning) (n : ℕ) (p : Point) (made : List RawMessage) (q : Point) → Made s m n p made q → (made ≡ []) ⊎ (q.left ≡ [])
-wrote_left s m zero p made q h = inl h.0
-wrote_left s m (suc n) p made q (r, rest, is, moves, further) =
+pub wrote_left : (s : Setup) (m : Meaning) (K : Knowledge) (n : ℕ) (p : Point) (made : List RawMessage) (q : Point) → Made s m K n p made q → (made ≡ []) ⊎ (q.left ≡ [])
+wrote_left s m K zero p made q h = inl h.0
+wrote_left s m K (suc n) p made q (state, r, rest, knows, is, moves, further) =
     ⊎_elim
-    (λ (e : supplied s m p ≡ []). ⊎_elim (λ (f : rest ≡ []). inl (is ∙ ap (λ l. l ++ rest) e ∙ f)) (λ (f : q.left ≡ []). inr f) (wrote_left s m n r rest q further))
-    (λ (e : p.left ≡ []). inr (made_spent s m n r rest q (next_spent s m p r e moves) further))
-    (supply_left (move_at s m p) p.left)
+    (λ (e : supplied s m state p ≡ []). ⊎_elim (λ (f : rest ≡ []). inl (is ∙ ap (λ l. l ++ rest) e ∙ f)) (λ (f : q.left ≡ []). inr f) (wrote_left s m K n r rest q further))
+    (λ (e : p.left ≡ []). inr (made_spent s m K n r rest q (next_spent s m state p r e moves) further))
+    (supply_left state (move_at s m p) p.left)
 
-pub attempt_is_told : (s : Setup) (m : Meaning) (input : InputCommand) (n : ℕ) (ns : List Notification) (cs written : List RawMessage) (q : Point) → Made s m n (start s input ns cs) written q → Told s m input ns (cs ++ written) q × ((written ≡ []) ⊎ (q.left ≡ []))
-attempt_is_told s m input n ns cs written q h = ((n, made_after s m n (start s input ns cs) written q h), wrote_left s m n (start s input ns cs) written q h)
+pub attempt_is_told : (s : Setup) (m : Meaning) (given : StateMap) (input : InputCommand) (n : ℕ) (ns : List Notification) (cs written : List RawMessage) (q : Point) → Made s m (Handed given) n (start s input ns cs) written q → Told s m input ns (cs ++ written) q × ((written ≡ []) ⊎ (q.left ≡ []))
+attempt_is_told s m given input n ns cs written q h = ((n, made_after s m (Handed given) n (start s input ns cs) written q h), wrote_left s m (Handed given) n (start s input ns cs) written q h)
 
 -- ---- recorded commands are used from the front
 
-command_used_left : (b : Bool) (e : Demand) (gives : List Answer) (d : Derived) (left : List RawMessage) (p q : Point) → command_used b e gives d left p ≡ Some q → q.left ≡ left
-command_used_left false e gives d left p q h = none_some h
-command_used_left true e gives d left p q h = ap (λ z. z.left) (sym (same_Some _ _ h))
+command_used_left : (o : Result (Option NotificationResult) NamedFault) (e : Demand) (gives : List Answer) (d : Derived) (left : List RawMessage) (p q : Point) → command_used o e gives d left p ≡ Some q → q.left ≡ left
+command_used_left (Err name) e gives d left p q h = none_some h
+command_used_left (Ok result) e gives d left p q h = ap (λ z. z.left) (sym (same_Some _ _ h))
 
 uses_command_left : (e : Demand) (gives : List Answer) (d : Derived) (left : List RawMessage) (p q : Point) → uses_command e gives d left p ≡ Some q → (x : List RawMessage) × (left ≡ x ++ q.left)
 uses_command_left e gives d [] p q h = none_some h
-uses_command_left e gives d (c ∷ left) p q h = (c ∷ [], ap (λ l. c ∷ l) (sym (command_used_left (stands_for e c) e gives d left p q h)))
+uses_command_left e gives d (c ∷ left) p q h = (c ∷ [], ap (λ l. c ∷ l) (sym (command_used_left (found e c) e gives d left p q h)))
 
 uses_arrival_left : (queue : List Notification) (p q : Point) → uses_arrival queue p ≡ Some q → (x : List RawMessage) × (p.left ≡ x ++ q.left)
 uses_arrival_left [] p q h = none_some h
@@ -136,24 +160,24 @@ told_goes_on s m (suc n) (suc k) p a q c left h all e some =
     let y = and_then_some (next s m p) (after s m k) q e in
     told_goes_on s m n k x.0 a q c left x.2 all (rw (same_Some _ _ (sym y.1 ∙ x.1)) at y.2) some
 
-pub history_goes_on : (s : Setup) (m : Meaning) (journal : List Entry) (delivered : List Notification) (k : ℕ) (written left : List RawMessage) (c : RawMessage) (q : Point) (h : History s m journal) → Made s m k (start s h.input (notifications_in journal ++ delivered) h.rest) written q → q.left ≡ c ∷ left → (r : Point) × (next s m q ≡ Some r)
-history_goes_on s m journal delivered k written left c q h w some =
+pub history_goes_on : (s : Setup) (m : Meaning) (base given : StateMap) (journal : List Entry) (delivered : List Notification) (k : ℕ) (written left : List RawMessage) (c : RawMessage) (q : Point) (h : History s m base journal) → Made s m (Handed given) k (start s h.input (notifications_in journal ++ delivered) h.rest) written q → q.left ≡ c ∷ left → (r : Point) × (next s m q ≡ Some r)
+history_goes_on s m base given journal delivered k written left c q h w some =
     let p = start s h.input (notifications_in journal ++ delivered) h.rest in
-    let none : written ≡ [] = ⊎_elim (λ (e : written ≡ []). e) (λ (e : q.left ≡ []). absurd (cc)) (wrote_left s m k p written q w) in
-    let run : after s m k p ≡ Some q = ap (after s m k) (sym (longer_nothing p) ∙ ap (λ l. longer l p) (sym none)) ∙ made_after s m k p written q w in
+    let none : written ≡ [] = ⊎_elim (λ (e : written ≡ []). e) (λ (e : q.left ≡ []). absurd (cc)) (wrote_left s m (Handed given) k p written q w) in
+    let run : after s m k p ≡ Some q = ap (after s m k) (sym (longer_nothing p) ∙ ap (λ l. longer l p) (sym none)) ∙ made_after s m (Handed given) k p written q w in
     told_goes_on s m h.told.0 k p (later delivered h.at) q c left (after_later s m delivered h.told.0 (start s h.input (notifications_in journal) h.rest) h.at h.told.1) h.uses_all run some
 
-nothing_supplied : (mv : Move) (c : RawMessage) (left : List RawMessage) → supply mv (c ∷ left) ≡ []
-nothing_supplied (Answers gives d) c left = refl
-nothing_supplied (Needs e gives d) c left = refl
-nothing_supplied Awaits c left = refl
-nothing_supplied Ends c left = refl
-nothing_supplied (Refuses name) c left = refl
+nothing_supplied : (state : StateMap) (mv : Move) (c : RawMessage) (left : List RawMessage) → supply state mv (c ∷ left) ≡ []
+nothing_supplied state (Answers gives d) c left = refl
+nothing_supplied state (Needs e gives d) c left = refl
+nothing_supplied state Awaits c left = refl
+nothing_supplied state Ends c left = refl
+nothing_supplied state (Refuses name) c left = refl
 
 -- While recorded commands of a history are left, no call is refused.
-pub none_refused : (s : Setup) (m : Meaning) (journal : List Entry) (delivered : List Notification) (k : ℕ) (written left : List RawMessage) (c : RawMessage) (q : Point) (h : History s m journal) → Made s m k (start s h.input (notifications_in journal ++ delivered) h.rest) written q → q.left ≡ c ∷ left → IsStuck s m q → ⊥
-none_refused s m journal delivered k written left c q h made is stuck =
-    let on = history_goes_on s m journal delivered k written left c q h made is in
-    let S : supplied s m q ≡ [] = ap (supply (move_at s m q)) is ∙ nothing_supplied (move_at s m q) c left in
+pub none_refused : (s : Setup) (m : Meaning) (base given state : StateMap) (journal : List Entry) (delivered : List Notification) (k : ℕ) (written left : List RawMessage) (c : RawMessage) (q : Point) (h : History s m base journal) → Made s m (Handed given) k (start s h.input (notifications_in journal ++ delivered) h.rest) written q → q.left ≡ c ∷ left → IsStuck s m state q → ⊥
+none_refused s m base given state journal delivered k written left c q h made is stuck =
+    let on = history_goes_on s m base given journal delivered k written left c q h made is in
+    let S : supplied s m state q ≡ [] = ap (supply state (move_at s m q)) is ∙ nothing_supplied state (move_at s m q) c left in
     let z : None ≡ Some on.0 = sym stuck ∙ ap (λ l. next s m (longer l q)) S ∙ ap (next s m) (longer_nothing q) ∙ on.1 in
     absurd (cc)

@@ -1,4 +1,9 @@
 pub mod Runs
+pub mod Said
+pub mod States
+pub mod Stored
+pub mod Standing
+pub mod Eager
 pub mod Attempts
 pub mod Events
 pub mod Compared

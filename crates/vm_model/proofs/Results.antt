@@ -10,7 +10,7 @@ use Rattle.vm_parts.specs.declared.options.SignalDelivery.{SignalDelivery}
 use Rattle.vm_parts.specs.declared.options.SignalDelivery.TheVariants.{Queued, Overwrite}
 use Rattle.journal_protocol.specs.declared.notification.NotificationResult.{NotificationResult}
 use Rattle.vm_parts.specs.Arrived.{Ready}
-use Rattle.vm_parts.specs.Deliveries.{first, is_listed, left_among, left_ready, newest, newest_after, none_ready, with_delivered, with_eager, present, results_of, same_id, without_all, without_first}
+use Rattle.vm_parts.specs.Deliveries.{first, is_listed, left_among, left_ready, newest, newest_after, with_delivered, with_eager, present, results_of, same_id, without_all, without_first}
 use Rattle.vm_model.specs.Calls.{Usage, ready_after}
 use Rattle.vm_model.specs.Calls.Usage.{Used, Read, Taken}
 use Rattle.vm_model.specs.Deliveries.{EachTookAResult, deliveries, takes}

@@ -10,12 +10,16 @@ use Rattle.journal_protocol.specs.declared.notification.NotificationId.TheVarian
 use Rattle.journal_protocol.specs.declared.notification.NotificationResult.{NotificationResult}
 use Rattle.journal_protocol.specs.declared.notification.NotificationResult.TheVariants as came
 use Rattle.journal_protocol.specs.declared.parts.ValueOrFailure.TheVariants as given
+use Rattle.journal_protocol.specs.declared.state.VoidOrValue.TheVariants as stands
 use Rattle.journal_protocol.specs.declared.types.MessageType.TheVariants as type
 use Rattle.journal_protocol.specs.declared.version.Version.TheVariants.{V7}
+use Rattle.journal_protocol.specs.Choices.{read_void_or_value}
 use Rattle.journal_protocol.specs.HeaderEqual.{header_equal}
 use Rattle.journal_protocol.specs.Reading.{body_as, message_in}
-use Rattle.journal_protocol.specs.Encoding.{clear_state, failure, output, sleep}
+use Rattle.journal_protocol.specs.Encoding.{clear_state, failure, get_eager_state, output, sleep}
 use Rattle.journal_protocol.specs.Parts.{read_value}
+use Rattle.vm_parts.specs.declared.context.StateCoverage.TheVariants.{Partial, Complete}
+use Rattle.vm_parts.specs.declared.context.StateMap.{StateMap}
 use Rattle.vm_parts.specs.declared.steps.Answer.{Answer}
 use Rattle.vm_parts.specs.declared.steps.Answer.TheVariants as answer
 use Rattle.vm_parts.specs.declared.steps.Step.TheVariants as step
@@ -25,11 +29,11 @@ use Rattle.vm_parts.specs.declared.values.NonEmptyValue.TheVariants.{Success, Fa
 use Rattle.vm_parts.specs.declared.values.Value.TheVariants as value
 use Rattle.vm_parts.specs.Options.{default_options}
 use Rattle.vm_parts.specs.CommandTypes.{message_type}
-use Rattle.wire.specs.Format.{bytes, list, option, read_byte, read_bytes, read_items, read_list, read_pair, read_text, read_u16, read_u32, read_u64, u16s, u32s, u64s}
+use Rattle.wire.specs.Format.{bytes, list, option, read_byte, read_bytes, read_flag, read_items, read_list, read_option, read_pair, read_text, read_u16, read_u32, read_u64, u16s, u32s, u64s}
 use Rattle.vm_model.specs.Calls.{Setup, Meaning}
 use Rattle.vm_model.specs.Journal.{Recorded, Notified, stored_form}
 use Rattle.vm_model.specs.Moves.{after, start, told_input}
-use Rattle.vm_model.specs.Histories.{Event, reports, rounds}
+use Rattle.vm_model.specs.Histories.{Round, reports, rounds}
 use Rattle.vm_model.specs.Histories.Event.{Arrive, Feed, Act, Store}
 
 setup : Setup
@@ -42,6 +46,10 @@ sleeper (i ∷ answer.Handle h ∷ []) = step.Await (Single h)
 sleeper (i ∷ answer.Handle h ∷ answer.Awake ∷ []) = step.Take h
 sleeper (i ∷ answer.Handle h ∷ answer.Awake ∷ answer.Taken x ∷ []) = step.WriteOutput (Success []) (record { unstable_serialization = false })
 sleeper _ = step.End
+
+-- a state of which nothing is known
+nothing : StateMap
+nothing = record { entries = []; coverage = Partial }
 
 input : InputCommand
 input = record { headers = []; value = codes "Till" }
@@ -60,10 +68,10 @@ first : RawMessage
 first = record { ty = type.InputCommand; body = [] }
 
 -- the first round stops once the sleep is stored, the second goes on to the end
-two : List (List Event)
+two : List Round
 two =
-    (Act ∷ Act ∷ Store ∷ [])
-    ∷ (Act ∷ Act ∷ Arrive (void 1) ∷ Feed ∷ Act ∷ Act ∷ Act ∷ Act ∷ Act ∷ Store ∷ [])
+    record { given = nothing; events = Act ∷ Act ∷ Store ∷ [] }
+    ∷ record { given = nothing; events = Act ∷ Act ∷ Arrive (void 1) ∷ Feed ∷ Act ∷ Act ∷ Act ∷ Act ∷ Act ∷ Store ∷ [] }
     ∷ []
 
 slept : RawMessage
@@ -73,12 +81,12 @@ done : RawMessage
 done = stored_form (message.Output (record { result = given.Value [] }))
 
 after_two : rounds setup sleeper input two (Recorded first ∷ []) ≡ Recorded first ∷ Recorded slept ∷ Notified (void 1) ∷ Recorded done ∷ []
-unfolding setup sleeper two void slept done is_utf8 chars header_equal message_in body_as sleep output read_value bytes read_byte read_bytes read_text read_pair read_u16 read_u32 read_u64 u16s u32s u64s
+unfolding setup sleeper nothing two void slept done is_utf8 chars header_equal message_in body_as sleep output read_value bytes read_byte read_bytes read_text read_pair read_u16 read_u32 read_u64 u16s u32s u64s
 after_two = refl
 
 -- the first attempt was answered as far as the second, which went on
 answers_of_two : map (λ r. r.answers) (reports setup sleeper input two (Recorded first ∷ [])) ≡ (told ∷ answer.Handle (handle 17) ∷ []) ∷ (told ∷ answer.Handle (handle 17) ∷ answer.Awake ∷ answer.Taken (Some value.Void) ∷ answer.Unit ∷ []) ∷ []
-unfolding setup sleeper two void told handle is_utf8 chars header_equal message_in body_as sleep output read_value bytes read_byte read_bytes read_text read_pair read_u16 read_u32 read_u64 u16s u32s u64s
+unfolding setup sleeper nothing two void told handle is_utf8 chars header_equal message_in body_as sleep output read_value bytes read_byte read_bytes read_text read_pair read_u16 read_u32 read_u64 u16s u32s u64s
 answers_of_two = refl
 
 cleared : RawMessage
@@ -102,16 +110,43 @@ sent : NotificationResult → Notification
 sent r = record { id = SignalId 17; result = r }
 
 -- the signal comes, and the handler goes on to its command, which is stored
-once : NotificationResult → List (List Event)
-once r = (Arrive (sent r) ∷ Feed ∷ Act ∷ Act ∷ Act ∷ Act ∷ Act ∷ Store ∷ []) ∷ []
+once : NotificationResult → List Round
+once r = record { given = nothing; events = Arrive (sent r) ∷ Feed ∷ Act ∷ Act ∷ Act ∷ Act ∷ Act ∷ Store ∷ [] } ∷ []
 
 completed : rounds setup chooser input (once (came.Value (codes "x"))) (Recorded first ∷ []) ≡ Recorded first ∷ Notified (sent (came.Value (codes "x"))) ∷ Recorded cleared ∷ []
-unfolding setup chooser once sent cleared is_utf8 chars header_equal message_in body_as clear_state bytes read_byte read_bytes read_text read_pair read_u16 read_u32 read_u64 u16s u32s u64s lib.Utf8.encode
+unfolding setup chooser nothing once sent cleared is_utf8 chars header_equal message_in body_as clear_state bytes read_byte read_bytes read_text read_pair read_u16 read_u32 read_u64 u16s u32s u64s lib.Utf8.encode
 completed = refl
 
 refused : RawMessage
 refused = stored_form (message.Output (record { result = given.Failure (record { code = 409; message = codes "no"; metadata = [] }) }))
 
 failed : rounds setup chooser input (once (came.Failure (record { code = 65945; message = codes "no"; metadata = [] }))) (Recorded first ∷ []) ≡ Recorded first ∷ Notified (sent (came.Failure (record { code = 65945; message = codes "no"; metadata = [] }))) ∷ Recorded refused ∷ []
-unfolding setup chooser once sent refused is_utf8 chars header_equal message_in body_as output failure list option read_value read_items read_list bytes read_byte read_bytes read_text read_pair read_u16 read_u32 read_u64 u16s u32s u64s lib.Utf8.encode
+unfolding setup chooser nothing once sent refused is_utf8 chars header_equal message_in body_as output failure list option read_value read_items read_list bytes read_byte read_bytes read_text read_pair read_u16 read_u32 read_u64 u16s u32s u64s lib.Utf8.encode
 failed = refl
+
+-- it reads a key, takes the result at once and ends
+reader : Meaning
+reader (i ∷ []) = step.StateGet (codes "k") None (record { unstable_serialization = false })
+reader (i ∷ answer.Handle h ∷ []) = step.Take h
+reader _ = step.End
+
+-- the key has a value, and no other key has
+one_value : StateMap
+one_value = record { entries = (codes "k", Some (codes "v")) ∷ []; coverage = Complete }
+
+-- the first attempt is handed the state, the second nothing of it
+twice : List Round
+twice = record { given = one_value; events = Act ∷ Store ∷ [] } ∷ record { given = nothing; events = Act ∷ Act ∷ [] } ∷ []
+
+-- the eager read, with the value of then
+read_eagerly : RawMessage
+read_eagerly = stored_form (message.GetEagerState (record { name = []; key = codes "k"; result = Some (stands.Value (codes "v")) }))
+
+after_twice : rounds setup reader input twice (Recorded first ∷ []) ≡ Recorded first ∷ Recorded read_eagerly ∷ []
+unfolding setup reader one_value nothing twice read_eagerly is_utf8 chars header_equal message_in body_as get_eager_state option read_value read_option read_flag bytes read_byte read_bytes read_text read_pair read_u16 read_u32 read_u64 u16s u32s u64s read_void_or_value lib.Utf8.encode
+after_twice = refl
+
+-- the second attempt takes the recorded value
+answers_of_twice : map (λ r. r.answers) (reports setup reader input twice (Recorded first ∷ [])) ≡ (told ∷ answer.Handle (handle 17) ∷ []) ∷ (told ∷ answer.Handle (handle 17) ∷ answer.Taken (Some (value.Success (codes "v"))) ∷ []) ∷ []
+unfolding setup reader one_value nothing twice read_eagerly told handle is_utf8 chars header_equal message_in body_as get_eager_state option read_value read_option read_flag bytes read_byte read_bytes read_text read_pair read_u16 read_u32 read_u64 u16s u32s u64s read_void_or_value lib.Utf8.encode
+answers_of_twice = refl

@@ -1,14 +1,18 @@
 -- Moves of a run: what later arrivals and further recorded commands leave as it is.
-use Rattle.std.proofs.Common.{◌≡◌, ◌⊎◌, ℕ, zero, suc, ◌+◌, Bool, true, false, List, [], ◌∷◌, ◌++◌, Option, Some, None, refl, sym, ap, ◌∙◌, subst, inl, inr, ⊎_elim, append_assoc, append-nil}
+use Rattle.std.proofs.Common.{◌≡◌, ◌⊎◌, ℕ, zero, suc, ◌+◌, List, [], ◌∷◌, ◌++◌, Option, Some, None, refl, sym, ap, ◌∙◌, subst, inl, inr, ⊎_elim, append_assoc, append-nil}
+use Rattle.std.specs.Prelude.{Result, Ok, Err}
 use Rattle.std.proofs.lemmas.Option.{same_Some}
 use native.Mathlib.Nat.{zero-add, suc-add}
+use Rattle.journal_protocol.specs.declared.faults.NamedFault.{NamedFault}
 use Rattle.journal_protocol.specs.declared.message.RawMessage.{RawMessage}
 use Rattle.journal_protocol.specs.declared.notification.Notification.{Notification}
+use Rattle.journal_protocol.specs.declared.notification.NotificationResult.{NotificationResult}
+use Rattle.vm_parts.specs.declared.context.StateMap.{StateMap}
 use Rattle.vm_parts.specs.declared.steps.Answer.{Answer}
 use Rattle.vm_model.specs.Calls.{Setup, Meaning, Derived, Demand, Move}
 use Rattle.vm_model.specs.Calls.Move.{Answers, Needs, Awaits, Ends, Refuses}
-use Rattle.vm_model.specs.Moves.{Point, and_then, after, command_used, longer, later, move_at, moved, next, stands_for, supplied, supply, uses_arrival, uses_command}
-use Rattle.vm_model.specs.Histories.{Made}
+use Rattle.vm_model.specs.Moves.{Point, and_then, after, command_used, longer, later, move_at, moved, next, found, own, supplied, supply, uses_arrival, uses_command}
+use Rattle.vm_model.specs.Histories.{Knowledge, Made}
 use Rattle.vm_model.specs.Journal.{stored_form}
 
 pub none_some : {A P : Type 0} {x : A} → None ≡ Some x → P
@@ -25,14 +29,14 @@ mapped f (Some x) = Some (f x)
 
 -- ---- further commands
 
-command_used_longer : (cs : List RawMessage) (b : Bool) (e : Demand) (gives : List Answer) (d : Derived) (left : List RawMessage) (p q : Point) → command_used b e gives d left p ≡ Some q → command_used b e gives d (left ++ cs) (longer cs p) ≡ Some (longer cs q)
+command_used_longer : (cs : List RawMessage) (o : Result (Option NotificationResult) NamedFault) (e : Demand) (gives : List Answer) (d : Derived) (left : List RawMessage) (p q : Point) → command_used o e gives d left p ≡ Some q → command_used o e gives d (left ++ cs) (longer cs p) ≡ Some (longer cs q)
 unfolding mapped
-command_used_longer cs false e gives d left p q h = none_some h
-command_used_longer cs true e gives d left p q h = ap (mapped (longer cs)) h
+command_used_longer cs (Err name) e gives d left p q h = none_some h
+command_used_longer cs (Ok result) e gives d left p q h = ap (mapped (longer cs)) h
 
 uses_command_longer : (cs : List RawMessage) (e : Demand) (gives : List Answer) (d : Derived) (left : List RawMessage) (p q : Point) → uses_command e gives d left p ≡ Some q → uses_command e gives d (left ++ cs) (longer cs p) ≡ Some (longer cs q)
 uses_command_longer cs e gives d [] p q h = none_some h
-uses_command_longer cs e gives d (c ∷ left) p q h = command_used_longer cs (stands_for e c) e gives d left p q h
+uses_command_longer cs e gives d (c ∷ left) p q h = command_used_longer cs (found e c) e gives d left p q h
 
 uses_arrival_longer : (cs : List RawMessage) (queue : List Notification) (p q : Point) → uses_arrival queue p ≡ Some q → uses_arrival queue (longer cs p) ≡ Some (longer cs q)
 unfolding mapped
@@ -53,14 +57,14 @@ next_longer s m cs p q h = moved_longer cs (move_at s m p) p q h
 
 -- ---- later arrivals
 
-command_used_later : (ns : List Notification) (b : Bool) (e : Demand) (gives : List Answer) (d : Derived) (left : List RawMessage) (p q : Point) → command_used b e gives d left p ≡ Some q → command_used b e gives d left (later ns p) ≡ Some (later ns q)
+command_used_later : (ns : List Notification) (o : Result (Option NotificationResult) NamedFault) (e : Demand) (gives : List Answer) (d : Derived) (left : List RawMessage) (p q : Point) → command_used o e gives d left p ≡ Some q → command_used o e gives d left (later ns p) ≡ Some (later ns q)
 unfolding mapped
-command_used_later ns false e gives d left p q h = none_some h
-command_used_later ns true e gives d left p q h = ap (mapped (later ns)) h
+command_used_later ns (Err name) e gives d left p q h = none_some h
+command_used_later ns (Ok result) e gives d left p q h = ap (mapped (later ns)) h
 
 uses_command_later : (ns : List Notification) (e : Demand) (gives : List Answer) (d : Derived) (left : List RawMessage) (p q : Point) → uses_command e gives d left p ≡ Some q → uses_command e gives d left (later ns p) ≡ Some (later ns q)
 uses_command_later ns e gives d [] p q h = none_some h
-uses_command_later ns e gives d (c ∷ left) p q h = command_used_later ns (stands_for e c) e gives d left p q h
+uses_command_later ns e gives d (c ∷ left) p q h = command_used_later ns (found e c) e gives d left p q h
 
 uses_arrival_later : (ns queue : List Notification) (p q : Point) → uses_arrival queue p ≡ Some q → uses_arrival (queue ++ ns) (later ns p) ≡ Some (later ns q)
 unfolding mapped
@@ -106,74 +110,76 @@ pub longer_nothing : (p : Point) → longer [] p ≡ p
 longer_nothing p = λ i. record p { left = append-nil p.left i }
 
 -- what is made is then as recorded
-pub made_after : (s : Setup) (m : Meaning) (n : ℕ) (p : Point) (made : List RawMessage) (q : Point) → Made s m n p made q → after s m n (longer made p) ≡ Some q
-made_after s m zero p made q h = rw h.0 (ap Some (longer_nothing p ∙ h.1))
-made_after s m (suc n) p made q (r, rest, is, moves, further) =
-    rw (is, ← longer_twice (supplied s m p) rest p, next_longer s m rest (longer (supplied s m p) p) r moves) (made_after s m n r rest q further)
+pub made_after : (s : Setup) (m : Meaning) (K : Knowledge) (n : ℕ) (p : Point) (made : List RawMessage) (q : Point) → Made s m K n p made q → after s m n (longer made p) ≡ Some q
+made_after s m K zero p made q h = rw h.0 (ap Some (longer_nothing p ∙ h.1))
+made_after s m K (suc n) p made q (state, r, rest, knows, is, moves, further) =
+    rw (is, ← longer_twice (supplied s m state p) rest p, next_longer s m rest (longer (supplied s m state p) p) r moves) (made_after s m K n r rest q further)
 
 -- later arrivals leave what is made
-pub made_later : (s : Setup) (m : Meaning) (ns : List Notification) (n : ℕ) (p : Point) (made : List RawMessage) (q : Point) → Made s m n p made q → Made s m n (later ns p) made (later ns q)
-made_later s m ns zero p made q h = (h.0, ap (later ns) h.1)
-made_later s m ns (suc n) p made q (r, rest, is, moves, further) =
-    (later ns r, rest, is, next_later s m ns (longer (supplied s m p) p) r moves, made_later s m ns n r rest q further)
+pub made_later : (s : Setup) (m : Meaning) (K : Knowledge) (ns : List Notification) (n : ℕ) (p : Point) (made : List RawMessage) (q : Point) → Made s m K n p made q → Made s m K n (later ns p) made (later ns q)
+made_later s m K ns zero p made q h = (h.0, ap (later ns) h.1)
+made_later s m K ns (suc n) p made q (state, r, rest, knows, is, moves, further) =
+    (state, later ns r, rest, knows, is, next_later s m ns (longer (supplied s m state p) p) r moves, made_later s m K ns n r rest q further)
 
 -- one run after another
-pub made_add : (s : Setup) (m : Meaning) (n k : ℕ) (p : Point) (made : List RawMessage) (q : Point) (more : List RawMessage) (r : Point) → Made s m n p made q → Made s m k q more r → Made s m (n + k) p (made ++ more) r
-made_add s m zero k p made q more r h t = rw (zero-add, h.0, h.1) t
-made_add s m (suc n) k p made q more r (x, rest, is, moves, further) t =
-    rw suc-add (x, rest ++ more, ap (λ l. l ++ more) is ∙ append_assoc (supplied s m p) rest more, moves, made_add s m n k x rest q more r further t)
+pub made_add : (s : Setup) (m : Meaning) (K : Knowledge) (n k : ℕ) (p : Point) (made : List RawMessage) (q : Point) (more : List RawMessage) (r : Point) → Made s m K n p made q → Made s m K k q more r → Made s m K (n + k) p (made ++ more) r
+made_add s m K zero k p made q more r h t = rw (zero-add, h.0, h.1) t
+made_add s m K (suc n) k p made q more r (state, x, rest, knows, is, moves, further) t =
+    rw suc-add (state, x, rest ++ more, knows, ap (λ l. l ++ more) is ∙ append_assoc (supplied s m state p) rest more, moves, made_add s m K n k x rest q more r further t)
 
 -- ---- a beginning of what is made is made by a beginning of the run
 
-split_supply : (mv : Move) (left rest front back : List RawMessage) → front ++ back ≡ supply mv left ++ rest → (front ≡ []) ⊎ ((x : List RawMessage) × (front ≡ supply mv left ++ x) × (x ++ back ≡ rest))
-split_supply (Answers gives d) left rest front back e = inr (front, refl, e)
-split_supply Awaits left rest front back e = inr (front, refl, e)
-split_supply Ends left rest front back e = inr (front, refl, e)
-split_supply (Refuses name) left rest front back e = inr (front, refl, e)
-split_supply (Needs demand gives d) (c ∷ left) rest front back e = inr (front, refl, e)
-split_supply (Needs demand gives d) [] rest [] back e = inl refl
-split_supply (Needs demand gives d) [] rest (c ∷ front) back e = inr (front, (cc), (cc))
+split_supply : (state : StateMap) (mv : Move) (left rest front back : List RawMessage) → front ++ back ≡ supply state mv left ++ rest → (front ≡ []) ⊎ ((x : List RawMessage) × (front ≡ supply state mv left ++ x) × (x ++ back ≡ rest))
+split_supply state (Answers gives d) left rest front back e = inr (front, refl, e)
+split_supply state Awaits left rest front back e = inr (front, refl, e)
+split_supply state Ends left rest front back e = inr (front, refl, e)
+split_supply state (Refuses name) left rest front back e = inr (front, refl, e)
+split_supply state (Needs demand gives d) (c ∷ left) rest front back e = inr (front, refl, e)
+split_supply state (Needs demand gives d) [] rest [] back e = inl refl
+split_supply state (Needs demand gives d) [] rest (c ∷ front) back e = inr (front, (cc), (cc))
 
-pub made_front : (s : Setup) (m : Meaning) (n : ℕ) (p : Point) (front back : List RawMessage) (q : Point) → Made s m n p (front ++ back) q → (k : ℕ) × (r : Point) × Made s m k p front r
-made_front s m zero p [] back q h = (0, p, (refl, refl))
-made_front s m zero p (c ∷ front) back q h = absurd (cc)
-made_front s m (suc n) p front back q (x, rest, is, moves, further) =
+pub made_front : (s : Setup) (m : Meaning) (K : Knowledge) (n : ℕ) (p : Point) (front back : List RawMessage) (q : Point) → Made s m K n p (front ++ back) q → (k : ℕ) × (r : Point) × Made s m K k p front r
+made_front s m K zero p [] back q h = (0, p, (refl, refl))
+made_front s m K zero p (c ∷ front) back q h = absurd (cc)
+made_front s m K (suc n) p front back q (state, x, rest, knows, is, moves, further) =
     ⊎_elim
     (λ (e : front ≡ []). (0, p, (e, refl)))
-    (λ (y : (y : List RawMessage) × (front ≡ supplied s m p ++ y) × (y ++ back ≡ rest)).
-    let h = made_front s m n x y.0 back q (subst (λ l. Made s m n x l q) (sym y.2) further) in
-    (suc h.0, h.1, (x, y.0, y.1, moves, h.2)))
-    (split_supply (move_at s m p) p.left rest front back is)
+    (λ (y : (y : List RawMessage) × (front ≡ supplied s m state p ++ y) × (y ++ back ≡ rest)).
+    let h = made_front s m K n x y.0 back q (subst (λ l. Made s m K n x l q) (sym y.2) further) in
+    (suc h.0, h.1, (state, x, y.0, knows, y.1, moves, h.2)))
+    (split_supply state (move_at s m p) p.left rest front back is)
 
 -- ---- where nothing recorded is left, nothing comes to be
 
-command_used_spent : (b : Bool) (e : Demand) (gives : List Answer) (d : Derived) (p q : Point) → command_used b e gives d [] p ≡ Some q → q.left ≡ []
-command_used_spent false e gives d p q h = none_some h
-command_used_spent true e gives d p q h = ap (λ z. z.left) (sym (same_Some _ _ h))
+command_used_spent : (o : Result (Option NotificationResult) NamedFault) (e : Demand) (gives : List Answer) (d : Derived) (p q : Point) → command_used o e gives d [] p ≡ Some q → q.left ≡ []
+command_used_spent (Err name) e gives d p q h = none_some h
+command_used_spent (Ok result) e gives d p q h = ap (λ z. z.left) (sym (same_Some _ _ h))
 
 uses_arrival_spent : (queue : List Notification) (p q : Point) → p.left ≡ [] → uses_arrival queue p ≡ Some q → q.left ≡ []
 uses_arrival_spent [] p q e h = none_some h
 uses_arrival_spent (n ∷ queue) p q e h = ap (λ z. z.left) (sym (same_Some _ _ h)) ∙ e
 
-moved_spent : (mv : Move) (p q : Point) → moved mv (record p { left = supply mv [] }) ≡ Some q → q.left ≡ []
-moved_spent (Answers gives d) p q h = ap (λ z. z.left) (sym (same_Some _ _ h))
-moved_spent (Needs e gives d) p q h = command_used_spent (stands_for e (stored_form e.command)) e gives d (record p { left = stored_form e.command ∷ [] }) q h
-moved_spent Awaits p q h = uses_arrival_spent p.queue (record p { left = [] }) q refl h
-moved_spent Ends p q h = none_some h
-moved_spent (Refuses name) p q h = none_some h
+moved_spent : (state : StateMap) (mv : Move) (p q : Point) → moved mv (record p { left = supply state mv [] }) ≡ Some q → q.left ≡ []
+moved_spent state (Answers gives d) p q h = ap (λ z. z.left) (sym (same_Some _ _ h))
+moved_spent state (Needs e gives d) p q h = command_used_spent (found e (stored_form (own state e))) e gives d (record p { left = stored_form (own state e) ∷ [] }) q h
+moved_spent state Awaits p q h = uses_arrival_spent p.queue (record p { left = [] }) q refl h
+moved_spent state Ends p q h = none_some h
+moved_spent state (Refuses name) p q h = none_some h
 
-pub next_spent : (s : Setup) (m : Meaning) (p q : Point) → p.left ≡ [] → next s m (longer (supplied s m p) p) ≡ Some q → q.left ≡ []
-next_spent s m p q e h =
-    let mv = move_at s m p in
-    moved_spent mv p q (subst (λ (l : List RawMessage). moved mv (record p { left = l ++ supply mv l }) ≡ Some q) e h)
+-- the move of a point with nothing recorded left
+pub moved_alone : (s : Setup) (m : Meaning) (state : StateMap) (p q : Point) → p.left ≡ [] → next s m (longer (supplied s m state p) p) ≡ Some q → moved (move_at s m p) (record p { left = supply state (move_at s m p) [] }) ≡ Some q
+moved_alone s m state p q e h = let mv = move_at s m p in subst (λ (l : List RawMessage). moved mv (record p { left = l ++ supply state mv l }) ≡ Some q) e h
 
-pub no_supply : (mv : Move) (rest : List RawMessage) → supply mv (supply mv [] ++ rest) ≡ []
-no_supply (Answers gives d) rest = refl
-no_supply (Needs e gives d) rest = refl
-no_supply Awaits rest = refl
-no_supply Ends rest = refl
-no_supply (Refuses name) rest = refl
+pub next_spent : (s : Setup) (m : Meaning) (state : StateMap) (p q : Point) → p.left ≡ [] → next s m (longer (supplied s m state p) p) ≡ Some q → q.left ≡ []
+next_spent s m state p q e h = moved_spent state (move_at s m p) p q (moved_alone s m state p q e h)
 
-pub made_spent : (s : Setup) (m : Meaning) (n : ℕ) (p : Point) (made : List RawMessage) (q : Point) → p.left ≡ [] → Made s m n p made q → q.left ≡ []
-made_spent s m zero p made q spent h = ap (λ z. z.left) (sym h.1) ∙ spent
-made_spent s m (suc n) p made q spent (r, rest, is, moves, further) = made_spent s m n r rest q (next_spent s m p r spent moves) further
+pub no_supply : (state other : StateMap) (mv : Move) (rest : List RawMessage) → supply other mv (supply state mv [] ++ rest) ≡ []
+no_supply state other (Answers gives d) rest = refl
+no_supply state other (Needs e gives d) rest = refl
+no_supply state other Awaits rest = refl
+no_supply state other Ends rest = refl
+no_supply state other (Refuses name) rest = refl
+
+pub made_spent : (s : Setup) (m : Meaning) (K : Knowledge) (n : ℕ) (p : Point) (made : List RawMessage) (q : Point) → p.left ≡ [] → Made s m K n p made q → q.left ≡ []
+made_spent s m K zero p made q spent h = ap (λ z. z.left) (sym h.1) ∙ spent
+made_spent s m K (suc n) p made q spent (state, r, rest, knows, is, moves, further) = made_spent s m K n r rest q (next_spent s m state p r spent moves) further

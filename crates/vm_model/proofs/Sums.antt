@@ -1,6 +1,7 @@
 -- The numbers that a run has given are the sums over the calls that brought its answers.
 use Rattle.std.proofs.Common.{◌≡◌, ◌⊎◌, ℕ, zero, suc, ◌+◌, Bool, true, false, List, [], ◌∷◌, ◌++◌, Option, Some, None, refl, sym, ap, ◌∙◌, subst, inl, inr, ⊎_elim, append_assoc, append-nil, arith}
 use native.Mathlib.Nat.{add-zero}
+use Rattle.std.specs.Prelude.{Result, Ok, Err}
 use Rattle.std.proofs.lemmas.Option.{same_Some}
 use Rattle.journal_protocol.specs.declared.commands.InputCommand.{InputCommand}
 use Rattle.journal_protocol.specs.declared.faults.NamedFault.{NamedFault}
@@ -18,12 +19,13 @@ use Rattle.vm_parts.specs.Values.{value_of}
 use Rattle.vm_machine.specs.declared.asks.Ask.{Ask}
 use Rattle.vm_machine.specs.declared.asks.Ask.TheVariants as ask
 use Rattle.vm_machine.specs.declared.asks.Command.{Command}
+use Rattle.vm_machine.specs.declared.reads.StateRead.{StateRead}
 use Rattle.vm_machine.specs.Asks.{ask_of}
 use Rattle.vm_machine.specs.Requests.{ids_of}
 use Rattle.invocation_vm.specs.Calls.{skips_replay}
-use Rattle.vm_model.specs.Calls.{Setup, Meaning, Derived, Demand, Move, asked, awakeable_made, awaiting, call_of, commanded, commanding, is_awake, making_awakeable, numbered, ready_in, result_taken, signal_made, value_taken}
+use Rattle.vm_model.specs.Calls.{Setup, Meaning, Derived, Demand, Move, asked, awakeable_made, awaiting, call_of, commanding, counted, is_awake, making_awakeable, numbered, reading, ready_in, result_taken, signal_made, value_taken}
 use Rattle.vm_model.specs.Calls.Move.{Answers, Needs, Awaits, Ends, Refuses}
-use Rattle.vm_model.specs.Moves.{Point, after, command_used, move_at, moved, next, stands_for, start, uses_arrival, uses_command}
+use Rattle.vm_model.specs.Moves.{Point, after, brought, command_used, move_at, moved, next, found, start, uses_arrival, uses_command}
 use Rattle.vm_model.specs.Sums.{calls_after, calls_for, completion_ids, completion_ids_in, handles, signal_ids, signal_ids_in, handles_in, total}
 use Rattle.vm_model.proofs.Runs.{and_then_some, none_some}
 
@@ -41,16 +43,20 @@ GivenAfter ids signals numbers d Awaits = Unit {0}
 GivenAfter ids signals numbers d Ends = Unit {0}
 GivenAfter ids signals numbers d (Refuses name) = Unit {0}
 
-commanded_given : (c : Command) (d : Derived) → Given (ids_of c.message) 0 (ids_of c.message) d (commanded c d)
-commanded_given c d = record { completion = refl; signal = sym (add-zero d.counters.signal); handle = refl }
+counted_given : (ids : ℕ) (d : Derived) → Given ids 0 ids d (counted ids d)
+counted_given ids d = record { completion = refl; signal = sym (add-zero d.counters.signal); handle = refl }
 
 numbered_given : (s : Setup) (c : Command) (o : Option NamedFault) (d : Derived) → GivenAfter (ids_of c.message) 0 (ids_of c.message) d (numbered s c o d)
 numbered_given s c (Some fault) d = tt
-numbered_given s c None d = (_, refl, commanded_given c d)
+numbered_given s c None d = (_, refl, counted_given (ids_of c.message) d)
 
 commanding_given : (s : Setup) (c : Command) (o : Option NamedFault) (d : Derived) → GivenAfter (ids_of c.message) 0 (ids_of c.message) d (commanding s c o d)
 commanding_given s c (Some fault) d = tt
 commanding_given s c None d = numbered_given s c (missing (ids_of c.message) 0 (ids_of c.message) d.counters) d
+
+reading_given : (r : StateRead) (o : Option NamedFault) (d : Derived) → GivenAfter 1 0 1 d (reading r o d)
+reading_given r (Some fault) d = tt
+reading_given r None d = (_, refl, counted_given 1 d)
 
 awakeable_given : (s : Setup) (o : Option NamedFault) (d : Derived) → GivenAfter 0 1 1 d (awakeable_made s o d)
 awakeable_given s (Some fault) d = tt
@@ -82,6 +88,7 @@ result_given handle None o d = (_, refl, nothing_given d d refl)
 
 asked_given : (s : Setup) (a : Ask) (d : Derived) → GivenAfter (completion_ids_in a) (signal_ids_in a) (handles_in a) d (asked s a d)
 asked_given s (ask.Command c) d = commanding_given s c c.refusal d
+asked_given s (ask.Read r) d = reading_given r (missing 1 0 1 d.counters) d
 asked_given s ask.Awakeable d = making_given s (skips_replay s.options.journal_replay) d
 asked_given s (ask.Signal name) d = signal_given name (missing_signals 0 1 d.counters) d
 asked_given s (ask.Await future) d = awaiting_given (is_awake s future d) d
@@ -98,16 +105,20 @@ call_given s st d = asked_given s (ask_of s.version st) d
 Moves : ℕ → ℕ → ℕ → Point → Point → Type 0
 Moves ids signals numbers p q = ((a : Answer) × (q.answers ≡ p.answers ++ a ∷ []) × Given ids signals numbers p.derived q.derived) ⊎ ((q.answers ≡ p.answers) × (q.derived.counters ≡ p.derived.counters))
 
-command_moves : (ids signals numbers : ℕ) (b : Bool) (e : Demand) (gives : List Answer) (d : Derived) (left : List RawMessage) (p q : Point) → (a : Answer) × (gives ≡ a ∷ []) × Given ids signals numbers p.derived d → command_used b e gives d left p ≡ Some q → Moves ids signals numbers p q
+brought_given : (ids signals numbers id : ℕ) (result : Option NotificationResult) (d e : Derived) → Given ids signals numbers d e → Given ids signals numbers d (brought id result e)
+brought_given ids signals numbers id None d e g = g
+brought_given ids signals numbers id (Some result) d e g = record { completion = g.completion; signal = g.signal; handle = g.handle }
+
+command_moves : (ids signals numbers : ℕ) (o : Result (Option NotificationResult) NamedFault) (e : Demand) (gives : List Answer) (d : Derived) (left : List RawMessage) (p q : Point) → (a : Answer) × (gives ≡ a ∷ []) × Given ids signals numbers p.derived d → command_used o e gives d left p ≡ Some q → Moves ids signals numbers p q
 unfolding Moves
-command_moves ids signals numbers false e gives d left p q g m = none_some m
-command_moves ids signals numbers true e gives d left p q g m =
+command_moves ids signals numbers (Err name) e gives d left p q g m = none_some m
+command_moves ids signals numbers (Ok result) e gives d left p q g m =
     let is = same_Some _ q m in
-    inl (g.0, ap (λ z. z.answers) (sym is) ∙ ap (λ l. p.answers ++ l) g.1, subst (λ z. Given ids signals numbers p.derived z.derived) is g.2)
+    inl (g.0, ap (λ z. z.answers) (sym is) ∙ ap (λ l. p.answers ++ l) g.1, subst (λ z. Given ids signals numbers p.derived z.derived) is (brought_given ids signals numbers p.derived.counters.completion result p.derived d g.2))
 
 uses_moves : (ids signals numbers : ℕ) (e : Demand) (gives : List Answer) (d : Derived) (left : List RawMessage) (p q : Point) → (a : Answer) × (gives ≡ a ∷ []) × Given ids signals numbers p.derived d → uses_command e gives d left p ≡ Some q → Moves ids signals numbers p q
 uses_moves ids signals numbers e gives d [] p q g m = none_some m
-uses_moves ids signals numbers e gives d (c ∷ left) p q g m = command_moves ids signals numbers (stands_for e c) e gives d left p q g m
+uses_moves ids signals numbers e gives d (c ∷ left) p q g m = command_moves ids signals numbers (found e c) e gives d left p q g m
 
 arrival_moves : (ids signals numbers : ℕ) (queue : List Notification) (p q : Point) → uses_arrival queue p ≡ Some q → Moves ids signals numbers p q
 unfolding Moves

@@ -1,5 +1,6 @@
 -- Each take of a run took a result that was present.
 use Rattle.std.proofs.Common.{◌≡◌, ℕ, zero, suc, Bool, true, false, is_some, List, [], ◌∷◌, Option, Some, None, refl, ap, subst}
+use Rattle.std.specs.Prelude.{Result, Ok, Err}
 use Rattle.std.proofs.lemmas.Option.{same_Some}
 use Rattle.journal_protocol.specs.declared.commands.InputCommand.{InputCommand}
 use Rattle.journal_protocol.specs.declared.faults.NamedFault.{NamedFault}
@@ -16,12 +17,13 @@ use Rattle.vm_parts.specs.Values.{value_of}
 use Rattle.vm_machine.specs.declared.asks.Ask.{Ask}
 use Rattle.vm_machine.specs.declared.asks.Ask.TheVariants as ask
 use Rattle.vm_machine.specs.declared.asks.Command.{Command}
+use Rattle.vm_machine.specs.declared.reads.StateRead.{StateRead}
 use Rattle.vm_machine.specs.Asks.{ask_of}
 use Rattle.vm_machine.specs.Requests.{ids_of}
 use Rattle.invocation_vm.specs.Calls.{skips_replay}
-use Rattle.vm_model.specs.Calls.{Setup, Meaning, Derived, Demand, Move, asked, awakeable_made, awaiting, commanding, is_awake, making_awakeable, numbered, ready_in, result_taken, signal_made, value_taken}
+use Rattle.vm_model.specs.Calls.{Setup, Meaning, Derived, Demand, Move, asked, awakeable_made, awaiting, commanding, is_awake, making_awakeable, numbered, reading, ready_in, result_taken, signal_made, value_taken}
 use Rattle.vm_model.specs.Calls.Move.{Answers, Needs, Awaits, Ends, Refuses}
-use Rattle.vm_model.specs.Moves.{Point, after, command_used, move_at, moved, next, stands_for, start, uses_arrival, uses_command}
+use Rattle.vm_model.specs.Moves.{Point, after, brought, command_used, move_at, moved, next, found, start, uses_arrival, uses_command}
 use Rattle.vm_model.specs.Deliveries.{EachTookAResult}
 use Rattle.vm_model.proofs.Runs.{and_then_some, none_some}
 
@@ -43,6 +45,10 @@ numbered_took s c None d h = h
 commanding_took : (s : Setup) (c : Command) (o : Option NamedFault) (d : Derived) → Took s d → TookAfter s (commanding s c o d)
 commanding_took s c (Some fault) d h = tt
 commanding_took s c None d h = numbered_took s c (missing (ids_of c.message) 0 (ids_of c.message) d.counters) d h
+
+reading_took : (s : Setup) (r : StateRead) (o : Option NamedFault) (d : Derived) → Took s d → TookAfter s (reading r o d)
+reading_took s r (Some fault) d h = tt
+reading_took s r None d h = h
 
 awakeable_took : (s : Setup) (o : Option NamedFault) (d : Derived) → Took s d → TookAfter s (awakeable_made s o d)
 awakeable_took s (Some fault) d h = tt
@@ -71,6 +77,7 @@ result_took s handle None o d is h = h
 
 asked_took : (s : Setup) (a : Ask) (d : Derived) → Took s d → TookAfter s (asked s a d)
 asked_took s (ask.Command c) d h = commanding_took s c c.refusal d h
+asked_took s (ask.Read r) d h = reading_took s r (missing 1 0 1 d.counters) d h
 asked_took s ask.Awakeable d h = making_took s (skips_replay s.options.journal_replay) d h
 asked_took s (ask.Signal name) d h = signal_took s name (missing_signals 0 1 d.counters) d h
 asked_took s (ask.Await future) d h = awaiting_took s (is_awake s future d) d h
@@ -78,13 +85,17 @@ asked_took s (ask.Take handle) d h = result_took s handle (id_at handle.0 d.hand
 asked_took s (ask.Completed handle) d h = h
 asked_took s ask.End d h = tt
 
-command_took : (s : Setup) (b : Bool) (e : Demand) (gives : List Answer) (d : Derived) (left : List RawMessage) (p q : Point) → Took s d → command_used b e gives d left p ≡ Some q → Took s q.derived
-command_took s false e gives d left p q h m = none_some m
-command_took s true e gives d left p q h m = subst (λ z. Took s z.derived) (same_Some _ q m) h
+brought_took : (s : Setup) (id : ℕ) (result : Option NotificationResult) (d : Derived) → Took s d → Took s (brought id result d)
+brought_took s id None d h = h
+brought_took s id (Some result) d h = h
+
+command_took : (s : Setup) (o : Result (Option NotificationResult) NamedFault) (e : Demand) (gives : List Answer) (d : Derived) (left : List RawMessage) (p q : Point) → Took s d → command_used o e gives d left p ≡ Some q → Took s q.derived
+command_took s (Err name) e gives d left p q h m = none_some m
+command_took s (Ok result) e gives d left p q h m = subst (λ z. Took s z.derived) (same_Some _ q m) (brought_took s p.derived.counters.completion result d h)
 
 uses_took : (s : Setup) (e : Demand) (gives : List Answer) (d : Derived) (left : List RawMessage) (p q : Point) → Took s d → uses_command e gives d left p ≡ Some q → Took s q.derived
 uses_took s e gives d [] p q h m = none_some m
-uses_took s e gives d (c ∷ left) p q h m = command_took s (stands_for e c) e gives d left p q h m
+uses_took s e gives d (c ∷ left) p q h m = command_took s (found e c) e gives d left p q h m
 
 arrival_took : (s : Setup) (queue : List Notification) (p q : Point) → Took s p.derived → uses_arrival queue p ≡ Some q → Took s q.derived
 arrival_took s [] p q h m = none_some m

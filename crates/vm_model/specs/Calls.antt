@@ -10,7 +10,6 @@ use Rattle.journal_protocol.specs.declared.notification.NotificationResult.{Noti
 use Rattle.journal_protocol.specs.declared.version.Version.{Version}
 use Rattle.vm_parts.specs.declared.async_results.Mapping.{Mapping}
 use Rattle.vm_parts.specs.declared.context.Counters.{Counters}
-use Rattle.vm_parts.specs.declared.context.LastCommand.{LastCommand}
 use Rattle.vm_parts.specs.declared.context.StartInfo.{StartInfo}
 use Rattle.vm_parts.specs.declared.options.SignalDelivery.{SignalDelivery}
 use Rattle.vm_parts.specs.declared.options.VMOptions.{VMOptions}
@@ -28,9 +27,10 @@ use Rattle.vm_parts.specs.Values.{value_of}
 use Rattle.vm_machine.specs.declared.asks.Ask.{Ask}
 use Rattle.vm_machine.specs.declared.asks.Ask.TheVariants as ask
 use Rattle.vm_machine.specs.declared.asks.Command.{Command}
+use Rattle.vm_machine.specs.declared.reads.StateRead.{StateRead}
 use Rattle.vm_machine.specs.Asks.{ask_of, command_answer}
 use Rattle.vm_machine.specs.Commands.{given_on, ignores_payloads, mapped_from}
-use Rattle.vm_machine.specs.Requests.{ids_of, name_of, shown_type, with_ids}
+use Rattle.vm_machine.specs.Requests.{ids_of, with_ids}
 use Rattle.vm_machine.specs.Signals.{awakeable_id}
 use Rattle.invocation_vm.specs.Calls.{skips_replay}
 
@@ -66,11 +66,9 @@ pub data Usage : Type 0 where
   Read : ℕ → NotificationResult → Usage
   Taken : NotificationId → Usage
 
--- The next numbers, the last command's type and name, the id that each handle stands for, and what was used and
--- taken, the newest first.
+-- The next numbers, the id that each handle stands for, and what was used and taken, the newest first.
 pub record Derived : Type 0 where
   pub counters : Counters
-  pub last : LastCommand
   pub handles : List Mapping
   pub usage : List Usage
 
@@ -95,12 +93,12 @@ is_awake s (Single handle) d = has_result_in s handle d
 
 -- ---- what a step asks for
 
--- the command that a call needs, and whether its payload may differ from the recorded one's
-pub record Demand : Type 0 where
-  pub command : Message
-  pub ignores_payload : Bool
+-- what a call needs: this command, and whether its payload may differ from the recorded one's; or a state read with this completion id
+pub data Demand : Type 0 where
+  Exactly : Message → Bool → Demand
+  Reads : StateRead → ℕ → Demand
 
--- What comes next: an answer with nothing used; an answer once the next command is this; one more arrival is used; or
+-- What comes next: an answer with nothing used; an answer once the next command is what is needed; one more arrival is used; or
 -- nothing, since the handler ends or its call is refused for this reason: an argument or version check, a kind of number
 -- that ran out, a state key that is no text.
 pub data Move : Type 0 where
@@ -112,17 +110,16 @@ pub data Move : Type 0 where
 
 -- ---- calls with a command
 
--- what a command leaves: it is counted, its type and name are kept, and its numbers are given
-abbrev pub commanded : Command → Derived → Derived
-commanded c d = record d {
-  counters = given_on (ids_of c.message) (record d.counters { command = Some (next_index d.counters.command) });
-  last = record { ty = shown_type c.message; name = name_of c.message };
-  handles = d.handles ++ mapped_from (ids_of c.message) d.counters.handle d.counters.completion;
+-- what a command leaves: it is counted, and so many completion ids are given, with a handle for each
+abbrev pub counted : ℕ → Derived → Derived
+counted ids d = record d {
+  counters = given_on ids (record d.counters { command = Some (next_index d.counters.command) });
+  handles = d.handles ++ mapped_from ids d.counters.handle d.counters.completion;
 }
 
 -- the command of a call, by the next numbers
 abbrev pub demand_of : Setup → Command → Derived → Demand
-demand_of s c d = record { command = with_ids d.counters.completion c.message; ignores_payload = ignores_payloads s.options.non_determinism_checks c.unstable }
+demand_of s c d = Exactly (with_ids d.counters.completion c.message) (ignores_payloads s.options.non_determinism_checks c.unstable)
 
 -- a command is answered by its first handles
 abbrev pub answer_of : Command → Derived → Answer
@@ -131,7 +128,7 @@ answer_of c d = command_answer c.message (record { 0 = d.counters.handle })
 -- a call with a command, by the first kind of number that is missing
 abbrev pub numbered : Setup → Command → Option NamedFault → Derived → Move
 numbered s c (Some name) d = Refuses name
-numbered s c None d = Needs (demand_of s c d) (answer_of c d ∷ []) (commanded c d)
+numbered s c None d = Needs (demand_of s c d) (answer_of c d ∷ []) (counted (ids_of c.message) d)
 
 -- a call with a command, where its numbers are left
 abbrev pub requested : Setup → Command → Derived → Move
@@ -141,6 +138,11 @@ requested s c d = numbered s c (missing (ids_of c.message) 0 (ids_of c.message) 
 abbrev pub commanding : Setup → Command → Option NamedFault → Derived → Move
 commanding s c (Some name) d = Refuses name
 commanding s c None d = requested s c d
+
+-- a state read, by the first kind of number that is missing
+abbrev pub reading : StateRead → Option NamedFault → Derived → Move
+reading r (Some name) d = Refuses name
+reading r None d = Needs (Reads r d.counters.completion) (answer.Handle (record { 0 = d.counters.handle }) ∷ []) (counted 1 d)
 
 -- ---- calls without a command
 
@@ -196,6 +198,7 @@ taking s handle id d = result_taken handle id (present_for s.options.signal_deli
 -- what comes of what a step asks for
 abbrev pub asked : Setup → Ask → Derived → Move
 asked s (ask.Command c) d = commanding s c c.refusal d
+asked s (ask.Read r) d = reading r (missing 1 0 1 d.counters) d
 asked s ask.Awakeable d = making_awakeable s (skips_replay s.options.journal_replay) d
 asked s (ask.Signal name) d = signal_made name (missing_signals 0 1 d.counters) d
 asked s (ask.Await future) d = awaiting (is_awake s future d) d

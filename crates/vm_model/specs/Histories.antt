@@ -1,22 +1,83 @@
 -- What a journal tells of a handler's run, what an attempt writes, and what rounds of attempts leave.
 use Rattle.std.specs.Prelude.{◌≡◌, ◌⊎◌, ◌<◌, ◌≤◌, length, take, ℕ, zero, suc, Bool, true, false, List, [], ◌∷◌, ◌++◌, Option, Some, None}
 use Rattle.journal_protocol.specs.declared.commands.InputCommand.{InputCommand}
+use Rattle.journal_protocol.specs.declared.message.Message.{Message}
+use Rattle.journal_protocol.specs.declared.message.Message.TheVariants as message
 use Rattle.journal_protocol.specs.declared.message.RawMessage.{RawMessage}
 use Rattle.journal_protocol.specs.declared.notification.Notification.{Notification}
+use Rattle.journal_protocol.specs.declared.state.VoidOrValue.{VoidOrValue}
+use Rattle.journal_protocol.specs.declared.state.VoidOrValue.TheVariants as stands
+use Rattle.journal_protocol.specs.Reading.{message_in}
+use Rattle.vm_parts.specs.declared.context.Known.{Known}
+use Rattle.vm_parts.specs.declared.context.Known.TheVariants.{Unknown, Empty, Value}
+use Rattle.vm_parts.specs.declared.context.StateMap.{StateMap}
 use Rattle.vm_parts.specs.declared.steps.Answer.{Answer}
 use Rattle.vm_parts.specs.declared.steps.Step.TheVariants as step
 use Rattle.vm_parts.specs.declared.types.UnresolvedFuture.{UnresolvedFuture}
+use Rattle.vm_parts.specs.Entries.{IsInOrder}
+use Rattle.vm_parts.specs.States.{known, known_keys}
+use Rattle.vm_machine.specs.declared.reads.StateRead.TheVariants as reads
+use Rattle.vm_machine.specs.Reads.{own_form}
 use Rattle.vm_model.specs.Calls.{Setup, Meaning, Derived}
-use Rattle.vm_model.specs.Journal.{Entry, Recorded, Notified, commands_in, notifications_in, input_read_from}
-use Rattle.vm_model.specs.Moves.{Point, after, next, start, supplied, longer, later, arrival_used}
+use Rattle.vm_model.specs.Journal.{Entry, Recorded, Notified, commands_in, notifications_in, input_read_from, messages_in, stored_form}
+use Rattle.vm_model.specs.Moves.{Point, after, next, start, supplied, longer, later, arrival_used, changed_by}
 
 -- A point is told by a journal: so many moves lead to it from the point after the input.
 abbrev pub Told : Setup → Meaning → InputCommand → List Notification → List RawMessage → Point → Type 0
 Told s m input ns cs p = (n : ℕ) × (after s m n (start s input ns cs) ≡ Some p)
 
--- The journal is one history of the handler, each command once: it begins with an input, and some point that it tells
--- with its own notifications uses all its commands.
-pub record History (s : Setup) (m : Meaning) (journal : List Entry) : Type 0 where
+-- ---- what is known of the state
+
+-- What is known of a state, an ordered map, is so in this one: each key is unknown or as there, and so are all keys together.
+pub record IsTrueOf (now state : StateMap) : Type 0 where
+  pub in_order : IsInOrder state.entries
+  pub at : (key : List ℕ) → (known key state ≡ Unknown) ⊎ (known key state ≡ known key now)
+  pub keys : (known_keys state ≡ None) ⊎ (known_keys state ≡ known_keys now)
+
+-- As much is known of a state, an ordered map, as of this one, and it is so there.
+pub record IsAllOf (now state : StateMap) : Type 0 where
+  pub in_order : IsInOrder state.entries
+  pub at : (key : List ℕ) → known key state ≡ known key now
+  pub keys : known_keys state ≡ known_keys now
+
+-- which state a call may go by, where so much was said
+abbrev pub Knowledge : Type 1
+Knowledge = StateMap → List Message → Type 0
+
+-- an attempt was handed this state, and its calls have changed it since
+abbrev pub Handed : StateMap → Knowledge
+Handed given state said = state ≡ changed_by said given
+
+-- what is known is so, where the commands so far have changed the base
+abbrev pub Honest : StateMap → Knowledge
+Honest base state said = IsTrueOf (changed_by said base) state
+
+-- all is known that the base says, where the commands so far have changed it
+abbrev pub Whole : StateMap → Knowledge
+Whole base state said = IsAllOf (changed_by said base) state
+
+-- A recorded command that is an eager read is stored just as this state gives it.
+abbrev pub Fits : StateMap → RawMessage → Option Message → Type 0
+Fits state raw (Some (message.GetEagerState c)) = (id : ℕ) → raw ≡ stored_form (own_form (reads.Value c.key c.name) id state)
+Fits state raw (Some (message.GetEagerStateKeys c)) = (id : ℕ) → raw ≡ stored_form (own_form (reads.Keys c.name) id state)
+Fits state raw m = Unit {0}
+
+-- the result that an eager read records of a key of which so much is known
+abbrev pub recorded_value : Known → Option VoidOrValue
+recorded_value Unknown = None
+recorded_value Empty = Some stands.Void
+recorded_value (Value value) = Some (stands.Value value)
+
+-- each recorded eager read is as the state is there, by the recorded commands before it
+abbrev pub EagerFrom : StateMap → List RawMessage → Type 0
+EagerFrom state [] = Unit {0}
+EagerFrom state (c ∷ cs) = Fits state c (message_in c.ty c.body) × EagerFrom (changed_by (messages_in (c ∷ [])) state) cs
+
+-- ---- histories
+
+-- The journal is one history of the handler, each command once: it begins with an input, some point that it tells with its own
+-- notifications uses all its commands, and each eager read is as the state is there, from the base on.
+pub record History (s : Setup) (m : Meaning) (base : StateMap) (journal : List Entry) : Type 0 where
   pub first : RawMessage
   pub input : InputCommand
   pub reads : input_read_from first ≡ Some input
@@ -25,23 +86,26 @@ pub record History (s : Setup) (m : Meaning) (journal : List Entry) : Type 0 whe
   pub at : Point
   pub told : Told s m input (notifications_in journal) rest at
   pub uses_all : at.left ≡ []
+  pub eager : EagerFrom base rest
 
--- So many moves from p to q, where each command that is needed and not recorded is the call's own: those are made.
-abbrev pub Made : Setup → Meaning → ℕ → Point → List RawMessage → Point → Type 0
-Made s m zero p made q = (made ≡ []) × (p ≡ q)
-Made s m (suc n) p made q =
-    (r : Point) × (rest : List RawMessage)
-    × (made ≡ supplied s m p ++ rest)
-    × (next s m (longer (supplied s m p) p) ≡ Some r)
-    × Made s m n r rest q
+-- So many moves from p to q, where each command that is needed and not recorded is the call's own, by a state that it may go by:
+-- those are made.
+abbrev pub Made : Setup → Meaning → Knowledge → ℕ → Point → List RawMessage → Point → Type 0
+Made s m Knows zero p made q = (made ≡ []) × (p ≡ q)
+Made s m Knows (suc n) p made q =
+    (state : StateMap) × (r : Point) × (rest : List RawMessage)
+    × Knows state p.said
+    × (made ≡ supplied s m state p ++ rest)
+    × (next s m (longer (supplied s m state p) p) ≡ Some r)
+    × Made s m Knows n r rest q
 
--- these are the first commands of a run that nothing disturbs
-abbrev pub Undisturbed : Setup → Meaning → InputCommand → List Notification → List RawMessage → Type 0
-Undisturbed s m input ns cs = (n : ℕ) × (q : Point) × Made s m n (start s input ns []) cs q
+-- these are the first commands of a run that nothing disturbs: its reads go by all of the base
+abbrev pub Undisturbed : Setup → Meaning → StateMap → InputCommand → List Notification → List RawMessage → Type 0
+Undisturbed s m base input ns cs = (n : ℕ) × (q : Point) × Made s m (Whole base) n (start s input ns []) cs q
 
--- no move comes next, not even with the call's own command
-abbrev pub IsStuck : Setup → Meaning → Point → Type 0
-IsStuck s m p = next s m (longer (supplied s m p) p) ≡ None
+-- no move comes next, not even with the call's own command, where so much of the state is known
+abbrev pub IsStuck : Setup → Meaning → StateMap → Point → Type 0
+IsStuck s m state p = next s m (longer (supplied s m state p) p) ≡ None
 
 -- the second list begins with the first
 abbrev pub IsPrefix : {A : Type 0} → List A → List A → Type 0
@@ -77,6 +141,11 @@ pub data Event : Type 0 where
   Act : Event
   Store : Event
 
+-- a round: the state that its attempt is handed, and its events
+pub record Round : Type 0 where
+  pub given : StateMap
+  pub events : List Event
+
 -- a round on its way
 pub record Now : Type 0 where
   pub journal : List Entry
@@ -99,17 +168,21 @@ abbrev pub stored : List RawMessage → Now → Now
 stored [] now = now
 stored (c ∷ cs) now = record now { journal = now.journal ++ Recorded c ∷ []; unstored = cs }
 
+-- what an attempt that was handed this state brings itself to its next call
+abbrev pub brings : Setup → Meaning → StateMap → Point → List RawMessage
+brings s m given p = supplied s m (changed_by p.said given) p
+
 -- one event
-abbrev pub happens : Setup → Meaning → Event → Now → Now
-happens s m (Arrive n) now = record now { journal = now.journal ++ Notified n ∷ []; waiting = now.waiting ++ n ∷ [] }
-happens s m Feed now = fed now.waiting now
-happens s m Act now = acted (next s m (longer (supplied s m now.point) now.point)) (supplied s m now.point) now
-happens s m Store now = stored now.unstored now
+abbrev pub happens : Setup → Meaning → StateMap → Event → Now → Now
+happens s m given (Arrive n) now = record now { journal = now.journal ++ Notified n ∷ []; waiting = now.waiting ++ n ∷ [] }
+happens s m given Feed now = fed now.waiting now
+happens s m given Act now = acted (next s m (longer (brings s m given now.point) now.point)) (brings s m given now.point) now
+happens s m given Store now = stored now.unstored now
 
 -- events, one after another
-abbrev pub happen : Setup → Meaning → List Event → Now → Now
-happen s m [] now = now
-happen s m (e ∷ es) now = happen s m es (happens s m e now)
+abbrev pub happen : Setup → Meaning → StateMap → List Event → Now → Now
+happen s m given [] now = now
+happen s m given (e ∷ es) now = happen s m given es (happens s m given e now)
 
 -- all but the first
 abbrev pub behind : {A : Type 0} → List A → List A
@@ -121,17 +194,22 @@ abbrev pub begin : Setup → InputCommand → List Entry → Now
 begin s input journal = record { journal = journal; point = start s input (notifications_in journal) (behind (commands_in journal)); unstored = []; waiting = [] }
 
 -- a round after all its events; what wasn't stored is lost
-abbrev pub ended : Setup → Meaning → InputCommand → List Event → List Entry → Now
-ended s m input events journal = happen s m events (begin s input journal)
+abbrev pub ended : Setup → Meaning → InputCommand → Round → List Entry → Now
+ended s m input r journal = happen s m r.given r.events (begin s input journal)
 
 -- the journal that a round leaves
-abbrev pub round : Setup → Meaning → InputCommand → List Event → List Entry → List Entry
-round s m input events journal = (ended s m input events journal).journal
+abbrev pub round : Setup → Meaning → InputCommand → Round → List Entry → List Entry
+round s m input r journal = (ended s m input r journal).journal
 
 -- the journal that rounds leave
-abbrev pub rounds : Setup → Meaning → InputCommand → List (List Event) → List Entry → List Entry
+abbrev pub rounds : Setup → Meaning → InputCommand → List Round → List Entry → List Entry
 rounds s m input [] journal = journal
 rounds s m input (r ∷ rs) journal = rounds s m input rs (round s m input r journal)
+
+-- of the state that each round is handed, and of what the journal's commands behind the input say then, this holds
+abbrev pub EachHanded : Setup → Meaning → Knowledge → InputCommand → List Round → List Entry → Type 0
+EachHanded s m Knows input [] journal = Unit {0}
+EachHanded s m Knows input (r ∷ rs) journal = Knows r.given (messages_in (behind (commands_in journal))) × EachHanded s m Knows input rs (round s m input r journal)
 
 -- what a round tells: its attempt's answers, and the journal's length after it
 pub record Report : Type 0 where
@@ -139,10 +217,10 @@ pub record Report : Type 0 where
   pub entries : ℕ
 
 -- what is told of a round
-abbrev pub report : Setup → Meaning → InputCommand → List Event → List Entry → Report
+abbrev pub report : Setup → Meaning → InputCommand → Round → List Entry → Report
 report s m input r journal = record { answers = (ended s m input r journal).point.answers; entries = length (round s m input r journal) }
 
 -- what is told of each round
-abbrev pub reports : Setup → Meaning → InputCommand → List (List Event) → List Entry → List Report
+abbrev pub reports : Setup → Meaning → InputCommand → List Round → List Entry → List Report
 reports s m input [] journal = []
 reports s m input (r ∷ rs) journal = report s m input r journal ∷ reports s m input rs (round s m input r journal)

@@ -1,12 +1,12 @@
 -- A journal: its entries, and the two lists that a run reads them as.
-use Rattle.std.specs.Prelude.{List, [], ◌∷◌, Option, None, ◌==◌, if◌then◌else◌}
+use Rattle.std.specs.Prelude.{List, [], ◌∷◌, Option, Some, None, ◌==◌, if◌then◌else◌}
 use Rattle.journal_protocol.specs.declared.commands.InputCommand.{InputCommand}
 use Rattle.journal_protocol.specs.declared.message.Message.{Message}
 use Rattle.journal_protocol.specs.declared.message.RawMessage.{RawMessage}
 use Rattle.journal_protocol.specs.declared.notification.Notification.{Notification}
 use Rattle.journal_protocol.specs.declared.types.MessageType.TheVariants as type
 use Rattle.journal_protocol.specs.Message.{type_of, body}
-use Rattle.journal_protocol.specs.Reading.{input_in}
+use Rattle.journal_protocol.specs.Reading.{input_in, message_in}
 use Rattle.journal_protocol.specs.Types.{type_number}
 
 -- An entry is a command as it was stored, or a notification.
@@ -33,3 +33,13 @@ stored_form m = record { ty = type_of m; body = body m }
 -- the input that a stored command is; none where it is another command
 abbrev pub input_read_from : RawMessage → Option InputCommand
 input_read_from raw = if type_number raw.ty == type_number type.InputCommand then input_in raw.body else None
+
+-- a message that was read comes first
+abbrev pub read_before : Option Message → List Message → List Message
+read_before None ms = ms
+read_before (Some m) ms = m ∷ ms
+
+-- what recorded commands say: those that can be read, in order
+abbrev pub messages_in : List RawMessage → List Message
+messages_in [] = []
+messages_in (c ∷ cs) = read_before (message_in c.ty c.body) (messages_in cs)

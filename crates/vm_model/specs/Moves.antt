@@ -1,11 +1,13 @@
 -- A point of a handler's run over two lists, the recorded commands and the arrivals that aren't used yet, and the
 -- moves from one point to the next.
-use Rattle.std.specs.Prelude.{ℕ, zero, suc, ◌==◌, Bool, false, cond, if◌then◌else◌, List, [], ◌∷◌, ◌++◌, Option, Some, None}
+use Rattle.std.specs.Prelude.{ℕ, zero, suc, ◌==◌, Bool, if◌then◌else◌, List, [], ◌∷◌, ◌++◌, Option, Some, None, Result, Ok, Err}
 use Rattle.journal_protocol.specs.declared.commands.InputCommand.{InputCommand}
+use Rattle.journal_protocol.specs.declared.faults.NamedFault.{NamedFault}
+use Rattle.journal_protocol.specs.declared.faults.NamedFault.TheVariants as fault
 use Rattle.journal_protocol.specs.declared.message.Message.{Message}
 use Rattle.journal_protocol.specs.declared.message.RawMessage.{RawMessage}
 use Rattle.journal_protocol.specs.declared.notification.Notification.{Notification}
-use Rattle.journal_protocol.specs.declared.types.MessageType.TheVariants as type
+use Rattle.journal_protocol.specs.declared.notification.NotificationResult.{NotificationResult}
 use Rattle.journal_protocol.specs.HeaderEqual.{header_equal}
 use Rattle.journal_protocol.specs.Message.{type_of}
 use Rattle.journal_protocol.specs.Reading.{message_in}
@@ -16,9 +18,11 @@ use Rattle.vm_parts.specs.declared.steps.Answer.TheVariants as answer
 use Rattle.vm_parts.specs.declared.values.Input.{Input}
 use Rattle.vm_parts.specs.Counting.{fresh_counters}
 use Rattle.vm_parts.specs.Deliveries.{no_results}
+use Rattle.vm_machine.specs.Reads.{lazy_form, own_form, recorded_as}
 use Rattle.vm_machine.specs.Requests.{changed}
 use Rattle.vm_model.specs.Calls.{Setup, Identity, Meaning, Derived, Demand, Move, call_of}
-use Rattle.vm_model.specs.Calls.Usage.{Used}
+use Rattle.vm_model.specs.Calls.Demand.{Exactly, Reads}
+use Rattle.vm_model.specs.Calls.Usage.{Used, Read}
 use Rattle.vm_model.specs.Calls.Move.{Answers, Needs, Awaits, Ends, Refuses}
 use Rattle.vm_model.specs.Journal.{stored_form}
 
@@ -33,14 +37,21 @@ pub record Point : Type 0 where
 
 -- ---- a recorded command
 
--- a recorded command that was read is header-equal to this one
-abbrev pub reads_as : Bool → Message → Option Message → Bool
-reads_as ignore own None = false
-reads_as ignore own (Some recorded) = header_equal recorded own ignore
+-- a recorded command that has to be header-equal to this one: it brings no result, or why it doesn't stand for it
+abbrev pub reads_as : Bool → Message → Option Message → Result (Option NotificationResult) NamedFault
+reads_as ignore command None = Err fault.BadMessage
+reads_as ignore command (Some recorded) = if header_equal recorded command ignore then Ok None else Err fault.CommandMismatch
 
--- a recorded command stands for a call's: it is of its type and header-equal to it
-abbrev pub stands_for : Demand → RawMessage → Bool
-stands_for d raw = if type_number raw.ty == type_number (type_of d.command) then reads_as d.ignores_payload d.command (message_in raw.ty raw.body) else false
+-- What a recorded command does for what a call needs: the result that it brings, or why it doesn't stand for it. A command's type
+-- has to be the same; of a state read the recorded form decides.
+abbrev pub found : Demand → RawMessage → Result (Option NotificationResult) NamedFault
+found (Exactly command ignore) raw = if type_number raw.ty == type_number (type_of command) then reads_as ignore command (message_in raw.ty raw.body) else Err fault.CommandTypeMismatch
+found (Reads r id) raw = recorded_as r id raw
+
+-- what a call says: its command; of a state read the lazy form, for it changes no state
+abbrev pub said_of : Demand → Message
+said_of (Exactly command ignore) = command
+said_of (Reads r id) = lazy_form r id
 
 -- ---- moves
 
@@ -48,15 +59,21 @@ stands_for d raw = if type_number raw.ty == type_number (type_of d.command) then
 abbrev pub arrival_used : Notification → Derived → Derived
 arrival_used n d = record d { usage = Used n ∷ d.usage }
 
+-- a result that a recorded command brings is that of the completion id
+abbrev pub brought : ℕ → Option NotificationResult → Derived → Derived
+brought id None d = d
+brought id (Some result) d = record d { usage = Read id result ∷ d.usage }
+
 -- the call is answered, where the recorded command stands for its own
-abbrev pub command_used : Bool → Demand → List Answer → Derived → List RawMessage → Point → Option Point
-command_used b demand gives d left p =
-    cond b (Some (record { answers = p.answers ++ gives; derived = d; said = p.said ++ demand.command ∷ []; queue = p.queue; left = left })) None
+abbrev pub command_used : Result (Option NotificationResult) NamedFault → Demand → List Answer → Derived → List RawMessage → Point → Option Point
+command_used (Err name) demand gives d left p = None
+command_used (Ok result) demand gives d left p =
+    Some (record { answers = p.answers ++ gives; derived = brought p.derived.counters.completion result d; said = p.said ++ said_of demand ∷ []; queue = p.queue; left = left })
 
 -- the next recorded command is used, where it stands for the call's
 abbrev pub uses_command : Demand → List Answer → Derived → List RawMessage → Point → Option Point
 uses_command demand gives d [] p = None
-uses_command demand gives d (c ∷ left) p = command_used (stands_for demand c) demand gives d left p
+uses_command demand gives d (c ∷ left) p = command_used (found demand c) demand gives d left p
 
 -- the next arrival is used
 abbrev pub uses_arrival : List Notification → Point → Option Point
@@ -108,7 +125,6 @@ told_input i c = record {
 abbrev pub first_derived : Derived
 first_derived = record {
   counters = record fresh_counters { command = Some 0 };
-  last = record { ty = type.InputCommand; name = [] };
   handles = no_results.handles;
   usage = [];
 }
@@ -126,18 +142,23 @@ changed_by (c ∷ cs) state = changed_by cs (changed c state)
 
 -- ---- what a call brings itself
 
+-- the call's own command, where so much of the state is known
+abbrev pub own : StateMap → Demand → Message
+own state (Exactly command ignore) = command
+own state (Reads r id) = own_form r id state
+
 -- the call's own command, where one is needed and none is recorded
-abbrev pub supply : Move → List RawMessage → List RawMessage
-supply (Needs demand gives d) [] = stored_form demand.command ∷ []
-supply (Needs demand gives d) (c ∷ left) = []
-supply (Answers gives d) left = []
-supply Awaits left = []
-supply Ends left = []
-supply (Refuses name) left = []
+abbrev pub supply : StateMap → Move → List RawMessage → List RawMessage
+supply state (Needs demand gives d) [] = stored_form (own state demand) ∷ []
+supply state (Needs demand gives d) (c ∷ left) = []
+supply state (Answers gives d) left = []
+supply state Awaits left = []
+supply state Ends left = []
+supply state (Refuses name) left = []
 
 -- where no recorded command is left, the command that the call needs
-abbrev pub supplied : Setup → Meaning → Point → List RawMessage
-supplied s m p = supply (move_at s m p) p.left
+abbrev pub supplied : Setup → Meaning → StateMap → Point → List RawMessage
+supplied s m state p = supply state (move_at s m p) p.left
 
 -- the point with more recorded commands behind its own
 abbrev pub longer : List RawMessage → Point → Point

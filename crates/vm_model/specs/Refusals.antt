@@ -1,25 +1,12 @@
 -- Why a call is refused, by what it asks for and what is left of both lists, and the fault that says so.
-use Rattle.std.specs.Prelude.{◌≡◌, ◌==◌, false, if◌then◌else◌, List, [], ◌∷◌, Option, Some, None}
+use Rattle.std.specs.Prelude.{◌≡◌, List, [], ◌∷◌, Err}
 use Rattle.journal_protocol.specs.declared.faults.NamedFault.{NamedFault}
 use Rattle.journal_protocol.specs.declared.faults.NamedFault.TheVariants as fault
-use Rattle.journal_protocol.specs.declared.message.Message.{Message}
 use Rattle.journal_protocol.specs.declared.message.RawMessage.{RawMessage}
 use Rattle.journal_protocol.specs.declared.notification.Notification.{Notification}
-use Rattle.journal_protocol.specs.Message.{type_of}
-use Rattle.journal_protocol.specs.Reading.{message_in}
-use Rattle.journal_protocol.specs.Types.{type_number}
-use Rattle.vm_model.specs.Calls.{Demand, Move}
+use Rattle.vm_model.specs.Calls.{Move}
 use Rattle.vm_model.specs.Calls.Move.{Answers, Needs, Awaits, Ends, Refuses}
-use Rattle.vm_model.specs.Moves.{stands_for}
-
--- a recorded command of the call's type doesn't stand for it: its body spells none, or another
-abbrev pub misread : Option Message → NamedFault
-misread None = fault.BadMessage
-misread (Some recorded) = fault.CommandMismatch
-
--- a recorded command doesn't stand for the call's
-abbrev pub mismatch : Demand → RawMessage → NamedFault
-mismatch d raw = if type_number raw.ty == type_number (type_of d.command) then misread (message_in raw.ty raw.body) else fault.CommandTypeMismatch
+use Rattle.vm_model.specs.Moves.{found}
 
 -- While recorded commands are left: the next doesn't stand for the call's, or the await is pending with all arrivals used, or
 -- the handler ends. At any time: the call is refused for a reason of its own. Where no recorded command is left nothing else
@@ -27,7 +14,7 @@ mismatch d raw = if type_number raw.ty == type_number (type_of d.command) then m
 abbrev pub IsRefusedFor : Move → List RawMessage → List Notification → NamedFault → Type 0
 IsRefusedFor (Answers gives d) left queue name = ⊥
 IsRefusedFor (Needs demand gives d) [] queue name = ⊥
-IsRefusedFor (Needs demand gives d) (c ∷ left) queue name = (stands_for demand c ≡ false) × (name ≡ mismatch demand c)
+IsRefusedFor (Needs demand gives d) (c ∷ left) queue name = found demand c ≡ Err name
 IsRefusedFor Awaits [] queue name = ⊥
 IsRefusedFor Awaits (c ∷ left) queue name = (queue ≡ []) × (name ≡ fault.UncompletedDoProgressDuringReplay)
 IsRefusedFor Ends [] queue name = ⊥

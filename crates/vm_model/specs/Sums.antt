@@ -12,6 +12,7 @@ use Rattle.vm_model.specs.Calls.{Meaning}
 -- how many completion ids are asked for
 abbrev pub completion_ids_in : Ask → ℕ
 completion_ids_in (ask.Command c) = ids_of c.message
+completion_ids_in (ask.Read r) = 1
 completion_ids_in a = 0
 
 -- how many signal ids are asked for
@@ -22,6 +23,7 @@ signal_ids_in a = 0
 -- how many handles are asked for
 abbrev pub handles_in : Ask → ℕ
 handles_in (ask.Command c) = ids_of c.message
+handles_in (ask.Read r) = 1
 handles_in ask.Awakeable = 1
 handles_in (ask.Signal name) = 1
 handles_in a = 0

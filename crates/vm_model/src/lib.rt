@@ -9,5 +9,10 @@ mod told;
 
 pub use awaits::{awaits_wake, results_are_present};
 pub use numbers::numbers_are_sums;
-pub use rounds::{answers_agree, one_history, one_undisturbed, undisturbed};
-pub use told::{attempt_is_told, attempts_go_on, later_changes_nothing, none_refused, one_told};
+pub use rounds::{
+    answers_agree, eager_reads_are_so, handed_stays_so, one_history, one_undisturbed, undisturbed,
+};
+pub use told::{
+    attempt_is_told, attempts_go_on, later_changes_nothing, none_refused, one_told,
+    own_commands_stand,
+};

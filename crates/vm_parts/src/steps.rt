@@ -29,6 +29,14 @@ pub enum Step {
     StateClearAll {
         name: Option<Text>,
     },
+    StateGet {
+        key: Text,
+        name: Option<Text>,
+        options: PayloadOptions,
+    },
+    StateGetKeys {
+        name: Option<Text>,
+    },
     Call {
         target: Target,
         input: Bytes,

@@ -1,4 +1,5 @@
 -- Each call of an attempt keeps what is kept of it: the input, and all that a step does.
+use Rattle.vm_model.specs.Histories.{Handed}
 use Rattle.std.proofs.Common.{◌≡◌, ◌≢◌, ◌⊎◌, ℕ, Bool, true, false, List, [], ◌∷◌, ◌++◌, Option, Some, None, Result, Ok, Err, refl, sym, ap, ◌∙◌, subst, inl, inr, ⊎_elim, Global}
 use Rattle.std.specs.Prelude.{◌==◌, if◌then◌else◌, is_some, IsSome}
 use Rattle.journal_protocol.specs.declared.commands.InputCommand.{InputCommand}
@@ -43,7 +44,7 @@ use Rattle.vm_rounds.specs.Journals.{BeginsOrFails, HasAll, StillWaits, commands
 use Rattle.vm_rounds.specs.Record.{Record}
 use Rattle.vm_rounds.specs.Stepping.{Advances, Asks, IfWaits, IsReplaying, LacksMemory, Reads, StepAt, StepDoes, StepFrom, StepUnless, fresh_record}
 use Rattle.vm_parts.specs.Outboxes.{WholeFrames}
-use Rattle.vm_rounds.specs.Told.{AnswersAreTold, NothingWakes, Sleeps, ToldBy, BeforeInput, Begun, Comes, IsKept, IsLive, IsAsleep, Quiet, Replays, Runs, StillAwaits, Wrote, arrivals, bytes_fed, frames_fed}
+use Rattle.vm_rounds.specs.Told.{AnswersAreTold, NothingWakes, Sleeps, ToldBy, BeforeInput, Begun, Comes, IsKept, IsLive, IsAsleep, Quiet, Replays, Runs, StillAwaits, Wrote, arrivals, bytes_fed, frames_fed, handed_out}
 use Rattle.vm_rounds.proofs.Beginning.{input_begins}
 use Rattle.vm_rounds.proofs.Kept.{KeptBy, Lasts, Reading, dead_same}
 use Rattle.vm_rounds.proofs.Lasting.{runs_last}
@@ -199,7 +200,7 @@ pub runs_answered : (m : Meaning) (version : Version) (options : VMOptions) (fed
 runs_answered m version options fed answers before taken v k none =
     let s = setup_for version options k.journal.start in
     let p = start s k.journal.input (arrivals k.journal) k.journal.rest in
-    let a = after_answers s m k.moves (longer k.written p) k.at (made_after s m k.moves p k.written k.at k.run) in
+    let a = after_answers s m k.moves (longer k.written p) k.at (made_after s m (Handed (handed_out k.journal)) k.moves p k.written k.at k.run) in
     let z : [] ≡ answer.Input (told_input s.identity k.journal.input) ∷ a.0 = sym none ∙ sym k.answers ∙ a.1 in
     cc
 
@@ -364,7 +365,7 @@ kept_told m version options r f =
     ⊎_elim
     (λ (b : BeforeInput version options r.fed r.answers r.waiting r.taken r.vm). inl b.answers)
     (λ (k : Runs m version options r.fed r.answers r.waiting r.taken r.vm).
-    let told = attempt_is_told (setup_for version options k.journal.start) m k.journal.input k.moves (arrivals k.journal) k.journal.rest k.written k.at k.run in
+    let told = attempt_is_told (setup_for version options k.journal.start) m (handed_out k.journal) k.journal.input k.moves (arrivals k.journal) k.journal.rest k.written k.at k.run in
     inr (subst (ToldBy m version options r.fed r.answers) (written_is r.taken r.vm.machine.output k.written k.wrote f) (record { journal = k.journal; at = k.at; told = told.0; answers = k.answers; moves = k.moves; made = k.run; in_order = told.1 })))
 
 -- an await sleeps by what is read from its output

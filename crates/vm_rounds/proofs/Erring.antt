@@ -1,4 +1,5 @@
 -- What a step keeps of why an attempt failed, and what its error is.
+use Rattle.vm_model.specs.Histories.{Handed}
 use Rattle.std.proofs.Common.{◌≡◌, ◌≢◌, ◌⊎◌, ◌+◌, Bool, true, false, List, [], ◌∷◌, ◌++◌, Option, Some, None, Result, Ok, Err, refl, sym, ap, ◌∙◌, subst, inl, inr, ⊎_elim, append-nil, Global}
 use Rattle.std.specs.Prelude.{◌==◌, if◌then◌else◌, unwrap_or}
 use Rattle.std.proofs.lemmas.Option.{same_Some}
@@ -180,7 +181,7 @@ reads_blamed m version options old (Err e) new b live (w, does, is) =
 -- ---- the handler's call
 
 module _ (m : Meaning) (version : Version) (options : VMOptions) (r : Record) (k : Runs m version options r.fed r.answers r.waiting r.taken r.vm) (live : IsLive r.vm.machine) (w : View) where
-  refused_call : (e : Error) → IsRefused (setup_for version options k.journal.start) m k.at r.vm.machine e w.machine → RefusedCall m version options r.fed r.answers e
+  refused_call : (e : Error) → IsRefused (setup_for version options k.journal.start) m (handed_out k.journal) k.at r.vm.machine e w.machine → RefusedCall m version options r.fed r.answers e
   refused_call e g =
       let a = k.agrees live in
       record {
@@ -188,7 +189,7 @@ module _ (m : Meaning) (version : Version) (options : VMOptions) (r : Record) (k
         written = k.written ++ [];
         at = g.at;
         moves = k.moves + g.moves.moves;
-        made = made_add (setup_for version options k.journal.start) m k.moves g.moves.moves (begun version options k.journal) k.written k.at [] g.at k.run g.moves.run;
+        made = made_add (setup_for version options k.journal.start) m (Handed (handed_out k.journal)) k.moves g.moves.moves (begun version options k.journal) k.written k.at [] g.at k.run g.moves.run;
         answers = g.moves.answers ∙ append-nil k.at.answers ∙ k.answers;
         why = g.why;
         reason = g.reason;

@@ -42,19 +42,20 @@ use Rattle.vm_model.specs.Moves.{Point, longer, move_at, moved, supply}
 use Rattle.vm_rounds.specs.declared.progress.Reply.TheVariants as reply
 use Rattle.vm_rounds.specs.Agreement.{Agrees, Aside, Follows, machine_at}
 use Rattle.vm_rounds.specs.Steps.{IfDone, IsReadable, ReadsBack, mapped, performed, performed_by}
-use Rattle.vm_rounds.proofs.Leading.{Leads, error_written, follows_from, no_move, open_after}
+use Rattle.vm_rounds.proofs.Leading.{Leads, error_written, follows_from, no_move, open_after, state_at}
 use Rattle.journal_protocol.specs.Commands.{IsCommand}
 use Rattle.vm_rounds.proofs.Own.{AsksCommand, asks_command, stands_for_itself}
+use Rattle.vm_rounds.proofs.Reading.{reads_follow}
 use Rattle.vm_rounds.proofs.Requesting.{issues, runs_at}
 use Rattle.vm_rounds.proofs.Waiting.{awaits_follow}
 
 -- a move that brings no command of its own leads where it leads
 abbrev LeadsOn : {A : Type 0} → Setup → StateMap → List RawMessage → Aside → Point → (A → Answer) → Move → Outcome A → Type 0
-LeadsOn s given written aside p gives mv o = Leads s given written aside p mv p.left (supply mv p.left) (λ a. gives a ∷ []) (moved mv (longer (supply mv p.left) p)) o
+LeadsOn s given written aside p gives mv o = Leads s given written aside p mv p.left (supply (state_at given p) mv p.left) (λ a. gives a ∷ []) (moved mv (longer (supply (state_at given p) mv p.left) p)) o
 
 -- an answer with nothing used
 answers : {A : Type 0} (s : Setup) (given : StateMap) (written : List RawMessage) (aside : Aside) (p : Point) (gives : A → Answer) (a : A) (d : Derived) → LeadsOn s given written aside p gives (Answers (gives a ∷ []) d) (Done a (machine_at s given written aside (record p { derived = d })))
-answers s given written aside p gives a d = (refl, λ i. record (machine_at s given (sym (append-nil written) i) (record aside { output = sym (append-nil aside.output) i }) (record p { derived = d })) { commands = sym (append-nil p.left) i; phase = phase_after (sym (append-nil p.left) i) })
+answers s given written aside p gives a d = (refl, (aside.last, λ i. record (machine_at s given (sym (append-nil written) i) (record aside { output = sym (append-nil aside.output) i }) (record p { derived = d })) { commands = sym (append-nil p.left) i; phase = phase_after (sym (append-nil p.left) i) }))
 
 -- a refusal for the call's own reason
 refuses : {A : Type 0} (s : Setup) (given : StateMap) (written : List RawMessage) (aside : Aside) (p : Point) (gives : A → Answer) (name : NamedFault) (w : Machine) → w.output ≡ aside.output → w.phase ≡ phase_after p.left → w.version ≡ s.version → w.options ≡ s.options → LeadsOn s given written aside p gives (Refuses name) (refused name w)
@@ -134,7 +135,7 @@ commands_follow : (s : Setup) (given : StateMap) (written : List RawMessage) (as
     → LeadsOn s given written aside p (command_answer c.message) (commanding s c o p.derived) (commanded_unless o c.message c.unstable (machine_at s given written aside p))
 commands_follow s given written aside p c command (Some name) own = refuses_here s given written aside p (command_answer c.message) name
 commands_follow s given written aside p c command None own =
-    issues s given written aside c p (λ h. command_answer c.message h ∷ []) refl (Reads s given written aside c p) (λ (whole : Reads s given written aside c p) spent. stands_for_itself s c p.derived command (whole (ap (λ l. is_processing (phase_after l)) spent))) own
+    issues s given written aside c p (λ h. command_answer c.message h ∷ []) refl (Reads s given written aside c p) (λ (whole : Reads s given written aside c p) spent. stands_for_itself s c p.derived (whole (ap (λ l. is_processing (phase_after l)) spent))) own
 
 -- ---- the end
 
@@ -146,7 +147,7 @@ ends s m given written aside p is (c ∷ left) e =
     let ends_here : move_at s m p ≡ Ends = ap (λ st. call_of s st p.derived) is in
     record {
       at = p;
-      moves = no_move s m p;
+      moves = no_move s m given p;
       why = fault.UnexpectedState;
       reason = subst (λ (x : Move × List RawMessage). IsRefusedFor x.0 x.1 p.queue fault.UnexpectedState) (λ i. (sym ends_here i, sym e i)) refl;
       related = None;
@@ -178,6 +179,8 @@ asked_follows s m given written aside p identity (ask.Command c) is command whol
     follows_from s m given written aside p (command_answer c.message) _ _ identity (ap (λ a. asked s a p.derived) is) (commands_follow s given written aside p c command c.refusal (event_done _ _ s given written aside p _ whole))
 asked_follows s m given written aside p identity ask.Awakeable is command whole =
     follows_from s m given written aside p answer.Awakeable _ _ identity (ap (λ a. asked s a p.derived) is) (makes_awakeable s given written aside p identity (skips_replay s.options.journal_replay))
+asked_follows s m given written aside p identity (ask.Read r) is command whole =
+    follows_from s m given written aside p answer.Handle _ _ identity (ap (λ a. asked s a p.derived) is) (reads_follow s given written aside r p (event_done _ _ s given written aside p _ whole))
 asked_follows s m given written aside p identity (ask.Signal name) is command whole =
     follows_from s m given written aside p answer.Handle _ _ identity (ap (λ a. asked s a p.derived) is) (makes_signal s given written aside p name)
 asked_follows s m given written aside p identity (ask.Await future) is command whole = awaits_follow s m given written aside p future identity (awaits_asked s.version (m p.answers) future is)

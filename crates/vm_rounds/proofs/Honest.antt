@@ -1,4 +1,5 @@
 -- What an honest runtime feeds has its place, frame by frame, and its journal is the history.
+use Rattle.vm_parts.specs.declared.context.StateMap.{StateMap}
 use Rattle.std.proofs.Common.{◌≡◌, ◌≢◌, ℕ, suc, ◌+◌, ◌<◌, ◌≤◌, ◌^◌, Bool, true, false, cond, length, List, [], ◌∷◌, ◌++◌, map, Some, None, refl, sym, ap, ◌∙◌, subst, append_assoc, arith}
 use Rattle.std.specs.Prelude.{◌==◌, ◌&&◌, if◌then◌else◌, nat_le, nat_lt}
 use Rattle.std.specs.List.{AllByRecursion, flat_map}
@@ -221,14 +222,14 @@ module _ (m : Meaning) (version : Version) (options : VMOptions) (fed : List Fed
       (subst (λ (f : RawMessage). Place phase k (f ∷ before)) (sym (head_same S b (J ++ N) (before ++ raw ∷ rest) is)) p)
 
   -- the known entries are the journal
-  known_are : (first : RawMessage) (entries others : List RawMessage) (st : Start) → frames_fed fed ≡ first ∷ (entries ++ others) → start_in first.body ≡ Some st → length entries ≡ st.known_entries → History (setup_for version options st) m (as_entries entries)
+  known_are : (first : RawMessage) (entries others : List RawMessage) (st : Start) → frames_fed fed ≡ first ∷ (entries ++ others) → start_in first.body ≡ Some st → length entries ≡ st.known_entries → (base : StateMap) × History (setup_for version options st) m base (as_entries entries)
   known_are first entries others st is reads count =
       let all : first ∷ (entries ++ (others ++ begins.others)) ≡ S ∷ (J ++ N) = sym (ap (λ l. first ∷ l) (append_assoc entries others begins.others)) ∙ ap (λ l. l ++ begins.others) (sym is) ∙ begins.all in
       let same : st ≡ h.start = same_start first st (head_same first S (entries ++ (others ++ begins.others)) (J ++ N) all) reads in
       let long : length entries ≡ length J = count ∙ ap (λ (x : Start). x.known_entries) same ∙ h.known ∙ sym (length_entries h.journal) in
       let front : entries ≡ J = same_front entries (others ++ begins.others) J N (tail_same first S (entries ++ (others ++ begins.others)) (J ++ N) all) long in
       let read : as_entries entries ≡ h.journal = ap as_entries front ∙ journal_read h.journal h.journal_is_whole in
-      subst (λ (x : Start × List Entry). History (setup_for version options x.0) m x.1) (λ i. (sym same i, sym read i)) h.history
+      (h.base, subst (λ (x : Start × List Entry). History (setup_for version options x.0) m h.base x.1) (λ i. (sym same i, sym read i)) h.history)
 
   -- the arrivals are a beginning of all notifications
   arrive : (F G : List RawMessage) → F ++ G ≡ S ∷ (J ++ N) → CompleteOnce (notifications_among (behind F))

@@ -1,4 +1,5 @@
 -- What lasts of a handler that runs: its run is told, and so is what came and was written.
+use Rattle.vm_model.specs.Histories.{Handed}
 use Rattle.std.proofs.Common.{◌≡◌, ℕ, Bool, true, false, List, [], ◌∷◌, ◌++◌, Option, Some, None, refl, sym, ap, ◌∙◌, subst, inl, inr, ⊎_elim}
 use Rattle.std.specs.Prelude.{IsSome, ◌==◌}
 use Rattle.std.specs.List.{concat}
@@ -48,7 +49,7 @@ runs_dead m version options fed to G frames answers waiting taken v w k q dead =
   wrote = wrote_quiet taken v.machine w.machine k.written q k.wrote;
   at = later (notifications_among G) k.at;
   moves = k.moves;
-  run = run_to (setup_for version options k.journal.start) m fed k.journal G k.moves k.written k.at k.run;
+  run = run_to (setup_for version options k.journal.start) m (Handed (handed_out k.journal)) fed k.journal G k.moves k.written k.at k.run;
   answers = k.answers;
   awaits = still_awaits m k.at (notifications_among G) waiting k.awaits;
   agrees = λ alive. not_failed w.machine dead alive.failure;

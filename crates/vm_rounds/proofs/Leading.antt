@@ -1,4 +1,5 @@
 -- An event of a machine that agrees with a point does what the next move does.
+use Rattle.vm_parts.specs.declared.context.LastCommand.{LastCommand}
 use Rattle.std.proofs.Common.{◌≡◌, ◌⊎◌, ℕ, false, List, [], ◌∷◌, ◌++◌, Option, Some, None, refl, sym, ap, ◌∙◌, subst, inl, inr, append-nil}
 use Rattle.journal_protocol.specs.declared.error.Error.{Error}
 use Rattle.journal_protocol.specs.declared.error.RelatedCommand.{RelatedCommand}
@@ -16,8 +17,8 @@ use Rattle.vm_machine.specs.Phases.{is_closed}
 use Rattle.vm_machine.specs.Commands.{phase_after}
 use Rattle.vm_model.specs.Calls.{Setup, Meaning, Move, identity_of}
 use Rattle.vm_model.specs.Calls.Move.{Answers, Needs, Awaits, Ends, Refuses}
-use Rattle.vm_model.specs.Moves.{Point, longer, move_at, moved, next, supplied, supply}
-use Rattle.vm_model.specs.Histories.{Made}
+use Rattle.vm_model.specs.Moves.{Point, longer, move_at, moved, next, supplied, supply, changed_by}
+use Rattle.vm_model.specs.Histories.{Made, Handed}
 use Rattle.vm_model.specs.Refusals.{IsRefusedFor}
 use Rattle.vm_rounds.specs.declared.progress.Reply.TheVariants as reply
 use Rattle.vm_rounds.specs.Agreement.{Aside, Follows, MovesOn, command_frames, machine_at}
@@ -26,6 +27,14 @@ use Rattle.vm_rounds.specs.Steps.{mapped}
 -- what stands aside, with these frames written
 abbrev pub with_frames : List RawMessage → Aside → Aside
 with_frames made aside = record aside { output = aside.output ++ command_frames made }
+
+-- what stands aside, with this as the last command
+abbrev pub with_last : LastCommand → Aside → Aside
+with_last last aside = record aside { last = last }
+
+-- the state that an attempt knows at a point
+abbrev pub state_at : StateMap → Point → StateMap
+state_at given p = changed_by p.said given
 
 -- a refusal for a reason, which has written nothing and ends by the error rule of its setup
 pub record Refusing (s : Setup) (before : List (List ℕ)) (queue : List Notification) (mv : Move) (left : List RawMessage) (e : Error) (w : Machine) : Type 0 where
@@ -40,7 +49,8 @@ pub record Refusing (s : Setup) (before : List (List ℕ)) (queue : List Notific
 
 -- An outcome is what a move leads to: the machine at the next point, or a refusal where there is none.
 abbrev pub Leads : {A : Type 0} → Setup → StateMap → List RawMessage → Aside → Point → Move → List RawMessage → List RawMessage → (A → List Answer) → Option Point → Outcome A → Type 0
-Leads s given written aside p mv left made gives (Some q) (Done a w) = (q.answers ≡ p.answers ++ gives a) × (w ≡ machine_at s given (written ++ made) (with_frames made aside) q)
+Leads s given written aside p mv left made gives (Some q) (Done a w) =
+    (q.answers ≡ p.answers ++ gives a) × ((last : LastCommand) × (w ≡ machine_at s given (written ++ made) (with_last last (with_frames made aside)) q))
 Leads s given written aside p mv left made gives None (Failed e w) = Refusing s aside.output p.queue mv left e w
 Leads s given written aside p mv left made gives (Some q) (Failed e w) = ⊥
 Leads s given written aside p mv left made gives None (Done a w) = ⊥
@@ -58,48 +68,48 @@ pub error_written : (e : Error) (w : Machine) (output : List (List ℕ)) → w.o
 error_written e w output is runs = rw runs (ap (λ l. l ++ encoding (message.Error (error_message e)) ∷ []) is)
 
 -- one move, with what the call brings itself
-pub one_move : (s : Setup) (m : Meaning) (p q : Point) → next s m (longer (supplied s m p) p) ≡ Some q → Made s m 1 p (supplied s m p) q
-one_move s m p q h = (q, [], sym (append-nil (supplied s m p)), h, (refl, refl))
+pub one_move : (s : Setup) (m : Meaning) (given : StateMap) (p q : Point) → next s m (longer (supplied s m (state_at given p) p) p) ≡ Some q → Made s m (Handed given) 1 p (supplied s m (state_at given p) p) q
+one_move s m given p q h = (state_at given p, q, [], refl, sym (append-nil (supplied s m (state_at given p) p)), h, (refl, refl))
 
 -- no move
-pub no_move : (s : Setup) (m : Meaning) (p : Point) → MovesOn s m p [] [] p
-no_move s m p = record { moves = 0; run = (refl, refl); answers = sym (append-nil p.answers) }
+pub no_move : (s : Setup) (m : Meaning) (given : StateMap) (p : Point) → MovesOn s m given p [] [] p
+no_move s m given p = record { moves = 0; run = (refl, refl); answers = sym (append-nil p.answers) }
 
 -- a call brings its own command only where no recorded one is left
-supplies_behind : (mv : Move) (left : List RawMessage) → (supply mv left ≡ []) ⊎ (left ≡ [])
-supplies_behind mv [] = inr refl
-supplies_behind (Needs demand gives d) (c ∷ left) = inl refl
-supplies_behind (Answers gives d) (c ∷ left) = inl refl
-supplies_behind Awaits (c ∷ left) = inl refl
-supplies_behind Ends (c ∷ left) = inl refl
-supplies_behind (Refuses name) (c ∷ left) = inl refl
+supplies_behind : (state : StateMap) (mv : Move) (left : List RawMessage) → (supply state mv left ≡ []) ⊎ (left ≡ [])
+supplies_behind state mv [] = inr refl
+supplies_behind state (Needs demand gives d) (c ∷ left) = inl refl
+supplies_behind state (Answers gives d) (c ∷ left) = inl refl
+supplies_behind state Awaits (c ∷ left) = inl refl
+supplies_behind state Ends (c ∷ left) = inl refl
+supplies_behind state (Refuses name) (c ∷ left) = inl refl
 
 -- a call whose outcome is what its move leads to
 pub follows_from : {A : Type 0} (s : Setup) (m : Meaning) (given : StateMap) (written : List RawMessage) (aside : Aside) (p : Point) (gives : A → Answer) (mv : Move) (o : Outcome A) → s.identity ≡ identity_of aside.start → move_at s m p ≡ mv
-    → Leads s given written aside p mv p.left (supply mv p.left) (λ a. gives a ∷ []) (moved mv (longer (supply mv p.left) p)) o → Follows s m given written p (machine_at s given written aside p) (mapped (λ a. reply.Answer (gives a)) (called o (machine_at s given written aside p)))
+    → Leads s given written aside p mv p.left (supply (state_at given p) mv p.left) (λ a. gives a ∷ []) (moved mv (longer (supply (state_at given p) mv p.left) p)) o → Follows s m given written p (machine_at s given written aside p) (mapped (λ a. reply.Answer (gives a)) (called o (machine_at s given written aside p)))
 unfolding called
-follows_from s m given written aside p gives mv o identity is h = by_cases (moved mv (longer (supply mv p.left) p)) refl o h
+follows_from s m given written aside p gives mv o identity is h = by_cases (moved mv (longer (supply (state_at given p) mv p.left) p)) refl o h
   where
-    supplies : supplied s m p ≡ supply mv p.left
-    supplies = ap (λ x. supply x p.left) is
+    supplies : supplied s m (state_at given p) p ≡ supply (state_at given p) mv p.left
+    supplies = ap (λ x. supply (state_at given p) x p.left) is
 
-    leads : (to : Option Point) → moved mv (longer (supply mv p.left) p) ≡ to → next s m (longer (supplied s m p) p) ≡ to
-    leads to e = ap (λ l. next s m (longer l p)) supplies ∙ ap (λ x. moved x (longer (supply mv p.left) p)) is ∙ e
+    leads : (to : Option Point) → moved mv (longer (supply (state_at given p) mv p.left) p) ≡ to → next s m (longer (supplied s m (state_at given p) p) p) ≡ to
+    leads to e = ap (λ l. next s m (longer l p)) supplies ∙ ap (λ x. moved x (longer (supply (state_at given p) mv p.left) p)) is ∙ e
 
-    by_cases : (to : Option Point) → moved mv (longer (supply mv p.left) p) ≡ to → (x : Outcome _) → Leads s given written aside p mv p.left (supply mv p.left) (λ a. gives a ∷ []) to x → Follows s m given written p (machine_at s given written aside p) (mapped (λ a. reply.Answer (gives a)) (called x (machine_at s given written aside p)))
+    by_cases : (to : Option Point) → moved mv (longer (supply (state_at given p) mv p.left) p) ≡ to → (x : Outcome _) → Leads s given written aside p mv p.left (supply (state_at given p) mv p.left) (λ a. gives a ∷ []) to x → Follows s m given written p (machine_at s given written aside p) (mapped (λ a. reply.Answer (gives a)) (called x (machine_at s given written aside p)))
     by_cases (Some q) e (Done a w) g =
         record {
           at = q;
-          made = supply mv p.left;
-          none_before = supplies_behind mv p.left;
-          moves = record { moves = 1; run = subst (λ l. Made s m 1 p l q) supplies (one_move s m p q (leads (Some q) e)); answers = g.0 };
-          agrees = record { aside = with_frames (supply mv p.left) aside; machine = g.1; identity = identity };
-          output = ap (λ w. w.output) g.1;
+          made = supply (state_at given p) mv p.left;
+          none_before = supplies_behind (state_at given p) mv p.left;
+          moves = record { moves = 1; run = subst (λ l. Made s m (Handed given) 1 p l q) supplies (one_move s m given p q (leads (Some q) e)); answers = g.0 };
+          agrees = record { aside = with_last g.1.0 (with_frames (supply (state_at given p) mv p.left) aside); machine = g.1.1; identity = identity };
+          output = ap (λ w. w.output) g.1.1;
         }
     by_cases None e (Failed f w) g =
         record {
           at = p;
-          moves = no_move s m p;
+          moves = no_move s m given p;
           why = g.why;
           reason = subst (λ x. IsRefusedFor x p.left p.queue g.why) (sym is) g.reason;
           related = g.related;

@@ -4,6 +4,7 @@ pub mod Replies
 pub mod Leading
 pub mod Own
 pub mod Requesting
+pub mod Reading
 pub mod Waiting
 pub mod Following
 pub mod Arriving

@@ -21,7 +21,17 @@ use Rattle.vm_machine.specs.Requests.{with_ids}
 use Rattle.vm_machine.proofs.Endings.{same_type}
 use Rattle.vm_model.specs.Calls.{Setup, Derived, demand_of}
 use Rattle.vm_model.specs.Journal.{stored_form}
-use Rattle.vm_model.specs.Moves.{reads_as, stands_for}
+use Rattle.vm_model.specs.Moves.{found}
+use Rattle.vm_model.proofs.Standing.{command_stands}
+use Rattle.std.specs.Prelude.{List, Option, Some, None, Ok}
+use Rattle.vm_machine.specs.Commands.{ignores_payloads}
+use Rattle.vm_machine.specs.declared.reads.StateRead.{StateRead}
+use Rattle.vm_machine.specs.declared.reads.StateRead.TheVariants as reads
+use Rattle.vm_machine.specs.Reads.{keys_form, own_form, value_form}
+use Rattle.vm_parts.specs.declared.context.Known.{Known}
+use Rattle.vm_parts.specs.declared.context.Known.TheVariants.{Unknown, Empty, Value}
+use Rattle.vm_parts.specs.declared.context.StateMap.{StateMap}
+use Rattle.vm_parts.specs.States.{known, known_keys}
 
 number_same : (n : ℕ) → (n == n) ≡ true
 number_same n = eq-eqb n n refl
@@ -32,6 +42,8 @@ AsksCommand (ask.Command c) = IsCommand c.message
 AsksCommand a = Unit {0}
 
 pub asks_command : (version : Version) (s : Step) → AsksCommand (ask_of version s)
+asks_command version (step.StateGet key name options) = tt
+asks_command version (step.StateGetKeys name) = tt
 asks_command version step.Awakeable = tt
 asks_command version (step.Signal name) = tt
 asks_command version (step.Await future) = tt
@@ -44,10 +56,21 @@ asks_command version s = refl
 pub numbered_is : (m : Message) (id : ℕ) → IsCommand m → IsCommand (with_ids id m)
 numbered_is m id is = ap (λ ty. nat_le 10 (type_number ty) && nat_lt (type_number ty) 30) (same_type id m) ∙ is
 
-pub stands_for_itself : (s : Setup) (c : Command) (d : Derived) → IsCommand c.message → IsWhole (with_ids d.counters.completion c.message) → stands_for (demand_of s c d) (stored_form (with_ids d.counters.completion c.message)) ≡ true
-stands_for_itself s c d is whole =
-    let m = with_ids d.counters.completion c.message in
-    let e = demand_of s c d in
-    ap (λ b. if b then reads_as e.ignores_payload m (message_in (type_of m) (body m)) else false) (number_same (type_number (type_of m)))
-    ∙ ap (reads_as e.ignores_payload m) (read_back m whole)
-    ∙ same_header m e.ignores_payload
+pub stands_for_itself : (s : Setup) (c : Command) (d : Derived) → IsWhole (with_ids d.counters.completion c.message) → found (demand_of s c d) (stored_form (with_ids d.counters.completion c.message)) ≡ Ok None
+stands_for_itself s c d whole = command_stands (with_ids d.counters.completion c.message) (ignores_payloads s.options.non_determinism_checks c.unstable) whole
+
+-- ---- state reads
+
+value_is : (key name : List ℕ) (id : ℕ) (k : Known) → IsCommand (value_form key name id k)
+value_is key name id Unknown = refl
+value_is key name id Empty = refl
+value_is key name id (Value value) = refl
+
+keys_are : (name : List ℕ) (id : ℕ) (keys : Option (List (List ℕ))) → IsCommand (keys_form name id keys)
+keys_are name id None = refl
+keys_are name id (Some keys) = refl
+
+-- what a read writes is a command
+pub own_is : (r : StateRead) (id : ℕ) (state : StateMap) → IsCommand (own_form r id state)
+own_is (reads.Value key name) id state = value_is key name id (known key state)
+own_is (reads.Keys name) id state = keys_are name id (known_keys state)

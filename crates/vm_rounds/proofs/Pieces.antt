@@ -18,7 +18,7 @@ use Rattle.invocation_vm.specs.Views.{View, after_input, all_received, consumed,
 use Rattle.invocation_vm.proofs.Cuts.{frames_of-append, spoiled_fails}
 use Rattle.vm_model.specs.Calls.{Setup, Meaning}
 use Rattle.std.proofs.Common.{Global}
-use Rattle.vm_model.specs.Histories.{Made}
+use Rattle.vm_model.specs.Histories.{Made, Knowledge, Handed}
 use Rattle.vm_model.specs.Moves.{Point, later, start}
 use Rattle.vm_model.proofs.Runs.{made_later}
 use Rattle.vm_rounds.specs.declared.progress.Fed.{Fed}
@@ -241,10 +241,10 @@ pub arrivals_more : (es others G : List RawMessage) → notifications_among (es 
 arrivals_more es others G = ap notifications_among (sym (append_assoc es others G)) ∙ notifications_append (es ++ others) G
 
 -- the run with further arrivals
-pub run_to : (s : Setup) (m : Meaning) (fed : List Fed) (j : Journal fed) (G : List RawMessage) (moves : ℕ) (written : List RawMessage) (at : Point) → Made s m moves (start s j.input (arrivals j) j.rest) written at → Made s m moves (start s j.input (notifications_among (j.entries ++ (j.others ++ G))) j.rest) written (later (notifications_among G) at)
-run_to s m fed j G moves written at run =
+pub run_to : (s : Setup) (m : Meaning) (K : Knowledge) (fed : List Fed) (j : Journal fed) (G : List RawMessage) (moves : ℕ) (written : List RawMessage) (at : Point) → Made s m K moves (start s j.input (arrivals j) j.rest) written at → Made s m K moves (start s j.input (notifications_among (j.entries ++ (j.others ++ G))) j.rest) written (later (notifications_among G) at)
+run_to s m K fed j G moves written at run =
     let N = notifications_among G in
-    subst (λ ns. Made s m moves (start s j.input ns j.rest) written (later N at)) (sym (arrivals_more j.entries j.others G)) (made_later s m N moves (start s j.input (arrivals j) j.rest) written at run)
+    subst (λ ns. Made s m K moves (start s j.input ns j.rest) written (later N at)) (sym (arrivals_more j.entries j.others G)) (made_later s m K N moves (start s j.input (arrivals j) j.rest) written at run)
 
 pub still_awaits : (m : Meaning) (p : Point) (ns : List Notification) (waiting : Option UnresolvedFuture) → StillAwaits m p waiting → StillAwaits m (later ns p) waiting
 still_awaits m p ns None a = a
@@ -275,7 +275,7 @@ running_fed m version options fed answers waiting taken v f k live =
       wrote = wrote_quiet taken v.machine w.machine k.written (input_quiet v f.piece) k.wrote;
       at = later N k.at;
       moves = k.moves;
-      run = run_to s m fed k.journal G k.moves k.written k.at k.run;
+      run = run_to s m (Handed given) fed k.journal G k.moves k.written k.at k.run;
       answers = k.answers;
       awaits = still_awaits m k.at N waiting k.awaits;
       agrees = λ alive. agrees alive.failure;

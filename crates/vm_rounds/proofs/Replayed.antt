@@ -1,4 +1,5 @@
 -- The frames of a journal as its entries, and a history that is replayed.
+use Rattle.vm_parts.specs.declared.context.StateMap.{StateMap}
 use Rattle.std.proofs.Common.{◌≡◌, ℕ, inl, inr, Bool, true, false, cond, List, [], ◌∷◌, ◌++◌, Option, Some, None, refl, sym, ap, ◌∙◌, subst}
 use Rattle.std.proofs.lemmas.Option.{same_Some}
 use Rattle.journal_protocol.specs.declared.error.Error.{Error}
@@ -13,7 +14,7 @@ use Rattle.vm_machine.specs.declared.machine.Machine.{Machine}
 use Rattle.vm_model.specs.Calls.{Setup, Meaning}
 use Rattle.vm_model.specs.Journal.{Entry, commands_in, input_read_from, notifications_in}
 use Rattle.vm_model.specs.Moves.{Point, move_at, start}
-use Rattle.vm_model.specs.Histories.{History, Made}
+use Rattle.vm_model.specs.Histories.{History, Made, Handed}
 use Rattle.vm_model.proofs.Compared.{none_refused}
 use Rattle.vm_model.proofs.Refusals.{own_reason, refused_stuck}
 use Rattle.vm_model.specs.Refusals.{IsRefusedFor}
@@ -24,7 +25,7 @@ use Rattle.vm_rounds.specs.Blames.{RefusedCall, Blame, IfError, IsHonest, IsOwnE
 use Rattle.vm_rounds.specs.Blames.Blame.{Memory, Frame, NoFrame, ClosedEarly, NoInput, Call}
 use Rattle.vm_rounds.specs.declared.progress.Fed.{Fed}
 use Rattle.vm_rounds.specs.Journals.{as_entries, commands_among, is_command, is_notification, notifications_among, notified_by, recorded_by, setup_for, told_by}
-use Rattle.vm_rounds.specs.Told.{Journal, RefusesReplay, arrivals}
+use Rattle.vm_rounds.specs.Told.{Journal, RefusesReplay, arrivals, handed_out}
 use Rattle.vm_rounds.proofs.Pieces.{notifications_append}
 
 recorded_commands : (b : Bool) (raw : RawMessage) (es : List Entry) (cs : List RawMessage) → commands_in es ≡ cs → commands_in (recorded_by b raw es) ≡ cond b (raw ∷ cs) cs
@@ -70,25 +71,25 @@ pub tail_same : (a b : RawMessage) (xs ys : List RawMessage) → a ∷ xs ≡ b 
 tail_same a b xs ys e = cc
 
 -- on a history no call is refused while recorded commands are left
-pub history_refuses : (m : Meaning) (version : Version) (options : VMOptions) (fed : List Fed) (j : Journal fed) (moves : ℕ) (written : List RawMessage) (at : Point) → Made (setup_for version options j.start) m moves (start (setup_for version options j.start) j.input (arrivals j) j.rest) written at
-    → (c : RawMessage) (further : List RawMessage) → at.left ≡ c ∷ further → (why : NamedFault) → IsRefusedFor (move_at (setup_for version options j.start) m at) at.left at.queue why → History (setup_for version options j.start) m (as_entries j.entries) → ⊥
-history_refuses m version options fed j moves written at run c further left why reason h =
+pub history_refuses : (m : Meaning) (version : Version) (options : VMOptions) (fed : List Fed) (j : Journal fed) (base : StateMap) (moves : ℕ) (written : List RawMessage) (at : Point) → Made (setup_for version options j.start) m (Handed (handed_out j)) moves (start (setup_for version options j.start) j.input (arrivals j) j.rest) written at
+    → (c : RawMessage) (further : List RawMessage) → at.left ≡ c ∷ further → (why : NamedFault) → IsRefusedFor (move_at (setup_for version options j.start) m at) at.left at.queue why → History (setup_for version options j.start) m base (as_entries j.entries) → ⊥
+history_refuses m version options fed j base moves written at run c further left why reason h =
     let s = setup_for version options j.start in
     let begins : h.first ∷ h.rest ≡ j.first ∷ j.rest = sym h.begins ∙ commands_same j.entries ∙ j.commands in
     let first : h.first ≡ j.first = head_same h.first j.first h.rest j.rest begins in
     let rest : h.rest ≡ j.rest = tail_same h.first j.first h.rest j.rest begins in
     let input : h.input ≡ j.input = same_Some h.input j.input (sym h.reads ∙ ap input_read_from first ∙ j.reads_input) in
     let notes : notifications_in (as_entries j.entries) ++ notifications_among j.others ≡ arrivals j = ap (λ l. l ++ notifications_among j.others) (notes_same j.entries) ∙ sym (notifications_append j.entries j.others) in
-    let made : Made s m moves (start s h.input (notifications_in (as_entries j.entries) ++ notifications_among j.others) h.rest) written at = subst (λ p. Made s m moves p written at) (λ i. start s (sym input i) (sym notes i) (sym rest i)) run in
-    none_refused s m (as_entries j.entries) (notifications_among j.others) moves written further c at h made left (refused_stuck s m at why reason)
+    let made : Made s m (Handed (handed_out j)) moves (start s h.input (notifications_in (as_entries j.entries) ++ notifications_among j.others) h.rest) written at = subst (λ p. Made s m (Handed (handed_out j)) moves p written at) (λ i. start s (sym input i) (sym notes i) (sym rest i)) run in
+    none_refused s m base (handed_out j) base (as_entries j.entries) (notifications_among j.others) moves written further c at h made left (refused_stuck s m base at why reason)
 
-pub history_replayed : (m : Meaning) (version : Version) (options : VMOptions) (fed : List Fed) (answers : List Answer) (e : Error) (old new : Machine) (x : RefusesReplay m version options fed answers e old new) → History (setup_for version options x.journal.start) m (as_entries x.journal.entries) → ⊥
-history_replayed m version options fed answers e old new x h = history_refuses m version options fed x.journal x.moves [] x.at x.made x.recorded x.further x.left x.why x.reason h
+pub history_replayed : (m : Meaning) (version : Version) (options : VMOptions) (fed : List Fed) (answers : List Answer) (e : Error) (old new : Machine) (x : RefusesReplay m version options fed answers e old new) (base : StateMap) → History (setup_for version options x.journal.start) m base (as_entries x.journal.entries) → ⊥
+history_replayed m version options fed answers e old new x base h = history_refuses m version options fed x.journal base x.moves [] x.at x.made x.recorded x.further x.left x.why x.reason h
 
 -- ---- honest attempts
 
-no_input : (s : Setup) (m : Meaning) (entries : List RawMessage) → History s m (as_entries entries) → first_input (commands_among entries) ≡ None → ⊥
-no_input s m entries h none =
+no_input : (s : Setup) (m : Meaning) (base : StateMap) (entries : List RawMessage) → History s m base (as_entries entries) → first_input (commands_among entries) ≡ None → ⊥
+no_input s m base entries h none =
     let z : Some h.input ≡ None = sym h.reads ∙ ap first_input (sym h.begins ∙ commands_same entries) ∙ none in
     absurd (cc)
 
@@ -98,7 +99,7 @@ honest_fails m version options fed closed answers e honest (Memory x) = inl x
 honest_fails m version options fed closed answers e honest (Frame x) = absurd (let z : None ≡ Some x.why = sym (honest.frames x.before x.raw x.behind x.phase x.missing x.split x.place) ∙ x.reason in cc)
 honest_fails m version options fed closed answers e honest (NoFrame x y) = absurd (honest.whole x)
 honest_fails m version options fed closed answers e honest (ClosedEarly x y z) = inr (inl (x, y, z))
-honest_fails m version options fed closed answers e honest (NoInput x) = absurd (no_input (setup_for version options x.start) m x.entries (honest.history x.first x.entries x.others x.start x.is x.reads x.count) x.none)
+honest_fails m version options fed closed answers e honest (NoInput x) = absurd (let h = honest.history x.first x.entries x.others x.start x.is x.reads x.count in no_input (setup_for version options x.start) m h.0 x.entries h.1 x.none)
 honest_fails m version options fed closed answers e honest (Call refuses) = by_left x.at.left refl
   where
     x : RefusedCall m version options fed answers e
@@ -115,7 +116,7 @@ honest_fails m version options fed closed answers e honest (Call refuses) = by_l
       related = x.related;
       error = x.error;
     }))
-    by_left (c ∷ further) is = absurd (history_refuses m version options fed x.journal x.moves x.written x.at x.made c further is x.why x.reason (honest.history x.journal.first_frame x.journal.entries x.journal.others x.journal.start x.journal.frames x.journal.reads_start x.journal.count))
+    by_left (c ∷ further) is = absurd (let h = honest.history x.journal.first_frame x.journal.entries x.journal.others x.journal.start x.journal.frames x.journal.reads_start x.journal.count in history_refuses m version options fed x.journal h.0 x.moves x.written x.at x.made c further is x.why x.reason h.1)
 
 -- the error of a step of an honest attempt
 pub honest_errs : (m : Meaning) (version : Version) (options : VMOptions) (all : List Fed) (closed : Bool) (answers : List Answer) (result : Result Progress Error) → IsHonest m version options all → IfError result (λ e. Blame m version options all closed answers e) → IfError result (λ e. IsOwnError m version options all closed answers e)

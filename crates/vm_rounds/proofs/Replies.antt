@@ -5,6 +5,8 @@ use Rattle.journal_protocol.specs.declared.error.Error.{Error}
 use Rattle.vm_machine.specs.declared.machine.Machine.{Machine}
 use Rattle.journal_protocol.specs.declared.message.Message.{Message}
 use Rattle.vm_machine.specs.Commands.{CanBeRead}
+use Rattle.vm_machine.specs.declared.reads.StateRead.{StateRead}
+use Rattle.vm_machine.specs.Reads.{ReadCanBeRead}
 use Rattle.vm_machine.specs.Outcomes.{Outcome, Does}
 use Rattle.vm_rounds.specs.Steps.{mapped, result_mapped}
 
@@ -16,3 +18,7 @@ replies {B = B} f o (Err e) old new h = elim h as (λ _. Does {A = B} (mapped f 
 pub replies_sent : {A B : Type 0} (q : Message) (v : Machine) (f : A → B) (r : Result A Error) → OnOk r (CanBeRead q v) → OnOk (result_mapped f r) (CanBeRead q v)
 replies_sent q v f (Ok a) h = h
 replies_sent q v f (Err e) h = tt
+
+pub reads_sent : {A B : Type 0} (r : StateRead) (v : Machine) (f : A → B) (given : Result A Error) → OnOk given (ReadCanBeRead r v) → OnOk (result_mapped f given) (ReadCanBeRead r v)
+reads_sent r v f (Ok a) h = h
+reads_sent r v f (Err e) h = tt

@@ -1,6 +1,6 @@
 -- The calls with a command, in a machine that agrees with a point.
 use Rattle.std.proofs.Common.{◌≡◌, Bool, true, false, List, [], ◌∷◌, ◌++◌, Option, Some, None, refl, sym, ap, ◌∙◌, subst, append-nil}
-use Rattle.std.specs.Prelude.{◌==◌, if◌then◌else◌}
+use Rattle.std.specs.Prelude.{◌==◌, if◌then◌else◌, Result, Ok, Err}
 use Rattle.journal_protocol.specs.declared.faults.NamedFault.{NamedFault}
 use Rattle.journal_protocol.specs.declared.faults.NamedFault.TheVariants as fault
 use Rattle.journal_protocol.specs.declared.message.Message.{Message}
@@ -9,6 +9,8 @@ use Rattle.journal_protocol.specs.HeaderEqual.{header_equal}
 use Rattle.journal_protocol.specs.Message.{type_of}
 use Rattle.journal_protocol.specs.Reading.{message_in}
 use Rattle.journal_protocol.specs.Types.{type_number}
+use Rattle.journal_protocol.specs.declared.notification.NotificationResult.{NotificationResult}
+use Rattle.vm_parts.specs.declared.context.LastCommand.{LastCommand}
 use Rattle.vm_parts.specs.declared.context.StateMap.{StateMap}
 use Rattle.vm_parts.specs.declared.steps.Answer.{Answer}
 use Rattle.vm_parts.specs.declared.types.NotificationHandle.{NotificationHandle}
@@ -16,20 +18,19 @@ use Rattle.vm_parts.specs.Counting.{missing}
 use Rattle.vm_machine.specs.declared.machine.Machine.{Machine}
 use Rattle.vm_machine.specs.declared.asks.Command.{Command}
 use Rattle.vm_machine.specs.declared.phase.Phase.TheVariants.{Replaying, Processing}
-use Rattle.vm_machine.specs.Commands.{carried_out, compared, counted, entered, issued, phase_after, popped, popped_from, prepared, replayed, typed, written as wrote}
+use Rattle.vm_machine.specs.Commands.{carried_out, compared, counted as counted_event, entered, ignores_payloads, issued, phase_after, popped, popped_from, prepared, replayed, typed, written as wrote}
 use Rattle.vm_machine.specs.Phases.{is_processing, is_running, state_fault}
 use Rattle.vm_machine.specs.Outcomes.{Outcome, Done, Failed, ◌>>=◌, about_last, last_related}
 use Rattle.vm_machine.specs.Requests.{changed, ids_of, name_of, shown_type, with_ids}
-use Rattle.vm_model.specs.Calls.{Setup, Demand, answer_of, commanded, demand_of, numbered, requested}
+use Rattle.vm_model.specs.Calls.{Setup, Demand, Derived, Move, answer_of, counted, demand_of, numbered, requested}
+use Rattle.vm_model.specs.Calls.Demand.{Exactly}
 use Rattle.vm_model.specs.Calls.Move.{Needs}
 use Rattle.vm_model.specs.Journal.{stored_form}
-use Rattle.vm_model.specs.Moves.{Point, changed_by, command_used, longer, moved, reads_as, stands_for, supply, uses_command}
+use Rattle.vm_model.specs.Moves.{Point, changed_by, command_used, found, longer, moved, reads_as, supply, uses_command}
 use Rattle.vm_model.proofs.Runs.{longer_nothing}
 use Rattle.vm_rounds.specs.Agreement.{Aside, is_some_command, machine_at}
 use Rattle.vm_rounds.specs.Steps.{IfDone}
-use Rattle.vm_model.specs.Refusals.{mismatch}
-use Rattle.vm_model.proofs.Refusals.{reads_otherwise, typed_otherwise}
-use Rattle.vm_rounds.proofs.Leading.{Leads, Refusing, open_after, with_frames}
+use Rattle.vm_rounds.proofs.Leading.{Leads, Refusing, open_after, state_at, with_frames, with_last}
 
 -- ---- the event, by what is left
 
@@ -53,64 +54,90 @@ pub some_behind : (cs : List RawMessage) (c : RawMessage) → is_some_command (c
 some_behind [] c = refl
 some_behind (x ∷ cs) c = refl
 
+-- how errors show a call's command
+abbrev shown : Command → LastCommand
+shown r = record { ty = shown_type r.message; name = name_of r.message }
+
+-- what stands aside once the command is shown
+abbrev noted : Command → Aside → Aside
+noted r aside = with_last (shown r) aside
+
 -- the point of a call whose command is counted and said, but neither used nor answered
 abbrev said_by : Command → Point → Point
-said_by r p = record p { derived = commanded r p.derived; said = p.said ++ with_ids p.derived.counters.completion r.message ∷ [] }
+said_by r p = record p { derived = counted (ids_of r.message) p.derived; said = p.said ++ with_ids p.derived.counters.completion r.message ∷ [] }
 
 -- and the point behind it
 abbrev past : Command → List Answer → List RawMessage → Point → Point
-past r gives left p = record { answers = p.answers ++ gives; derived = commanded r p.derived; said = p.said ++ with_ids p.derived.counters.completion r.message ∷ []; queue = p.queue; left = left }
+past r gives left p = record { answers = p.answers ++ gives; derived = counted (ids_of r.message) p.derived; said = p.said ++ with_ids p.derived.counters.completion r.message ∷ []; queue = p.queue; left = left }
 
 abbrev state_said : Setup → StateMap → List RawMessage → Aside → Command → Point → StateMap → Machine
-state_said s given written aside r p state = record (machine_at s given written aside (said_by r p)) { state = state }
+state_said s given written aside r p state = record (machine_at s given written (noted r aside) (said_by r p)) { state = state }
 
 -- what a call changes before its command
-prepares : (s : Setup) (given : StateMap) (written : List RawMessage) (aside : Aside) (r : Command) (p : Point) → prepared r.message (machine_at s given written aside p) ≡ machine_at s given written aside (said_by r p)
+prepares : (s : Setup) (given : StateMap) (written : List RawMessage) (aside : Aside) (r : Command) (p : Point) → prepared r.message (machine_at s given written aside p) ≡ machine_at s given written (noted r aside) (said_by r p)
 prepares s given written aside r p = ap (state_said s given written aside r p) (sym (changed_behind p.said (with_ids p.derived.counters.completion r.message) given))
 
 -- the outcome of a call whose command was carried out
 abbrev handed : Point → Outcome Unit → Outcome NotificationHandle
 handed p o = o >>= λ _ w. Done (record { 0 = p.derived.counters.handle }) w
 
+-- the move of a call with a command
+abbrev needing : Setup → Command → Point → Move
+needing s r p = Needs (demand_of s r p.derived) (answer_of r p.derived ∷ []) (counted (ids_of r.message) p.derived)
+
+-- whether payloads are left out
+abbrev ignores : Setup → Command → Bool
+ignores s r = ignores_payloads s.options.non_determinism_checks r.unstable
+
 -- ---- no recorded command is left: the call's own is written
 
-writes : (s : Setup) (given : StateMap) (written : List RawMessage) (aside : Aside) (r : Command) (p : Point) (gives : NotificationHandle → List Answer) → gives (record { 0 = p.derived.counters.handle }) ≡ answer_of r p.derived ∷ [] → p.left ≡ [] → stands_for (demand_of s r p.derived) (stored_form (with_ids p.derived.counters.completion r.message)) ≡ true
-    → (b : Bool) → stands_for (demand_of s r p.derived) (stored_form (with_ids p.derived.counters.completion r.message)) ≡ b
-    → Leads s given written aside p (Needs (demand_of s r p.derived) (answer_of r p.derived ∷ []) (commanded r p.derived)) [] (stored_form (with_ids p.derived.counters.completion r.message) ∷ []) gives (command_used b (demand_of s r p.derived) (answer_of r p.derived ∷ []) (commanded r p.derived) [] p) (handed p (Done tt (wrote (with_ids p.derived.counters.completion r.message) (machine_at s given written aside (said_by r p)))))
-writes s given written aside r p gives answer spent own false e = absurd (let z : true ≡ false = sym own ∙ e in cc)
-writes s given written aside r p gives answer spent own true e =
+writes : (s : Setup) (given : StateMap) (written : List RawMessage) (aside : Aside) (r : Command) (p : Point) (gives : NotificationHandle → List Answer) → gives (record { 0 = p.derived.counters.handle }) ≡ answer_of r p.derived ∷ [] → p.left ≡ []
+    → (o : Result (Option NotificationResult) NamedFault) → o ≡ Ok None
+    → Leads s given written aside p (needing s r p) [] (stored_form (with_ids p.derived.counters.completion r.message) ∷ []) gives (command_used o (demand_of s r p.derived) (answer_of r p.derived ∷ []) (counted (ids_of r.message) p.derived) [] p) (handed p (Done tt (wrote (with_ids p.derived.counters.completion r.message) (machine_at s given written (noted r aside) (said_by r p)))))
+writes s given written aside r p gives answer spent (Err name) e = absurd (cc)
+writes s given written aside r p gives answer spent (Ok (Some x)) e = absurd (cc)
+writes s given written aside r p gives answer spent (Ok None) e =
     let m = with_ids p.derived.counters.completion r.message in (
       ap (λ l. p.answers ++ l) (sym answer),
-      λ i. record (machine_at s given written (with_frames (stored_form m ∷ []) aside) (past r (answer_of r p.derived ∷ []) [] p)) { commands = spent i; phase = phase_after (spent i); wrote_command = sym (some_behind written (stored_form m)) i },
+      (shown r,
+      λ i. record (machine_at s given written (with_frames (stored_form m ∷ []) (noted r aside)) (past r (answer_of r p.derived ∷ []) [] p)) { commands = spent i; phase = phase_after (spent i); wrote_command = sym (some_behind written (stored_form m)) i }),
     )
 
 -- ---- the next recorded command is popped
 
 -- what the machine is once it has popped a command
 abbrev popped_to : Setup → StateMap → List RawMessage → Aside → Command → List RawMessage → Point → Machine
-popped_to s given written aside r left p = record (machine_at s given written aside (said_by r p)) { commands = left; phase = phase_after left }
+popped_to s given written aside r left p = record (machine_at s given written (noted r aside) (said_by r p)) { commands = left; phase = phase_after left }
 
 -- the next recorded command doesn't stand for the call's
-unlike : (s : Setup) (given : StateMap) (written : List RawMessage) (aside : Aside) (r : Command) (p : Point) (c : RawMessage) (left : List RawMessage) (name : NamedFault) → (stands_for (demand_of s r p.derived) c ≡ false) × (name ≡ mismatch (demand_of s r p.derived) c)
-    → Refusing s aside.output p.queue (Needs (demand_of s r p.derived) (answer_of r p.derived ∷ []) (commanded r p.derived)) (c ∷ left) (about_last name (popped_to s given written aside r left p)) (popped_to s given written aside r left p)
+unlike : (s : Setup) (given : StateMap) (written : List RawMessage) (aside : Aside) (r : Command) (p : Point) (c : RawMessage) (left : List RawMessage) (name : NamedFault) → found (demand_of s r p.derived) c ≡ Err name
+    → Refusing s aside.output p.queue (needing s r p) (c ∷ left) (about_last name (popped_to s given written aside r left p)) (popped_to s given written aside r left p)
 unlike s given written aside r p c left name reason = record { why = name; related = Some (last_related (popped_to s given written aside r left p)); reason = reason; error = refl; output = refl; open_yet = open_after left; version = refl; options = refl }
+
+-- a recorded command of the call's type is compared
+found_same : (command : Message) (ignore : Bool) (c : RawMessage) → (type_number c.ty == type_number (type_of command)) ≡ true → found (Exactly command ignore) c ≡ reads_as ignore command (message_in c.ty c.body)
+found_same command ignore c same = ap (λ b. if b then reads_as ignore command (message_in c.ty c.body) else Err fault.CommandTypeMismatch) same
 
 reads : (s : Setup) (given : StateMap) (written : List RawMessage) (aside : Aside) (r : Command) (p : Point) (c : RawMessage) (left : List RawMessage) (gives : NotificationHandle → List Answer) → gives (record { 0 = p.derived.counters.handle }) ≡ answer_of r p.derived ∷ []
     → (type_number c.ty == type_number (type_of (with_ids p.derived.counters.completion r.message))) ≡ true
-    → (o : Option Message) → message_in c.ty c.body ≡ o → Leads s given written aside p (Needs (demand_of s r p.derived) (answer_of r p.derived ∷ []) (commanded r p.derived)) (c ∷ left) [] gives (command_used (reads_as (demand_of s r p.derived).ignores_payload (with_ids p.derived.counters.completion r.message) o) (demand_of s r p.derived) (answer_of r p.derived ∷ []) (commanded r p.derived) left p) (handed p (compared (with_ids p.derived.counters.completion r.message) (demand_of s r p.derived).ignores_payload o (popped_to s given written aside r left p)))
-reads s given written aside r p c left gives answer same None is = unlike s given written aside r p c left fault.BadMessage (reads_otherwise (demand_of s r p.derived) c None same is refl)
-reads s given written aside r p c left gives answer same (Some recorded) is = by_test (header_equal recorded (with_ids p.derived.counters.completion r.message) (demand_of s r p.derived).ignores_payload) refl
+    → (o : Option Message) → message_in c.ty c.body ≡ o → Leads s given written aside p (needing s r p) (c ∷ left) [] gives (command_used (reads_as (ignores s r) (with_ids p.derived.counters.completion r.message) o) (demand_of s r p.derived) (answer_of r p.derived ∷ []) (counted (ids_of r.message) p.derived) left p) (handed p (compared (with_ids p.derived.counters.completion r.message) (ignores s r) o (popped_to s given written aside r left p)))
+reads s given written aside r p c left gives answer same None is =
+    let m = with_ids p.derived.counters.completion r.message in
+    unlike s given written aside r p c left fault.BadMessage (found_same m (ignores s r) c same ∙ ap (reads_as (ignores s r) m) is)
+reads s given written aside r p c left gives answer same (Some recorded) is = by_test (header_equal recorded m (ignores s r)) refl
   where
     m : Message
     m = with_ids p.derived.counters.completion r.message
 
-    by_test : (b : Bool) → header_equal recorded m (demand_of s r p.derived).ignores_payload ≡ b → Leads s given written aside p (Needs (demand_of s r p.derived) (answer_of r p.derived ∷ []) (commanded r p.derived)) (c ∷ left) [] gives (command_used b (demand_of s r p.derived) (answer_of r p.derived ∷ []) (commanded r p.derived) left p) (handed p (if b then Done tt (popped_to s given written aside r left p) else Failed (about_last fault.CommandMismatch (popped_to s given written aside r left p)) (popped_to s given written aside r left p)))
-    by_test false other = unlike s given written aside r p c left fault.CommandMismatch (reads_otherwise (demand_of s r p.derived) c (Some recorded) same is other)
-    by_test true equal = (ap (λ l. p.answers ++ l) (sym answer), λ i. machine_at s given (sym (append-nil written) i) (record aside { output = sym (append-nil aside.output) i }) (past r (answer_of r p.derived ∷ []) left p))
+    by_test : (b : Bool) → header_equal recorded m (ignores s r) ≡ b → Leads s given written aside p (needing s r p) (c ∷ left) [] gives (command_used (if b then Ok None else Err fault.CommandMismatch) (demand_of s r p.derived) (answer_of r p.derived ∷ []) (counted (ids_of r.message) p.derived) left p) (handed p (if b then Done tt (popped_to s given written aside r left p) else Failed (about_last fault.CommandMismatch (popped_to s given written aside r left p)) (popped_to s given written aside r left p)))
+    by_test false other =
+        unlike s given written aside r p c left fault.CommandMismatch
+        (found_same m (ignores s r) c same ∙ ap (reads_as (ignores s r) m) is ∙ ap (λ b. if b then Ok None else Err fault.CommandMismatch) other)
+    by_test true equal = (ap (λ l. p.answers ++ l) (sym answer), (shown r, λ i. machine_at s given (sym (append-nil written) i) (record (noted r aside) { output = sym (append-nil aside.output) i }) (past r (answer_of r p.derived ∷ []) left p)))
 
 replays : (s : Setup) (given : StateMap) (written : List RawMessage) (aside : Aside) (r : Command) (p : Point) (c : RawMessage) (left : List RawMessage) (gives : NotificationHandle → List Answer) → gives (record { 0 = p.derived.counters.handle }) ≡ answer_of r p.derived ∷ []
-    → Leads s given written aside p (Needs (demand_of s r p.derived) (answer_of r p.derived ∷ []) (commanded r p.derived)) (c ∷ left) [] gives (command_used (stands_for (demand_of s r p.derived) c) (demand_of s r p.derived) (answer_of r p.derived ∷ []) (commanded r p.derived) left p)
-    (handed p (typed c (type_of (with_ids p.derived.counters.completion r.message)) (popped_to s given written aside r left p) >>= λ raw z. compared (with_ids p.derived.counters.completion r.message) (demand_of s r p.derived).ignores_payload (message_in raw.ty raw.body) z))
+    → Leads s given written aside p (needing s r p) (c ∷ left) [] gives (command_used (found (demand_of s r p.derived) c) (demand_of s r p.derived) (answer_of r p.derived ∷ []) (counted (ids_of r.message) p.derived) left p)
+    (handed p (typed c (type_of (with_ids p.derived.counters.completion r.message)) (popped_to s given written aside r left p) >>= λ raw z. compared (with_ids p.derived.counters.completion r.message) (ignores s r) (message_in raw.ty raw.body) z))
 replays s given written aside r p c left gives answer = by_test (type_number c.ty == type_number (type_of m)) refl
   where
     m : Message
@@ -122,43 +149,55 @@ replays s given written aside r p c left gives answer = by_test (type_number c.t
     w : Machine
     w = popped_to s given written aside r left p
 
-    by_test : (b : Bool) → (type_number c.ty == type_number (type_of m)) ≡ b → Leads s given written aside p (Needs e (answer_of r p.derived ∷ []) (commanded r p.derived)) (c ∷ left) [] gives (command_used (if b then reads_as e.ignores_payload m (message_in c.ty c.body) else false) e (answer_of r p.derived ∷ []) (commanded r p.derived) left p) (handed p ((if b then Done c w else Failed (about_last fault.CommandTypeMismatch w) w) >>= λ raw z. compared m e.ignores_payload (message_in raw.ty raw.body) z))
+    by_test : (b : Bool) → (type_number c.ty == type_number (type_of m)) ≡ b → Leads s given written aside p (needing s r p) (c ∷ left) [] gives (command_used (if b then reads_as (ignores s r) m (message_in c.ty c.body) else Err fault.CommandTypeMismatch) e (answer_of r p.derived ∷ []) (counted (ids_of r.message) p.derived) left p) (handed p ((if b then Done c w else Failed (about_last fault.CommandTypeMismatch w) w) >>= λ raw z. compared m (ignores s r) (message_in raw.ty raw.body) z))
     by_test true same = reads s given written aside r p c left gives answer same (message_in c.ty c.body) refl
-    by_test false other = unlike s given written aside r p c left fault.CommandTypeMismatch (typed_otherwise e c other)
+    by_test false other = unlike s given written aside r p c left fault.CommandTypeMismatch (ap (λ b. if b then reads_as (ignores s r) m (message_in c.ty c.body) else Err fault.CommandTypeMismatch) other)
 
 -- ---- the whole event
 
+-- what is left of the recorded commands is not looked at
+pub used_anyhow : (o : Result (Option NotificationResult) NamedFault) (e : Demand) (gives : List Answer) (d : Derived) (left rest : List RawMessage) (p : Point) → command_used o e gives d left (record p { left = rest }) ≡ command_used o e gives d left p
+used_anyhow (Err name) e gives d left rest p = refl
+used_anyhow (Ok result) e gives d left rest p = refl
+
+-- a call's own command, where none is recorded
+pub uses_own : (e : Demand) (gives : List Answer) (d : Derived) (c : RawMessage) (p : Point) → p.left ≡ [] → moved (Needs e gives d) (longer (c ∷ []) p) ≡ command_used (found e c) e gives d [] p
+uses_own e gives d c p is = ap (λ l. uses_command e gives d (l ++ c ∷ []) (record p { left = l ++ c ∷ [] })) is ∙ used_anyhow (found e c) e gives d [] (c ∷ []) p
+
+-- the next recorded command
+pub uses_next : (e : Demand) (gives : List Answer) (d : Derived) (c : RawMessage) (left : List RawMessage) (p : Point) → p.left ≡ c ∷ left → moved (Needs e gives d) (longer [] p) ≡ command_used (found e c) e gives d left p
+uses_next e gives d c left p is = ap (moved (Needs e gives d)) (longer_nothing p) ∙ ap (λ l. uses_command e gives d l p) is
+
 -- the counters suffice: the command is written or popped
 carries : (s : Setup) (given : StateMap) (written : List RawMessage) (aside : Aside) (r : Command) (p : Point) (gives : NotificationHandle → List Answer) → gives (record { 0 = p.derived.counters.handle }) ≡ answer_of r p.derived ∷ []
-    → (P : Type 0) → (P → p.left ≡ [] → stands_for (demand_of s r p.derived) (stored_form (with_ids p.derived.counters.completion r.message)) ≡ true)
-    → IfDone (handed p (carried_out (with_ids p.derived.counters.completion r.message) (demand_of s r p.derived).ignores_payload (machine_at s given written aside (said_by r p)))) P
+    → (P : Type 0) → (P → p.left ≡ [] → found (demand_of s r p.derived) (stored_form (with_ids p.derived.counters.completion r.message)) ≡ Ok None)
+    → IfDone (handed p (carried_out (with_ids p.derived.counters.completion r.message) (ignores s r) (machine_at s given written (noted r aside) (said_by r p)))) P
     → (left : List RawMessage) → p.left ≡ left
-    → Leads s given written aside p (Needs (demand_of s r p.derived) (answer_of r p.derived ∷ []) (commanded r p.derived)) left (supply (Needs (demand_of s r p.derived) (answer_of r p.derived ∷ []) (commanded r p.derived)) left) gives
-    (moved (Needs (demand_of s r p.derived) (answer_of r p.derived ∷ []) (commanded r p.derived)) (longer (supply (Needs (demand_of s r p.derived) (answer_of r p.derived ∷ []) (commanded r p.derived)) left) p))
-    (handed p (carried_out (with_ids p.derived.counters.completion r.message) (demand_of s r p.derived).ignores_payload (machine_at s given written aside (said_by r p))))
+    → Leads s given written aside p (needing s r p) left (supply (state_at given p) (needing s r p) left) gives (moved (needing s r p) (longer (supply (state_at given p) (needing s r p) left) p))
+    (handed p (carried_out (with_ids p.derived.counters.completion r.message) (ignores s r) (machine_at s given written (noted r aside) (said_by r p))))
 carries s given written aside r p gives answer P own whole [] is =
     let m = with_ids p.derived.counters.completion r.message in
     let e = demand_of s r p.derived in
-    let w = machine_at s given written aside (said_by r p) in
-    let next : moved (Needs e (answer_of r p.derived ∷ []) (commanded r p.derived)) (longer (stored_form m ∷ []) p) ≡ command_used (stands_for e (stored_form m)) e (answer_of r p.derived ∷ []) (commanded r p.derived) [] p = ap (λ l. uses_command e (answer_of r p.derived ∷ []) (commanded r p.derived) (l ++ stored_form m ∷ []) (record p { left = l ++ stored_form m ∷ [] })) is in
-    let spent = carries_spent m e.ignores_payload w (ap phase_after is) in
-    rw (next, spent) (writes s given written aside r p gives answer is (own (subst (λ o. IfDone (handed p o) P) spent whole) is) (stands_for e (stored_form m)) refl)
+    let w = machine_at s given written (noted r aside) (said_by r p) in
+    let next : moved (needing s r p) (longer (stored_form m ∷ []) p) ≡ command_used (found e (stored_form m)) e (answer_of r p.derived ∷ []) (counted (ids_of r.message) p.derived) [] p = uses_own e (answer_of r p.derived ∷ []) (counted (ids_of r.message) p.derived) (stored_form m) p is in
+    let spent = carries_spent m (ignores s r) w (ap phase_after is) in
+    rw (next, spent) (writes s given written aside r p gives answer is (found e (stored_form m)) (own (subst (λ o. IfDone (handed p o) P) spent whole) is))
 carries s given written aside r p gives answer P own whole (c ∷ left) is =
     let m = with_ids p.derived.counters.completion r.message in
     let e = demand_of s r p.derived in
-    let w = machine_at s given written aside (said_by r p) in
-    let next : moved (Needs e (answer_of r p.derived ∷ []) (commanded r p.derived)) (longer [] p) ≡ command_used (stands_for e c) e (answer_of r p.derived ∷ []) (commanded r p.derived) left p = ap (moved (Needs e (answer_of r p.derived ∷ []) (commanded r p.derived))) (longer_nothing p) ∙ ap (λ l. uses_command e (answer_of r p.derived ∷ []) (commanded r p.derived) l p) is in
-    rw (next, carries_recorded m e.ignores_payload w (ap phase_after is), replays_next m e.ignores_payload c left w is) (replays s given written aside r p c left gives answer)
+    let w = machine_at s given written (noted r aside) (said_by r p) in
+    let next : moved (needing s r p) (longer [] p) ≡ command_used (found e c) e (answer_of r p.derived ∷ []) (counted (ids_of r.message) p.derived) left p = uses_next e (answer_of r p.derived ∷ []) (counted (ids_of r.message) p.derived) c left p is in
+    rw (next, carries_recorded m (ignores s r) w (ap phase_after is), replays_next m (ignores s r) c left w is) (replays s given written aside r p c left gives answer)
 
 counts : (s : Setup) (given : StateMap) (written : List RawMessage) (aside : Aside) (r : Command) (p : Point) (gives : NotificationHandle → List Answer) → gives (record { 0 = p.derived.counters.handle }) ≡ answer_of r p.derived ∷ []
-    → (P : Type 0) → (P → p.left ≡ [] → stands_for (demand_of s r p.derived) (stored_form (with_ids p.derived.counters.completion r.message)) ≡ true)
-    → (o : Option NamedFault) → IfDone (counted o r.message r.unstable (machine_at s given written aside p)) P
-    → Leads s given written aside p (numbered s r o p.derived) p.left (supply (numbered s r o p.derived) p.left) gives (moved (numbered s r o p.derived) (longer (supply (numbered s r o p.derived) p.left) p)) (counted o r.message r.unstable (machine_at s given written aside p))
+    → (P : Type 0) → (P → p.left ≡ [] → found (demand_of s r p.derived) (stored_form (with_ids p.derived.counters.completion r.message)) ≡ Ok None)
+    → (o : Option NamedFault) → IfDone (counted_event o r.message r.unstable (machine_at s given written aside p)) P
+    → Leads s given written aside p (numbered s r o p.derived) p.left (supply (state_at given p) (numbered s r o p.derived) p.left) gives (moved (numbered s r o p.derived) (longer (supply (state_at given p) (numbered s r o p.derived) p.left) p)) (counted_event o r.message r.unstable (machine_at s given written aside p))
 counts s given written aside r p gives answer P own (Some name) whole = record { why = name; related = Some _; reason = refl; error = refl; output = refl; open_yet = open_after p.left; version = refl; options = refl }
 counts s given written aside r p gives answer P own None whole =
     let m = with_ids p.derived.counters.completion r.message in
     let ready = prepares s given written aside r p in
-    rw ready (carries s given written aside r p gives answer P own (subst (λ w. IfDone (handed p (carried_out m (demand_of s r p.derived).ignores_payload w)) P) ready whole) p.left refl)
+    rw ready (carries s given written aside r p gives answer P own (subst (λ w. IfDone (handed p (carried_out m (ignores s r) w)) P) ready whole) p.left refl)
 
 pub runs_at : (left : List RawMessage) → is_running (phase_after left) ≡ true
 runs_at [] = refl
@@ -166,12 +205,12 @@ runs_at (c ∷ left) = refl
 
 -- a call with a command does what its move leads to
 pub issues : (s : Setup) (given : StateMap) (written : List RawMessage) (aside : Aside) (r : Command) (p : Point) (gives : NotificationHandle → List Answer) → gives (record { 0 = p.derived.counters.handle }) ≡ answer_of r p.derived ∷ []
-    → (P : Type 0) → (P → p.left ≡ [] → stands_for (demand_of s r p.derived) (stored_form (with_ids p.derived.counters.completion r.message)) ≡ true)
+    → (P : Type 0) → (P → p.left ≡ [] → found (demand_of s r p.derived) (stored_form (with_ids p.derived.counters.completion r.message)) ≡ Ok None)
     → IfDone (issued r.message r.unstable (machine_at s given written aside p)) P
-    → Leads s given written aside p (requested s r p.derived) p.left (supply (requested s r p.derived) p.left) gives (moved (requested s r p.derived) (longer (supply (requested s r p.derived) p.left) p)) (issued r.message r.unstable (machine_at s given written aside p))
+    → Leads s given written aside p (requested s r p.derived) p.left (supply (state_at given p) (requested s r p.derived) p.left) gives (moved (requested s r p.derived) (longer (supply (state_at given p) (requested s r p.derived) p.left) p)) (issued r.message r.unstable (machine_at s given written aside p))
 unfolding issued
 issues s given written aside r p gives answer P own whole =
     let v = machine_at s given written aside p in
-    let found = missing (ids_of r.message) 0 (ids_of r.message) p.derived.counters in
+    let lacks = missing (ids_of r.message) 0 (ids_of r.message) p.derived.counters in
     let runs = runs_at p.left in
-    rw runs (counts s given written aside r p gives answer P own found (subst (λ b. IfDone (if b then counted found r.message r.unstable v else (let w = entered (shown_type r.message) (name_of r.message) v in Failed (about_last (state_fault v.phase) w) w)) P) runs whole))
+    rw runs (counts s given written aside r p gives answer P own lacks (subst (λ b. IfDone (if b then counted_event lacks r.message r.unstable v else (let w = entered (shown_type r.message) (name_of r.message) v in Failed (about_last (state_fault v.phase) w) w)) P) runs whole))

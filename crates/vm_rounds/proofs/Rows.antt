@@ -1,4 +1,6 @@
 -- An honest attempt of the handler that sleeps: what it is fed, so that the premise is seen to be met.
+use Rattle.vm_parts.specs.declared.context.StateCoverage.TheVariants.{Partial}
+use Rattle.vm_parts.specs.declared.context.StateMap.{StateMap}
 use Rattle.std.proofs.Common.{◌≡◌, ℕ, false, List, [], ◌∷◌, ◌++◌, Option, Some, None, refl, ◌∙◌, append-nil, lit<}
 use Rattle.std.specs.Prelude.{codes}
 use Rattle.std.specs.List.{flat_map}
@@ -80,8 +82,12 @@ reads_input : input_read_from (stored_form (message.Input input)) ≡ Some input
 unfolding input_in body_as
 reads_input = all_read input_format input (input_format.spelling input) input_is_whole.0 refl
 
+-- nothing is known of the state
+abbrev no_state : StateMap
+no_state = record { entries = []; coverage = Partial }
+
 -- the journal is a history of it: the input, its sleep, and the sleep's completion
-is_history : History setup sleeper journal
+is_history : History setup sleeper no_state journal
 unfolding sleeper point_in is_utf8 chars header_equal message_in body_as sleep read_value bytes read_byte read_bytes read_text read_pair read_u16 read_u32 read_u64 u16s u32s u64s
 is_history = record {
   first = stored_form (message.Input input);
@@ -92,6 +98,7 @@ is_history = record {
   at = point_in (after setup sleeper 1 begin);
   told = (1, refl);
   uses_all = refl;
+  eager = (tt, tt);
 }
 
 abbrev stream : List ℕ
@@ -111,6 +118,7 @@ feeds = record {
   reads_state = refl;
   journal_is_whole = ((refl, input_is_whole.1), ((refl, slept_is_whole.1), (void_is_whole, tt)));
   more_is_whole = tt;
+  base = no_state;
   history = is_history;
   premises = record { replays = refl; queues = refl; once = (tt, tt) };
 }

@@ -1,4 +1,6 @@
 -- What a call of a step writes and leaves, whatever came before it: frames of messages, and a VM that runs, is closed or has failed.
+use Rattle.vm_machine.specs.declared.reads.StateRead.{StateRead}
+use Rattle.vm_machine.specs.Reads.{eager_type, lazy_type, name_read, own_form, own_result, read_back, read_counted, read_numbered, read_popped, read_step, read_written, recorded_as, recorded_type, result_in, with_result}
 use Rattle.std.proofs.Common.{◌≡◌, ℕ, Bool, true, false, cond, List, [], ◌∷◌, ◌++◌, map, Option, Some, None, Result, Ok, Err, refl, sym, ap, ◌∙◌, subst, ⊎_elim, append-nil}
 use Rattle.std.specs.Prelude.{◌==◌, if◌then◌else◌, unwrap_or, OnOk}
 use Rattle.std.specs.List.{AllByRecursion}
@@ -32,7 +34,7 @@ use Rattle.vm_machine.specs.declared.phase.Phase.{Phase}
 use Rattle.vm_machine.specs.declared.phase.Phase.TheVariants.{WaitingStart, WaitingReplayEntries, Replaying, Processing, Closed}
 use Rattle.vm_machine.specs.Asks.{ask_of}
 use Rattle.vm_machine.specs.Awaits.{await_step, future_of, pending, result_taken, suspended, take_step, taken_at, tried, value_taken}
-use Rattle.vm_machine.specs.Commands.{CanBeRead, carried_out, commanded, commanded_unless, compared, counted, entered, ignores_payloads, issued, phase_after, popped, popped_from, prepared, replayed, written}
+use Rattle.vm_machine.specs.Commands.{CanBeRead, carried_out, commanded, commanded_unless, compared, counted, entered, ignores_payloads, issued, phase_after, popped, popped_from, prepared, replayed, written, about_next, handed_out}
 use Rattle.vm_machine.specs.Inputs.{end_at, end_step}
 use Rattle.vm_machine.specs.Outcomes.{Does, IsStarved, Outcome, Done, Failed, ◌>>=◌, about_last, called, called_at, failed, refused, ruled, settled}
 use Rattle.vm_machine.specs.Phases.{is_closed, is_processing, is_replaying, is_running, state_fault}
@@ -169,6 +171,44 @@ commands : (refusal : Option NamedFault) (m : Message) (unstable : Bool) (v : Ma
 commands (Some name) m unstable v = (refl, refl, refl)
 commands None m unstable v = issues m unstable v
 
+-- ---- state reads
+
+read_put : (id : ℕ) (o : Option NotificationResult) (handle : NotificationHandle) (v w : Machine) → Leaves RunsOn v handle w → Leaves RunsOn v handle (with_result id o w)
+read_put id None handle v w h = h
+read_put id (Some result) handle v w h = record { sends = record { messages = h.sends.messages; output = h.sends.output; version = h.sends.version; options = h.sends.options }; failure = h.failure; left = h.left }
+
+reads_back : (handle id : ℕ) (o : Result (Option NotificationResult) NamedFault) (v w : Machine) → Stays v w → w.failure ≡ v.failure → is_running w.phase ≡ true → Happens RunsOn v (read_back handle id o w)
+reads_back handle id (Err name) v w s f runs = s
+reads_back handle id (Ok o) v w s f runs = read_put id o (record { 0 = handle }) v w (record { sends = stays_sends v w s; failure = f; left = runs })
+
+reads_popped : (r : StateRead) (handle id : ℕ) (left : List RawMessage) (v u : Machine) → Stays v u → u.failure ≡ v.failure → Happens RunsOn v (read_popped r handle id left u)
+reads_popped r handle id [] v u s f = s
+reads_popped r handle id (raw ∷ rest) v u s f =
+    reads_back handle id (recorded_as r id raw) v (record u { commands = rest; phase = phase_after rest; last_command = record { ty = recorded_type r raw; name = [] } }) s f (after_runs rest)
+
+reads_numbered : (r : StateRead) (v : Machine) → Happens RunsOn v (read_numbered r v)
+reads_numbered r v = by_test (is_processing v.phase) refl
+  where
+    by_test : (b : Bool) → is_processing v.phase ≡ b
+        → Happens RunsOn v (if b then Done (record { 0 = v.counters.handle }) (read_written r v.counters.completion (own_form r v.counters.completion v.state) v) else read_popped r v.counters.handle v.counters.completion v.commands (handed_out 1 (entered (eager_type r) [] v)))
+    by_test true e =
+        let m = own_form r v.counters.completion v.state in
+        read_put v.counters.completion (own_result (result_in m)) (record { 0 = v.counters.handle }) v (written m (handed_out 1 (entered (type_of m) (name_read r) v)))
+        (record { sends = record { messages = m ∷ []; output = refl; version = refl; options = refl }; failure = refl; left = writing_runs v.phase e })
+    by_test false e = reads_popped r v.counters.handle v.counters.completion v.commands v (handed_out 1 (entered (eager_type r) [] v)) (refl, refl, refl) refl
+
+reads_counted : (o : Option NamedFault) (r : StateRead) (v : Machine) → Happens RunsOn v (read_counted o r v)
+reads_counted (Some name) r v = (refl, refl, refl)
+reads_counted None r v = reads_numbered r v
+
+state_reads : (r : StateRead) (v : Machine) → Happens RunsOn v (read_step r v)
+unfolding read_step
+state_reads r v = by_test (is_running v.phase)
+  where
+    by_test : (b : Bool) → Happens RunsOn v (if b then read_counted (missing 1 0 1 v.counters) r v else Failed (about_next (state_fault v.phase) (lazy_type r) [] v) v)
+    by_test true = reads_counted (missing 1 0 1 v.counters) r v
+    by_test false = (refl, refl, refl)
+
 -- ---- calls without a command
 
 awakeable_is : (o : Option NamedFault) (v : Machine) → is_running v.phase ≡ true → Happens RunsOn v (awakeable_counted o v)
@@ -293,6 +333,7 @@ await_stands (Err e) w h = h
 asked_leaves : (a : Ask) (v : Machine) → IsLive v → CallLeaves StandsBy v (performed_by a v)
 asked_leaves (ask.Command c) v live = mapping RunsOn StandsBy _ (λ h w runs. runs) v (called (commanded c v) v) (calling RunsOn v (commanded c v) live.failure (commands c.refusal c.message c.unstable v))
 asked_leaves ask.Awakeable v live = mapping RunsOn StandsBy _ (λ h w runs. runs) v (called (new_awakeable_step v) v) (calling RunsOn v (new_awakeable_step v) live.failure (new_awakeables (skips_replay v.options.journal_replay) v))
+asked_leaves (ask.Read r) v live = mapping RunsOn StandsBy _ (λ h w runs. runs) v (called (read_step r v) v) (calling RunsOn v (read_step r v) live.failure (state_reads r v))
 asked_leaves (ask.Signal name) v live = mapping RunsOn StandsBy _ (λ h w runs. runs) v (called (signal_step name v) v) (calling RunsOn v (signal_step name v) live.failure (signals name v))
 asked_leaves (ask.Await future) v live = mapping AwaitLeaves StandsBy await_reply await_stands v (called (future_step future v) v) (calling AwaitLeaves v (future_step future v) live.failure (futures future v))
 asked_leaves (ask.Take handle) v live = mapping RunsOn StandsBy _ (λ h w runs. runs) v (called (take_step handle.0 v) v) (calling RunsOn v (take_step handle.0 v) live.failure (takes handle.0 v))

@@ -1,4 +1,6 @@
 -- A step keeps what is kept of an attempt.
+use Rattle.vm_machine.specs.declared.reads.StateRead.{StateRead}
+use Rattle.vm_parts.specs.declared.context.StateMap.{StateMap}
 use Rattle.std.proofs.Common.{◌≡◌, ◌≢◌, ◌⊎◌, ℕ, zero, suc, ◌+◌, Bool, true, false, cond, List, [], ◌∷◌, ◌++◌, map, Option, Some, None, Result, Ok, Err, refl, sym, ap, ◌∙◌, subst, inl, inr, ⊎_elim, append-nil}
 use Rattle.std.specs.Prelude.{is_some, OnOk}
 use Rattle.journal_protocol.specs.declared.error.Error.{Error}
@@ -28,7 +30,7 @@ use Rattle.vm_machine.specs.declared.asks.Ask.TheVariants as ask
 use Rattle.vm_machine.specs.declared.asks.Command.{Command}
 use Rattle.vm_machine.specs.Asks.{ask_of}
 use Rattle.journal_protocol.specs.Commands.{IsCommand}
-use Rattle.vm_rounds.proofs.Own.{AsksCommand, asks_command, numbered_is}
+use Rattle.vm_rounds.proofs.Own.{AsksCommand, asks_command, numbered_is, own_is}
 use Rattle.vm_machine.specs.Commands.{phase_after}
 use Rattle.vm_machine.specs.Outcomes.{Does, IsStarved, Outcome, Done, Failed}
 use Rattle.vm_machine.specs.Phases.{is_running}
@@ -36,11 +38,11 @@ use Rattle.vm_machine.specs.Requests.{ids_of}
 use Rattle.invocation_vm.specs.Calls.{skips_replay}
 use Rattle.invocation_vm.specs.Frames.{Rest}
 use Rattle.invocation_vm.specs.Views.{View}
-use Rattle.vm_model.specs.Calls.{Setup, Meaning, Derived, Move, asked as asked_move, awakeable_made, awaiting, call_of, commanding, is_awake, making_awakeable, numbered, signal_made, ready_in, result_taken, value_taken}
+use Rattle.vm_model.specs.Calls.{Setup, Meaning, Derived, Move, asked as asked_move, awakeable_made, awaiting, call_of, commanding, is_awake, making_awakeable, numbered, reading, signal_made, ready_in, result_taken, value_taken}
 use Rattle.vm_model.specs.Calls.Move.{Answers, Needs, Awaits, Ends, Refuses}
 use Rattle.vm_model.specs.Journal.{stored_form}
-use Rattle.vm_model.specs.Moves.{Point, move_at, start, supplied, supply}
-use Rattle.vm_model.specs.Histories.{Made}
+use Rattle.vm_model.specs.Moves.{Point, move_at, own, start, supplied, supply}
+use Rattle.vm_model.specs.Histories.{Made, Handed, Knowledge}
 use Rattle.vm_model.proofs.Compared.{attempt_is_told}
 use Rattle.vm_model.proofs.Runs.{made_add}
 use Rattle.vm_model.proofs.Waking.{none_wakes}
@@ -64,7 +66,7 @@ use Rattle.vm_rounds.proofs.Quiet.{commands_append, map_append, quiet_same, wrot
 -- ---- what a call needs is a command
 
 abbrev NeedsCommand : Move → Type 0
-NeedsCommand (Needs demand gives d) = is_command (stored_form demand.command) ≡ true
+NeedsCommand (Needs demand gives d) = (state : StateMap) → is_command (stored_form (own state demand)) ≡ true
 NeedsCommand (Answers gives d) = Unit {0}
 NeedsCommand Awaits = Unit {0}
 NeedsCommand Ends = Unit {0}
@@ -72,7 +74,7 @@ NeedsCommand (Refuses name) = Unit {0}
 
 numbered_needs : (s : Setup) (c : Command) (o : Option NamedFault) (d : Derived) → IsCommand c.message → NeedsCommand (numbered s c o d)
 numbered_needs s c (Some fault) d is = tt
-numbered_needs s c None d is = numbered_is c.message d.counters.completion is
+numbered_needs s c None d is = λ state. numbered_is c.message d.counters.completion is
 
 commanding_needs : (s : Setup) (c : Command) (o : Option NamedFault) (d : Derived) → IsCommand c.message → NeedsCommand (commanding s c o d)
 commanding_needs s c (Some fault) d is = tt
@@ -85,6 +87,10 @@ awakeable_needs s None d = tt
 making_needs : (s : Setup) (b : Bool) (d : Derived) → NeedsCommand (making_awakeable s b d)
 making_needs s true d = tt
 making_needs s false d = awakeable_needs s (missing_signals 1 1 d.counters) d
+
+reading_needs : (r : StateRead) (o : Option NamedFault) (d : Derived) → NeedsCommand (reading r o d)
+reading_needs r (Some fault) d = tt
+reading_needs r None d = own_is r d.counters.completion
 
 signal_needs : (name : List ℕ) (o : Option NamedFault) (d : Derived) → NeedsCommand (signal_made name o d)
 signal_needs name (Some fault) d = tt
@@ -106,6 +112,7 @@ result_needs h None o d = tt
 asked_needs : (s : Setup) (a : Ask) (d : Derived) → AsksCommand a → NeedsCommand (asked_move s a d)
 asked_needs s (ask.Command c) d is = commanding_needs s c c.refusal d is
 asked_needs s ask.Awakeable d is = making_needs s (skips_replay s.options.journal_replay) d
+asked_needs s (ask.Read r) d is = reading_needs r (missing 1 0 1 d.counters) d
 asked_needs s (ask.Signal name) d is = signal_needs name (missing_signals 0 1 d.counters) d
 asked_needs s (ask.Await future) d is = awaiting_needs (is_awake s future d) d
 asked_needs s (ask.Take handle) d is = result_needs handle (id_at handle.0 d.handles) (present_for s.options.signal_delivery (id_at handle.0 d.handles) (ready_in s d)) d
@@ -122,34 +129,34 @@ record AreMade (ms : List Message) (made : List RawMessage) : Type 0 where
   commands : commands_of ms ≡ made
   frames : map encoding ms ≡ command_frames made
 
-supply_made : (mv : Move) (left : List RawMessage) → NeedsCommand mv → (ms : List Message) × AreMade ms (supply mv left)
-supply_made (Needs demand gives d) [] needs = (demand.command ∷ [], record { commands = ap (λ b. cond b (stored_form demand.command ∷ []) []) needs; frames = refl })
-supply_made (Needs demand gives d) (c ∷ left) needs = ([], record { commands = refl; frames = refl })
-supply_made (Answers gives d) left needs = ([], record { commands = refl; frames = refl })
-supply_made Awaits left needs = ([], record { commands = refl; frames = refl })
-supply_made Ends left needs = ([], record { commands = refl; frames = refl })
-supply_made (Refuses name) left needs = ([], record { commands = refl; frames = refl })
+supply_made : (state : StateMap) (mv : Move) (left : List RawMessage) → NeedsCommand mv → (ms : List Message) × AreMade ms (supply state mv left)
+supply_made state (Needs demand gives d) [] needs = (own state demand ∷ [], record { commands = ap (λ b. cond b (stored_form (own state demand) ∷ []) []) (needs state); frames = refl })
+supply_made state (Needs demand gives d) (c ∷ left) needs = ([], record { commands = refl; frames = refl })
+supply_made state (Answers gives d) left needs = ([], record { commands = refl; frames = refl })
+supply_made state Awaits left needs = ([], record { commands = refl; frames = refl })
+supply_made state Ends left needs = ([], record { commands = refl; frames = refl })
+supply_made state (Refuses name) left needs = ([], record { commands = refl; frames = refl })
 
 frames_append : (cs ds : List RawMessage) → command_frames (cs ++ ds) ≡ command_frames cs ++ command_frames ds
 frames_append [] ds = refl
 frames_append (c ∷ cs) ds = ap (λ l. frame c.ty c.body ∷ l) (frames_append cs ds)
 
-made_made : (s : Setup) (m : Meaning) (n : ℕ) (p : Point) (made : List RawMessage) (q : Point) → Made s m n p made q → (ms : List Message) × AreMade ms made
-made_made s m zero p made q h = ([], record { commands = sym h.0; frames = ap command_frames (sym h.0) })
-made_made s m (suc n) p made q (r, rest, is, moves, further) =
-    let a = supply_made (move_at s m p) p.left (call_needs s (m p.answers) p.derived) in
-    let b = made_made s m n r rest q further in (
+made_made : (s : Setup) (m : Meaning) (K : Knowledge) (n : ℕ) (p : Point) (made : List RawMessage) (q : Point) → Made s m K n p made q → (ms : List Message) × AreMade ms made
+made_made s m K zero p made q h = ([], record { commands = sym h.0; frames = ap command_frames (sym h.0) })
+made_made s m K (suc n) p made q (state, r, rest, knows, is, moves, further) =
+    let a = supply_made state (move_at s m p) p.left (call_needs s (m p.answers) p.derived) in
+    let b = made_made s m K n r rest q further in (
       a.0 ++ b.0,
       record {
-        commands = commands_append a.0 b.0 ∙ ap (λ l. l ++ commands_of b.0) a.1.commands ∙ ap (λ l. supplied s m p ++ l) b.1.commands ∙ sym is;
-        frames = map_append a.0 b.0 ∙ ap (λ l. l ++ map encoding b.0) a.1.frames ∙ ap (λ l. command_frames (supplied s m p) ++ l) b.1.frames ∙ sym (frames_append (supplied s m p) rest) ∙ ap command_frames (sym is);
+        commands = commands_append a.0 b.0 ∙ ap (λ l. l ++ commands_of b.0) a.1.commands ∙ ap (λ l. supplied s m state p ++ l) b.1.commands ∙ sym is;
+        frames = map_append a.0 b.0 ∙ ap (λ l. l ++ map encoding b.0) a.1.frames ∙ ap (λ l. command_frames (supplied s m state p) ++ l) b.1.frames ∙ sym (frames_append (supplied s m state p) rest) ∙ ap command_frames (sym is);
       },
     )
 
 -- ---- a run that goes on
 
 runs_on : (m : Meaning) (version : Version) (options : VMOptions) (fed : List Fed) (answers : List Answer) (waiting to_wait : Option UnresolvedFuture) (taken : List (List ℕ)) (v w : View) (k : Runs m version options fed answers waiting taken v) → IsLive v.machine → w.undecoded ≡ v.undecoded
-    → (to : Point) (gives : List Answer) (made : List RawMessage) → MovesOn (setup_for version options k.journal.start) m k.at gives made to → (ms : List Message) → commands_of ms ≡ made → w.machine.output ≡ v.machine.output ++ map encoding ms
+    → (to : Point) (gives : List Answer) (made : List RawMessage) → MovesOn (setup_for version options k.journal.start) m (handed_out k.journal) k.at gives made to → (ms : List Message) → commands_of ms ≡ made → w.machine.output ≡ v.machine.output ++ map encoding ms
     → StillAwaits m to to_wait → (IsLive w.machine → Agrees (setup_for version options k.journal.start) (handed_out k.journal) (k.written ++ made) w.machine to) → (w.machine.failure ≡ None → (is_running w.machine.phase ≡ true) ⊎ (w.machine.phase ≡ Closed))
     → Runs m version options fed (answers ++ gives) to_wait taken w
 runs_on m version options fed answers waiting to_wait taken v w k live und to gives made mo ms commands output awaits agrees phase = record {
@@ -158,7 +165,7 @@ runs_on m version options fed answers waiting to_wait taken v w k live und to gi
   wrote = subst (Wrote taken w.machine.output) (ap (λ l. k.written ++ l) commands) (wrote_more taken v.machine.output w.machine.output ms k.written output k.wrote);
   at = to;
   moves = k.moves + mo.moves;
-  run = made_add (setup_for version options k.journal.start) m k.moves mo.moves (start (setup_for version options k.journal.start) k.journal.input (arrivals k.journal) k.journal.rest) k.written k.at made to k.run mo.run;
+  run = made_add (setup_for version options k.journal.start) m (Handed (handed_out k.journal)) k.moves mo.moves (start (setup_for version options k.journal.start) k.journal.input (arrivals k.journal) k.journal.rest) k.written k.at made to k.run mo.run;
   answers = mo.answers ∙ ap (λ l. l ++ gives) k.answers;
   awaits = awaits;
   agrees = agrees;
@@ -188,7 +195,7 @@ module _ (m : Meaning) (version : Version) (options : VMOptions) (r : Record) (k
 
   answered_keeps : (a : Answer) → Answered s m (handed_out k.journal) k.written k.at r.vm.machine a w.machine → Runs m version options r.fed (r.answers ++ a ∷ []) None r.taken w
   answered_keeps a f =
-      let made = made_made s m f.moves.moves k.at f.made f.at f.moves.run in
+      let made = made_made s m (Handed (handed_out k.journal)) f.moves.moves k.at f.made f.at f.moves.run in
       runs_on m version options r.fed r.answers r.waiting None r.taken r.vm w k live und f.at (a ∷ []) f.made f.moves made.0 made.1.commands (f.output ∙ ap (λ l. r.vm.machine.output ++ l) (sym made.1.frames)) tt (λ _. f.agrees) (λ _. inl (agrees_running s (handed_out k.journal) (k.written ++ f.made) w.machine f.at f.agrees))
 
   no_answer : (waiting : Option UnresolvedFuture) → Runs m version options r.fed (r.answers ++ []) waiting r.taken w → Runs m version options r.fed r.answers waiting r.taken w
@@ -201,7 +208,7 @@ module _ (m : Meaning) (version : Version) (options : VMOptions) (r : Record) (k
       (λ _. subst (λ l. Agrees s (handed_out k.journal) l w.machine f.at) (sym (append-nil k.written)) f.agrees)
       (λ _. inl (agrees_running s (handed_out k.journal) k.written w.machine f.at f.agrees)))
 
-  suspended_keeps : IsSuspended s m k.at r.vm.machine w.machine → Runs m version options r.fed r.answers r.waiting r.taken w
+  suspended_keeps : IsSuspended s m (handed_out k.journal) k.at r.vm.machine w.machine → Runs m version options r.fed r.answers r.waiting r.taken w
   suspended_keeps f =
       no_answer r.waiting
       (runs_on m version options r.fed r.answers r.waiting r.waiting r.taken r.vm w k live und f.at [] [] f.waits.moves (message.Suspension (suspended_on f.waits.future f.at.derived) ∷ []) refl f.output (same_awaits m k.at f.at r.waiting f.waits.moves.answers k.awaits)
@@ -210,9 +217,9 @@ module _ (m : Meaning) (version : Version) (options : VMOptions) (r : Record) (k
   ended_keeps : HasEnded m k.at r.vm.machine w.machine → Runs m version options r.fed r.answers r.waiting r.taken w
   ended_keeps f =
       no_answer r.waiting
-      (runs_on m version options r.fed r.answers r.waiting r.waiting r.taken r.vm w k live und k.at [] [] (no_move s m k.at) (message.End ∷ []) refl f.output k.awaits (λ alive. not_live w.machine f.closed alive) (λ _. inr f.closed))
+      (runs_on m version options r.fed r.answers r.waiting r.waiting r.taken r.vm w k live und k.at [] [] (no_move s m (handed_out k.journal) k.at) (message.End ∷ []) refl f.output k.awaits (λ alive. not_live w.machine f.closed alive) (λ _. inr f.closed))
 
-  refused_keeps : (e : Error) → IsRefused s m k.at r.vm.machine e w.machine → IsKept m version options (with_vm w r)
+  refused_keeps : (e : Error) → IsRefused s m (handed_out k.journal) k.at r.vm.machine e w.machine → IsKept m version options (with_vm w r)
   refused_keeps e f = dead_same (Runs m version options) (runs_last m version options) version options r w (inr k) (record { messages = message.Error (error_message e) ∷ []; output = f.output; commands = refl }) (ap is_some f.failure)
 
   abbrev Following : Outcome Reply → Type 0
@@ -238,11 +245,11 @@ module _ (m : Meaning) (version : Version) (options : VMOptions) (r : Record) (k
 
   -- ---- what waits
 
-  waits_so : (q : Point) → Waits s m k.at q → (ms : List Message) → commands_of ms ≡ [] → w.machine.output ≡ r.vm.machine.output ++ map encoding ms → Sleeps m version options r.fed r.answers r.taken w
+  waits_so : (q : Point) → Waits s m (handed_out k.journal) k.at q → (ms : List Message) → commands_of ms ≡ [] → w.machine.output ≡ r.vm.machine.output ++ map encoding ms → Sleeps m version options r.fed r.answers r.taken w
   waits_so q ws ms commands output =
       let written = k.written ++ [] in
-      let run = made_add s m k.moves ws.moves.moves (start s k.journal.input (arrivals k.journal) k.journal.rest) k.written k.at [] q k.run ws.moves.run in
-      let told = attempt_is_told s m k.journal.input (k.moves + ws.moves.moves) (arrivals k.journal) k.journal.rest written q run in
+      let run = made_add s m (Handed (handed_out k.journal)) k.moves ws.moves.moves (start s k.journal.input (arrivals k.journal) k.journal.rest) k.written k.at [] q k.run ws.moves.run in
+      let told = attempt_is_told s m (handed_out k.journal) k.journal.input (k.moves + ws.moves.moves) (arrivals k.journal) k.journal.rest written q run in
       let same : q.answers ≡ r.answers = ws.moves.answers ∙ append-nil k.at.answers ∙ k.answers in
       let wrote : Wrote r.taken w.machine.output written = subst (Wrote r.taken w.machine.output) (ap (λ l. k.written ++ l) commands) (wrote_more r.taken r.vm.machine.output w.machine.output ms k.written output k.wrote) in (
         written,
@@ -266,7 +273,7 @@ module _ (m : Meaning) (version : Version) (options : VMOptions) (r : Record) (k
       let g : StillAgrees s m (handed_out k.journal) k.written k.at r.vm.machine w.machine = done_follows P o (reply.Waiting input run) f does h in
       waits_so g.at g.waits [] refl (g.output ∙ sym (append-nil r.vm.machine.output))
   replied_waits P (Ok reply.Suspended) o f does h =
-      let g : IsSuspended s m k.at r.vm.machine w.machine = done_follows P o reply.Suspended f does h in
+      let g : IsSuspended s m (handed_out k.journal) k.at r.vm.machine w.machine = done_follows P o reply.Suspended f does h in
       waits_so g.at g.waits (message.Suspension (suspended_on g.waits.future g.at.derived) ∷ []) refl g.output
   replied_waits P (Ok reply.Ended) o f does h = tt
   replied_waits P (Err e) o f does h = tt
@@ -281,21 +288,21 @@ module _ (m : Meaning) (version : Version) (options : VMOptions) (r : Record) (k
       g.none_before
 
   -- a refusal, at the point that the run comes to
-  refuses_there : (e : Error) (c : RawMessage) (further : List RawMessage) → k.at.left ≡ c ∷ further → IsRefused s m k.at r.vm.machine e w.machine → RefusesReplay m version options r.fed r.answers e r.vm.machine w.machine
+  refuses_there : (e : Error) (c : RawMessage) (further : List RawMessage) → k.at.left ≡ c ∷ further → IsRefused s m (handed_out k.journal) k.at r.vm.machine e w.machine → RefusesReplay m version options r.fed r.answers e r.vm.machine w.machine
   refuses_there e c further some g =
       let first = start s k.journal.input (arrivals k.journal) k.journal.rest in
-      let run : Made s m (k.moves + g.moves.moves) first (k.written ++ []) g.at = made_add s m k.moves g.moves.moves first k.written k.at [] g.at k.run g.moves.run in
+      let run : Made s m (Handed (handed_out k.journal)) (k.moves + g.moves.moves) first (k.written ++ []) g.at = made_add s m (Handed (handed_out k.journal)) k.moves g.moves.moves first k.written k.at [] g.at k.run g.moves.run in
       let none : k.written ≡ [] =
       ⊎_elim
       (λ (x : k.written ≡ []). x)
       (λ (x : k.at.left ≡ []). absurd (let z : [] ≡ c ∷ further = sym x ∙ some in cc))
-      (attempt_is_told s m k.journal.input k.moves (arrivals k.journal) k.journal.rest k.written k.at k.run).1
+      (attempt_is_told s m (handed_out k.journal) k.journal.input k.moves (arrivals k.journal) k.journal.rest k.written k.at k.run).1
       in
       record {
         journal = k.journal;
         at = g.at;
         moves = k.moves + g.moves.moves;
-        made = subst (λ l. Made s m (k.moves + g.moves.moves) first l g.at) (append-nil k.written ∙ none) run;
+        made = subst (λ l. Made s m (Handed (handed_out k.journal)) (k.moves + g.moves.moves) first l g.at) (append-nil k.written ∙ none) run;
         answers = g.moves.answers ∙ append-nil k.at.answers ∙ k.answers;
         recorded = c;
         further = further;
@@ -315,7 +322,7 @@ module _ (m : Meaning) (version : Version) (options : VMOptions) (r : Record) (k
       let z : [] ≡ c ∷ further = sym g.waits.none_recorded ∙ some in
       cc
   replied_replays P future c further some (Ok reply.Suspended) o f does h =
-      let g : IsSuspended s m k.at r.vm.machine w.machine = done_follows P o reply.Suspended f does h in
+      let g : IsSuspended s m (handed_out k.journal) k.at r.vm.machine w.machine = done_follows P o reply.Suspended f does h in
       let z : [] ≡ c ∷ further = sym g.waits.none_recorded ∙ some in
       cc
   replied_replays P future c further some (Ok reply.Ended) o f does h =

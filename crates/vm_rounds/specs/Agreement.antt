@@ -9,6 +9,7 @@ use Rattle.journal_protocol.specs.declared.message.Message.TheVariants as messag
 use Rattle.journal_protocol.specs.declared.message.RawMessage.{RawMessage}
 use Rattle.journal_protocol.specs.Errors.{error_message, named_error}
 use Rattle.journal_protocol.specs.Message.{encoding, frame}
+use Rattle.vm_parts.specs.declared.context.LastCommand.{LastCommand}
 use Rattle.vm_parts.specs.declared.context.StartInfo.{StartInfo}
 use Rattle.vm_parts.specs.declared.context.StateMap.{StateMap}
 use Rattle.vm_parts.specs.declared.steps.Answer.{Answer}
@@ -23,7 +24,7 @@ use Rattle.vm_machine.specs.Commands.{phase_after}
 use Rattle.vm_machine.specs.Outcomes.{Outcome, Done, Failed, ruled}
 use Rattle.vm_model.specs.Calls.{Setup, Meaning, Derived, identity_of, is_awake, ready_in}
 use Rattle.vm_model.specs.Moves.{Point, changed_by, move_at}
-use Rattle.vm_model.specs.Histories.{IsAwaiting, Made}
+use Rattle.vm_model.specs.Histories.{Handed, IsAwaiting, Made}
 use Rattle.vm_model.specs.Refusals.{IsRefusedFor}
 use Rattle.vm_rounds.specs.declared.progress.Reply.{Reply}
 use Rattle.vm_rounds.specs.declared.progress.Reply.TheVariants as reply
@@ -34,6 +35,7 @@ pub record Aside : Type 0 where
   pub start : StartInfo
   pub input_closed : Bool
   pub entries_missing : ℕ
+  pub last : LastCommand
   pub output : List (List ℕ)
 
 -- there is one
@@ -54,7 +56,7 @@ machine_at s given written aside p = record {
   entries_missing = aside.entries_missing;
   commands = p.left;
   counters = p.derived.counters;
-  last_command = p.derived.last;
+  last_command = aside.last;
   wrote_command = is_some_command written;
   results = record { queued = p.queue; ready = ready_in s p.derived; handles = p.derived.handles };
   state = changed_by p.said given;
@@ -76,10 +78,10 @@ pub record Agrees (s : Setup) (given : StateMap) (written : List RawMessage) (v 
 abbrev pub command_frames : List RawMessage → List (List ℕ)
 command_frames cs = map (λ c. frame c.ty c.body) cs
 
--- the run moves on: to a point with these answers more, and these commands made
-pub record MovesOn (s : Setup) (m : Meaning) (p : Point) (gives : List Answer) (made : List RawMessage) (q : Point) : Type 0 where
+-- the run moves on: to a point with these answers more, and these commands made, by what was handed out as state
+pub record MovesOn (s : Setup) (m : Meaning) (given : StateMap) (p : Point) (gives : List Answer) (made : List RawMessage) (q : Point) : Type 0 where
   pub moves : ℕ
-  pub run : Made s m moves p made q
+  pub run : Made s m (Handed given) moves p made q
   pub answers : q.answers ≡ p.answers ++ gives
 
 -- A call was answered: the run moves on by that answer, the machine agrees with where that leads, what was made is what
@@ -88,13 +90,13 @@ pub record Answered (s : Setup) (m : Meaning) (given : StateMap) (written : List
   pub at : Point
   pub made : List RawMessage
   pub none_before : (made ≡ []) ⊎ (p.left ≡ [])
-  pub moves : MovesOn s m p (a ∷ []) made at
+  pub moves : MovesOn s m given p (a ∷ []) made at
   pub agrees : Agrees s given (written ++ made) w at
   pub output : w.output ≡ v.output ++ command_frames made
 
 -- An await waits: no recorded command was left, and with all arrivals used the future isn't awake.
-pub record Waits (s : Setup) (m : Meaning) (p q : Point) : Type 0 where
-  pub moves : MovesOn s m p [] [] q
+pub record Waits (s : Setup) (m : Meaning) (given : StateMap) (p q : Point) : Type 0 where
+  pub moves : MovesOn s m given p [] [] q
   pub future : UnresolvedFuture
   pub awaits : IsAwaiting m q future
   pub asleep : is_awake s future q.derived ≡ false
@@ -105,7 +107,7 @@ pub record Waits (s : Setup) (m : Meaning) (p q : Point) : Type 0 where
 -- it waits in a machine that agrees with where that leads, and nothing was written
 pub record StillAgrees (s : Setup) (m : Meaning) (given : StateMap) (written : List RawMessage) (p : Point) (v w : Machine) : Type 0 where
   pub at : Point
-  pub waits : Waits s m p at
+  pub waits : Waits s m given p at
   pub agrees : Agrees s given written w at
   pub output : w.output ≡ v.output
 
@@ -114,9 +116,9 @@ abbrev pub suspended_on : UnresolvedFuture → Derived → Suspension
 suspended_on (Single handle) d = record { future = future_of (id_at handle.0 d.handles) }
 
 -- it waits, and the invocation is suspended: one Suspension is written, on what the future waits for
-pub record IsSuspended (s : Setup) (m : Meaning) (p : Point) (v w : Machine) : Type 0 where
+pub record IsSuspended (s : Setup) (m : Meaning) (given : StateMap) (p : Point) (v w : Machine) : Type 0 where
   pub at : Point
-  pub waits : Waits s m p at
+  pub waits : Waits s m given p at
   pub output : w.output ≡ v.output ++ encoding (message.Suspension (suspended_on waits.future at.derived)) ∷ []
   pub closed : w.phase ≡ Closed
 
@@ -129,9 +131,9 @@ pub record HasEnded (m : Meaning) (p : Point) (v w : Machine) : Type 0 where
 
 -- A call was refused: the run comes to a point from which no move leads on, no recorded command was used, and one Error is
 -- written. The error is that of the reason, by the error rule.
-pub record IsRefused (s : Setup) (m : Meaning) (p : Point) (v : Machine) (e : Error) (w : Machine) : Type 0 where
+pub record IsRefused (s : Setup) (m : Meaning) (given : StateMap) (p : Point) (v : Machine) (e : Error) (w : Machine) : Type 0 where
   pub at : Point
-  pub moves : MovesOn s m p [] [] at
+  pub moves : MovesOn s m given p [] [] at
   pub why : NamedFault
   pub reason : IsRefusedFor (move_at s m at) at.left at.queue why
   pub related : Option RelatedCommand
@@ -144,6 +146,6 @@ pub record IsRefused (s : Setup) (m : Meaning) (p : Point) (v : Machine) (e : Er
 abbrev pub Follows : Setup → Meaning → StateMap → List RawMessage → Point → Machine → Outcome Reply → Type 0
 Follows s m given written p v (Done (reply.Answer a) w) = Answered s m given written p v a w
 Follows s m given written p v (Done (reply.Waiting input run) w) = StillAgrees s m given written p v w
-Follows s m given written p v (Done reply.Suspended w) = IsSuspended s m p v w
+Follows s m given written p v (Done reply.Suspended w) = IsSuspended s m given p v w
 Follows s m given written p v (Done reply.Ended w) = HasEnded m p v w
-Follows s m given written p v (Failed e w) = IsRefused s m p v e w
+Follows s m given written p v (Failed e w) = IsRefused s m given p v e w

@@ -13,6 +13,7 @@ use Rattle.journal_protocol.specs.Errors.{named_error, no_memory}
 use Rattle.journal_protocol.specs.Reading.{notification_in, start_in}
 use Rattle.journal_protocol.specs.Types.{type_number}
 use Rattle.vm_parts.specs.declared.options.VMOptions.{VMOptions}
+use Rattle.vm_parts.specs.declared.context.StateMap.{StateMap}
 use Rattle.vm_parts.specs.declared.steps.Answer.{Answer}
 use Rattle.vm_machine.specs.declared.machine.Machine.{Machine}
 use Rattle.vm_machine.specs.declared.phase.Phase.{Phase}
@@ -23,7 +24,7 @@ use Rattle.invocation_vm.specs.Frames.{Garbage, Rest, frames_of}
 use Rattle.invocation_vm.specs.Views.{View, all_received}
 use Rattle.vm_model.specs.Calls.{Meaning}
 use Rattle.vm_model.specs.Calls.Move.{Refuses}
-use Rattle.vm_model.specs.Histories.{History, Made}
+use Rattle.vm_model.specs.Histories.{Handed, History, Made}
 use Rattle.vm_model.specs.Journal.{input_read_from}
 use Rattle.vm_model.specs.Moves.{Point, move_at}
 use Rattle.vm_model.specs.Refusals.{IsRefusedFor}
@@ -31,7 +32,7 @@ use Rattle.vm_rounds.specs.declared.progress.Fed.{Fed}
 use Rattle.vm_rounds.specs.declared.progress.Progress.{Progress}
 use Rattle.vm_rounds.specs.Journals.{as_entries, commands_among, is_command, is_notification, setup_for}
 use Rattle.vm_rounds.specs.Record.{Record, all_fed}
-use Rattle.vm_rounds.specs.Told.{Journal, Premises, arrivals_of, begun, bytes_fed, frames_fed}
+use Rattle.vm_rounds.specs.Told.{handed_out, Journal, Premises, arrivals_of, begun, bytes_fed, frames_fed}
 
 -- ---- frames
 
@@ -135,7 +136,7 @@ pub record RefusedCall (m : Meaning) (version : Version) (options : VMOptions) (
   pub written : List RawMessage
   pub at : Point
   pub moves : ℕ
-  pub made : Made (setup_for version options journal.start) m moves (begun version options journal) written at
+  pub made : Made (setup_for version options journal.start) m (Handed (handed_out journal)) moves (begun version options journal) written at
   pub answers : at.answers ≡ answers_so_far
   pub why : NamedFault
   pub reason : IsRefusedFor (move_at (setup_for version options journal.start) m at) at.left at.queue why
@@ -193,7 +194,7 @@ pub record IsHonest (m : Meaning) (version : Version) (options : VMOptions) (fed
   pub premises : Premises options (arrivals_of fed)
   pub frames : (before : List RawMessage) (raw : RawMessage) (behind : List RawMessage) (phase : Phase) (k : ℕ) → frames_fed fed ≡ before ++ raw ∷ behind → Place phase k before → frame_fault phase raw ≡ None
   pub whole : (frames_of (bytes_fed fed)).1 ≢ Garbage
-  pub history : (first : RawMessage) (entries others : List RawMessage) (st : Start) → frames_fed fed ≡ first ∷ (entries ++ others) → start_in first.body ≡ Some st → length entries ≡ st.known_entries → History (setup_for version options st) m (as_entries entries)
+  pub history : (first : RawMessage) (entries others : List RawMessage) (st : Start) → frames_fed fed ≡ first ∷ (entries ++ others) → start_in first.body ≡ Some st → length entries ≡ st.known_entries → (base : StateMap) × History (setup_for version options st) m base (as_entries entries)
 
 -- the call was refused for a reason of its own: an argument or version check, numbers that ran out, a state key that is no text
 pub record RefusedItself (m : Meaning) (version : Version) (options : VMOptions) (fed : List Fed) (answers_so_far : List Answer) (e : Error) : Type 0 where

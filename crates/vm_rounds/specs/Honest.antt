@@ -8,6 +8,7 @@ use Rattle.journal_protocol.specs.declared.start.Start.{Start}
 use Rattle.journal_protocol.specs.declared.version.Version.{Version}
 use Rattle.journal_protocol.specs.Message.{frame}
 use Rattle.journal_protocol.specs.Runs.{IsWhole}
+use Rattle.vm_parts.specs.declared.context.StateMap.{StateMap}
 use Rattle.vm_parts.specs.declared.options.VMOptions.{VMOptions}
 use Rattle.vm_machine.specs.Inputs.{entries_in}
 use Rattle.vm_model.specs.Calls.{Meaning}
@@ -53,5 +54,6 @@ pub record FeedsHonestly (m : Meaning) (version : Version) (options : VMOptions)
   pub reads_state : entries_in start.state ≡ Some state
   pub journal_is_whole : AllByRecursion IsEntry journal
   pub more_is_whole : AllByRecursion (λ n. IsWhole (message.Notification n)) more
-  pub history : History (setup_for version options start) m journal
+  pub base : StateMap
+  pub history : History (setup_for version options start) m base journal
   pub premises : Premises options (notifications_in journal ++ more)

@@ -137,7 +137,7 @@ setup_for version options st = record { version = version; options = options; id
 
 -- what stands aside in an attempt with this Start
 abbrev pub aside_for : Global → Version → VMOptions → Start → Aside
-aside_for alloc version options st = record { alloc = alloc; start = info_of version options.fallback_random_seed st; input_closed = false; entries_missing = 0; output = [] }
+aside_for alloc version options st = record { alloc = alloc; start = info_of version options.fallback_random_seed st; input_closed = false; entries_missing = 0; last = record { ty = type.Start; name = [] }; output = [] }
 
 -- the first frame was a Start: its state is kept, and the machine waits for as many entries as it tells
 pub record HasStarted (alloc : Global) (version : Version) (options : VMOptions) (raw : RawMessage) (m : Machine) : Type 0 where

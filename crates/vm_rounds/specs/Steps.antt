@@ -17,6 +17,8 @@ use Rattle.vm_machine.specs.Awaits.{is_completed, take_step}
 use Rattle.vm_machine.specs.Commands.{CanBeRead, commanded}
 use Rattle.vm_machine.specs.Inputs.{end_step}
 use Rattle.vm_machine.specs.Outcomes.{Outcome, Done, Failed, called, Does}
+use Rattle.vm_machine.specs.declared.reads.StateRead.{StateRead}
+use Rattle.vm_machine.specs.Reads.{ReadCanBeRead, read_step}
 use Rattle.vm_machine.specs.Signals.{signal_step}
 use Rattle.invocation_vm.specs.Calls.{future_step, new_awakeable_step}
 use Rattle.invocation_vm.specs.Views.{View}
@@ -45,6 +47,10 @@ awakeable_made v = mapped (λ awakeable. reply.Answer (answer.Awakeable awakeabl
 abbrev pub signalled : List ℕ → Machine → Outcome Reply
 signalled name v = mapped (λ handle. reply.Answer (answer.Handle handle)) (called (signal_step name v) v)
 
+-- a state read: the answer is its handle
+abbrev pub read_made : StateRead → Machine → Outcome Reply
+read_made r v = mapped (λ handle. reply.Answer (answer.Handle handle)) (called (read_step r v) v)
+
 -- an await that is answered, that waits, or by which the invocation is suspended
 abbrev pub await_reply : Result AwaitResponse Error → Reply
 await_reply (Ok AnyCompleted) = reply.Answer answer.Awake
@@ -67,6 +73,7 @@ ended v = mapped (λ _. reply.Ended) (called (end_step v) v)
 abbrev pub performed_by : Ask → Machine → Outcome Reply
 performed_by (ask.Command c) v = carried c v
 performed_by ask.Awakeable v = awakeable_made v
+performed_by (ask.Read r) v = read_made r v
 performed_by (ask.Signal name) v = signalled name v
 performed_by (ask.Await future) v = awaited future v
 performed_by (ask.Take handle) v = taken handle v
@@ -80,6 +87,7 @@ performed s v = performed_by (ask_of v.version s) v
 -- where a command is written, it can be read back
 abbrev pub IsReadable : Ask → Machine → Type 0
 IsReadable (ask.Command c) v = CanBeRead c.message v
+IsReadable (ask.Read r) v = ReadCanBeRead r v
 IsReadable a v = Unit {0}
 
 -- where the command of a step is written, it can be read back

@@ -33,7 +33,7 @@ use Rattle.invocation_vm.specs.Frames.{Rest, frames_of}
 use Rattle.vm_model.specs.Calls.{Meaning, is_awake}
 use Rattle.vm_model.specs.Journal.{input_read_from, stored_form}
 use Rattle.vm_model.specs.Moves.{Point, move_at, start}
-use Rattle.vm_model.specs.Histories.{Made, Told, behind}
+use Rattle.vm_model.specs.Histories.{Handed, Made, Told, behind}
 use Rattle.vm_model.specs.Refusals.{IsRefusedFor}
 use Rattle.vm_machine.specs.Outcomes.{IsStarved, ruled}
 use Rattle.vm_rounds.specs.declared.progress.Fed.{Fed}
@@ -153,7 +153,7 @@ pub record ToldBy (m : Meaning) (version : Version) (options : VMOptions) (fed :
   pub told : Tells m version options journal written at
   pub answers : at.answers ≡ answers_so_far
   pub moves : ℕ
-  pub made : Made (setup_for version options journal.start) m moves (begun version options journal) written at
+  pub made : Made (setup_for version options journal.start) m (Handed (handed_out journal)) moves (begun version options journal) written at
   pub in_order : (written ≡ []) ⊎ (at.left ≡ [])
 
 -- the same of a record
@@ -187,7 +187,7 @@ pub record RefusesReplay (m : Meaning) (version : Version) (options : VMOptions)
   pub journal : Journal fed
   pub at : Point
   pub moves : ℕ
-  pub made : Made (setup_for version options journal.start) m moves (begun version options journal) [] at
+  pub made : Made (setup_for version options journal.start) m (Handed (handed_out journal)) moves (begun version options journal) [] at
   pub answers : at.answers ≡ answers_so_far
   pub recorded : RawMessage
   pub further : List RawMessage
@@ -228,7 +228,7 @@ pub record Runs (m : Meaning) (version : Version) (options : VMOptions) (fed : L
   pub wrote : Wrote taken vm.machine.output written
   pub at : Point
   pub moves : ℕ
-  pub run : Made (setup_for version options journal.start) m moves (begun version options journal) written at
+  pub run : Made (setup_for version options journal.start) m (Handed (handed_out journal)) moves (begun version options journal) written at
   pub answers : at.answers ≡ answers_so_far
   pub awaits : StillAwaits m at waiting
   pub agrees : IsLive vm.machine → Agrees (setup_for version options journal.start) (handed_out journal) written vm.machine at

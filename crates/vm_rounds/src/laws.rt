@@ -88,7 +88,7 @@ pub fn attempts_keep()
 /// Where the known entries are a history of the handler, no call is refused while recorded commands are left: no mismatch, no
 /// pending await, no end before its time.
 pub fn histories_are_replayed()
-    ensures { (m : Meaning) (version : Version) (options : VMOptions) (fed : List Fed) (answers : List Answer) (e : Error) (old new : Machine) (refusal : RefusesReplay m version options fed answers e old new) → History (setup_for version options refusal.journal.start) m (as_entries refusal.journal.entries) → ⊥ }
+    ensures { (m : Meaning) (version : Version) (options : VMOptions) (fed : List Fed) (answers : List Answer) (e : Error) (old new : Machine) (refusal : RefusesReplay m version options fed answers e old new) (base : StateMap) → History (setup_for version options refusal.journal.start) m base (as_entries refusal.journal.entries) → ⊥ }
 {}
 
 /// Under the premises the answers of an attempt are those of a point that its journal tells, followed by what it wrote, with the arrivals that it

@@ -1,13 +1,14 @@
 //! The calls of the VM that the steps of a handler are: one function a kind of what steps ask for.
 ghost use Rattle.std.specs.Prelude.{◌≡◌, OnOk};
 ghost use Rattle.vm_machine.specs.Commands.{CanBeRead};
+ghost use Rattle.vm_machine.specs.Reads.{ReadCanBeRead};
 ghost use Rattle.invocation_vm.specs.Seen.{seen};
-ghost use Rattle.vm_rounds.specs.Steps.{ended, awaited, await_reply, awakeable_made, carried, signalled, taken, Asked, StepMade};
+ghost use Rattle.vm_rounds.specs.Steps.{ended, awaited, await_reply, awakeable_made, carried, read_made, signalled, taken, Asked, StepMade};
 
 use crate::progress::Reply;
 use invocation_vm::{AwaitResponse, CoreVM, NotificationHandle, UnresolvedFuture, VM, VMResult};
 use vm_machine::asks::command_answer;
-use vm_machine::{Ask, Command};
+use vm_machine::{Ask, Command, StateRead};
 use vm_parts::{Answer, Step};
 use wire::Text;
 
@@ -29,6 +30,17 @@ fn awakeable(vm: &mut CoreVM) -> VMResult<Reply>
 {
     match vm.sys_awakeable() {
         Ok(awakeable) => Ok(Reply::Answer(Answer::Awakeable(awakeable))),
+        Err(error) => Err(error),
+    }
+}
+
+#[tactic(auto, using(crate::proofs::Replies::replies, crate::proofs::Replies::reads_sent))]
+fn read_state(vm: &mut CoreVM, read: StateRead) -> VMResult<Reply>
+    ensures does { Asked (read_made read) result (seen vm.old) (seen vm.new) }
+    ensures sent { OnOk result (ReadCanBeRead read (seen vm.old).machine) }
+{
+    match vm.read(read) {
+        Ok(handle) => Ok(Reply::Answer(Answer::Handle(handle))),
         Err(error) => Err(error),
     }
 }
@@ -98,6 +110,7 @@ pub fn perform(vm: &mut CoreVM, step: Step) -> VMResult<Reply>
     match vm.ask_of(step) {
         Ask::Command(command) => carry(vm, command),
         Ask::Awakeable => awakeable(vm),
+        Ask::Read(read) => read_state(vm, read),
         Ask::Signal(name) => signal(vm, name),
         Ask::Await(future) => wait(vm, future),
         Ask::Take(handle) => take(vm, handle),
