@@ -3,7 +3,8 @@ use crate::frames::{COMPLETION_1, INPUT_TILL, START_1};
 use crate::headers::Headers;
 use bytes::Bytes;
 use invocation_vm::{
-    AwaitResponse, CoreVM, NotificationHandle, SignalDelivery, UnresolvedFuture, VM, VMOptions, Value,
+    AwaitResponse, CoreVM, NotificationHandle, SignalDelivery, UnresolvedFuture, VM, VMOptions,
+    Value,
 };
 use std::alloc::Global;
 use std::process::Abort;

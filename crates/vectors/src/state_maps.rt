@@ -69,7 +69,9 @@ fn keys_are_in_the_order_of_their_bytes(rt: HostRuntime) -> Result<(), Fail> {
         ("😀", b"8"),
     ];
     let state = state_of(alloc, StateCoverage::Complete, &pairs)?;
-    assert!(rt; keys_of(alloc, &state)?.is_some_and(|line| line.as_slice() == ",Z,a,aa,b,é,😀,".as_bytes()));
+    assert!(rt;
+        keys_of(alloc, &state)?.is_some_and(|line| line.as_slice() == ",Z,a,aa,b,é,😀,".as_bytes())
+    );
     assert_eq!(rt; shown(alloc, &state, "b")?.as_str(), "value of 2 bytes");
     Ok(())
 }

@@ -186,7 +186,7 @@ popped_gives r (raw ∷ rest) v = back_gives r v.counters.completion (recorded_a
 
 numbered_gives : (r : StateRead) (v : Machine) (b : Bool)
     → GivesOne v (if b then Done (record { 0 = v.counters.handle }) (read_written r v.counters.completion (own_form r v.counters.completion v.state) v)
-      else read_popped r v.counters.handle v.counters.completion v.commands (handed_out 1 (entered (eager_type r) [] v)))
+    else read_popped r v.counters.handle v.counters.completion v.commands (handed_out 1 (entered (eager_type r) [] v)))
 numbered_gives r v true = let m = own_form r v.counters.completion v.state in written_gives r v.counters.completion (own_result (result_in m)) m v
 numbered_gives r v false = popped_gives r v.commands v
 

@@ -324,7 +324,7 @@ read_popped_quiet r handle id (raw ∷ rest) v u s c =
 
 read_numbered_at : (r : StateRead) (v : Machine) (b : Bool) → is_over v ≡ false → is_closed v.phase ≡ false
     → Event v (if b then Done (record { 0 = v.counters.handle }) (read_written r v.counters.completion (own_form r v.counters.completion v.state) v)
-      else read_popped r v.counters.handle v.counters.completion v.commands (handed_out 1 (entered (eager_type r) [] v)))
+    else read_popped r v.counters.handle v.counters.completion v.commands (handed_out 1 (entered (eager_type r) [] v)))
 read_numbered_at r v true goes c =
     let id = v.counters.completion in
     let m = own_form r id v.state in

@@ -237,11 +237,7 @@ impl StateRead {
 
 impl Machine {
     /// Gives a read its result, where it brings one.
-    fn put_result(
-        &mut self,
-        id: u32,
-        given: Option<NotificationResult>,
-    ) -> Result<(), AllocError>
+    fn put_result(&mut self, id: u32, given: Option<NotificationResult>) -> Result<(), AllocError>
         ensures ok { OnOk result (self.new ≡ with_result id given self.old) }
         ensures err { OnErr result (lasting self.new ≡ lasting self.old) }
     {

@@ -73,14 +73,18 @@ unfolding shown
 writes s given written aside r p spent None =
     let m = own_at given r p in (
       refl,
-      (shown given r p,
-      λ i. record (machine_at s given written (with_last (shown given r p) (with_frames (stored_form m ∷ []) aside)) (past r None [] p)) { commands = spent i; phase = phase_after (spent i); wrote_command = sym (some_behind written (stored_form m)) i; state = sym (same_state given r p) i }),
+      (
+        shown given r p,
+        λ i. record (machine_at s given written (with_last (shown given r p) (with_frames (stored_form m ∷ []) aside)) (past r None [] p)) { commands = spent i; phase = phase_after (spent i); wrote_command = sym (some_behind written (stored_form m)) i; state = sym (same_state given r p) i },
+      ),
     )
 writes s given written aside r p spent (Some result) =
     let m = own_at given r p in (
       refl,
-      (shown given r p,
-      λ i. record (machine_at s given written (with_last (shown given r p) (with_frames (stored_form m ∷ []) aside)) (past r (Some result) [] p)) { commands = spent i; phase = phase_after (spent i); wrote_command = sym (some_behind written (stored_form m)) i; state = sym (same_state given r p) i }),
+      (
+        shown given r p,
+        λ i. record (machine_at s given written (with_last (shown given r p) (with_frames (stored_form m ∷ []) aside)) (past r (Some result) [] p)) { commands = spent i; phase = phase_after (spent i); wrote_command = sym (some_behind written (stored_form m)) i; state = sym (same_state given r p) i },
+      ),
     )
 
 -- ---- the next recorded command is popped

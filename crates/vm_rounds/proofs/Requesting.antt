@@ -99,8 +99,10 @@ writes s given written aside r p gives answer spent (Ok (Some x)) e = absurd (cc
 writes s given written aside r p gives answer spent (Ok None) e =
     let m = with_ids p.derived.counters.completion r.message in (
       ap (λ l. p.answers ++ l) (sym answer),
-      (shown r,
-      λ i. record (machine_at s given written (with_frames (stored_form m ∷ []) (noted r aside)) (past r (answer_of r p.derived ∷ []) [] p)) { commands = spent i; phase = phase_after (spent i); wrote_command = sym (some_behind written (stored_form m)) i }),
+      (
+        shown r,
+        λ i. record (machine_at s given written (with_frames (stored_form m ∷ []) (noted r aside)) (past r (answer_of r p.derived ∷ []) [] p)) { commands = spent i; phase = phase_after (spent i); wrote_command = sym (some_behind written (stored_form m)) i },
+      ),
     )
 
 -- ---- the next recorded command is popped
