@@ -12,8 +12,8 @@ use Rattle.invocation_vm.specs.Calls.{future_step}
 use Rattle.invocation_vm.specs.Views.{View, Leaves, TakesOutput}
 use Rattle.scripts.specs.declared.reply.Reply.{Reply}
 use Rattle.scripts.specs.declared.reply.Reply.TheVariants as reply
-use Rattle.scripts.specs.declared.request.Request.{Request}
-use Rattle.scripts.specs.Lines.{Reads}
+use Rattle.requests.specs.declared.request.Request.{Request}
+use Rattle.requests.specs.Lines.{Reads}
 use Rattle.scripts.specs.Performed.{Performed}
 use Rattle.scripts.specs.Printed.{Printed}
 use Rattle.scripts.specs.Transcripts.{Transcribes}

@@ -1,10 +1,5 @@
 pub mod Statuses
-pub mod ContentTypes
 pub mod Called
 pub mod Performed
-pub mod Durations
-pub mod Reports
-pub mod Verbs
-pub mod Lines
 pub mod Printed
 pub mod Transcripts

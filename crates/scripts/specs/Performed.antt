@@ -8,12 +8,12 @@ use Rattle.vm_parts.specs.declared.options.VMOptions.{VMOptions}
 use Rattle.invocation_vm.specs.declared.core_vm.CoreVM.{CoreVM}
 use Rattle.invocation_vm.specs.Making.{made, version_in}
 use Rattle.invocation_vm.specs.Seen.{seen}
-use Rattle.scripts.specs.declared.request.Request.{Request}
-use Rattle.scripts.specs.declared.request.Request.TheVariants as request
+use Rattle.requests.specs.declared.request.Request.{Request}
+use Rattle.requests.specs.declared.request.Request.TheVariants as request
 use Rattle.scripts.specs.declared.reply.Reply.{Reply}
 use Rattle.scripts.specs.declared.reply.Reply.TheVariants as reply
 use Rattle.scripts.specs.Called.{Called}
-use Rattle.scripts.specs.ContentTypes.{found}
+use Rattle.requests.specs.ContentTypes.{found}
 
 -- A VM that was to be made, for the version that is asked for: it is new and has these options, and the answer names its
 -- version; or there is none, and the error says why, or that no memory was found.

@@ -3,9 +3,9 @@ use Rattle.std.specs.Prelude.{◌≡◌, ◌≢◌, ◌⊎◌, ℕ, List, [], �
 use Rattle.std.proofs.Common.{Global}
 use Rattle.std.specs.Io.KnownBytes.{Appends}
 use Rattle.invocation_vm.specs.declared.core_vm.CoreVM.{CoreVM}
-use Rattle.scripts.specs.declared.request.Request.{Request}
+use Rattle.requests.specs.declared.request.Request.{Request}
 use Rattle.scripts.specs.declared.reply.Reply.{Reply}
-use Rattle.scripts.specs.Lines.{Reads}
+use Rattle.requests.specs.Lines.{Reads}
 use Rattle.scripts.specs.Performed.{Performed}
 use Rattle.scripts.specs.Printed.{Printed}
 

@@ -7,18 +7,18 @@ ghost use Rattle.vm_parts.specs.declared.steps.Answer.TheVariants as answer;
 ghost use Rattle.invocation_vm.specs.Making.{version_in};
 ghost use Rattle.invocation_vm.specs.Seen.{seen};
 ghost use Rattle.scripts.specs.Called.{Answers, Called, StepDone, reply_of, reply_or_memory};
-ghost use Rattle.scripts.specs.ContentTypes.{found};
+ghost use Rattle.requests.specs.ContentTypes.{found};
 ghost use Rattle.scripts.specs.declared.reply.Reply.TheVariants as reply;
 ghost use Rattle.scripts.specs.Performed.{Made, Performed};
 
-use crate::content_type::ContentType;
 use crate::reply::Reply;
-use crate::request::{Call, Request};
 use bytes::Bytes;
 use invocation_vm::{
     AwaitResponse, AwakeableHandle, CoreVM, Error, Input, NotificationHandle, ResponseHead, VM,
     VMOptions, VMResult, Value,
 };
+use requests::content_type::ContentType;
+use requests::request::{Call, Request};
 use std::alloc::{AllocError, Global};
 use vm_machine::asks::command_answer;
 use vm_machine::{Ask, Command};

@@ -6,10 +6,10 @@ ghost use Rattle.scripts.specs.declared.exit_status.ExitStatus.TheVariants as st
 
 use crate::answer::print;
 use crate::exit_status::ExitStatus;
-use crate::parse::parse;
 use crate::perform::perform;
 use invocation_vm::CoreVM;
 use lines::line::Line;
+use requests::parse::parse;
 use std::alloc::{AllocError, Global};
 use std::io::{self, Read, Write};
 

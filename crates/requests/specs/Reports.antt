@@ -8,7 +8,7 @@ use Rattle.journal_protocol.specs.declared.error.ErrorBehavior.{ErrorBehavior}
 use Rattle.journal_protocol.specs.declared.error.ErrorBehavior.TheVariants as behavior
 use Rattle.vm_parts.specs.declared.command_type.CommandType.{CommandType}
 use Rattle.vm_parts.specs.declared.command_type.CommandType.TheVariants as command
-use Rattle.scripts.specs.declared.report.Details.{Details}
+use Rattle.requests.specs.declared.report.Details.{Details}
 
 -- what is to be done after an error
 abbrev pub behavior_name : ErrorBehavior → List ℕ

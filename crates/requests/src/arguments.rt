@@ -1,16 +1,16 @@
 //! The arguments of a line: values, options and single atoms, in their places.
 ghost use Rattle.std.specs.Prelude.{◌≡◌, ◌≢◌, [], drop, IfErr, IfOk};
 ghost use Rattle.lines.specs.Atoms.{IsAtom};
-ghost use Rattle.scripts.specs.Verbs.{HasCodeAndText, IsHandle, IsOneAtom, text_at};
+ghost use Rattle.requests.specs.Verbs.{HasCodeAndText, IsHandle, IsOneAtom, text_at};
 
 use crate::atoms::{duration_of, handle_of, shared_of, text_of, u16_of};
 use crate::request::Call;
 use bytes::Bytes;
-use invocation_vm::{NonEmptyValue, NotificationHandle, PayloadOptions, TerminalFailure};
 use lines::fields::Fields;
 use lines::pieces::{between, words};
 use std::alloc::Global;
 use std::time::Duration;
+use vm_parts::{NonEmptyValue, NotificationHandle, PayloadOptions, TerminalFailure};
 use wire::{Fault, Items, Text};
 
 /// The options behind a command's arguments.

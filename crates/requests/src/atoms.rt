@@ -3,13 +3,13 @@ ghost use Rattle.std.specs.Prelude.{◌≡◌, ◌+◌, ◌*◌, IfOk, IfSome, s
 ghost use Rattle.std.specs.Duration.{as_nanos};
 ghost use Rattle.std.specs.Str.Parse.{IsNumeral, digits_value};
 ghost use Rattle.lines.specs.Atoms.{IsAtom};
-ghost use Rattle.scripts.specs.Durations.{IsDuration};
+ghost use Rattle.requests.specs.Durations.{IsDuration};
 
 use bytes::Bytes;
-use invocation_vm::NotificationHandle;
 use lines::atoms::{bytes_of, number_of};
 use std::alloc::Global;
 use std::time::Duration;
+use vm_parts::NotificationHandle;
 use wire::{Fault, Text};
 
 /// The bytes of an atom, shared.

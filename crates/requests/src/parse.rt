@@ -1,8 +1,8 @@
 //! A line of the script, read as a whole: one row a call.
 ghost use Rattle.std.specs.Prelude.{◌≡◌, ◌⊎◌, IfOk, Ok, true, false};
-ghost use Rattle.scripts.specs.declared.verb.Verb.TheVariants as verb;
-ghost use Rattle.scripts.specs.Lines.{Asks, AsksCall, IsContentType, MakesWith, Reads, begins_with_vm, says_nothing};
-ghost use Rattle.scripts.specs.Verbs.{IsLine, IsAsked};
+ghost use Rattle.requests.specs.declared.verb.Verb.TheVariants as verb;
+ghost use Rattle.requests.specs.Lines.{Asks, AsksCall, IsContentType, MakesWith, Reads, begins_with_vm, says_nothing};
+ghost use Rattle.requests.specs.Verbs.{IsLine, IsAsked};
 
 use crate::arguments::{
     Extras, alone, bytes_alone, extras_of, handle_alone, name_of, now_of, text_alone, two_texts,
@@ -16,11 +16,10 @@ use crate::report::error_of;
 use crate::request::{Call, Request};
 use crate::targets::target_of;
 use crate::verb::{Verb, verb_of_word};
-use invocation_vm::{UnresolvedFuture, VMOptions};
 use lines::fields::Fields;
 use lines::pieces::words;
 use std::alloc::{AllocError, Global};
-use vm_parts::Step;
+use vm_parts::{Step, UnresolvedFuture, VMOptions};
 use wire::Fault;
 
 fn get_of(alloc: Global, arguments: &[&[u8]]) -> Result<Call, Fault>

@@ -6,12 +6,12 @@ use Rattle.std.specs.List.{starts_with}
 use Rattle.std.specs.Str.{IsTrimAscii}
 use Rattle.lines.specs.Atoms.{IsAtom}
 use Rattle.lines.specs.Pieces.{AreWords}
-use Rattle.scripts.specs.declared.content_type.ContentType.{ContentType}
-use Rattle.scripts.specs.declared.content_type.ContentType.TheVariants.{Absent, Unreadable, Named}
-use Rattle.scripts.specs.declared.request.Call.{Call}
-use Rattle.scripts.specs.declared.request.Request.{Request}
-use Rattle.scripts.specs.declared.request.Request.TheVariants as request
-use Rattle.scripts.specs.Verbs.{IsAsked, text_at}
+use Rattle.requests.specs.declared.content_type.ContentType.{ContentType}
+use Rattle.requests.specs.declared.content_type.ContentType.TheVariants.{Absent, Unreadable, Named}
+use Rattle.requests.specs.declared.request.Call.{Call}
+use Rattle.requests.specs.declared.request.Request.{Request}
+use Rattle.requests.specs.declared.request.Request.TheVariants as request
+use Rattle.requests.specs.Verbs.{IsAsked, text_at}
 
 -- whether a line without blanks at its ends is empty or a comment
 unfoldable pub says_nothing : List ℕ → Bool

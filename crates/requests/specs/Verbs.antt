@@ -7,11 +7,11 @@ use Rattle.lines.specs.Atoms.{IsAtom}
 use Rattle.vm_parts.specs.declared.steps.Step.{Step}
 use Rattle.vm_parts.specs.declared.steps.Step.TheVariants as step
 use Rattle.vm_parts.specs.declared.types.UnresolvedFuture.TheVariants.{Single}
-use Rattle.scripts.specs.declared.request.Call.{Call}
-use Rattle.scripts.specs.declared.request.Call.TheVariants as call
-use Rattle.scripts.specs.declared.verb.Verb.{Verb}
-use Rattle.scripts.specs.declared.verb.Verb.TheVariants as verb
-use Rattle.scripts.specs.Durations.{IsDuration}
+use Rattle.requests.specs.declared.request.Call.{Call}
+use Rattle.requests.specs.declared.request.Call.TheVariants as call
+use Rattle.requests.specs.declared.verb.Verb.{Verb}
+use Rattle.requests.specs.declared.verb.Verb.TheVariants as verb
+use Rattle.requests.specs.Durations.{IsDuration}
 
 -- the word that names a call
 unfoldable pub verb_name : Verb → List ℕ

@@ -1,8 +1,8 @@
 -- The content type that a `vm` line names.
 use Rattle.std.specs.Prelude.{ℕ, List, Option, Some, None, if◌then◌else◌, nat_eq, codes, string_bytes}
 use Rattle.std.specs.Cmp.Lexicographic.{pointwise}
-use Rattle.scripts.specs.declared.content_type.ContentType.{ContentType}
-use Rattle.scripts.specs.declared.content_type.ContentType.TheVariants.{Absent, Unreadable, Named}
+use Rattle.requests.specs.declared.content_type.ContentType.{ContentType}
+use Rattle.requests.specs.declared.content_type.ContentType.TheVariants.{Absent, Unreadable, Named}
 
 -- what stands under a name in the request's headers
 abbrev pub found : ContentType → List ℕ → Option (Option (List ℕ))

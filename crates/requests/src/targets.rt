@@ -2,9 +2,10 @@
 
 use crate::arguments::{take_optional_text, text_alone, two_texts};
 use crate::atoms::text_of;
-use invocation_vm::{AttachInvocationTarget, IdempotencyId, WorkflowId};
+use journal_protocol::{IdempotencyId, WorkflowId};
 use lines::fields::Fields;
 use std::alloc::Global;
+use vm_parts::AttachInvocationTarget;
 use wire::Fault;
 
 /// `T T [scope=T]`: name and key.

@@ -19,7 +19,7 @@ pub struct UnreadableHeader;
 impl HeaderMap for ContentType {
     type Error = UnreadableHeader;
 
-    ghost use Rattle.scripts.specs.ContentTypes.{found};
+    ghost use Rattle.requests.specs.ContentTypes.{found};
 
     ghost found = { λ headers name. found headers name };
 

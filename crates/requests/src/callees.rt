@@ -1,8 +1,8 @@
 //! The lines that call another handler: which one, with what, and how.
 ghost use Rattle.std.specs.Prelude.{◌≡◌, IfOk};
 ghost use Rattle.lines.specs.Atoms.{IsAtom};
-ghost use Rattle.scripts.specs.declared.verb.Verb.TheVariants as verb;
-ghost use Rattle.scripts.specs.Verbs.{HasCallee, IsLine, text_at};
+ghost use Rattle.requests.specs.declared.verb.Verb.TheVariants as verb;
+ghost use Rattle.requests.specs.Verbs.{HasCallee, IsLine, text_at};
 
 use crate::arguments::{
     pair_of, take_optional_duration, take_optional_text, two_texts, without_unstable,
@@ -10,11 +10,10 @@ use crate::arguments::{
 use crate::atoms::shared_of;
 use crate::request::Call;
 use bytes::Bytes;
-use invocation_vm::{PayloadOptions, Target};
 use journal_protocol::Header;
 use lines::fields::Fields;
 use std::alloc::Global;
-use vm_parts::Step;
+use vm_parts::{PayloadOptions, Step, Target};
 use wire::{Fault, Items, Text};
 
 /// What a call is made with.

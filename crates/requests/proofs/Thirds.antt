@@ -2,7 +2,7 @@
 use Rattle.std.proofs.Common.{◌≡◌, ℕ, List, [], ◌∷◌, drop, refl, ap, ◌∙◌, subst}
 use Rattle.std.specs.Borrow.{Bor}
 use Rattle.lines.specs.Atoms.{IsAtom}
-use Rattle.scripts.specs.Verbs.{text_at}
+use Rattle.requests.specs.Verbs.{text_at}
 
 third_text : (words : List (Bor (List ℕ))) → text_at 0 (drop 2 words) ≡ text_at 2 words
 third_text [] = refl

@@ -1,6 +1,6 @@
 //! The first word of a line, which says what call is made.
 ghost use Rattle.std.specs.Prelude.{◌≡◌, IfOk};
-ghost use Rattle.scripts.specs.Verbs.{verb_name};
+ghost use Rattle.requests.specs.Verbs.{verb_name};
 
 use wire::Fault;
 

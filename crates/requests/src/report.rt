@@ -1,16 +1,17 @@
 //! The row `error`: what the handler's runner reports.
 ghost use Rattle.std.specs.Prelude.{◌≡◌, IfOk, string_bytes};
-ghost use Rattle.scripts.specs.declared.verb.Verb.TheVariants as verb;
-ghost use Rattle.scripts.specs.Verbs.{IsLine};
-ghost use Rattle.scripts.specs.Reports.{behavior_name, type_name, reported, stack_or, delay_or};
+ghost use Rattle.requests.specs.declared.verb.Verb.TheVariants as verb;
+ghost use Rattle.requests.specs.Verbs.{IsLine};
+ghost use Rattle.requests.specs.Reports.{behavior_name, type_name, reported, stack_or, delay_or};
 
 use crate::atoms::{duration_of, string_of, text_of, u16_of, u32_of};
 use crate::request::Call;
-use invocation_vm::{CommandRelationship, CommandType, Error, ErrorBehavior};
+use journal_protocol::{Error, ErrorBehavior};
 use lines::fields::Fields;
 use lines::pieces::{between, words};
 use std::alloc::Global;
 use std::time::Duration;
+use vm_parts::{CommandRelationship, CommandType};
 use wire::{Fault, Text};
 
 /// The options of an error but the command that it relates to.

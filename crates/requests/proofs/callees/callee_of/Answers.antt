@@ -1,5 +1,5 @@
-use Rattle.scripts.proofs.Thirds.{third}
-use Rattle.scripts.proofs.callees.callee_of.Goals as goal
+use Rattle.requests.proofs.Thirds.{third}
+use Rattle.requests.proofs.callees.callee_of.Goals as goal
 
 pub returns : goal.returns
 returns c =

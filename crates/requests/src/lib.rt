@@ -1,0 +1,13 @@
+//! Requests: what a line of a script asks for, and how it is spelled.
+#![tactic(auto)]
+
+pub mod arguments;
+pub mod atoms;
+pub mod callees;
+pub mod content_type;
+pub mod options;
+pub mod parse;
+pub mod report;
+pub mod request;
+pub mod targets;
+pub mod verb;
