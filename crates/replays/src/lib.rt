@@ -9,6 +9,8 @@ mod attempts;
 mod bench;
 pub mod chooser;
 #[cfg(test)]
+mod counts;
+#[cfg(test)]
 mod cuts;
 #[cfg(test)]
 mod frames;

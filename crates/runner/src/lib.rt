@@ -5,5 +5,4 @@ pub mod content_type;
 pub mod exit_status;
 pub mod run;
 pub mod run_end;
-pub mod sleeper;
 pub mod streams;

@@ -1,19 +1,19 @@
 //! One run of the program: what a reader gives is fed to an attempt, and what the attempt sends goes to a writer.
-ghost use Rattle.std.specs.Prelude.{◌≡◌, ◌↔◌, ◌≢◌, IfErr, IfOk, Result, Some, codes};
+ghost use Rattle.std.specs.Prelude.{◌≡◌, ◌↔◌, ◌≢◌, IfErr, IfOk, IfSome, None, Result, Some};
 ghost use Rattle.std.specs.Io.KnownBytes.{IsAtEnd};
 ghost use Rattle.journal_protocol.specs.declared.error.Error.{Error};
 ghost use Rattle.invocation_vm.specs.Making.{version_in};
 ghost use Rattle.vm_rounds.specs.Stepping.{StepDoes};
 ghost use Rattle.vm_rounds.specs.declared.progress.Progress.{Progress};
 ghost use Rattle.runner.specs.Runs.{SendsWhole, end_after, IsFed, Drives, Runs, ServesAnew, Tells};
-ghost use Rattle.runner.specs.Sleeper.{sleeper_step};
+ghost use Rattle.handlers.specs.Named.{step_named};
 ghost use Rattle.runner.specs.declared.run_end.RunEnd.TheVariants as run_end;
 
 use crate::content_type::ContentType;
 use crate::run_end::{AttemptEnd, RunEnd};
-use crate::sleeper::Sleeper;
 use crate::streams::{Sink, Source};
 use bytes::Bytes;
+use handlers::named::Named;
 use invocation_vm::VMOptions;
 use std::alloc::{AllocError, Global};
 use vm_rounds::{Attempt, Handler, Progress};
@@ -123,18 +123,18 @@ pub fn run<R: Source, W: Sink>(
     writer: &mut W,
 ) -> RunEnd
     // An unknown handler is found before anything is read.
-    ensures usage { (result ≡ run_end.UnknownHandler) ↔ (handler.now ≢ codes "sleeper") }
+    ensures usage { (result ≡ run_end.UnknownHandler) ↔ (step_named handler.now ≡ None) }
     ensures unread { result ≡ run_end.UnknownHandler → reader.new ≡ reader.old }
     ensures unwritten { result ≡ run_end.UnknownHandler → writer.new ≡ writer.old }
     // So is a refused content type.
-    ensures refused { handler.now ≡ codes "sleeper" → IfErr (version_in (Some (Some content_type.now))) (λ refusal. (result ≡ run_end.Refused refusal) × (reader.new ≡ reader.old) × (writer.new ≡ writer.old)) }
+    ensures refused { IfSome (step_named handler.now) (λ _. IfErr (version_in (Some (Some content_type.now))) (λ refusal. (result ≡ run_end.Refused refusal) × (reader.new ≡ reader.old) × (writer.new ≡ writer.old))) }
     // Each other run has read all that there was and served it to an attempt, whose answers are told by that journal and by what
     // it wrote; or reading has failed, or memory was lacking behind it, and nothing is written. All that the attempt sends is
     // written, or a beginning where writing has failed.
-    ensures runs { Tells (version_in (Some (Some content_type.now))) (ServesAnew alloc (version_in (Some (Some content_type.now))) sleeper_step (R.remaining reader.old)) (W.contents writer.old) (W.contents writer.new) (R.fails reader.old) (W.fails writer.old) (IsAtEnd (R.remaining reader.new)) (writer.new ≡ writer.old) result }
+    ensures runs { IfSome (step_named handler.now) (λ meaning. Tells (version_in (Some (Some content_type.now))) (ServesAnew alloc (version_in (Some (Some content_type.now))) meaning (R.remaining reader.old)) (W.contents writer.old) (W.contents writer.new) (R.fails reader.old) (W.fails writer.old) (IsAtEnd (R.remaining reader.new)) (writer.new ≡ writer.old) result) }
 {
-    if handler == "sleeper" {
-        return run_handler(alloc, content_type, Sleeper { alloc }, reader, writer);
+    match Named::of_name(alloc, handler) {
+        Some(handler) => run_handler(alloc, content_type, handler, reader, writer),
+        None => RunEnd::UnknownHandler,
     }
-    RunEnd::UnknownHandler
 }

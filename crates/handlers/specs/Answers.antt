@@ -1,13 +1,16 @@
--- The handler `sleeper`: sleep, await it, take it, write an empty output, end. When it is cancelled it writes a failure
--- and ends.
-use Rattle.std.specs.Prelude.{Bool, true, false, ◌==◌, if◌then◌else◌, List, [], length, slice_get, codes, Option, Some, None}
+-- What handlers read from their answers, and what they do when they are cancelled.
+use Rattle.std.specs.Prelude.{Bool, true, false, [], codes, Option, Some, None}
+use Rattle.vm_parts.specs.declared.options.PayloadOptions.{PayloadOptions}
 use Rattle.vm_parts.specs.declared.steps.Answer.{Answer}
 use Rattle.vm_parts.specs.declared.steps.Answer.TheVariants as answer
 use Rattle.vm_parts.specs.declared.steps.Step.{Step}
 use Rattle.vm_parts.specs.declared.steps.Step.TheVariants as step
 use Rattle.vm_parts.specs.declared.types.NotificationHandle.{NotificationHandle}
-use Rattle.vm_parts.specs.declared.types.UnresolvedFuture.TheVariants.{Single}
-use Rattle.vm_parts.specs.declared.values.NonEmptyValue.TheVariants.{Success, Failure}
+use Rattle.vm_parts.specs.declared.values.NonEmptyValue.TheVariants.{Failure}
+
+-- payloads that each attempt writes the same
+abbrev pub stable : PayloadOptions
+stable = record { unstable_serialization = false }
 
 -- the handle of an answer; none is 0
 abbrev pub handle_of : Option Answer → NotificationHandle
@@ -39,15 +42,4 @@ is_cancelled None = false
 
 -- the output of a handler that was cancelled
 abbrev pub cancelled_output : Step
-cancelled_output = step.WriteOutput (Failure (record { code = 409; message = codes "cancelled"; metadata = [] })) (record { unstable_serialization = false })
-
--- the step after so many answers
-abbrev pub sleeper_step : List Answer → Step
-sleeper_step answers =
-    if length answers == 1 then step.Sleep [] (record { secs = 1; nanos = 0 }) None
-    else if length answers == 2 then step.Await (Single (handle_of (slice_get answers 1)))
-    else if length answers == 3 then
-    (if is_cancelled (slice_get answers 2) then cancelled_output else step.Take (handle_of (slice_get answers 1)))
-    else if length answers == 4 then
-    (if is_cancelled (slice_get answers 2) then step.End else step.WriteOutput (Success []) (record { unstable_serialization = false }))
-    else step.End
+cancelled_output = step.WriteOutput (Failure (record { code = 409; message = codes "cancelled"; metadata = [] })) stable

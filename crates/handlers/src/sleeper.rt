@@ -1,16 +1,11 @@
 //! The handler `sleeper`: it sleeps to one second after the Unix epoch, and ends with an empty result.
-ghost use Rattle.std.specs.Prelude.{◌≡◌, slice_get, IfOk};
-ghost use Rattle.runner.specs.Sleeper.{handle_of, is_cancelled, cancelled_output};
-
+use crate::answers::{cancelled_output, handle_at, is_cancelled_at};
 use bytes::Bytes;
 use std::alloc::{AllocError, Global};
 use std::time::Duration;
-use vm_parts::{
-    Answer, NonEmptyValue, NotificationHandle, PayloadOptions, Step, TerminalFailure,
-    UnresolvedFuture,
-};
+use vm_parts::{Answer, NonEmptyValue, PayloadOptions, Step, UnresolvedFuture};
 use vm_rounds::Handler;
-use wire::{Items, Text};
+use wire::Text;
 
 /// Sleeps, awaits the sleep, takes its result, writes an empty output and ends.
 #[derive(Debug, Drop)]
@@ -18,40 +13,8 @@ pub struct Sleeper {
     pub alloc: Global,
 }
 
-/// The handle that was answered at this place.
-fn handle_at(answers: &[Answer], place: usize) -> NotificationHandle
-    ensures { result ≡ handle_of (slice_get answers.now place) }
-{
-    match answers.get(place) {
-        Some(Answer::Handle(handle)) => *handle,
-        _ => NotificationHandle(0),
-    }
-}
-
-/// Whether the answer at this place says that the invocation was cancelled.
-fn is_cancelled_at(answers: &[Answer], place: usize) -> bool
-    ensures { result ≡ is_cancelled (slice_get answers.now place) }
-{
-    matches!(answers.get(place), Some(Answer::Cancelled))
-}
-
-/// The output of a handler that was cancelled.
-fn cancelled_output(alloc: Global) -> Result<Step, AllocError>
-    ensures { IfOk result (λ step. step ≡ cancelled_output) }
-{
-    let failure = TerminalFailure {
-        code: 409,
-        message: Text::from_str(alloc, "cancelled")?,
-        metadata: Items::new(alloc),
-    };
-    Ok(Step::WriteOutput(
-        NonEmptyValue::Failure(failure),
-        PayloadOptions::stable_serialization(),
-    ))
-}
-
 impl Handler for Sleeper {
-    ghost use Rattle.runner.specs.Sleeper.{sleeper_step};
+    ghost use Rattle.handlers.specs.Sleeper.{sleeper_step};
 
     ghost meaning = { λ h. sleeper_step };
 

@@ -1,0 +1,4 @@
+pub mod Answers
+pub mod Sleeper
+pub mod Counter
+pub mod Named

@@ -1,0 +1,21 @@
+-- The handlers that programs know by their names.
+use Rattle.std.specs.Prelude.{ℕ, if◌then◌else◌, List, nat_eq, codes, Option, Some, None}
+use Rattle.std.specs.Cmp.Lexicographic.{pointwise}
+use Rattle.vm_parts.specs.declared.steps.Answer.{Answer}
+use Rattle.vm_parts.specs.declared.steps.Step.{Step}
+use Rattle.handlers.specs.declared.named.Named.{Named}
+use Rattle.handlers.specs.declared.named.Named.TheVariants as named
+use Rattle.handlers.specs.Counter.{counter_step}
+use Rattle.handlers.specs.Sleeper.{sleeper_step}
+
+-- what a handler does next
+abbrev pub step_of : Named → List Answer → Step
+step_of (named.Sleeper sleeper) = sleeper_step
+step_of (named.Counter counter) = counter_step
+
+-- what the handler of this name does next
+abbrev pub step_named : List ℕ → Option (List Answer → Step)
+step_named name =
+    if pointwise nat_eq name (codes "sleeper") then Some sleeper_step
+    else if pointwise nat_eq name (codes "counter") then Some counter_step
+    else None

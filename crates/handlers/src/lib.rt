@@ -1,0 +1,7 @@
+//! Handlers for people: those that the programs know by their names.
+#![tactic(auto)]
+
+pub mod answers;
+pub mod counter;
+pub mod named;
+pub mod sleeper;

@@ -1,0 +1,40 @@
+//! The handlers that programs know by their names.
+ghost use Rattle.std.specs.Prelude.{◌≡◌, MatchOption, Some, None};
+ghost use Rattle.handlers.specs.Named.{step_of, step_named};
+
+use crate::counter::Counter;
+use crate::sleeper::Sleeper;
+use std::alloc::{AllocError, Global};
+use vm_parts::{Answer, Step};
+use vm_rounds::Handler;
+
+/// A handler that has a name.
+#[derive(Debug, Drop)]
+pub enum Named {
+    Sleeper(Sleeper),
+    Counter(Counter),
+}
+
+impl Named {
+    /// The handler of this name, if there is one.
+    pub fn of_name(alloc: Global, name: &str) -> Option<Named>
+        ensures { MatchOption result (step_named name.now ≡ None) (λ handler. step_named name.now ≡ Some (step_of handler)) }
+    {
+        match name {
+            "sleeper" => Some(Named::Sleeper(Sleeper { alloc })),
+            "counter" => Some(Named::Counter(Counter { alloc })),
+            _ => None,
+        }
+    }
+}
+
+impl Handler for Named {
+    ghost meaning = { λ h. step_of h };
+
+    fn next(&self, answers: &[Answer]) -> Result<Step, AllocError> {
+        match self {
+            Named::Sleeper(sleeper) => sleeper.next(answers),
+            Named::Counter(counter) => counter.next(answers),
+        }
+    }
+}
