@@ -57,12 +57,20 @@ fn assert_counts(
     Ok(())
 }
 
-/// Start of the invocation "abc", with 1 known entry and the whole state: "count" is this.
+/// Start of the invocation "abc", with 1 known entry and a state of one pair, up to the value of "count".
+const START_UP_TO_COUNT: &[u8] = b"\0\0\0\0\0\0\0\x03abc\
+    \0\0\0\0\0\0\0\x03abc\
+    \0\0\0\0\0\0\0\0\
+    \0\0\0\x01\
+    \0\0\0\0\0\0\0\x01\0\0\0\0\0\0\0\x05count";
+
+/// What stands behind the value: the state is whole, and all else is at its default.
+const START_BEHIND_COUNT: &[u8] = &[0; 24];
+
+/// Start with this count.
 fn start_with(alloc: Global, count: &[u8]) -> Result<Vec<u8>, AllocError> {
-    let front: &[u8] =
-        b"\0\0\0\0\0\0\0\x03abc\0\0\0\0\0\0\0\x03abc\0\0\0\0\0\0\0\0\0\0\0\x01\0\0\0\0\0\0\0\x01\0\0\0\0\0\0\0\x05count";
-    let pair = counted(alloc, count)?;
-    let body = [front, pair.as_slice(), &[0; 24]].concat(alloc)?;
+    let count = counted(alloc, count)?;
+    let body = [START_UP_TO_COUNT, count.as_slice(), START_BEHIND_COUNT].concat(alloc)?;
     let body = counted(alloc, body.as_slice())?;
     [&[0, START], body.as_slice()].concat(alloc)
 }
