@@ -62,11 +62,6 @@ drop_cleared (suc s) p [] h = refl
 drop_cleared (suc s) zero (x ∷ xs) h = refl
 drop_cleared (suc s) (suc p) (x ∷ xs) h = drop_cleared s p xs (omega arith)
 
-pub length_cleared : (p : ℕ) (xs : List Entry) → length (cleared p xs) ≡ length xs
-length_cleared p [] = refl
-length_cleared zero (x ∷ xs) = refl
-length_cleared (suc p) (x ∷ xs) = ap suc (length_cleared p xs)
-
 -- the oldest of a list of places, one further on
 record Shifted (qs : List ℕ) (p : ℕ) (ps : List ℕ) : Type 0 where
   place : ℕ

@@ -2,7 +2,6 @@
 use Rattle.std.proofs.Common.{◌≡◌, Bool, true, false, refl, ap}
 use Rattle.std.specs.Cmp.Lexicographic.{bytes_decides}
 use Rattle.std.proofs.lemmas.Bool.{eqb-true}
-use Rattle.std.proofs.lemmas.Bool.Decides.{Decides-eqb}
 use Rattle.journal_protocol.specs.declared.notification.NotificationId.{NotificationId}
 use Rattle.journal_protocol.specs.declared.notification.NotificationId.TheVariants.{CompletionId, SignalId, SignalName}
 use Rattle.arrivals.specs.Ids.{same_id}
@@ -17,11 +16,6 @@ same_is (SignalId a) (SignalName b) e = cc
 same_is (SignalName a) (CompletionId b) e = cc
 same_is (SignalName a) (SignalId b) e = cc
 same_is (SignalName a) (SignalName b) e = ap SignalName ((bytes_decides a b).0 e)
-
-pub same_self : (a : NotificationId) → same_id a a ≡ true
-same_self (CompletionId a) = (Decides-eqb a a).1 refl
-same_self (SignalId a) = (Decides-eqb a a).1 refl
-same_self (SignalName a) = (bytes_decides a a).1 refl
 
 -- a test, whichever it is
 pub data Test (b : Bool) : Type 0 where

@@ -2,7 +2,7 @@
 use Rattle.std.proofs.Common.{◌≡◌, ℕ, zero, suc, ◌<◌, ◌≤◌, Bool, true, false, List, [], ◌∷◌, ◌++◌, length, take, drop, Option, Some, None, Result, Ok, Err, refl, ap, ◌∙◌, arith}
 use Rattle.std.specs.Prelude.{◌&&◌, OnOk, OnErr}
 use Rattle.std.specs.Option.{is_some}
-use Rattle.std.proofs.lemmas.List.{take-append-le, drop-append-le, drop_all, length_push}
+use Rattle.std.proofs.lemmas.List.{take-append-le, drop-append-le, length_push}
 use Rattle.journal_protocol.specs.declared.notification.Notification.{Notification}
 use Rattle.journal_protocol.specs.declared.notification.NotificationId.{NotificationId}
 use Rattle.journal_protocol.specs.declared.notification.NotificationResult.{NotificationResult}
@@ -87,6 +87,3 @@ pub used : (s : ℕ) (xs : List Entry) → s < length xs → all_given (drop s x
 used s [] l a = absurd (omega arith)
 used zero (x ∷ xs) l a = use_first x.id x.result xs a
 used (suc s) (x ∷ xs) l a = use_later x.id x.result s xs (used s xs (omega arith) a)
-
-pub none_queued : (s : ℕ) (xs : List Entry) → s ≡ length xs → given (drop s xs) ≡ []
-none_queued s xs e = ap given (drop_all s xs (omega (arith, e)))

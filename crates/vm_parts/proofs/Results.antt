@@ -1,13 +1,11 @@
 -- Notifications that are used one by one, and takes that find nothing.
-use Rattle.std.proofs.Common.{◌≡◌, ℕ, ◌<◌, Bool, true, false, cond, List, [], ◌∷◌, length, Option, Some, None, refl, sym, ap, ◌∙◌, arith}
+use Rattle.std.proofs.Common.{◌≡◌, ℕ, Bool, true, false, cond, List, [], ◌∷◌, Option, Some, None, refl, sym, ap, ◌∙◌}
 use Rattle.journal_protocol.specs.declared.notification.Notification.{Notification}
 use Rattle.journal_protocol.specs.declared.notification.NotificationId.{NotificationId}
 use Rattle.journal_protocol.specs.declared.notification.NotificationResult.{NotificationResult}
-use Rattle.arrivals.specs.Came.{is_queued}
-use Rattle.vm_parts.specs.declared.async_results.Mapping.{Mapping}
 use Rattle.vm_parts.specs.Arrived.{Arrived, Ready}
 use Rattle.std.specs.Option.{option_or}
-use Rattle.vm_parts.specs.Deliveries.{same_id, results_of, first, newest, newest_after, without_first, without_all, has_result_for, left_among, left_ready, present, present_among, next_used, used_for, used_until, with_used, id_at, is_listed, Taken}
+use Rattle.vm_parts.specs.Deliveries.{same_id, results_of, first, newest, newest_after, without_first, without_all, has_result_for, left_among, left_ready, present, present_among, used_for, used_until, with_used, id_at, is_listed, Taken}
 use Rattle.vm_parts.specs.declared.options.SignalDelivery.{SignalDelivery}
 
 -- ---- an id without a result
@@ -44,40 +42,6 @@ used_ready wanted ready (n ∷ ns) e = rw e refl
 -- a handle with a result needs no more
 pub none_needed : (handle : ℕ) (v : Arrived) → has_result_for (id_at handle v.handles) v.ready ≡ true → used_for handle v ≡ v
 none_needed handle v e = ap (λ used. with_used used v) (used_ready (id_at handle v.handles) v.ready v.queued e)
-
-one_needed_of : (handle : ℕ) (handles : List Mapping) (ready : Ready) (queued : List Notification) → has_result_for (id_at handle handles) ready ≡ false
-    → used_for handle (next_used (record { queued = queued; ready = ready; handles = handles })) ≡ used_for handle (record { queued = queued; ready = ready; handles = handles })
-one_needed_of handle handles ready [] e = refl
-one_needed_of handle handles ready (n ∷ ns) e = rw e refl
-
--- a handle without a result needs one more
-pub one_needed : (handle : ℕ) (v : Arrived) → has_result_for (id_at handle v.handles) v.ready ≡ false → used_for handle (next_used v) ≡ used_for handle v
-one_needed handle v e = one_needed_of handle v.handles v.ready v.queued e
-
-none_left_of : (handle : ℕ) (handles : List Mapping) (ready : Ready) (queued : List Notification) → is_queued queued ≡ false
-    → used_for handle (record { queued = queued; ready = ready; handles = handles }) ≡ next_used (record { queued = queued; ready = ready; handles = handles })
-none_left_of handle handles ready [] e = refl
-none_left_of handle handles ready (n ∷ ns) e = cc
-
--- none waits
-pub none_waits : (handle : ℕ) (v : Arrived) → is_queued v.queued ≡ false → used_for handle v ≡ next_used v
-none_waits handle v e = none_left_of handle v.handles v.ready v.queued e
-
-fewer_of : (handles : List Mapping) (ready : Ready) (queued : List Notification) → is_queued queued ≡ true
-    → length (next_used (record { queued = queued; ready = ready; handles = handles })).queued < length queued
-fewer_of handles ready [] e = cc
-fewer_of handles ready (n ∷ ns) e = omega arith
-
-pub fewer : (v : Arrived) → is_queued v.queued ≡ true → length (next_used v).queued < length v.queued
-fewer v e = fewer_of v.handles v.ready v.queued e
-
-same_ready_of : (handles : List Mapping) (ready : Ready) (queued : List Notification) → is_queued queued ≡ false
-    → next_used (record { queued = queued; ready = ready; handles = handles }) ≡ record { queued = queued; ready = ready; handles = handles }
-same_ready_of handles ready [] e = refl
-same_ready_of handles ready (n ∷ ns) e = cc
-
-pub none_used : (v : Arrived) → is_queued v.queued ≡ false → next_used v ≡ v
-none_used v e = same_ready_of v.handles v.ready v.queued e
 
 -- ---- an id without a result
 
