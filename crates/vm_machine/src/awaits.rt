@@ -82,7 +82,7 @@ impl Machine {
         if !self.phase.is_running() {
             return Err(refuse(self.phase.fault()));
         }
-        if self.results.use_for(handle.0)? {
+        if self.results.use_for(handle.0) {
             return Ok(Ok(AwaitResponse::AnyCompleted));
         }
         self.pend(handle)

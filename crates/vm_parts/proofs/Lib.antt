@@ -1,5 +1,6 @@
 pub mod Changes
 pub mod Keys
+pub mod Mapped
 pub mod Outboxes
 pub mod Places
 pub mod Results

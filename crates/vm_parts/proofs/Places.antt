@@ -5,10 +5,3 @@ use Rattle.std.proofs.lemmas.List.{drop_more}
 -- the items from a place on
 pub from_place : {X : Type 0} (xs : List X) (i : ℕ) (x : X) → i < length xs → x ≡ get_or xs i x → drop i xs ≡ x ∷ drop (i + 1) xs
 from_place xs i x h e = drop_more xs i x h ∙ ap (λ y. y ∷ drop (i + 1) xs) (sym e)
-
--- at a place there is one item
-pub same_item : {X : Type 0} (xs : List X) (i : ℕ) (x y : X) → i < length xs → x ≡ get_or xs i x → y ≡ get_or xs i y → x ≡ y
-same_item xs i x y h e f =
-    let p = from_place xs i x h e in
-    let q = from_place xs i y h f in
-    cc

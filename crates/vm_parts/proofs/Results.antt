@@ -1,35 +1,12 @@
--- What the loops over notifications and handles find, and what they leave.
-use Rattle.std.proofs.Common.{◌≡◌, ℕ, ◌+◌, ◌<◌, Bool, true, false, cond, List, [], ◌∷◌, ◌++◌, length, take, drop, get_or, Option, Some, None, refl, sym, ap, ◌∙◌, arith}
-use Rattle.std.specs.Prelude.{◌||◌}
-use Rattle.std.proofs.lemmas.Bool.Decides.{nat_tests}
+-- Notifications that are used one by one, and takes that find nothing.
+use Rattle.std.proofs.Common.{◌≡◌, ℕ, Bool, true, false, cond, List, [], ◌∷◌, Option, Some, None, refl, sym, ap, ◌∙◌}
 use Rattle.journal_protocol.specs.declared.notification.Notification.{Notification}
 use Rattle.journal_protocol.specs.declared.notification.NotificationId.{NotificationId}
 use Rattle.journal_protocol.specs.declared.notification.NotificationResult.{NotificationResult}
-use Rattle.vm_parts.specs.declared.async_results.Mapping.{Mapping}
 use Rattle.vm_parts.specs.Arrived.{Arrived, Ready}
 use Rattle.std.specs.Option.{option_or}
-use Rattle.vm_parts.specs.Deliveries.{same_id, unmapped, results_of, first, newest, newest_after, without_first, without_all, has_result_among, has_result_for, is_wanted, left_among, left_ready, present, present_among, used_until, with_delivered, id_at, is_listed, Taken}
+use Rattle.vm_parts.specs.Deliveries.{same_id, results_of, first, newest, newest_after, without_first, without_all, has_result_for, left_among, left_ready, present, present_among, used_for, used_until, with_used, id_at, is_listed, Taken}
 use Rattle.vm_parts.specs.declared.options.SignalDelivery.{SignalDelivery}
-use Rattle.vm_parts.proofs.Places.{from_place, same_item}
-
-unmapped_first : (h : ℕ) (m : Mapping) (ms : List Mapping) → m.handle ≡ h → unmapped h (m ∷ ms) ≡ ms
-unmapped_first h m ms e = grind (arith, nat_tests)
-
-pub unmapped_at : (h : ℕ) (ms : List Mapping) (i : ℕ) (m : Mapping) → i < length ms → m ≡ get_or ms i m → m.handle ≡ h
-    → unmapped h ms ≡ take i ms ++ unmapped h (drop i ms) → take i ms ++ drop (i + 1) ms ≡ unmapped h ms
-unmapped_at h ms i m l e k s =
-    sym (s ∙ ap (λ t. take i ms ++ t) (ap (unmapped h) (from_place ms i m l e) ∙ unmapped_first h m (drop (i + 1) ms) k))
-
-pub first_at : (id : NotificationId) (ns : List Notification) (i : ℕ) (n r : Notification) → i < length ns → n ≡ get_or ns i n → r ≡ get_or ns i r
-    → same_id n.id id ≡ true → first (results_of id ns) ≡ first (results_of id (drop i ns)) → Some r.result ≡ first (results_of id ns)
-first_at id ns i n r l e f k s =
-    ap (λ t. Some t.result) (sym (same_item ns i n r l e f))
-    ∙ sym (s ∙ ap (λ t. first (results_of id t)) (from_place ns i n l e) ∙ rw k refl)
-
-pub without_first_at : (id : NotificationId) (ns : List Notification) (i : ℕ) (n : Notification) → i < length ns → n ≡ get_or ns i n → same_id n.id id ≡ true
-    → without_first id ns ≡ take i ns ++ without_first id (drop i ns) → take i ns ++ drop (i + 1) ns ≡ without_first id ns
-without_first_at id ns i n l e k s =
-    sym (s ∙ ap (λ t. take i ns ++ t) (ap (without_first id) (from_place ns i n l e) ∙ rw k refl))
 
 -- ---- an id without a result
 
@@ -58,35 +35,13 @@ none_newest id (n ∷ ns) e = none_newest_at id n ns (same_id n.id id) refl (non
 
 -- ---- notifications that are used one by one
 
-or_assoc : (a b c : Bool) → (a || (b || c)) ≡ ((a || b) || c)
-or_assoc true b c = refl
-or_assoc false b c = refl
-
-among-append : (id : NotificationId) (xs ys : List Notification) → has_result_among id (xs ++ ys) ≡ (has_result_among id xs || has_result_among id ys)
-among-append id [] ys = refl
-among-append id (x ∷ xs) ys = rw (among-append id xs ys) (or_assoc (same_id x.id id) (has_result_among id xs) (has_result_among id ys))
-
--- neither of two holds
-neither : (a b c : Bool) → (a || b) ≡ false → ((a || (c || false)) || b) ≡ c
-neither true b c e = cc
-neither false true c e = cc
-neither false false true e = refl
-neither false false false e = refl
-
--- with one more notification
-pub has_for_more : (wanted : Option NotificationId) (ready : Ready) (n : Notification) → has_result_for wanted ready ≡ false → has_result_for wanted (with_delivered n ready) ≡ is_wanted wanted n
-has_for_more None ready n e = refl
-has_for_more (Some id) ready n e =
-    ap (λ b. b || has_result_among id ready.eager) (among-append id ready.delivered (n ∷ []))
-    ∙ neither (has_result_among id ready.delivered) (has_result_among id ready.eager) (same_id n.id id) e
-
-pub used_ready : (wanted : Option NotificationId) (ready : Ready) (queued : List Notification) → has_result_for wanted ready ≡ true → used_until wanted ready queued ≡ (ready, queued)
+used_ready : (wanted : Option NotificationId) (ready : Ready) (queued : List Notification) → has_result_for wanted ready ≡ true → used_until wanted ready queued ≡ (ready, queued)
 used_ready wanted ready [] e = refl
 used_ready wanted ready (n ∷ ns) e = rw e refl
 
-pub used_next : (wanted : Option NotificationId) (ready : Ready) (n : Notification) (ns : List Notification) → has_result_for wanted ready ≡ false
-    → used_until wanted ready (n ∷ ns) ≡ used_until wanted (with_delivered n ready) ns
-used_next wanted ready n ns e = rw e refl
+-- a handle with a result needs no more
+pub none_needed : (handle : ℕ) (v : Arrived) → has_result_for (id_at handle v.handles) v.ready ≡ true → used_for handle v ≡ v
+none_needed handle v e = ap (λ used. with_used used v) (used_ready (id_at handle v.handles) v.ready v.queued e)
 
 -- ---- an id without a result
 

@@ -1,23 +1,18 @@
 -- Which result a handle has: notifications are used in order of arrival, and each id has a present result among
 -- the used ones that were not taken.
-use Rattle.std.specs.Prelude.{ℕ, ◌≡◌, ◌==◌, Bool, true, false, ◌||◌, cond, nat_eq, List, [], ◌∷◌, ◌++◌, Option, Some, None}
-use Rattle.std.specs.Cmp.Lexicographic.{pointwise}
+use Rattle.std.specs.Prelude.{ℕ, ◌≡◌, ◌==◌, Bool, true, false, ◌||◌, cond, List, [], ◌∷◌, ◌++◌, Option, Some, None}
 use Rattle.std.specs.Option.{option_or}
 use Rattle.journal_protocol.specs.declared.notification.Notification.{Notification}
 use Rattle.journal_protocol.specs.declared.notification.NotificationId.{NotificationId}
 use Rattle.journal_protocol.specs.declared.notification.NotificationId.TheVariants.{CompletionId, SignalId, SignalName}
 use Rattle.journal_protocol.specs.declared.notification.NotificationResult.{NotificationResult}
+use Rattle.arrivals.specs.Came.{one_used}
+pub use Rattle.arrivals.specs.Ids.{same_id}
+pub use Rattle.arrivals.specs.Results.{results_of, has_result_among, first, newest_after, newest, without_first, without_all}
 use Rattle.vm_parts.specs.declared.async_results.Mapping.{Mapping}
 use Rattle.vm_parts.specs.declared.options.SignalDelivery.{SignalDelivery}
 use Rattle.vm_parts.specs.declared.options.SignalDelivery.TheVariants.{Queued, Overwrite}
 use Rattle.vm_parts.specs.Arrived.{Arrived, Ready}
-
--- whether two ids are one
-abbrev pub same_id : NotificationId → NotificationId → Bool
-same_id (CompletionId a) (CompletionId b) = a == b
-same_id (SignalId a) (SignalId b) = a == b
-same_id (SignalName a) (SignalName b) = pointwise nat_eq a b
-same_id _ _ = false
 
 -- no result is ready
 abbrev pub none_ready : Ready
@@ -37,16 +32,6 @@ abbrev pub unmapped : ℕ → List Mapping → List Mapping
 unmapped handle [] = []
 unmapped handle (m ∷ ms) = cond (m.handle == handle) ms (m ∷ unmapped handle ms)
 
--- the results of an id, oldest first
-abbrev pub results_of : NotificationId → List Notification → List NotificationResult
-results_of id [] = []
-results_of id (n ∷ ns) = cond (same_id n.id id) (n.result ∷ results_of id ns) (results_of id ns)
-
--- whether there is a result of an id among these
-abbrev pub has_result_among : NotificationId → List Notification → Bool
-has_result_among id [] = false
-has_result_among id (n ∷ ns) = same_id n.id id || has_result_among id ns
-
 -- whether an id has a result, delivered or of its eager read
 abbrev pub has_result : NotificationId → Ready → Bool
 has_result id r = has_result_among id r.delivered || has_result_among id r.eager
@@ -55,25 +40,6 @@ has_result id r = has_result_among id r.delivered || has_result_among id r.eager
 abbrev pub has_result_for : Option NotificationId → Ready → Bool
 has_result_for None r = false
 has_result_for (Some id) r = has_result id r
-
--- whether a notification is one of this id
-abbrev pub is_wanted : Option NotificationId → Notification → Bool
-is_wanted None n = false
-is_wanted (Some id) n = same_id n.id id
-
--- the first item, if there is one
-abbrev pub first : {X : Type 0} → List X → Option X
-first [] = None
-first (x ∷ xs) = Some x
-
--- the last item, or what was found before
-abbrev pub newest_after : {X : Type 0} → Option X → List X → Option X
-newest_after found [] = found
-newest_after found (x ∷ xs) = newest_after (Some x) xs
-
--- the last item, if there is one
-abbrev pub newest : {X : Type 0} → List X → Option X
-newest = newest_after None
 
 -- the deliveries of a signal are taken one by one, unless the newest is to replace the others; of a completion the
 -- newest stands
@@ -91,16 +57,6 @@ present_among delivery id ns = cond (is_listed delivery id) (first (results_of i
 abbrev pub present : SignalDelivery → NotificationId → Ready → Option NotificationResult
 present delivery id r = option_or (present_among delivery id r.delivered) (present_among delivery id r.eager)
 
--- without the oldest of an id
-abbrev pub without_first : NotificationId → List Notification → List Notification
-without_first id [] = []
-without_first id (n ∷ ns) = cond (same_id n.id id) ns (n ∷ without_first id ns)
-
--- without any of an id
-abbrev pub without_all : NotificationId → List Notification → List Notification
-without_all id [] = []
-without_all id (n ∷ ns) = cond (same_id n.id id) (without_all id ns) (n ∷ without_all id ns)
-
 -- what stays among these when the present result of an id is taken
 abbrev pub left_among : SignalDelivery → NotificationId → List Notification → List Notification
 left_among delivery id ns = cond (is_listed delivery id) (without_first id ns) (without_all id ns)
@@ -116,6 +72,12 @@ with_delivered n r = record r { delivered = r.delivered ++ n ∷ [] }
 -- An eager read gave the result of a completion id: it takes the place of what was delivered before.
 abbrev pub with_eager : ℕ → NotificationResult → Ready → Ready
 with_eager id result r = record { delivered = without_all (CompletionId id) r.delivered; eager = r.eager ++ record { id = CompletionId id; result = result } ∷ [] }
+
+-- the oldest notification that waits is used
+abbrev pub next_used : Arrived → Arrived
+next_used v =
+    let came = one_used (record { queued = v.queued; delivered = v.ready.delivered }) in
+    record v { queued = came.queued; ready = record v.ready { delivered = came.delivered } }
 
 -- notifications are used one by one until the id has a result among those that are ready
 abbrev pub used_until : Option NotificationId → Ready → List Notification → Ready × List Notification

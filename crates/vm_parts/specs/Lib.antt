@@ -3,6 +3,7 @@ pub mod CommandTypes
 pub mod Counting
 pub mod Deliveries
 pub mod Entries
+pub mod Mappings
 pub mod Options
 pub mod Outboxes
 pub mod Values

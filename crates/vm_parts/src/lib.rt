@@ -7,6 +7,7 @@ pub mod command_type;
 pub mod context;
 pub mod entries;
 pub mod ephemeral;
+pub mod handles;
 pub mod options;
 pub mod outbox;
 pub mod queue;

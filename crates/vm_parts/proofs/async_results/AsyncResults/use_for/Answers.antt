@@ -1,9 +1,10 @@
-use Rattle.std.proofs.Common.{sym, ◌∙◌, ap}
-use Rattle.vm_parts.specs.Deliveries.{with_used, id_at}
-use Rattle.vm_parts.proofs.Results.{used_ready}
+use Rattle.std.proofs.Common.{◌≡◌, true, sym, ◌∙◌}
+use Rattle.vm_parts.specs.Deliveries.{has_result_for, id_at}
+use Rattle.vm_parts.proofs.Results.{none_needed}
 use Rattle.vm_parts.proofs.async_results.AsyncResults.use_for.Goals as goal
 
-pub returns-then-is_completed-clause-used : goal.returns-then-is_completed-clause-used
-returns-then-is_completed-clause-used c =
-    let v = c.args.self.now in
-    sym (ap (λ used. with_used used v) (used_ready (id_at c.args.handle v.handles) v.ready v.queued (sym c.is_completed.ensures ∙ c.if-is_completed.true)))
+pub returns-clause-used : goal.returns-clause-used
+returns-clause-used c =
+    let v = c.arrivals.self in
+    let found : has_result_for (id_at c.args.handle v.handles) v.ready ≡ true = cc in
+    sym (c.arrivals.invariant ∙ none_needed c.args.handle v found)

@@ -1,0 +1,27 @@
+-- What contracts see of the arrivals of an attempt.
+use Rattle.std.specs.Prelude.{Bool, true, false, List, [], ◌∷◌, ◌++◌}
+use Rattle.journal_protocol.specs.declared.notification.Notification.{Notification}
+
+-- the notifications that came, each list in order of arrival
+pub record Came : Type 0 where
+  -- no await has used it yet
+  pub queued : List Notification
+  -- used by an await, and not taken
+  pub delivered : List Notification
+
+-- nothing came
+abbrev pub nothing_came : Came
+nothing_came = record { queued = []; delivered = [] }
+
+-- whether one waits
+abbrev pub is_queued : List Notification → Bool
+is_queued [] = false
+is_queued (n ∷ ns) = true
+
+abbrev pub used_from : List Notification → List Notification → Came
+used_from delivered [] = record { queued = []; delivered = delivered }
+used_from delivered (n ∷ ns) = record { queued = ns; delivered = delivered ++ n ∷ [] }
+
+-- the oldest that waits is used
+abbrev pub one_used : Came → Came
+one_used c = used_from c.delivered c.queued

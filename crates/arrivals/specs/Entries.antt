@@ -1,0 +1,43 @@
+-- The log: notifications in order of arrival, without the results that were taken.
+use Rattle.std.specs.Prelude.{ℕ, suc, ◌≡◌, ◌<◌, Bool, true, cond, ◌&&◌, List, [], ◌∷◌, length, map, get_or, Option, Some, None}
+use Rattle.std.specs.Option.{is_some}
+use Rattle.journal_protocol.specs.declared.notification.Notification.{Notification}
+use Rattle.journal_protocol.specs.declared.notification.NotificationId.{NotificationId}
+use Rattle.journal_protocol.specs.declared.notification.NotificationResult.{NotificationResult}
+use Rattle.arrivals.specs.declared.index.Index.{Index}
+use Rattle.arrivals.specs.declared.log.Entry.{Entry}
+use Rattle.arrivals.specs.Ids.{same_id, slot_of}
+
+-- an entry whose result was taken is left out
+abbrev pub given_by : NotificationId → Option NotificationResult → List Notification → List Notification
+given_by id None ns = ns
+given_by id (Some r) ns = record { id = id; result = r } ∷ ns
+
+-- the notifications whose results were not taken
+abbrev pub given : List Entry → List Notification
+given [] = []
+given (e ∷ es) = given_by e.id e.result (given es)
+
+-- no result was taken
+abbrev pub all_given : List Entry → Bool
+all_given [] = true
+all_given (e ∷ es) = is_some e.result && all_given es
+
+-- whether an entry still has a result of this id
+abbrev pub waits : NotificationId → Entry → Bool
+waits id e = is_some e.result && same_id e.id id
+
+-- the places of the results of an id
+abbrev pub places : NotificationId → List Entry → List ℕ
+places id [] = []
+places id (e ∷ es) = cond (waits id e) (0 ∷ map suc (places id es)) (map suc (places id es))
+
+-- an id without a slot has no place, and a slot has the places of its id
+abbrev pub Located : List (List ℕ) → List ℕ → Option ℕ → Type 0
+Located slots ps None = ps ≡ []
+Located slots ps (Some k) = (k < length slots) × (get_or slots k [] ≡ ps)
+
+-- the slots tell where the results of each id lie
+pub record Tracked (log : List Entry) (index : Index) (slots : List (List ℕ)) : Type 0 where
+  pub located : (id : NotificationId) → Located slots (places id log) (slot_of index id)
+  pub apart : (a b : NotificationId) (k : ℕ) → slot_of index a ≡ Some k → slot_of index b ≡ Some k → same_id a b ≡ true

@@ -1,0 +1,21 @@
+-- Notification ids, and the slot of each.
+use Rattle.std.specs.Prelude.{ℕ, ◌==◌, Bool, false, nat_eq, Option}
+use Rattle.std.specs.Cmp.Lexicographic.{pointwise, slice_cmp}
+use Rattle.std.specs.Ordering.{nat_cmp}
+use Rattle.std.specs.BTreeMap.{get}
+use Rattle.journal_protocol.specs.declared.notification.NotificationId.{NotificationId}
+use Rattle.journal_protocol.specs.declared.notification.NotificationId.TheVariants.{CompletionId, SignalId, SignalName}
+use Rattle.arrivals.specs.declared.index.Index.{Index}
+
+-- whether two ids are one
+abbrev pub same_id : NotificationId → NotificationId → Bool
+same_id (CompletionId a) (CompletionId b) = a == b
+same_id (SignalId a) (SignalId b) = a == b
+same_id (SignalName a) (SignalName b) = pointwise nat_eq a b
+same_id _ _ = false
+
+-- the slot of an id
+abbrev pub slot_of : Index → NotificationId → Option ℕ
+slot_of index (CompletionId i) = get nat_cmp index.completions i
+slot_of index (SignalId i) = get nat_cmp index.signals i
+slot_of index (SignalName name) = get (slice_cmp nat_cmp) index.names name

@@ -1,0 +1,4 @@
+pub mod Came
+pub mod Entries
+pub mod Ids
+pub mod Results

@@ -1,0 +1,11 @@
+//! The notifications of an attempt as a log that only grows at its end, each found by its id.
+#![tactic(auto)]
+
+pub mod arrivals;
+pub mod eager;
+pub mod index;
+pub mod log;
+pub mod places;
+
+pub use arrivals::Arrivals;
+pub use eager::EagerResults;

@@ -1,0 +1,176 @@
+//! The notifications that came, each found by its id.
+ghost use Rattle.std.specs.Prelude.{◌≡◌, ◌<◌, List, [], ◌∷◌, ◌++◌, take, drop, length, slice_index_or, slice_set, Some, OnOk, OnErr, IfOk};
+ghost use Rattle.arrivals.specs.Ids.{slot_of};
+ghost use Rattle.arrivals.specs.Results.{first, newest, results_of, has_result_among, without_first, without_all};
+ghost use Rattle.arrivals.specs.Entries.{given, places, Tracked};
+
+use crate::index::Index;
+use crate::places::Places;
+use journal_protocol::{Notification, NotificationId, NotificationResult};
+use std::alloc::{AllocError, Global};
+use std::marker::Model;
+
+/// A notification that came; its result leaves when it is taken.
+#[derive(Debug, Drop)]
+pub struct Entry {
+    pub id: NotificationId,
+    pub result: Option<NotificationResult>,
+}
+
+/// Notifications in order of arrival: a list that only grows at its end. Each id has a slot, which lists the places of
+/// its results.
+#[derive(Debug, Drop)]
+pub struct Log {
+    entries: Vec<Entry>,
+    index: Index,
+    slots: Vec<Places>,
+}
+
+impl Model for Log {
+    ghost use Rattle.std.specs.Prelude.{List};
+    ghost use Rattle.arrivals.specs.declared.log.Entry.{Entry};
+
+    ghost Value = { List Entry };
+
+    ghost use Rattle.arrivals.specs.Entries.{Tracked};
+
+    ghost view = { λ s. s.entries.items };
+
+    ghost invariant = { λ s. Tracked s.entries.items s.index s.slots.items };
+}
+
+/// The slot of an id, a new one where it has none.
+fn slot_for(
+    index: &mut Index,
+    slots: &mut Vec<Places>,
+    id: &NotificationId,
+) -> Result<usize, AllocError>
+    ensures found { IfOk result (λ slot. slot_of index.new id.now ≡ Some slot) }
+    ensures tracked { (log : List Entry) → Tracked log index.old slots.old.items → Tracked log index.new slots.new.items }
+{
+    if let Some(slot) = index.find(id) {
+        return Ok(slot);
+    }
+    let slot = slots.len();
+    slots.push(Places::new(*slots.allocator()))?;
+    index.insert(id, slot)?;
+    Ok(slot)
+}
+
+/// Adds an entry, and its place to the slot of its id.
+fn add_entry(
+    entries: &mut Vec<Entry>,
+    slots: &mut Vec<Places>,
+    slot: usize,
+    entry: Entry,
+) -> Result<(), AllocError>
+    requires { slot < length slots.old.items }
+    ensures ok { OnOk result ((entries.new.items ≡ entries.old.items ++ entry ∷ [])
+        × (slots.new.items ≡ slice_set slots.old.items slot (slice_index_or slots.old.items slot [] ++ length entries.old.items ∷ []))) }
+    ensures err { OnErr result ((entries.new.items ≡ entries.old.items) × (slots.new.items ≡ slots.old.items)) }
+{
+    let place = entries.len();
+    entries.push(entry)?;
+    let at = &mut slots[slot];
+    match at.push(place) {
+        Ok(()) => Ok(()),
+        Err(refused) => {
+            let _ = entries.pop();
+            Err(refused)
+        }
+    }
+}
+
+/// Takes the result out of an entry.
+fn give_up(entry: &mut Entry) -> Option<NotificationResult>
+    ensures result { result ≡ entry.old.result }
+    ensures left { entry.new ≡ record entry.old { result = None } }
+{
+    entry.result.take()
+}
+
+impl Log {
+    pub fn new(alloc: Global) -> Log
+        ensures { result ≡ [] }
+    {
+        Log {
+            entries: Vec::new(alloc),
+            index: Index::new(alloc),
+            slots: Vec::new(alloc),
+        }
+    }
+
+    pub fn len(&self) -> usize
+        ensures { result ≡ length self.now }
+    {
+        self.entries.len()
+    }
+
+    /// Adds a notification behind the others.
+    pub fn push(&mut self, notification: Notification) -> Result<(), AllocError>
+        ensures ok { OnOk result (self.new ≡ self.old ++ record { id = notification.id; result = Some notification.result } ∷ []) }
+        ensures err { OnErr result (self.new ≡ self.old) }
+    {
+        let Notification { id, result } = notification;
+        let slot = slot_for(&mut self.index, &mut self.slots, &id)?;
+        add_entry(
+            &mut self.entries,
+            &mut self.slots,
+            slot,
+            Entry {
+                id,
+                result: Some(result),
+            },
+        )
+    }
+
+    /// The place of the oldest result of an id that was not taken.
+    fn front(&self, id: &NotificationId) -> Option<usize>
+        ensures { result ≡ first (places id.now self.now) }
+    {
+        let slot = self.index.find(id)?;
+        self.slots[slot].front()
+    }
+
+    /// Whether the first `seen` entries have a result of an id.
+    pub fn has(&self, id: &NotificationId, seen: usize) -> bool
+        ensures { result ≡ has_result_among id.now (given (take seen self.now)) }
+    {
+        match self.front(id) {
+            None => false,
+            Some(place) => place < seen,
+        }
+    }
+
+    /// Takes the oldest result of an id out of the first `seen` entries.
+    pub fn take_first(&mut self, id: &NotificationId, seen: usize) -> Option<NotificationResult>
+        ensures found { result ≡ first (results_of id.now (given (take seen self.old))) }
+        ensures left { given (take seen self.new) ≡ without_first id.now (given (take seen self.old)) }
+        ensures rest { drop seen self.new ≡ drop seen self.old }
+        ensures len { length self.new ≡ length self.old }
+    {
+        let slot = self.index.find(id)?;
+        let place = self.slots[slot].front()?;
+        if place >= seen {
+            return None;
+        }
+        let at = &mut self.slots[slot];
+        at.advance();
+        let entry = &mut self.entries[place];
+        give_up(entry)
+    }
+
+    /// Takes the newest result of an id out of the first `seen` entries, and drops the older ones that it replaced.
+    pub fn take_newest(&mut self, id: &NotificationId, seen: usize) -> Option<NotificationResult>
+        ensures found { result ≡ newest (results_of id.now (given (take seen self.old))) }
+        ensures left { given (take seen self.new) ≡ without_all id.now (given (take seen self.old)) }
+        ensures rest { drop seen self.new ≡ drop seen self.old }
+        ensures len { length self.new ≡ length self.old }
+    {
+        let mut found = None;
+        while let Some(result) = self.take_first(id, seen) {
+            found = Some(result);
+        }
+        found
+    }
+}

@@ -1,0 +1,59 @@
+//! The places of one id in the log.
+ghost use Rattle.std.specs.Prelude.{◌≡◌, [], ◌∷◌, ◌++◌, drop, OnOk, OnErr};
+ghost use Rattle.arrivals.specs.Results.{first};
+
+use std::alloc::{AllocError, Global};
+use std::marker::Model;
+
+/// Places that were not taken yet, oldest first: a list that only grows, and a cursor into it.
+#[derive(Debug, Drop)]
+pub struct Places {
+    all: Vec<usize>,
+    cursor: usize,
+}
+
+impl Model for Places {
+    ghost use Rattle.std.specs.Prelude.{List, ℕ, drop, length, ◌≤◌};
+
+    ghost Value = { List ℕ };
+
+    ghost view = { λ p. drop p.cursor p.all.items };
+
+    ghost invariant = { λ p. p.cursor ≤ length p.all.items };
+}
+
+impl Places {
+    pub fn new(alloc: Global) -> Places
+        ensures { result ≡ [] }
+    {
+        Places {
+            all: Vec::new(alloc),
+            cursor: 0,
+        }
+    }
+
+    /// The oldest place.
+    pub fn front(&self) -> Option<usize>
+        ensures { result ≡ first self.now }
+    {
+        self.all.get(self.cursor).copied()
+    }
+
+    /// Adds a place behind the others.
+    pub fn push(&mut self, place: usize) -> Result<(), AllocError>
+        ensures ok { OnOk result (self.new ≡ self.old ++ place ∷ []) }
+        ensures err { OnErr result (self.new ≡ self.old) }
+    {
+        self.all.push(place)?;
+        Ok(())
+    }
+
+    /// Moves the cursor past the oldest place.
+    pub fn advance(&mut self)
+        ensures { self.new ≡ drop 1 self.old }
+    {
+        if self.cursor < self.all.len() {
+            self.cursor += 1;
+        }
+    }
+}

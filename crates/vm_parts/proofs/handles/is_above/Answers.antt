@@ -1,0 +1,13 @@
+use Rattle.std.proofs.Common.{◌≡◌, ◌<◌, ◌-◌, suc, length, get_or, arith}
+use Rattle.std.proofs.lemmas.Bool.Decides.{nat_tests}
+use Rattle.vm_parts.proofs.Mapped.{last_under}
+use Rattle.vm_parts.proofs.handles.is_above.Goals as goal
+
+pub returns-in-Some : goal.returns-in-Some
+returns-in-Some c = λ less.
+    let held = c.args.held.now in
+    let item = c.in-Some.ensures.item in
+    let n : suc (length held - 1) ≡ length held = omega (arith, item.3.0) in
+    let under : c.in-Some.last.now.handle < c.args.handle = grind (arith, nat_tests) in
+    let last : (get_or held (length held - 1) c.in-Some.last.now).handle < c.args.handle = rw (← item.1) under in
+    last_under c.args.handle held (length held - 1) c.in-Some.last.now n c.requires last

@@ -1,0 +1,160 @@
+//! Which id each handle stands for.
+ghost use Rattle.std.specs.Prelude.{◌≡◌, [], ◌∷◌, ◌++◌, true, OnOk, OnErr, MatchOption};
+ghost use Rattle.std.specs.Option.{is_some, option_copied};
+ghost use Rattle.vm_parts.specs.Deliveries.{id_at, unmapped};
+ghost use Rattle.vm_parts.specs.Mappings.{live, Ascend, AllUnder, IsAt, Absent};
+
+use crate::async_results::Mapping;
+use journal_protocol::NotificationId;
+use std::alloc::{AllocError, Global};
+use std::marker::Model;
+
+/// A handle that was handed out, with its id until it is forgotten.
+#[derive(Debug, Drop)]
+pub struct Held {
+    pub handle: u32,
+    pub id: Option<NotificationId>,
+}
+
+/// Handles in the order in which they got their ids. As a counter hands them out they ascend, and are searched by
+/// halving; from the first that doesn't they are kept apart.
+#[derive(Debug, Drop)]
+pub struct Handles {
+    ascending: Vec<Held>,
+    others: Vec<Mapping>,
+}
+
+impl Model for Handles {
+    ghost use Rattle.std.specs.Prelude.{List, ◌++◌};
+    ghost use Rattle.vm_parts.specs.declared.async_results.Mapping.{Mapping};
+    ghost use Rattle.vm_parts.specs.Mappings.{live, Ascend};
+
+    ghost Value = { List Mapping };
+
+    ghost view = { λ s. live s.ascending.items ++ s.others.items };
+
+    ghost invariant = { λ s. Ascend s.ascending.items };
+}
+
+/// Where a handle stands, found by halving.
+fn place_of(held: &[Held], handle: u32) -> Option<usize>
+    requires { Ascend held.now }
+    ensures { MatchOption result (Absent handle held.now) (λ place. IsAt handle held.now place) }
+{
+    match held.binary_search_by_key(&handle, |held| held.handle) {
+        Ok(place) => Some(place),
+        Err(_) => None,
+    }
+}
+
+fn find_held(held: &[Held], handle: u32) -> Option<&NotificationId>
+    requires { Ascend held.now }
+    ensures { option_copied result ≡ id_at handle (live held.now) }
+{
+    let place = place_of(held, handle)?;
+    held[place].id.as_ref()
+}
+
+fn find_mapped(mappings: &[Mapping], handle: u32) -> Option<&NotificationId>
+    ensures { option_copied result ≡ id_at handle mappings.now }
+{
+    for mapping in mappings {
+        if mapping.handle == handle {
+            return Some(&mapping.id);
+        }
+    }
+    None
+}
+
+/// Whether a handle is greater than all these.
+fn is_above(held: &[Held], handle: u32) -> bool
+    requires { Ascend held.now }
+    ensures { result ≡ true → AllUnder held.now handle }
+{
+    match held.last() {
+        None => true,
+        Some(last) => last.handle < handle,
+    }
+}
+
+/// Takes the id out, and tells whether there was one.
+fn give_up(held: &mut Held) -> bool
+    ensures result { result ≡ is_some held.old.id }
+    ensures left { held.new ≡ record held.old { id = None } }
+{
+    held.id.take().is_some()
+}
+
+/// Forgets a handle, and tells whether it stood for an id.
+fn forget(held: &mut Vec<Held>, handle: u32) -> bool
+    requires { Ascend held.old.items }
+    ensures result { result ≡ is_some (id_at handle (live held.old.items)) }
+    ensures left { live held.new.items ≡ unmapped handle (live held.old.items) }
+    ensures ascend { Ascend held.new.items }
+{
+    match place_of(held, handle) {
+        None => false,
+        Some(place) => {
+            let at = &mut held[place];
+            give_up(at)
+        }
+    }
+}
+
+fn unmap(mappings: &mut Vec<Mapping>, handle: u32)
+    ensures { mappings.new.items ≡ unmapped handle mappings.old.items }
+{
+    for i in 0..mappings.len() {
+        if mappings[i].handle == handle {
+            let Mapping { handle: _, id: _ } = mappings.remove(i);
+            return;
+        }
+    }
+}
+
+impl Handles {
+    pub fn new(alloc: Global) -> Handles
+        ensures { result ≡ [] }
+    {
+        Handles {
+            ascending: Vec::new(alloc),
+            others: Vec::new(alloc),
+        }
+    }
+
+    /// Gives a handle its id.
+    pub fn push(&mut self, mapping: Mapping) -> Result<(), AllocError>
+        ensures ok { OnOk result (self.new ≡ self.old ++ mapping ∷ []) }
+        ensures err { OnErr result (self.new ≡ self.old) }
+    {
+        if !self.others.is_empty() || !is_above(&self.ascending, mapping.handle) {
+            self.others.push(mapping)?;
+            return Ok(());
+        }
+        let Mapping { handle, id } = mapping;
+        self.ascending.push(Held {
+            handle,
+            id: Some(id),
+        })?;
+        Ok(())
+    }
+
+    /// The id that a handle stands for.
+    pub fn find(&self, handle: u32) -> Option<&NotificationId>
+        ensures { option_copied result ≡ id_at handle self.now }
+    {
+        match find_held(&self.ascending, handle) {
+            Some(id) => Some(id),
+            None => find_mapped(&self.others, handle),
+        }
+    }
+
+    /// Forgets a handle.
+    pub fn remove(&mut self, handle: u32)
+        ensures { self.new ≡ unmapped handle self.old }
+    {
+        if !forget(&mut self.ascending, handle) {
+            unmap(&mut self.others, handle);
+        }
+    }
+}
