@@ -103,7 +103,7 @@ module _ (s : Setup) (m : Meaning) (given : StateMap) (first : RawMessage) (inpu
   happen_keeps (e ∷ es) now g = happen_keeps es (happens s m given e now) (happens_keeps e now g)
 
 -- what was handed out, and what the run of the journal said: as it was then, a call may know it later
-abbrev Lasting : Knowledge → StateMap → List Message → Type 0
+abbrev pub Lasting : Knowledge → StateMap → List Message → Type 0
 Lasting K given said = (state : StateMap) (x : List Message) → Handed given state (said ++ x) → K state (said ++ x)
 
 -- At each moment of a round the journal is kept.
@@ -147,10 +147,10 @@ starts_kept s m K first input = record { rest = []; begins = refl; moves = 0; at
 kept_said : (s : Setup) (m : Meaning) (K : Knowledge) (first : RawMessage) (input : InputCommand) (journal : List Entry) (k : Kept s m K first input journal) (base : StateMap) → changed_by (messages_in (behind (commands_in journal))) base ≡ changed_by k.at.said base
 kept_said s m K first input journal k base = ap (λ l. changed_by (messages_in (behind l)) base) k.begins ∙ sym (said_made s m K k.moves (start s input (notifications_in journal) []) k.rest k.at refl k.made base)
 
-honest_lasts : (base given : StateMap) (said told : List Message) → IsInOrder base.entries → changed_by told base ≡ changed_by said base → Honest base given told → Lasting (Honest base) given said
+pub honest_lasts : (base given : StateMap) (said told : List Message) → IsInOrder base.entries → changed_by told base ≡ changed_by said base → Honest base given told → Lasting (Honest base) given said
 honest_lasts base given said told ordered same h state x handed = rw handed (true_again base given said x ordered (rw same at h))
 
-whole_lasts : (base given : StateMap) (said told : List Message) → IsInOrder base.entries → changed_by told base ≡ changed_by said base → Whole base given told → Lasting (Whole base) given said
+pub whole_lasts : (base given : StateMap) (said told : List Message) → IsInOrder base.entries → changed_by told base ≡ changed_by said base → Whole base given told → Lasting (Whole base) given said
 whole_lasts base given said told ordered same h state x handed = rw handed (all_again base given said x ordered (rw same at h))
 
 rounds_honest : (s : Setup) (m : Meaning) (base : StateMap) (first : RawMessage) (input : InputCommand) (rs : List Round) (journal : List Entry) → IsInOrder base.entries → EachHanded s m (Honest base) input rs journal → Kept s m (Honest base) first input journal → Kept s m (Honest base) first input (rounds s m input rs journal)

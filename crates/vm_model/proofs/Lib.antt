@@ -6,6 +6,7 @@ pub mod Standing
 pub mod Eager
 pub mod Attempts
 pub mod Events
+pub mod Honesty
 pub mod Compared
 pub mod Reports
 pub mod Waking

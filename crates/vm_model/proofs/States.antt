@@ -167,7 +167,7 @@ none_unknown g key all e = by_entry (entry_of key g.entries) (sym (ap (λ c. kno
     by_entry (Some (Some value)) e = absurd (cc)
 
 -- two states with each key known as in the other
-one_key_list : (a b : StateMap) → IsInOrder a.entries → IsInOrder b.entries → a.coverage ≡ b.coverage → ((key : List ℕ) → known key a ≡ known key b) → known_keys a ≡ known_keys b
+pub one_key_list : (a b : StateMap) → IsInOrder a.entries → IsInOrder b.entries → a.coverage ≡ b.coverage → ((key : List ℕ) → known key a ≡ known key b) → known_keys a ≡ known_keys b
 one_key_list a b in_a in_b same at = by_coverage a.coverage refl
   where
     by_coverage : (c : StateCoverage) → a.coverage ≡ c → known_keys a ≡ known_keys b

@@ -42,13 +42,13 @@ use Rattle.vm_model.specs.Moves.{changed_by, found, own, reads_as, said_of}
 -- ---- types
 
 -- whether commands of a type change the state
-abbrev changes_state : MessageType → Bool
+abbrev pub changes_state : MessageType → Bool
 changes_state type.SetStateCommand = true
 changes_state type.ClearStateCommand = true
 changes_state type.ClearAllStateCommand = true
 changes_state ty = false
 
-unchanged : (m : Message) → changes_state (type_of m) ≡ false → (g : StateMap) → changed m g ≡ g
+pub unchanged : (m : Message) → changes_state (type_of m) ≡ false → (g : StateMap) → changed m g ≡ g
 unchanged (message.SetState c) e g = absurd (cc)
 unchanged (message.ClearState c) e g = absurd (cc)
 unchanged (message.ClearAllState c) e g = absurd (cc)

@@ -5,3 +5,4 @@ pub mod Histories
 pub mod Deliveries
 pub mod Sums
 pub mod Refusals
+pub mod HonestRounds

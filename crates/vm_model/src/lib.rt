@@ -3,11 +3,13 @@
 #![tactic(auto)]
 
 mod awaits;
+mod honest;
 mod numbers;
 mod rounds;
 mod told;
 
 pub use awaits::{awaits_wake, results_are_present};
+pub use honest::{attempts_agree, honest_rounds, whole_rounds};
 pub use numbers::numbers_are_sums;
 pub use rounds::{
     answers_agree, eager_reads_are_so, handed_stays_so, one_history, one_undisturbed, undisturbed,

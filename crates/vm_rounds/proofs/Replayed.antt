@@ -40,7 +40,7 @@ noted_commands : (b : Bool) (o : Option Notification) (es : List Entry) → comm
 noted_commands true o es = told_commands o es
 noted_commands false o es = refl
 
-commands_same : (raws : List RawMessage) → commands_in (as_entries raws) ≡ commands_among raws
+pub commands_same : (raws : List RawMessage) → commands_in (as_entries raws) ≡ commands_among raws
 commands_same [] = refl
 commands_same (raw ∷ raws) =
     recorded_commands (is_command raw) raw (cond (is_notification raw) (told_by (notification_in raw.body) (as_entries raws)) (as_entries raws)) (commands_among raws)

@@ -1,0 +1,60 @@
+-- What an earlier report's journal tells, and the answers of later reports.
+use Rattle.std.proofs.Common.{◌≡◌, ℕ, List, [], ◌∷◌, ◌++◌, length, take, Some, refl, sym, ap, ◌∙◌, subst, append_assoc, append-nil, inl, inr}
+use Rattle.std.specs.List.{AllByRecursion}
+use Rattle.std.proofs.Math.Seq.{take-append_seam}
+use Rattle.std.proofs.lemmas.Option.{same_Some}
+use Rattle.journal_protocol.specs.declared.commands.InputCommand.{InputCommand}
+use Rattle.journal_protocol.specs.declared.message.RawMessage.{RawMessage}
+use Rattle.vm_parts.specs.declared.steps.Answer.{Answer}
+use Rattle.vm_model.specs.Calls.{Meaning, Setup}
+use Rattle.vm_model.specs.Journal.{Entry, commands_in, notifications_in, input_read_from}
+use Rattle.vm_model.specs.Moves.{Point}
+use Rattle.vm_model.specs.Histories.{OneBegins, Told}
+use Rattle.vm_model.specs.HonestRounds.{Attempted, HonestRound, IsToldOn}
+use Rattle.vm_model.proofs.Events.{commands-append}
+use Rattle.vm_model.proofs.Honesty.{attempts_agree}
+use Rattle.vm_rounds.proofs.Replayed.{head_same}
+use Rattle.vm_world.specs.declared.types.Round.{Round}
+use Rattle.vm_world.specs.declared.types.Setting.{Setting}
+use Rattle.vm_world.specs.Entries.{entries_of}
+use Rattle.vm_world.specs.Rounds.{Agree, Replays, ReportView, RoundDoes, RoundsDo, TellsAlong}
+use Rattle.vm_world.specs.Worlds.{IsJournal, setup_of}
+use Rattle.vm_world.proofs.Headline.{Begins, IsHonest}
+use Rattle.vm_world.proofs.Rounding.{Grows, begins_on, entries_grow, given_to, round_grows, round_honest, rounds_grow}
+
+-- an attempt over a journal that has grown, and what the journal told before
+attempt_along : (s : Setup) (m : Meaning) (before more now : List Entry) (a : Attempted) → now ≡ before ++ more → (t : IsToldOn s m now a) (after : List Entry) → HonestRound now a.arrivals a.written after
+    → (first : RawMessage) (input : InputCommand) (rest : List RawMessage) (p : Point) → commands_in before ≡ first ∷ rest → input_read_from first ≡ Some input → Told s m input (notifications_in before) rest p → OneBegins p.answers a.answers
+attempt_along s m before more now a grown t after round first input rest p begins reads told =
+    let t' : IsToldOn s m (before ++ more) a = subst (λ j. IsToldOn s m j a) grown t in
+    let head : first ≡ t'.first = head_same first t'.first (rest ++ commands_in more) t'.rest (sym (commands-append before more ∙ ap (λ l. l ++ commands_in more) begins) ∙ t'.begins) in
+    let one : input ≡ t'.input = same_Some input t'.input (sym reads ∙ ap input_read_from head ∙ t'.reads) in
+    attempts_agree s m before more a t' rest round.delivered (begins ∙ ap (λ c. c ∷ rest) head) (round.arrived ∙ ap (λ j. notifications_in j ++ round.delivered) grown) p (subst (λ i. Told s m i (notifications_in before) rest p) one told)
+
+-- the rounds that follow, over a journal that has grown
+rounds_along : (m : Meaning) (w : Setting) (rounds : List Round) (then_old added old : List (List ℕ)) (reports : List ReportView) (new : List (List ℕ)) → Replays w.options → IsJournal old → Begins (entries_of old) → old ≡ then_old ++ added → RoundsDo m w rounds old reports new → TellsAlong (setup_of w) m (entries_of then_old) reports
+rounds_along m w [] then_old added old reports new r j b grown d first input rest p begins reads told = subst (AllByRecursion (λ v. OneBegins p.answers v.answers)) (sym d.0) tt
+rounds_along m w (q ∷ qs) then_old added old reports new r j b grown (mid, report, more, is, one, others) first input rest p begins reads told =
+    let g = round_grows m w q old report mid j one in
+    let h = round_honest m w q old report mid r j b one in
+    let here : OneBegins p.answers report.answers = subst (OneBegins p.answers) h.1 (attempt_along (setup_of w) m (entries_of then_old) (entries_of added) (entries_of old) h.0 (entries_grow then_old old added grown) h.2.told (entries_of mid) h.2.honest first input rest p begins reads told) in
+    let behind = rounds_along m w qs then_old (added ++ g.added) mid more new r g.journal (begins_on old mid g b) (g.extends ∙ ap (λ l. l ++ g.added) grown ∙ append_assoc then_old added g.added) others first input rest p begins reads told in
+    subst (AllByRecursion (λ v. OneBegins p.answers v.answers)) (sym is) (here, behind)
+
+-- a report counts the entries of the journal that its round leaves
+pub round_counts : (m : Meaning) (w : Setting) (round : Round) (old : List (List ℕ)) (report : ReportView) (new : List (List ℕ)) → RoundDoes m w round old report new → report.entries ≡ length new
+round_counts m w round old report new (inl d) = ap (λ (v : ReportView). v.entries) d.ran.told ∙ ap length (sym d.ran.left)
+round_counts m w round old report new (inr d) = ap (λ (v : ReportView). v.entries) d.told
+
+then_stood : (entries : ℕ) (mid added new : List (List ℕ)) → entries ≡ length mid → new ≡ mid ++ added → take entries new ≡ mid
+then_stood entries mid added new e grown = (λ i. take (e i) (grown i)) ∙ take-append_seam mid added
+
+pub rounds_agree : (m : Meaning) (w : Setting) (rounds : List Round) (old : List (List ℕ)) (reports : List ReportView) (new : List (List ℕ)) → Replays w.options → IsJournal old → Begins (entries_of old) → RoundsDo m w rounds old reports new → Agree (setup_of w) m new reports
+rounds_agree m w [] old reports new r j b d = subst (Agree (setup_of w) m new) (sym d.0) tt
+rounds_agree m w (q ∷ qs) old reports new r j b (mid, report, more, is, one, others) =
+    let g = round_grows m w q old report mid j one in
+    let b' = begins_on old mid g b in
+    let rest = rounds_grow m w qs mid more new g.journal others in
+    let stood : take report.entries new ≡ mid = then_stood report.entries mid rest.added new (round_counts m w q old report mid one) rest.extends in
+    let along = rounds_along m w qs mid [] mid more new r g.journal b' (sym (append-nil mid)) others in
+    subst (Agree (setup_of w) m new) (sym is) (subst (λ l. TellsAlong (setup_of w) m (entries_of l) more) (sym stood) along, rounds_agree m w qs mid more new r g.journal b' others)

@@ -1,0 +1,59 @@
+-- The journal of a new world.
+use Rattle.std.proofs.Common.{◌≡◌, ℕ, List, [], ◌∷◌, Option, Some, None, refl, sym, ap, subst, arith, length, ◌≤◌}
+use Rattle.std.specs.Prelude.{option_map}
+use Rattle.journal_protocol.specs.declared.commands.InputCommand.{InputCommand}
+use Rattle.journal_protocol.specs.declared.message.Message.TheVariants as message
+use Rattle.journal_protocol.specs.declared.message.RawMessage.{RawMessage}
+use Rattle.journal_protocol.specs.declared.types.MessageType.TheVariants as type
+use Rattle.journal_protocol.specs.Message.{encoding}
+use Rattle.journal_protocol.specs.Reading.{input_in, message_in}
+use Rattle.journal_protocol.specs.Runs.{IsWhole}
+use Rattle.journal_protocol.proofs.Alone.{read_back}
+use Rattle.vm_model.specs.Calls.{Meaning, Setup}
+use Rattle.vm_model.specs.Journal.{stored_form}
+use Rattle.vm_model.specs.Moves.{start}
+use Rattle.vm_model.specs.Histories.{Knowledge}
+use Rattle.vm_model.specs.HonestRounds.{IsOneRun}
+use Rattle.vm_rounds.specs.Journals.{as_entries, notified_by}
+use Rattle.vm_rounds.specs.Told.{CompleteOnce}
+use Rattle.vm_world.specs.Entries.{entries_of, frame_in, framed_by, may_stand, note_of, read_from}
+use Rattle.vm_world.specs.Worlds.{IsJournal}
+use Rattle.vm_world.proofs.Framing.{frame_back}
+
+first_frame : (i : InputCommand) → IsWhole (message.Input i) → frame_in (encoding (message.Input i)) ≡ Some (stored_form (message.Input i))
+first_frame i whole = frame_back (stored_form (message.Input i)) whole.1
+
+first_is : (i : InputCommand) → IsWhole (message.Input i) → IsJournal (encoding (message.Input i) ∷ [])
+first_is i whole = record {
+  entries = (ap may_stand (first_frame i whole), tt);
+  short = omega arith;
+  once = subst (λ o. CompleteOnce (notified_by (read_from note_of o) [])) (sym (first_frame i whole)) tt;
+}
+
+input_by : (i : InputCommand) (o : Option InputCommand) → option_map message.Input o ≡ Some (message.Input i) → o ≡ Some i
+input_by i None h = cc
+input_by i (Some s) h = let e : s ≡ i = cc in ap Some e
+
+input_found : (b : List ℕ) (i : InputCommand) → message_in type.InputCommand b ≡ Some (message.Input i) → input_in b ≡ Some i
+unfolding message_in input_in
+input_found b i h = input_by i (input_in b) h
+
+first_run : (s : Setup) (m : Meaning) (K : Knowledge) (i : InputCommand) → IsWhole (message.Input i) → IsOneRun s m K (entries_of (encoding (message.Input i) ∷ []))
+first_run s m K i whole =
+    let raw = stored_form (message.Input i) in
+    subst (λ o. IsOneRun s m K (as_entries (framed_by o []))) (sym (first_frame i whole)) (record {
+      first = raw;
+      input = i;
+      reads = input_found raw.body i (read_back (message.Input i) whole);
+      rest = [];
+      begins = refl;
+      moves = 0;
+      at = start s i [] [];
+      made = (refl, refl);
+    })
+
+pub first_ok : (journal : List (List ℕ)) (i : InputCommand) → journal ≡ encoding (message.Input i) ∷ [] → IsWhole (message.Input i) → IsJournal journal
+first_ok journal i is whole = subst IsJournal (sym is) (first_is i whole)
+
+pub first_made : (s : Setup) (m : Meaning) (K : Knowledge) (journal : List (List ℕ)) (i : InputCommand) → journal ≡ encoding (message.Input i) ∷ [] → IsWhole (message.Input i) → IsOneRun s m K (entries_of journal)
+first_made s m K journal i is whole = subst (λ j. IsOneRun s m K (entries_of j)) (sym is) (first_run s m K i whole)

@@ -1,0 +1,14 @@
+pub mod Framing
+pub mod Scanned
+pub mod Once
+pub mod Going
+pub mod Keeping
+pub mod Handing
+pub mod Headline
+pub mod Rounding
+pub mod Agreeing
+pub mod Beginning
+pub mod Versions
+pub mod First
+pub mod Lists
+pub mod Pieces

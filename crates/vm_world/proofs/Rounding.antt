@@ -1,0 +1,199 @@
+-- Rounds, one after another: the journal grows by entries, and each round is an honest one.
+use Rattle.std.proofs.Common.{◌≡◌, ◌⊎◌, inl, inr, ⊎_elim, ℕ, ◌≤◌, Bool, false, List, [], ◌∷◌, ◌++◌, length, map, Option, Some, None, refl, sym, ap, ◌∙◌, subst, append_assoc, append-nil, Global}
+use Rattle.std.specs.Prelude.{option_map}
+use Rattle.std.specs.List.{AllByRecursion, concat}
+use Rattle.journal_protocol.specs.declared.message.Message.TheVariants as message
+use Rattle.journal_protocol.specs.declared.message.RawMessage.{RawMessage}
+use Rattle.journal_protocol.specs.declared.start.Start.{Start}
+use Rattle.journal_protocol.specs.declared.types.MessageType.TheVariants as type
+use Rattle.journal_protocol.specs.declared.version.Version.{Version}
+use Rattle.journal_protocol.specs.Message.{encoding}
+use Rattle.journal_protocol.specs.Reading.{message_in, start_in}
+use Rattle.journal_protocol.specs.Runs.{IsWhole}
+use Rattle.journal_protocol.proofs.Alone.{read_back}
+use Rattle.invocation_vm.specs.Making.{made}
+use Rattle.vm_parts.specs.declared.context.StateMap.{StateMap}
+use Rattle.vm_parts.specs.declared.options.VMOptions.{VMOptions}
+use Rattle.vm_parts.specs.declared.steps.Answer.{Answer}
+use Rattle.vm_model.specs.Calls.{Meaning, Setup}
+use Rattle.vm_model.specs.Journal.{Entry, commands_in, messages_in, notifications_in, stored_form}
+use Rattle.vm_model.specs.Moves.{changed_by, start as first_point}
+use Rattle.vm_model.specs.Histories.{History, Honest, IsAllOf, IsTrueOf, Knowledge, Whole, behind}
+use Rattle.vm_model.specs.HonestRounds.{Attempted, HonestRound, HonestRounds, IsOneRun}
+use Rattle.vm_model.proofs.Events.{commands-append}
+use Rattle.vm_model.proofs.Honesty.{honest_rounds, run_is_history, whole_rounds}
+use Rattle.vm_rounds.specs.Journals.{as_entries, commands_among}
+use Rattle.vm_rounds.specs.Record.{Record}
+use Rattle.vm_rounds.specs.Stepping.{fresh_record}
+use Rattle.vm_rounds.specs.Told.{bytes_fed}
+use Rattle.vm_rounds.proofs.Replayed.{commands_same}
+use Rattle.vm_world.specs.declared.types.Event.{Event}
+use Rattle.vm_world.specs.declared.types.Round.{Round}
+use Rattle.vm_world.specs.declared.types.RoundFault.{RoundFault}
+use Rattle.vm_world.specs.declared.types.Setting.{Setting}
+use Rattle.vm_world.specs.Arrivals.{most}
+use Rattle.vm_world.specs.Entries.{entries_of, frames_in, said_in}
+use Rattle.vm_world.specs.Rounds.{AreHonest, AreWhole, AttemptDoes, Happen, IsShort, Now, Ran, RefusedDoes, Replays, ReportView, RoundDoes, RoundFaults, RoundsDo, RoundsFault, begin, new_now}
+use Rattle.vm_world.specs.States.{base_of, state_of}
+use Rattle.vm_world.specs.Worlds.{IsJournal, setup_of, start_for, start_message}
+use Rattle.vm_world.proofs.Framing.{AreFrames, as_entries_append, frames_append, one_framed, said_are}
+use Rattle.vm_world.proofs.Handing.{base_in_order, handed, round_all, round_true}
+use Rattle.vm_world.proofs.Headline.{Begins, IsHonest, input_says, is_honest}
+use Rattle.vm_world.proofs.Keeping.{Arrived, Going, arrivals_keep, events_keep}
+
+-- ---- one round
+
+-- a round begins with the whole journal
+begun : (start : List ℕ) (old : List (List ℕ)) (r : Record) → IsJournal old → r.fed ≡ [] → r.taken ≡ [] → Going start old (new_now old (start ++ concat old) r)
+begun start old r j fed taken = record {
+  arrived = []; arrivals = tt; delivered = [];
+  all = ap (λ l. start ++ l) (sym (append-nil (concat old)));
+  fed_front = ([], ap (λ l. bytes_fed l ++ []) (sym fed));
+  fed_open = λ o. ap bytes_fed fed;
+  output_is = ap concat taken;
+  scanned = []; output_frames = refl;
+  added = []; extends = sym (append-nil old); commands = refl; notifications = refl; journal = j;
+}
+
+-- the journal has grown by entries
+pub record Grows (old new : List (List ℕ)) : Type 0 where
+  pub added : List (List ℕ)
+  pub extends : new ≡ old ++ added
+  pub journal : IsJournal new
+
+pub short_all : (m : Meaning) (events : List Event) (start : List ℕ) (old : List (List ℕ)) (r : Record) → IsJournal old → r.fed ≡ [] → r.taken ≡ [] → IsShort m events (new_now old (start ++ concat old) r)
+short_all m events start old r j fed taken end h = (events_keep m start old events (new_now old (start ++ concat old) r) end h (begun start old r j fed taken)).journal.short
+
+attempt_goes : (m : Meaning) (w : Setting) (round : Round) (old : List (List ℕ)) (report : ReportView) (new : List (List ℕ)) → IsJournal old → (d : AttemptDoes m w round old report new) → Going (encoding (start_message w round old)) old d.ran.now
+attempt_goes m w round old report new j d = events_keep m (encoding (start_message w round old)) old round.events (begin d.alloc w round old) d.ran.now d.ran.happen (begun (encoding (start_message w round old)) old (fresh_record (made d.alloc w.options w.version)) j refl refl)
+
+pub round_grows : (m : Meaning) (w : Setting) (round : Round) (old : List (List ℕ)) (report : ReportView) (new : List (List ℕ)) → IsJournal old → RoundDoes m w round old report new → Grows old new
+round_grows m w round old report new j (inl d) =
+    let g = attempt_goes m w round old report new j d in
+    subst (Grows old) (sym d.ran.left) (record { added = g.added; extends = g.extends; journal = g.journal })
+round_grows m w round old report new j (inr d) = let a = arrivals_keep round.events old new j d.arrivals in record { added = a.added; extends = a.extends; journal = a.journal }
+
+start_by : (st : Start) (o : Option Start) → option_map message.Start o ≡ Some (message.Start st) → o ≡ Some st
+start_by st None h = cc
+start_by st (Some s) h = let e : s ≡ st = cc in ap Some e
+
+start_found : (b : List ℕ) (st : Start) → message_in type.Start b ≡ Some (message.Start st) → start_in b ≡ Some st
+unfolding message_in start_in
+start_found b st h = start_by st (start_in b) h
+
+start_reads : (st : Start) → IsWhole (message.Start st) → start_in (stored_form (message.Start st)).body ≡ Some st
+start_reads st whole = start_found (stored_form (message.Start st)).body st (read_back (message.Start st) whole)
+
+start_framed : (st : Start) → IsWhole (message.Start st) → AreFrames (encoding (message.Start st)) (stored_form (message.Start st) ∷ [])
+start_framed st whole = one_framed (stored_form (message.Start st)) whole.1
+
+-- what a round hands out
+abbrev pub given_to : Setting → Round → List (List ℕ) → StateMap
+given_to w round journal = handed round.partial round.keys (state_of w journal)
+
+attempt_honest : (m : Meaning) (w : Setting) (round : Round) (old : List (List ℕ)) (report : ReportView) (new : List (List ℕ)) → Replays w.options → IsJournal old → Begins (entries_of old) → AttemptDoes m w round old report new → (a : Attempted) × (a.answers ≡ report.answers) × IsHonest (setup_of w) m (given_to w round old) (entries_of old) a (entries_of new)
+attempt_honest m w round old report new r j b d =
+    let st = start_for w round old in
+    let g = attempt_goes m w round old report new j d in
+    let h = is_honest m w (encoding (message.Start st)) (stored_form (message.Start st)) st old j (start_framed st d.start) (start_reads st d.start) refl (setup_of w) refl d.ran.now g (given_to w round old) refl r d.ran.ends b in
+    (h.0, h.1 ∙ ap (λ (v : ReportView). v.answers) (sym d.ran.told), subst (λ n. IsHonest (setup_of w) m (given_to w round old) (entries_of old) h.0 (entries_of n)) (sym d.ran.left) h.2)
+
+refused_honest : (m : Meaning) (w : Setting) (round : Round) (old : List (List ℕ)) (report : ReportView) (new : List (List ℕ)) → IsJournal old → Begins (entries_of old) → RefusedDoes w round old report new → (a : Attempted) × (a.answers ≡ report.answers) × IsHonest (setup_of w) m (given_to w round old) (entries_of old) a (entries_of new)
+refused_honest m w round old report new j b d =
+    let g = arrivals_keep round.events old new j d.arrivals in
+    let came = notifications_in (entries_of old) ++ [] in
+    let added = as_entries (frames_in g.added) in
+    (record { given = given_to w round old; arrivals = came; written = []; answers = [] }, ap (λ (v : ReportView). v.answers) (sym d.told), record {
+      handed = refl;
+      told = record { first = b.first; input = b.input; reads = b.reads; rest = b.rest; begins = b.commands; moves = 0; at = first_point (setup_of w) b.input came b.rest; made = (refl, refl); answered = inl refl };
+      honest = record {
+        delivered = []; arrived = refl; added = added;
+        extends = ap (λ l. as_entries (frames_in l)) g.extends ∙ ap as_entries (frames_append old g.added) ∙ as_entries_append (frames_in old) (frames_in g.added);
+        undelivered = notifications_in added; notifications = refl; stored = 0; commands = commands_same (frames_in g.added) ∙ g.commands;
+      };
+    })
+
+pub round_honest : (m : Meaning) (w : Setting) (round : Round) (old : List (List ℕ)) (report : ReportView) (new : List (List ℕ)) → Replays w.options → IsJournal old → Begins (entries_of old) → RoundDoes m w round old report new → (a : Attempted) × (a.answers ≡ report.answers) × IsHonest (setup_of w) m (given_to w round old) (entries_of old) a (entries_of new)
+round_honest m w round old report new r j b (inl d) = attempt_honest m w round old report new r j b d
+round_honest m w round old report new r j b (inr d) = refused_honest m w round old report new j b d
+
+-- ---- rounds
+
+pub rounds_grow : (m : Meaning) (w : Setting) (rounds : List Round) (old : List (List ℕ)) (reports : List ReportView) (new : List (List ℕ)) → IsJournal old → RoundsDo m w rounds old reports new → Grows old new
+rounds_grow m w [] old reports new j d = subst (Grows old) (sym d.1) (record { added = []; extends = sym (append-nil old); journal = j })
+rounds_grow m w (r ∷ rs) old reports new j (mid, report, more, is, one, others) =
+    let a = round_grows m w r old report mid j one in
+    let b = rounds_grow m w rs mid more new a.journal others in
+    record { added = a.added ++ b.added; extends = b.extends ∙ ap (λ l. l ++ b.added) a.extends ∙ append_assoc old a.added b.added; journal = b.journal }
+
+pub entries_grow : (old new added : List (List ℕ)) → new ≡ old ++ added → entries_of new ≡ entries_of old ++ entries_of added
+entries_grow old new added e = ap entries_of e ∙ ap as_entries (frames_append old added) ∙ as_entries_append (frames_in old) (frames_in added)
+
+-- a journal that has grown begins with the same input
+pub begins_on : (old new : List (List ℕ)) → Grows old new → Begins (entries_of old) → Begins (entries_of new)
+begins_on old new g b = record {
+  first = b.first; input = b.input; reads = b.reads;
+  rest = b.rest ++ commands_in (entries_of g.added);
+  commands = ap commands_in (entries_grow old new g.added g.extends) ∙ commands-append (entries_of old) (entries_of g.added) ∙ ap (λ l. l ++ commands_in (entries_of g.added)) b.commands;
+}
+
+-- each of the rounds hands out so much, over whatever journal
+abbrev HandsOut : Knowledge → Setting → List Round → Type 0
+HandsOut K w rounds = AllByRecursion (λ r. (journal : List (List ℕ)) → Begins (entries_of journal) → K (given_to w r journal) (messages_in (behind (commands_in (entries_of journal))))) rounds
+
+rounds_honest : (K : Knowledge) (m : Meaning) (w : Setting) (rounds : List Round) (old : List (List ℕ)) (reports : List ReportView) (new : List (List ℕ)) → Replays w.options → HandsOut K w rounds → IsJournal old → Begins (entries_of old) → RoundsDo m w rounds old reports new → AreHonest (setup_of w) m K (entries_of old) reports (entries_of new)
+rounds_honest K m w [] old reports new r hands j b d = record { attempts = []; answers = ap (map (λ (v : ReportView). v.answers)) (sym d.0); rounds = ap entries_of d.1 }
+rounds_honest K m w (q ∷ qs) old reports new r hands j b (mid, report, more, is, one, others) =
+    let g = round_grows m w q old report mid j one in
+    let h = round_honest m w q old report mid r j b one in
+    let rest = rounds_honest K m w qs mid more new r hands.1 g.journal (begins_on old mid g b) others in
+    record {
+      attempts = h.0 ∷ rest.attempts;
+      answers = (λ i. h.1 i ∷ rest.answers i) ∙ ap (map (λ (v : ReportView). v.answers)) (sym is);
+      rounds = (entries_of mid, subst (λ x. K x (messages_in (behind (commands_in (entries_of old))))) (sym h.2.handed) (hands.0 old b), h.2.told, h.2.honest, rest.rounds);
+    }
+
+-- ---- what is handed out
+
+-- what a journal's commands say changes the base as those behind the input
+said_behind : (w : Setting) (journal : List (List ℕ)) → Begins (entries_of journal) → state_of w journal ≡ changed_by (messages_in (behind (commands_in (entries_of journal)))) (base_of w)
+said_behind w journal b = ap (λ l. changed_by l (base_of w)) (said_are journal ∙ ap messages_in (sym (commands_same (frames_in journal)))) ∙ input_says (entries_of journal) b (base_of w)
+
+pub hands_honest : (w : Setting) (rounds : List Round) → HandsOut (Honest (base_of w)) w rounds
+hands_honest w [] = tt
+hands_honest w (r ∷ rs) = (λ journal b. subst (λ now. IsTrueOf now (given_to w r journal)) (said_behind w journal b) (round_true w r journal), hands_honest w rs)
+
+pub hands_whole : (w : Setting) (rounds : List Round) → AreWhole rounds → HandsOut (Whole (base_of w)) w rounds
+hands_whole w [] h = tt
+hands_whole w (r ∷ rs) h = (λ journal b. subst (λ now. IsAllOf now (given_to w r journal)) (said_behind w journal b) (round_all w r journal h.0), hands_whole w rs h.1)
+
+-- ---- the headline
+
+pub run_begins : (s : Setup) (m : Meaning) (K : Knowledge) (journal : List Entry) → IsOneRun s m K journal → Begins journal
+run_begins s m K journal h = record { first = h.first; input = h.input; reads = h.reads; rest = h.rest; commands = h.begins }
+
+module _ (m : Meaning) (w : Setting) (rounds : List Round) (old : List (List ℕ)) (reports : List ReportView) (new : List (List ℕ)) (j : IsJournal old) (d : RoundsDo m w rounds old reports new) where
+  pub are_honest : Replays w.options → IsOneRun (setup_of w) m (Honest (base_of w)) (entries_of old) → AreHonest (setup_of w) m (Honest (base_of w)) (entries_of old) reports (entries_of new)
+  are_honest r h = rounds_honest (Honest (base_of w)) m w rounds old reports new r (hands_honest w rounds) j (run_begins (setup_of w) m (Honest (base_of w)) (entries_of old) h) d
+
+  pub stays_one_run : Replays w.options → IsOneRun (setup_of w) m (Honest (base_of w)) (entries_of old) → IsOneRun (setup_of w) m (Honest (base_of w)) (entries_of new)
+  stays_one_run r h = let a = are_honest r h in honest_rounds (setup_of w) m (base_of w) (entries_of old) a.attempts (entries_of new) (base_in_order w) h a.rounds
+
+  pub stays_history : Replays w.options → IsOneRun (setup_of w) m (Honest (base_of w)) (entries_of old) → History (setup_of w) m (base_of w) (entries_of new)
+  stays_history r h = run_is_history (setup_of w) m (base_of w) (entries_of new) (stays_one_run r h)
+
+  pub stays_undisturbed : Replays w.options → AreWhole rounds → IsOneRun (setup_of w) m (Whole (base_of w)) (entries_of old) → IsOneRun (setup_of w) m (Whole (base_of w)) (entries_of new)
+  stays_undisturbed r whole h =
+      let a = rounds_honest (Whole (base_of w)) m w rounds old reports new r (hands_whole w rounds whole) j (run_begins (setup_of w) m (Whole (base_of w)) (entries_of old) h) d in
+      whole_rounds (setup_of w) m (base_of w) (entries_of old) a.attempts (entries_of new) (base_in_order w) h a.rounds
+
+-- ---- one round more
+
+pub rounds_then : (m : Meaning) (w : Setting) (rs : List Round) (r : Round) (old : List (List ℕ)) (reports : List ReportView) (mid : List (List ℕ)) (report : ReportView) (new : List (List ℕ)) → RoundsDo m w rs old reports mid → RoundDoes m w r mid report new → RoundsDo m w (rs ++ r ∷ []) old (reports ++ report ∷ []) new
+rounds_then m w [] r old reports mid report new d one = (new, report, [], ap (λ l. l ++ report ∷ []) d.0, subst (λ x. RoundDoes m w r x report new) d.1 one, (refl, refl))
+rounds_then m w (q ∷ qs) r old reports mid report new (mid', report', more, is, first, rest) one =
+    (mid', report', more ++ report ∷ [], ap (λ l. l ++ report ∷ []) is, first, rounds_then m w qs r mid' more mid report new rest one)
+
+pub rounds_fail : (m : Meaning) (w : Setting) (rs : List Round) (r : Round) (others : List Round) (old : List (List ℕ)) (reports : List ReportView) (mid : List (List ℕ)) (f : RoundFault) → RoundsDo m w rs old reports mid → RoundFaults m w r mid f → RoundsFault m w (rs ++ r ∷ others) old f
+rounds_fail m w [] r others old reports mid f d h = inl (subst (λ x. RoundFaults m w r x f) d.1 h)
+rounds_fail m w (q ∷ qs) r others old reports mid f (mid', report', more, is, first, rest) h = inr (mid', report', first, rounds_fail m w qs r others mid' more mid f rest h)

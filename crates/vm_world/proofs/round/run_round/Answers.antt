@@ -1,0 +1,36 @@
+use Rattle.std.proofs.Common.{◌≡◌, ◌++◌, inr, subst}
+use Rattle.std.specs.List.{concat}
+use Rattle.journal_protocol.specs.Message.{encoding}
+use Rattle.vm_world.specs.Inside.{report_view}
+use Rattle.vm_world.specs.Rounds.{Ran, RefusedDoes, RoundDoes, new_now}
+use Rattle.vm_world.specs.Worlds.{IsJournal, start_message}
+use Rattle.vm_world.proofs.Beginning.{if_ok_then, round_does, round_short}
+use Rattle.vm_world.proofs.Rounding.{round_grows}
+use Rattle.vm_world.proofs.round.run_round.Goals as goal
+
+pub made_round-requires : goal.made_round-requires
+made_round-requires g c = record {
+  short = rw c.as_slice-in-Ok.ensures (round_short (g.H.Handler.meaning c.in-Ok.attempt.handler.now) c.args.setting.now c.args.round.now c.args.journal.items c.args.alloc c.in-Ok-waiting_bytes.waiting.items c.in-Ok.attempt.record_of c.requires.entries (rw c.as_slice.ensures.value at c.in-Ok-waiting_bytes.ensures.bytes) c.in-Ok.ensures.record);
+}
+
+pub returns-in-Err-clause-entries : goal.returns-in-Err-clause-entries
+returns-in-Err-clause-entries g c =
+    if_ok_then c.refused_round.result (λ a. RefusedDoes c.args.setting.now c.args.round.now c.args.journal.items (report_view a.1) a.0.items) (λ a. IsJournal a.0.items)
+    (λ a d. (round_grows (g.H.Handler.meaning c.args.handler.now) c.args.setting.now c.args.round.now c.args.journal.items (report_view a.1) a.0.items c.requires.entries (inr d)).journal)
+    c.refused_round.ensures.ok
+
+pub returns-in-Ok-waiting_bytes-clause-ok : goal.returns-in-Ok-waiting_bytes-clause-ok
+returns-in-Ok-waiting_bytes-clause-ok g c =
+    if_ok_then c.made_round.result (λ a. Ran (g.H.Handler.meaning c.in-Ok.attempt.handler.now) c.in-Ok.attempt.version c.in-Ok.attempt.options c.as_slice-in-Ok.result.now (new_now c.args.journal.items c.in-Ok-waiting_bytes.waiting.items c.in-Ok.attempt.record_of) (report_view a.1) a.0.items)
+    (λ a. RoundDoes (g.H.Handler.meaning c.args.handler.now) c.args.setting.now c.args.round.now c.args.journal.items (report_view a.1) a.0.items)
+    (λ a ran. subst (λ h. RoundDoes (g.H.Handler.meaning h) c.args.setting.now c.args.round.now c.args.journal.items (report_view a.1) a.0.items) c.in-Ok.ensures.handler
+    (round_does (g.H.Handler.meaning c.in-Ok.attempt.handler.now) c.args.setting.now c.args.round.now c.args.journal.items c.args.alloc c.in-Ok-waiting_bytes.waiting.items c.in-Ok.attempt.record_of c.in-Ok.attempt.version c.in-Ok.attempt.options (report_view a.1) a.0.items
+    (rw c.as_slice.ensures.value at c.in-Ok-waiting_bytes.ensures.whole) (rw c.as_slice.ensures.value at c.in-Ok-waiting_bytes.ensures.bytes) c.in-Ok.ensures.record c.in-Ok.ensures.made_for.0 c.in-Ok.ensures.made_for.1
+    (subst (λ es. Ran (g.H.Handler.meaning c.in-Ok.attempt.handler.now) c.in-Ok.attempt.version c.in-Ok.attempt.options es (new_now c.args.journal.items c.in-Ok-waiting_bytes.waiting.items c.in-Ok.attempt.record_of) (report_view a.1) a.0.items) c.as_slice-in-Ok.ensures ran)))
+    c.made_round.ensures.ok
+
+pub returns-in-Ok-waiting_bytes-clause-entries : goal.returns-in-Ok-waiting_bytes-clause-entries
+returns-in-Ok-waiting_bytes-clause-entries g c =
+    if_ok_then c.made_round.result (λ a. RoundDoes (g.H.Handler.meaning c.args.handler.now) c.args.setting.now c.args.round.now c.args.journal.items (report_view a.1) a.0.items) (λ a. IsJournal a.0.items)
+    (λ a d. (round_grows (g.H.Handler.meaning c.args.handler.now) c.args.setting.now c.args.round.now c.args.journal.items (report_view a.1) a.0.items c.requires.entries d).journal)
+    (returns-in-Ok-waiting_bytes-clause-ok g c)

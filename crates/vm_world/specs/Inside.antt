@@ -1,0 +1,13 @@
+-- What the fields of a round on its way say.
+use Rattle.vm_rounds.specs.Record.{Record}
+use Rattle.vm_world.specs.declared.desk.Desk.{Desk}
+use Rattle.vm_world.specs.declared.types.Report.{Report}
+use Rattle.vm_world.specs.Rounds.{Now, ReportView}
+
+-- a round on its way
+abbrev pub the_now : Desk → Record → Now
+the_now d r = record { journal = d.journal.items; waiting = d.waiting.items; attempt = r; output = d.output.items; unstored = d.unstored; closed = d.closed; error = d.error }
+
+-- a report
+abbrev pub report_view : Report → ReportView
+report_view r = record { answers = r.answers.items; output = r.output; error = r.error; entries = r.entries }

@@ -1,0 +1,254 @@
+-- What rounds do, event by event.
+use Rattle.std.specs.Prelude.{◌≡◌, ◌⊎◌, ℕ, ◌+◌, ◌<◌, ◌≤◌, Bool, true, false, List, [], ◌∷◌, ◌++◌, length, map, take, drop, Option, Some, None, Result, Ok, Err}
+use Rattle.std.proofs.Common.{Global}
+use Rattle.std.specs.List.{AllByRecursion, concat}
+use Rattle.std.specs.declared.alloc.AllocError.{AllocError}
+use Rattle.journal_protocol.specs.declared.error.Error.{Error}
+use Rattle.journal_protocol.specs.declared.version.Version.{Version}
+use Rattle.journal_protocol.specs.Errors.{no_memory}
+use Rattle.journal_protocol.specs.Message.{encoding}
+use Rattle.journal_protocol.specs.Runs.{IsWhole}
+use Rattle.vm_parts.specs.declared.options.JournalReplay.TheVariants.{Enabled}
+use Rattle.vm_parts.specs.declared.options.SignalDelivery.TheVariants.{Queued}
+use Rattle.vm_parts.specs.declared.options.VMOptions.{VMOptions}
+use Rattle.vm_parts.specs.declared.steps.Answer.{Answer}
+use Rattle.invocation_vm.specs.Making.{made, supported}
+use Rattle.vm_model.specs.Calls.{Meaning, Setup}
+use Rattle.vm_model.specs.Histories.{Knowledge, OneBegins, Told}
+use Rattle.vm_model.specs.HonestRounds.{Attempted, HonestRounds}
+use Rattle.vm_model.specs.Journal.{Entry, commands_in, input_read_from, notifications_in}
+use Rattle.vm_model.specs.Moves.{Point}
+use Rattle.journal_protocol.specs.declared.commands.InputCommand.{InputCommand}
+use Rattle.journal_protocol.specs.declared.message.RawMessage.{RawMessage}
+use Rattle.vm_rounds.specs.declared.progress.Progress.{Progress}
+use Rattle.vm_rounds.specs.Record.{Record}
+use Rattle.vm_rounds.specs.Told.{AnswersAreTold, Premises, arrivals_of, written_by}
+use Rattle.vm_rounds.specs.Stepping.{CloseDoes, FeedDoes, StepDoes, fresh_record, taken_from}
+use Rattle.vm_world.specs.declared.types.Event.{Event}
+use Rattle.vm_world.specs.declared.types.Event.TheVariants as event
+use Rattle.vm_world.specs.declared.types.Round.{Round}
+use Rattle.vm_world.specs.declared.types.RoundFault.{RoundFault}
+use Rattle.vm_world.specs.declared.types.RoundFault.TheVariants as round_fault
+use Rattle.vm_world.specs.declared.types.Setting.{Setting}
+use Rattle.vm_world.specs.Arrivals.{arrival_fault, most}
+use Rattle.vm_world.specs.Entries.{entries_of}
+use Rattle.vm_world.specs.Storing.{Stores, commands_from}
+use Rattle.vm_world.specs.Worlds.{start_message}
+
+-- ---- a round on its way
+
+-- The journal, the bytes that wait, the attempt, all output that was taken, its bytes that weren't looked at for storing, whether
+-- the input was closed, and the first error.
+pub record Now : Type 0 where
+  pub journal : List (List ℕ)
+  pub waiting : List ℕ
+  pub attempt : Record
+  pub output : List ℕ
+  pub unstored : List ℕ
+  pub closed : Bool
+  pub error : Option Error
+
+-- the first error stays
+abbrev pub first_error : Option Error → Option Error → Option Error
+first_error (Some e) next = Some e
+first_error None next = next
+
+-- what a step answers as an error
+abbrev pub error_of : {A : Type 0} → Result A Error → Option Error
+error_of (Ok x) = None
+error_of (Err e) = Some e
+
+-- what feeding and closing answer as an error
+abbrev pub memory_of : Result Unit AllocError → Option Error
+memory_of (Ok x) = None
+memory_of (Err e) = Some no_memory
+
+-- ---- events
+
+-- a piece of what waits is fed, none once the input was closed
+abbrev pub Pieces : Bool → ℕ → Now → Now → Type 0
+Pieces true n old new = new ≡ old
+Pieces false n old new =
+    (result : Result Unit AllocError) × (r : Record) × FeedDoes old.attempt.starved (take n old.waiting) old.attempt result r
+    × (new ≡ record old { waiting = drop n old.waiting; attempt = r; error = first_error old.error (memory_of result) })
+
+-- what an event does
+abbrev pub Happens : Meaning → Event → Now → Now → Type 0
+Happens m (event.Piece n) old new = Pieces old.closed n old new
+Happens m event.Close old new =
+    (result : Result Unit AllocError) × (r : Record) × CloseDoes old.attempt.starved old.attempt result r
+    × (new ≡ record old { attempt = r; closed = true; error = first_error old.error (memory_of result) })
+Happens m event.Step old new =
+    (result : Result Progress Error) × (r : Record) × StepDoes m old.attempt result r
+    × (new ≡ record old { attempt = r; error = first_error old.error (error_of result) })
+Happens m (event.Arrive x) old new =
+    (arrival_fault x old.journal ≡ None) × (new ≡ record old { journal = old.journal ++ x ∷ []; waiting = old.waiting ++ x })
+Happens m (event.Store n) old new =
+    (journal : List (List ℕ)) × (unstored : List ℕ) × Stores n old.journal (old.unstored ++ concat old.attempt.vm.machine.output) journal unstored
+    × (new ≡ record old { journal = journal; output = old.output ++ concat old.attempt.vm.machine.output; unstored = unstored; attempt = taken_from old.attempt })
+
+-- an event's fault, but for want of memory
+abbrev pub Fault : Event → Now → RoundFault → Type 0
+Fault (event.Piece n) now f = ⊥
+Fault event.Close now f = ⊥
+Fault event.Step now f = ⊥
+Fault (event.Arrive x) now f = arrival_fault x now.journal ≡ Some f
+Fault (event.Store n) now f =
+    (f ≡ round_fault.JournalFull) × (most < length now.journal + length (take n (commands_from (now.unstored ++ concat now.attempt.vm.machine.output))))
+
+-- an event's fault
+abbrev pub Faults : Event → Now → RoundFault → Type 0
+Faults e now f = (f ≡ round_fault.Memory) ⊎ Fault e now f
+
+-- what one event does, or its fault
+abbrev pub Outcome : Meaning → Event → Now → Result Unit RoundFault → Now → Type 0
+Outcome m e old (Ok u) new = Happens m e old new
+Outcome m e old (Err f) new = Faults e old f
+
+-- events, one after another
+abbrev pub Happen : Meaning → List Event → Now → Now → Type 0
+Happen m [] old new = new ≡ old
+Happen m (e ∷ es) old new = (mid : Now) × Happens m e old mid × Happen m es mid new
+
+-- the first of these events that has a fault has this one
+abbrev pub HappenFaults : Meaning → List Event → Now → RoundFault → Type 0
+HappenFaults m [] now f = ⊥
+HappenFaults m (e ∷ es) now f = Faults e now f ⊎ ((mid : Now) × Happens m e now mid × HappenFaults m es mid f)
+
+-- ---- rounds whose attempt was refused
+
+-- the arrivals are stored, and nothing else happens
+abbrev pub ArrivalsDo : List Event → List (List ℕ) → List (List ℕ) → Type 0
+ArrivalsDo [] old new = new ≡ old
+ArrivalsDo (event.Arrive x ∷ es) old new = (arrival_fault x old ≡ None) × ArrivalsDo es (old ++ x ∷ []) new
+ArrivalsDo (e ∷ es) old new = ArrivalsDo es old new
+
+-- the first of the arrivals that has a fault has this one
+abbrev pub ArrivalsFault : List Event → List (List ℕ) → RoundFault → Type 0
+ArrivalsFault [] journal f = ⊥
+ArrivalsFault (event.Arrive x ∷ es) journal f =
+    ((f ≡ round_fault.Memory) ⊎ (arrival_fault x journal ≡ Some f)) ⊎ ((arrival_fault x journal ≡ None) × ArrivalsFault es (journal ++ x ∷ []) f)
+ArrivalsFault (e ∷ es) journal f = ArrivalsFault es journal f
+
+-- why no attempt was made: its version isn't supported, or want of memory
+abbrev pub IsRefusal : Result Version Error → Error → Type 0
+IsRefusal (Ok version) e = e ≡ no_memory
+IsRefusal (Err refusal) e = e ≡ refusal
+
+-- ---- rounds
+
+-- what a round tells
+pub record ReportView : Type 0 where
+  pub answers : List Answer
+  pub output : List ℕ
+  pub error : Option Error
+  pub entries : ℕ
+
+-- what is told of a round with its attempt
+abbrev pub report_of : Now → ReportView
+report_of now = record { answers = now.attempt.answers; output = now.output ++ concat now.attempt.vm.machine.output; error = now.error; entries = length now.journal }
+
+-- what is told of a round whose attempt was refused
+abbrev pub refused_report : Error → List (List ℕ) → ReportView
+refused_report e journal = record { answers = []; output = []; error = Some e; entries = length journal }
+
+-- What an attempt's own contract tells of it at the end of its round: before its input it has written no command; and under the
+-- premises its journal, with what it wrote, tells its answers.
+pub record EndsTold (m : Meaning) (version : Version) (options : VMOptions) (r : Record) : Type 0 where
+  pub begins : r.answers ≡ [] → written_by r ≡ []
+  pub told : Premises options (arrivals_of r.fed) → (r.answers ≡ []) ⊎ AnswersAreTold m version options r
+
+-- a round begins with this attempt, and these bytes wait
+abbrev pub new_now : List (List ℕ) → List ℕ → Record → Now
+new_now journal waiting r = record { journal = journal; waiting = waiting; attempt = r; output = []; unstored = []; closed = false; error = None }
+
+-- a round begins with a new attempt, and its Start and the whole journal wait
+abbrev pub begin : Global → Setting → Round → List (List ℕ) → Now
+begin alloc w round journal = new_now journal (encoding (start_message w round journal) ++ concat journal) (fresh_record (made alloc w.options w.version))
+
+-- no event lets the journal have more entries than may be
+abbrev pub IsShort : Meaning → List Event → Now → Type 0
+IsShort m events now = (end : Now) → Happen m events now end → length end.journal ≤ most
+
+-- Events that come to an end leave this journal, and tell this report.
+pub record Ran (m : Meaning) (version : Version) (options : VMOptions) (events : List Event) (begun : Now) (report : ReportView) (new : List (List ℕ)) : Type 0 where
+  pub now : Now
+  pub happen : Happen m events begun now
+  pub ends : EndsTold m version options now.attempt
+  pub told : report ≡ report_of now
+  pub left : new ≡ now.journal
+
+-- A round with its attempt leaves this journal and tells this report.
+pub record AttemptDoes (m : Meaning) (w : Setting) (round : Round) (old : List (List ℕ)) (report : ReportView) (new : List (List ℕ)) : Type 0 where
+  pub alloc : Global
+  pub start : IsWhole (start_message w round old)
+  pub ran : Ran m w.version w.options round.events (begin alloc w round old) report new
+
+-- A round whose attempt was refused leaves this journal and tells this report.
+pub record RefusedDoes (w : Setting) (round : Round) (old : List (List ℕ)) (report : ReportView) (new : List (List ℕ)) : Type 0 where
+  pub error : Error
+  pub refusal : IsRefusal (supported w.version) error
+  pub arrivals : ArrivalsDo round.events old new
+  pub told : report ≡ refused_report error new
+
+-- what a round does
+abbrev pub RoundDoes : Meaning → Setting → Round → List (List ℕ) → ReportView → List (List ℕ) → Type 0
+RoundDoes m w round old report new = AttemptDoes m w round old report new ⊎ RefusedDoes w round old report new
+
+-- rounds, one after another
+abbrev pub RoundsDo : Meaning → Setting → List Round → List (List ℕ) → List ReportView → List (List ℕ) → Type 0
+RoundsDo m w [] old reports new = (reports ≡ []) × (new ≡ old)
+RoundsDo m w (r ∷ rs) old reports new =
+    (mid : List (List ℕ)) × (report : ReportView) × (more : List ReportView)
+    × (reports ≡ report ∷ more) × RoundDoes m w r old report mid × RoundsDo m w rs mid more new
+
+-- the first event of a round with its attempt that has a fault has this one
+pub record AttemptFaults (m : Meaning) (w : Setting) (round : Round) (old : List (List ℕ)) (f : RoundFault) : Type 0 where
+  pub alloc : Global
+  pub faults : HappenFaults m round.events (begin alloc w round old) f
+
+-- the first arrival of a round whose attempt was refused that has a fault has this one
+pub record RefusedFaults (w : Setting) (round : Round) (old : List (List ℕ)) (f : RoundFault) : Type 0 where
+  pub error : Error
+  pub refusal : IsRefusal (supported w.version) error
+  pub faults : ArrivalsFault round.events old f
+
+-- a round's fault: want of memory, or that of the first event that has one
+abbrev pub RoundFaults : Meaning → Setting → Round → List (List ℕ) → RoundFault → Type 0
+RoundFaults m w round old f = (f ≡ round_fault.Memory) ⊎ (AttemptFaults m w round old f ⊎ RefusedFaults w round old f)
+
+-- the first round that has a fault has this one
+abbrev pub RoundsFault : Meaning → Setting → List Round → List (List ℕ) → RoundFault → Type 0
+RoundsFault m w [] old f = f ≡ round_fault.Memory
+RoundsFault m w (r ∷ rs) old f =
+    RoundFaults m w r old f
+    ⊎ ((mid : List (List ℕ)) × (report : ReportView) × RoundDoes m w r old report mid × RoundsFault m w rs mid f)
+
+-- ---- what is asked for histories
+
+-- recorded commands are replayed, and signals queue
+pub record Replays (options : VMOptions) : Type 0 where
+  pub replays : options.journal_replay ≡ Enabled
+  pub queues : options.signal_delivery ≡ Queued
+
+-- no round is partial
+abbrev pub AreWhole : List Round → Type 0
+AreWhole rounds = AllByRecursion (λ r. r.partial ≡ false) rounds
+
+-- Rounds are honest ones: those of attempts with the answers that are reported, each told by its journal and handed so much of
+-- the state.
+pub record AreHonest (s : Setup) (m : Meaning) (Knows : Knowledge) (before : List Entry) (reports : List ReportView) (after : List Entry) : Type 0 where
+  pub attempts : List Attempted
+  pub answers : map (λ (a : Attempted). a.answers) attempts ≡ map (λ (r : ReportView). r.answers) reports
+  pub rounds : HonestRounds s m Knows before attempts after
+
+-- What a journal told, and the answers of these reports: one begins the other.
+abbrev pub TellsAlong : Setup → Meaning → List Entry → List ReportView → Type 0
+TellsAlong s m journal reports =
+    (first : RawMessage) (input : InputCommand) (rest : List RawMessage) (p : Point) → commands_in journal ≡ first ∷ rest → input_read_from first ≡ Some input → Told s m input (notifications_in journal) rest p
+    → AllByRecursion (λ r. OneBegins p.answers r.answers) reports
+
+-- what the last journal told when each report was made, as far as its entries count, and the answers of all later reports
+abbrev pub Agree : Setup → Meaning → List (List ℕ) → List ReportView → Type 0
+Agree s m journal [] = Unit {0}
+Agree s m journal (r ∷ rs) = TellsAlong s m (entries_of (take r.entries journal)) rs × Agree s m journal rs

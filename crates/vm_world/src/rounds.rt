@@ -1,0 +1,79 @@
+//! Rounds of a handler over a world's journal, one after another.
+ghost use Rattle.std.specs.Prelude.{◌≡◌, ◌∷◌, [], ◌++◌, map, IfOk, IfErr, if◌then◌else◌};
+ghost use Rattle.vm_model.specs.Histories.{History, Honest, IsPrefix, Whole};
+ghost use Rattle.vm_model.specs.HonestRounds.{IsOneRun};
+ghost use Rattle.vm_world.specs.Entries.{entries_of};
+ghost use Rattle.vm_world.specs.Inside.{report_view};
+ghost use Rattle.vm_world.specs.Rounds.{Agree, AreHonest, AreWhole, Replays, RoundsDo, RoundsFault};
+ghost use Rattle.vm_world.specs.States.{base_of};
+ghost use Rattle.vm_world.specs.Worlds.{setup_of};
+
+use crate::round::run_round;
+use crate::types::{Report, Round, RoundFault};
+use crate::world::World;
+use vm_rounds::Handler;
+
+/// Keeps a report, if there is memory.
+fn keep_report(reports: &mut Vec<Report>, report: Report) -> bool
+    ensures { map report_view reports.new.items ≡ (if result then map report_view reports.old.items ++ report_view report ∷ [] else map report_view reports.old.items) }
+{
+    reports.push(report).is_ok()
+}
+
+/// Rounds of a handler over a world's journal, one after another, each with a report. The first event that has a fault stops
+/// them, and the world is gone.
+pub fn run_rounds<H: Handler>(
+    handler: &H,
+    world: World,
+    rounds: &[Round],
+) -> Result<(World, Vec<Report>), RoundFault>
+    // Each event does to its round's attempt and to the journal what it says, and the reports tell it.
+    ensures ok { IfOk result (λ r. RoundsDo (H.meaning handler.now) world.setting rounds.now world.journal (map report_view r.1.items) r.0.journal) }
+    ensures setting { IfOk result (λ r. r.0.setting ≡ world.setting) }
+    // A fault is that of the first event that has one, the least of several; or it is want of memory.
+    ensures err { IfErr result (λ f. RoundsFault (H.meaning handler.now) world.setting rounds.now world.journal f) }
+    // The journal begins with the old one.
+    ensures extends { IfOk result (λ r. IsPrefix world.journal r.0.journal) }
+    // Where recorded commands are replayed and signals queue: the rounds are honest ones, whose attempts are told, if one run of the
+    // handler made the journal.
+    ensures honest { IfOk result (λ r. Replays world.setting.options → IsOneRun (setup_of world.setting) (H.meaning handler.now) (Honest (base_of world.setting)) (entries_of world.journal)
+        → AreHonest (setup_of world.setting) (H.meaning handler.now) (Honest (base_of world.setting)) (entries_of world.journal) (map report_view r.1.items) (entries_of r.0.journal)) }
+    // Then one run of it makes the new journal, each command once.
+    ensures one_run { IfOk result (λ r. Replays world.setting.options → IsOneRun (setup_of world.setting) (H.meaning handler.now) (Honest (base_of world.setting)) (entries_of world.journal)
+        → IsOneRun (setup_of world.setting) (H.meaning handler.now) (Honest (base_of world.setting)) (entries_of r.0.journal)) }
+    // And that is a history of the handler.
+    ensures history { IfOk result (λ r. Replays world.setting.options → IsOneRun (setup_of world.setting) (H.meaning handler.now) (Honest (base_of world.setting)) (entries_of world.journal)
+        → History (setup_of world.setting) (H.meaning handler.now) (base_of world.setting) (entries_of r.0.journal)) }
+    // Where no round is partial, the commands stay those of an undisturbed run: where the rounds stopped leaves no trace.
+    ensures undisturbed { IfOk result (λ r. Replays world.setting.options → AreWhole rounds.now → IsOneRun (setup_of world.setting) (H.meaning handler.now) (Whole (base_of world.setting)) (entries_of world.journal)
+        → IsOneRun (setup_of world.setting) (H.meaning handler.now) (Whole (base_of world.setting)) (entries_of r.0.journal)) }
+    // Of what the journal of an earlier report tells and the answers of a later one, one begins the other.
+    ensures agree { IfOk result (λ r. Replays world.setting.options → IsOneRun (setup_of world.setting) (H.meaning handler.now) (Honest (base_of world.setting)) (entries_of world.journal)
+        → Agree (setup_of world.setting) (H.meaning handler.now) r.0.journal (map report_view r.1.items)) }
+{
+    let World {
+        alloc,
+        setting,
+        mut journal,
+    } = world;
+    let mut reports = Vec::new(alloc);
+    for round in rounds {
+        match run_round(alloc, &setting, handler, journal, round) {
+            Err(fault) => return Err(fault),
+            Ok((next, report)) => {
+                journal = next;
+                if !keep_report(&mut reports, report) {
+                    return Err(RoundFault::Memory);
+                }
+            }
+        }
+    }
+    Ok((
+        World {
+            alloc,
+            setting,
+            journal,
+        },
+        reports,
+    ))
+}

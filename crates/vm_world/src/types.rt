@@ -1,0 +1,86 @@
+//! What a world and its rounds are made of, and what rounds tell.
+
+use bytes::Bytes;
+use journal_protocol::{Error, Version};
+use vm_parts::{Answer, VMOptions};
+use wire::{Items, Text};
+
+/// What stays the same over all attempts of an invocation.
+#[derive(Drop, Clone)]
+pub struct Identity {
+    pub id: Bytes,
+    pub debug_id: Text,
+    pub key: Text,
+    pub random_seed: u64,
+    pub scope: Option<Text>,
+    pub limit_key: Option<Text>,
+    pub idempotency_key: Option<Text>,
+}
+
+/// What all attempts of a world are made with.
+#[derive(Drop)]
+pub struct Setting {
+    pub identity: Identity,
+    pub options: VMOptions,
+    pub version: Version,
+    /// The state before any command, as keys with their values; of several pairs of one key the last counts.
+    pub base: Items<(Text, Bytes)>,
+}
+
+/// What happens in a round.
+#[derive(Drop)]
+pub enum Event {
+    /// The next bytes that wait are fed, or all where there are fewer; none once the input was closed.
+    Piece(usize),
+    /// The input is closed.
+    Close,
+    /// The attempt makes a step.
+    Step,
+    /// A notification, as one frame, is stored and waits.
+    Arrive(Bytes),
+    /// The next commands that were written are stored, or all where there are fewer.
+    Store(usize),
+}
+
+/// One attempt, and what happens to it.
+#[derive(Drop)]
+pub struct Round {
+    /// Only the values of `keys` are handed out.
+    pub partial: bool,
+    pub keys: Items<Text>,
+    pub retry_count: u32,
+    /// In ms, since the invocation's first attempt.
+    pub duration: u64,
+    pub events: Items<Event>,
+}
+
+/// What a round tells.
+#[derive(Drop)]
+pub struct Report {
+    pub answers: Vec<Answer>,
+    /// All that the attempt has sent.
+    pub output: Bytes,
+    /// The first error that an event answered, or that of an attempt that was not made.
+    pub error: Option<Error>,
+    /// The journal's length after the round.
+    pub entries: u32,
+}
+
+/// Why rounds stopped: the first event that has a fault has this one, of several the first in this list.
+#[derive(Clone, Copy, Debug, PartialEq, Eq)]
+pub enum RoundFault {
+    /// An arrival isn't one whole frame of a notification.
+    NotANotification = 1,
+    /// No stored command carries the completion id that an arrival completes.
+    NoSuchId = 2,
+    /// A completion id is completed once more.
+    SecondCompletion = 3,
+    /// The id of an invocation is completed by something else.
+    WrongKind = 4,
+    /// The result of a run arrives; it is proposed by the attempt that ran it.
+    RunIsProposed = 5,
+    /// There is no memory.
+    Memory = 6,
+    /// The journal has `u32::MAX` entries.
+    JournalFull = 7,
+}

@@ -1,0 +1,131 @@
+//! `World`: whose invocation it is, and its journal.
+ghost use Rattle.std.specs.Prelude.{◌≡◌, [], ◌∷◌, IfOk, OnOk};
+ghost use Rattle.journal_protocol.specs.Message.{encoding};
+ghost use Rattle.journal_protocol.specs.Runs.{IsWhole};
+ghost use Rattle.journal_protocol.specs.declared.message.Message.TheVariants as message;
+ghost use Rattle.vm_world.specs.Worlds.{pairs_given};
+
+use crate::types::{Identity, RoundFault, Setting};
+use bytes::Bytes;
+use journal_protocol::{Encoder, InputCommand, Message, Version};
+use std::alloc::{AllocError, Global};
+use std::marker::Model;
+use vm_parts::VMOptions;
+use wire::{Items, Text};
+
+/// An invocation: what all its attempts are made with, and the journal, one frame an entry.
+#[derive(Drop)]
+pub struct World {
+    pub(crate) alloc: Global,
+    pub(crate) setting: Setting,
+    pub(crate) journal: Vec<Bytes>,
+}
+
+impl Model for World {
+    ghost use Rattle.vm_world.specs.Worlds.{IsJournal, WorldView};
+
+    ghost Value = { WorldView };
+
+    ghost view = { λ a. record { setting = a.setting; journal = a.journal.items } };
+
+    ghost invariant = { λ a. IsJournal a.journal.items };
+}
+
+/// The frame of an Input command.
+fn input_bytes(alloc: Global, input: Bytes) -> Result<Bytes, AllocError>
+    ensures bytes { IfOk result (λ b. b ≡ encoding (message.Input (record { headers = []; value = input }))) }
+    ensures whole { OnOk result (IsWhole (message.Input (record { headers = []; value = input }))) }
+{
+    let message = Message::Input(InputCommand {
+        headers: Items::new(alloc),
+        value: input,
+    });
+    Encoder::new(alloc).encode(&message)
+}
+
+/// A journal of one frame.
+fn one_entry(alloc: Global, frame: Bytes) -> Result<Vec<Bytes>, AllocError>
+    ensures { IfOk result (λ j. j.items ≡ frame ∷ []) }
+{
+    let mut journal = Vec::new(alloc);
+    journal.push(frame)?;
+    Ok(journal)
+}
+
+/// The journal of a new world.
+fn first_journal(alloc: Global, input: Bytes) -> Result<Vec<Bytes>, AllocError>
+    ensures bytes { IfOk result (λ j. j.items ≡ encoding (message.Input (record { headers = []; value = input })) ∷ []) }
+    ensures whole { OnOk result (IsWhole (message.Input (record { headers = []; value = input }))) }
+{
+    match input_bytes(alloc, input) {
+        Ok(frame) => one_entry(alloc, frame),
+        Err(error) => Err(error),
+    }
+}
+
+/// Keys and values as contracts see them.
+fn base_pairs(
+    alloc: Global,
+    state: Vec<(String, Bytes)>,
+) -> Result<Items<(Text, Bytes)>, AllocError>
+    ensures { IfOk result (λ base. base ≡ pairs_given state.items) }
+{
+    let mut base = Items::new(alloc);
+    for (key, value) in state {
+        base.push((Text::from_string(key), value))?;
+    }
+    Ok(base)
+}
+
+impl World {
+    ghost use Rattle.std.specs.Prelude.{◌≡◌, [], ◌∷◌, IfOk, IfErr};
+    ghost use Rattle.vm_model.specs.Calls.{Meaning};
+    ghost use Rattle.vm_model.specs.Histories.{Honest, Whole};
+    ghost use Rattle.vm_model.specs.HonestRounds.{IsOneRun};
+    ghost use Rattle.vm_world.specs.Entries.{entries_of};
+    ghost use Rattle.vm_world.specs.States.{base_of};
+    ghost use Rattle.vm_world.specs.Worlds.{setup_of};
+    ghost use Rattle.vm_world.specs.declared.types.RoundFault.TheVariants as round_fault;
+
+    /// A world whose journal is one Input command, with this state before any command; of several pairs of one key the last
+    /// counts.
+    pub fn new(
+        alloc: Global,
+        identity: Identity,
+        options: VMOptions,
+        version: Version,
+        input: Bytes,
+        state: Vec<(String, Bytes)>,
+    ) -> Result<World, RoundFault>
+        ensures setting { IfOk result (λ w. w.setting ≡ record { identity = identity; options = options; version = version; base = pairs_given state.items }) }
+        ensures journal { IfOk result (λ w. w.journal ≡ encoding (message.Input (record { headers = []; value = input })) ∷ []) }
+        ensures err { IfErr result (λ f. f ≡ round_fault.Memory) }
+        // For every handler one run made the journal, whatever its calls know of the state.
+        ensures one_run { IfOk result (λ w. (m : Meaning) → IsOneRun (setup_of w.setting) m (Honest (base_of w.setting)) (entries_of w.journal)) }
+        ensures undisturbed { IfOk result (λ w. (m : Meaning) → IsOneRun (setup_of w.setting) m (Whole (base_of w.setting)) (entries_of w.journal)) }
+    {
+        let Ok(journal) = first_journal(alloc, input) else {
+            return Err(RoundFault::Memory);
+        };
+        let Ok(base) = base_pairs(alloc, state) else {
+            return Err(RoundFault::Memory);
+        };
+        Ok(World {
+            alloc,
+            setting: Setting {
+                identity,
+                options,
+                version,
+                base,
+            },
+            journal,
+        })
+    }
+
+    /// The journal, one frame an entry.
+    pub fn journal(&self) -> &[Bytes]
+        ensures { result.now ≡ self.now.journal }
+    {
+        self.journal.as_slice()
+    }
+}
