@@ -1,0 +1,102 @@
+// What the tests of rounds share: worlds of the invocation "abc" in version 7, rounds as constants, and what they leave.
+use bytes::Bytes;
+use invocation_vm::{VMOptions, Version};
+use std::alloc::{AllocError, Global};
+use std::process::Abort;
+use std::test::Fail;
+use vm_rounds::Handler;
+use vm_world::{Event, Identity, Report, Round, RoundFault, World, run_rounds};
+use wire::{Items, Text};
+
+/// What happens in a round.
+#[derive(Clone, Copy, Debug)]
+pub enum Happens {
+    /// All that waits is fed.
+    Feed,
+    Close,
+    Step,
+    Arrive(&'static [u8]),
+    Store(usize),
+}
+
+fn event(happens: Happens) -> Event {
+    match happens {
+        Happens::Feed => Event::Piece(usize::MAX),
+        Happens::Close => Event::Close,
+        Happens::Step => Event::Step,
+        Happens::Arrive(frame) => Event::Arrive(Bytes::from_static(frame)),
+        Happens::Store(n) => Event::Store(n),
+    }
+}
+
+fn identity(alloc: Global) -> Result<Identity, AllocError> {
+    Ok(Identity {
+        id: Bytes::from_static(b"abc"),
+        debug_id: Text::from_str(alloc, "abc")?,
+        key: Text::from_string(String::new(alloc)),
+        random_seed: 0,
+        scope: None,
+        limit_key: None,
+        idempotency_key: None,
+    })
+}
+
+/// A new world with the input "Till" and this state.
+pub fn world(alloc: Global, state: Vec<(String, Bytes)>) -> Result<World, Fail> {
+    let identity = identity(alloc)?;
+    let input = Bytes::from_static(b"Till");
+    let made = World::new(
+        alloc,
+        identity,
+        VMOptions::default(),
+        Version::V7,
+        input,
+        state,
+    );
+    Ok(made.ok().ok_or("no world")?)
+}
+
+/// A round in which this happens, one after another; the whole state is handed out.
+pub fn round(alloc: Global, events: &[Happens]) -> Result<Round, AllocError> {
+    let mut items = Items::new(alloc);
+    for happens in events {
+        items.push(event(*happens))?;
+    }
+    Ok(Round {
+        partial: false,
+        keys: Items::new(alloc),
+        retry_count: 0,
+        duration: 0,
+        events: items,
+    })
+}
+
+/// Rounds in which this happens.
+pub fn rounds(alloc: Global, all: &[&[Happens]]) -> Result<Vec<Round>, AllocError> {
+    let mut rounds = Vec::new(alloc);
+    for events in all {
+        rounds.push(round(alloc, *events)?)?;
+    }
+    Ok(rounds)
+}
+
+/// The world and the reports behind these rounds of a new world, or the fault that stopped them.
+pub fn played<H: Handler>(
+    alloc: Global,
+    handler: &H,
+    state: Vec<(String, Bytes)>,
+    all: &[&[Happens]],
+) -> Result<Result<(World, Vec<Report>), RoundFault>, Fail> {
+    let world = world(alloc, state)?;
+    let rounds = rounds(alloc, all)?;
+    Ok(run_rounds(handler, world, rounds.as_slice()))
+}
+
+/// The journal has these entries.
+pub fn assert_journal(rt: &impl Abort, world: &World, wanted: &[&[u8]]) {
+    let journal = world.journal();
+    assert_eq!(rt; journal.len(), wanted.len());
+    for (entry, frame) in journal.iter().zip(wanted) {
+        assert_eq!(rt; entry.as_slice(), *frame);
+    }
+}
