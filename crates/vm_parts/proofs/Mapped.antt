@@ -144,6 +144,11 @@ pub live_push : (xs : List Held) (x : Held) → live (xs ++ x ∷ []) ≡ live x
 live_push [] x = refl
 live_push (y ∷ ys) x = ap (mapping_if y.handle y.id) (live_push ys x) ∙ mapping_append y.handle y.id (live ys) (mapping_if x.handle x.id [])
 
+pub under_at : (h : ℕ) (xs : List Held) → AllUnder xs h → (i : ℕ) (d : Held) → i < length xs → (get_or xs i d).handle < h
+under_at h [] a i d l = absurd (omega arith)
+under_at h (x ∷ xs) a zero d l = a.0
+under_at h (x ∷ xs) a (suc i) d l = under_at h xs a.1 i d (omega arith)
+
 pub last_under : (h : ℕ) (xs : List Held) (n : ℕ) (d : Held) → suc n ≡ length xs → Ascend xs → (get_or xs n d).handle < h → AllUnder xs h
 last_under h [] n d e a l = tt
 last_under h (x ∷ []) zero d e a l = (l, tt)

@@ -69,7 +69,8 @@ fn find_mapped(mappings: &[Mapping], handle: u32) -> Option<&NotificationId>
 /// Whether a handle is greater than all these.
 fn is_above(held: &[Held], handle: u32) -> bool
     requires { Ascend held.now }
-    ensures { result ≡ true → AllUnder held.now handle }
+    ensures above { result ≡ true → AllUnder held.now handle }
+    ensures wherever { AllUnder held.now handle → result ≡ true }
 {
     match held.last() {
         None => true,

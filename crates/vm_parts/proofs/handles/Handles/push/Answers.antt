@@ -11,7 +11,7 @@ invariant_of-self-2 c =
     let s = c.self.inside in
     let x : Held = record { handle = c.args.mapping.handle; id = Some c.args.mapping.id } in
     let above : c.is_above.result ≡ true = cc in
-    let under : AllUnder s.ascending.items c.args.mapping.handle = rw (← c.deref.ensures.value) (c.is_above.ensures above) in
+    let under : AllUnder s.ascending.items c.args.mapping.handle = rw (← c.deref.ensures.value) (c.is_above.ensures.above above) in
     let h : Ascend c.push-2.new.self.items = rw c.in_ok-push-2.ensures.items (ascend_push s.ascending.items x c.self.invariant under) in
     h
 
