@@ -1,11 +1,10 @@
 -- What an earlier report's journal tells, and the answers of later reports.
-use Rattle.std.proofs.Common.{◌≡◌, ℕ, List, [], ◌∷◌, ◌++◌, length, take, Some, refl, sym, ap, ◌∙◌, subst, append_assoc, append-nil, inl, inr}
+use Rattle.std.proofs.Common.{◌≡◌, ℕ, List, [], ◌∷◌, ◌++◌, length, take, Some, sym, ap, ◌∙◌, subst, append_assoc, append-nil, inl, inr}
 use Rattle.std.specs.List.{AllByRecursion}
 use Rattle.std.proofs.Math.Seq.{take-append_seam}
 use Rattle.std.proofs.lemmas.Option.{same_Some}
 use Rattle.journal_protocol.specs.declared.commands.InputCommand.{InputCommand}
 use Rattle.journal_protocol.specs.declared.message.RawMessage.{RawMessage}
-use Rattle.vm_parts.specs.declared.steps.Answer.{Answer}
 use Rattle.vm_model.specs.Calls.{Meaning, Setup}
 use Rattle.vm_model.specs.Journal.{Entry, commands_in, notifications_in, input_read_from}
 use Rattle.vm_model.specs.Moves.{Point}
@@ -19,8 +18,8 @@ use Rattle.vm_world.specs.declared.types.Setting.{Setting}
 use Rattle.vm_world.specs.Entries.{entries_of}
 use Rattle.vm_world.specs.Rounds.{Agree, Replays, ReportView, RoundDoes, RoundsDo, TellsAlong}
 use Rattle.vm_world.specs.Worlds.{IsJournal, setup_of}
-use Rattle.vm_world.proofs.Headline.{Begins, IsHonest}
-use Rattle.vm_world.proofs.Rounding.{Grows, begins_on, entries_grow, given_to, round_grows, round_honest, rounds_grow}
+use Rattle.vm_world.proofs.Headline.{Begins}
+use Rattle.vm_world.proofs.Rounding.{begins_on, entries_grow, round_grows, round_honest, rounds_grow}
 
 -- an attempt over a journal that has grown, and what the journal told before
 attempt_along : (s : Setup) (m : Meaning) (before more now : List Entry) (a : Attempted) → now ≡ before ++ more → (t : IsToldOn s m now a) (after : List Entry) → HonestRound now a.arrivals a.written after

@@ -1,5 +1,5 @@
 -- What a round does, from what its parts did.
-use Rattle.std.proofs.Common.{◌≡◌, ◌⊎◌, inl, inr, ⊎_elim, ℕ, List, ◌++◌, refl, sym, ap, ◌∙◌, subst, Global, Result, Ok, Err, IfOk}
+use Rattle.std.proofs.Common.{◌≡◌, ◌⊎◌, inl, inr, ⊎_elim, ℕ, List, ◌++◌, refl, sym, subst, Global, Result, Ok, Err, IfOk}
 use Rattle.std.specs.List.{concat}
 use Rattle.journal_protocol.specs.declared.version.Version.{Version}
 use Rattle.journal_protocol.specs.Message.{encoding}
@@ -9,12 +9,11 @@ use Rattle.vm_parts.specs.declared.options.VMOptions.{VMOptions}
 use Rattle.vm_model.specs.Calls.{Meaning}
 use Rattle.vm_rounds.specs.Record.{Record}
 use Rattle.vm_rounds.specs.Stepping.{fresh_record}
-use Rattle.vm_world.specs.declared.types.Event.{Event}
 use Rattle.vm_world.specs.declared.types.Round.{Round}
 use Rattle.vm_world.specs.declared.types.RoundFault.{RoundFault}
 use Rattle.vm_world.specs.declared.types.RoundFault.TheVariants as round_fault
 use Rattle.vm_world.specs.declared.types.Setting.{Setting}
-use Rattle.vm_world.specs.Rounds.{AttemptDoes, AttemptFaults, Happen, HappenFaults, IsShort, Ran, ReportView, RoundDoes, RoundFaults, begin, new_now}
+use Rattle.vm_world.specs.Rounds.{HappenFaults, IsShort, Ran, ReportView, RoundDoes, RoundFaults, begin, new_now}
 use Rattle.vm_world.specs.Worlds.{IsJournal, start_message}
 use Rattle.vm_world.proofs.Rounding.{short_all}
 
@@ -23,7 +22,8 @@ begun_is w round old alloc waiting r e f = λ i. new_now old (e i) (f i)
 
 pub round_does : (m : Meaning) (w : Setting) (round : Round) (old : List (List ℕ)) (alloc : Global) (waiting : List ℕ) (r : Record) (version : Version) (options : VMOptions) (report : ReportView) (new : List (List ℕ)) → IsWhole (start_message w round old) → waiting ≡ encoding (start_message w round old) ++ concat old → r ≡ fresh_record (made alloc w.options w.version) → version ≡ w.version → options ≡ w.options → Ran m version options round.events (new_now old waiting r) report new → RoundDoes m w round old report new
 round_does m w round old alloc waiting r version options report new whole e f v o ran = inl (record {
-  alloc = alloc; start = whole;
+  alloc = alloc;
+  start = whole;
   ran = subst (λ x. Ran m w.version w.options round.events x report new) (begun_is w round old alloc waiting r e f) (subst (λ (x : VMOptions). Ran m w.version x round.events (new_now old waiting r) report new) o (subst (λ (x : Version). Ran m x options round.events (new_now old waiting r) report new) v ran));
 })
 

@@ -1,31 +1,22 @@
 -- What the events of a round do to what its attempt was fed and what was taken from it.
-use Rattle.std.proofs.Common.{◌≡◌, ◌≢◌, ◌⊎◌, inl, inr, ⊎_elim, ℕ, ◌+◌, ◌<◌, ◌≤◌, Bool, true, false, cond, List, [], ◌∷◌, ◌++◌, length, take, drop, map, Option, Some, None, Result, Ok, Err, refl, sym, ap, ◌∙◌, subst, arith, append_assoc, append-nil, length-append}
-use Rattle.std.specs.Prelude.{is_some, IsSome, if◌then◌else◌}
-use Rattle.std.specs.List.{concat}
+use Rattle.std.proofs.Common.{◌≡◌, ◌≢◌, ◌⊎◌, inl, inr, ⊎_elim, ℕ, Bool, true, false, List, [], ◌∷◌, ◌++◌, Option, Some, None, Result, Ok, Err, refl, sym, ap, ◌∙◌, subst}
+use Rattle.std.specs.Prelude.{is_some, IsSome}
 use Rattle.std.specs.declared.alloc.AllocError.{AllocError}
-use Rattle.std.proofs.lemmas.List.{take-append-drop}
-use Rattle.std.proofs.lemmas.List.Folds.{concat-append}
 use Rattle.journal_protocol.specs.declared.error.Error.{Error}
-use Rattle.journal_protocol.specs.declared.message.RawMessage.{RawMessage}
-use Rattle.journal_protocol.specs.declared.version.Version.{Version}
-use Rattle.journal_protocol.specs.Errors.{no_memory}
-use Rattle.vm_parts.specs.declared.options.VMOptions.{VMOptions}
 use Rattle.vm_parts.specs.declared.types.UnresolvedFuture.{UnresolvedFuture}
 use Rattle.vm_machine.specs.declared.phase.Phase.{Phase}
 use Rattle.vm_machine.specs.declared.phase.Phase.TheVariants.{WaitingStart, WaitingReplayEntries, Replaying, Processing, Closed}
 use Rattle.vm_machine.specs.Inputs.{close_step, closed_at}
 use Rattle.vm_machine.specs.Outcomes.{called, called_at, settled}
-use Rattle.invocation_vm.specs.Frames.{Rest, frames_of}
-use Rattle.invocation_vm.specs.Views.{StarvesAmong, View, after_closing, after_input, brought, left_by}
+use Rattle.invocation_vm.specs.Views.{View, after_closing, after_input, left_by}
 use Rattle.invocation_vm.proofs.Feeds.{among_failed}
 use Rattle.vm_model.specs.Calls.{Meaning}
-use Rattle.vm_model.specs.Histories.{IsPrefix}
 use Rattle.vm_rounds.specs.declared.progress.Fed.{Fed}
 use Rattle.vm_rounds.specs.declared.progress.Progress.{Progress}
 use Rattle.vm_rounds.specs.declared.progress.Reply.{Reply}
 use Rattle.vm_rounds.specs.declared.progress.Reply.TheVariants as reply
 use Rattle.vm_rounds.specs.Record.{Record}
-use Rattle.vm_rounds.specs.Stepping.{Advances, Asks, CloseDoes, Closes, FeedDoes, Feeds, LacksMemory, Reads, StepAt, StepDoes, StepFrom, StepUnless, future_in, kept, kept_at, replied, step_asked, with_vm}
+use Rattle.vm_rounds.specs.Stepping.{Advances, CloseDoes, FeedDoes, Feeds, Reads, StepAt, StepDoes, StepFrom, StepUnless, future_in, kept_at, replied, step_asked, with_vm}
 use Rattle.vm_rounds.specs.Told.{bytes_fed}
 use Rattle.vm_rounds.proofs.Kept.{closed_input, piece_dropped}
 use Rattle.vm_rounds.proofs.Pieces.{bytes_behind}

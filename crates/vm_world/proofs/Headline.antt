@@ -1,9 +1,8 @@
 -- What a round leaves is what an honest round leaves, of an attempt that its journal tells.
-use Rattle.std.proofs.Common.{◌≡◌, ◌⊎◌, inl, inr, ⊎_elim, ℕ, ◌+◌, Bool, true, false, cond, List, [], ◌∷◌, ◌++◌, length, take, drop, Option, Some, None, Result, Ok, Err, refl, sym, ap, ◌∙◌, subst, arith, append_assoc, append-nil, length-append, Global}
+use Rattle.std.proofs.Common.{◌≡◌, inl, inr, ⊎_elim, ℕ, Bool, true, false, List, [], ◌∷◌, ◌++◌, length, take, Option, Some, None, refl, sym, ap, ◌∙◌, subst, append_assoc}
 use Rattle.std.specs.Prelude.{◌==◌, if◌then◌else◌}
 use Rattle.std.specs.List.{concat}
 use Rattle.std.proofs.lemmas.Option.{same_Some}
-use Rattle.std.proofs.lemmas.List.Folds.{concat-append}
 use Rattle.std.proofs.Math.Seq.{take-append_seam}
 use Rattle.journal_protocol.specs.declared.commands.InputCommand.{InputCommand}
 use Rattle.journal_protocol.specs.declared.message.Message.{Message}
@@ -15,13 +14,11 @@ use Rattle.journal_protocol.specs.declared.types.MessageType.TheVariants as type
 use Rattle.journal_protocol.specs.Reading.{input_in, message_in, start_in}
 use Rattle.journal_protocol.specs.Types.{type_number}
 use Rattle.journal_protocol.proofs.Reading.{message_is}
-use Rattle.invocation_vm.specs.Frames.{Tail, Rest, frames_of, joined}
+use Rattle.invocation_vm.specs.Frames.{Tail, frames_of}
 use Rattle.invocation_vm.proofs.Cuts.{frames_of-append}
 use Rattle.vm_parts.specs.declared.context.StateMap.{StateMap}
-use Rattle.vm_parts.specs.declared.options.VMOptions.{VMOptions}
 use Rattle.vm_parts.specs.Entries.{entries_of as state_entries}
 use Rattle.vm_machine.specs.Inputs.{coverage_of}
-use Rattle.vm_machine.specs.Requests.{changed}
 use Rattle.vm_model.specs.Calls.{Meaning, Setup}
 use Rattle.vm_model.specs.Journal.{Entry, commands_in, notifications_in, input_read_from, messages_in, read_before}
 use Rattle.vm_model.specs.Moves.{changed_by, start as first_point}
@@ -29,10 +26,8 @@ use Rattle.vm_model.specs.Histories.{Handed, Made, behind}
 use Rattle.vm_model.specs.HonestRounds.{Attempted, HonestRound, IsToldOn}
 use Rattle.vm_model.proofs.Stored.{changes_state, unchanged}
 use Rattle.vm_rounds.specs.Journals.{as_entries, commands_among, notifications_among, setup_for}
-use Rattle.vm_rounds.specs.Record.{Record, bytes_written}
 use Rattle.vm_rounds.specs.Told.{AnswersAreTold, CompleteOnce, Premises, arrivals, arrivals_of, bytes_fed, frames_fed, handed_out, written_by}
 use Rattle.vm_rounds.proofs.Pieces.{commands_append, more_frames, notifications_append}
-
 use Rattle.vm_rounds.proofs.Replayed.{commands_same, head_same, notes_same, tail_same}
 use Rattle.vm_rounds.proofs.Under.{once_before}
 use Rattle.vm_world.specs.declared.types.Setting.{Setting}
@@ -159,12 +154,15 @@ module _ (m : Meaning) (w : Setting) (begin_bytes : List ℕ) (raw : RawMessage)
     -- the handler hasn't read its input
     unread : Begins E → now.attempt.answers ≡ [] → written_by now.attempt ≡ [] → (a : Attempted) × (a.answers ≡ now.attempt.answers) × IsHonest s m given E a (entries_of now.journal)
     unread b none wrote =
-        let came = notifications_in E ++ [] in
-        (attempted came, refl, record {
-          handed = refl;
-          told = record { first = b.first; input = b.input; reads = b.reads; rest = b.rest; begins = b.commands; moves = 0; at = first_point s b.input came b.rest; made = (wrote, refl); answered = inl none };
-          honest = honest came [] (notifications_among N) refl refl;
-        })
+        let came = notifications_in E ++ [] in (
+          attempted came,
+          refl,
+          record {
+            handed = refl;
+            told = record { first = b.first; input = b.input; reads = b.reads; rest = b.rest; begins = b.commands; moves = 0; at = first_point s b.input came b.rest; made = (wrote, refl); answered = inl none };
+            honest = honest came [] (notifications_among N) refl refl;
+          },
+        )
 
     runs : AnswersAreTold m w.version w.options now.attempt → (a : Attempted) × (a.answers ≡ now.attempt.answers) × IsHonest s m given E a (entries_of now.journal)
     runs k =
@@ -183,12 +181,15 @@ module _ (m : Meaning) (w : Setting) (begin_bytes : List ℕ) (raw : RawMessage)
         let gave : handed_out J ≡ given = (λ i. record { entries = state i; coverage = coverage_of (is_st i).partial }) ∙ same_given in
         let made : Made s m (Handed given) k.moves (first_point s J.input A J.rest) (written_by now.attempt) k.at =
         subst (λ (x : StateMap). Made s m (Handed x) k.moves (first_point s J.input A J.rest) (written_by now.attempt) k.at) gave
-        (subst (λ (x : Setup). Made x m (Handed (handed_out J)) k.moves (first_point x J.input A J.rest) (written_by now.attempt) k.at) setups k.made) in
-        (attempted A, refl, record {
-          handed = refl;
-          told = record { first = J.first; input = J.input; reads = J.reads_input; rest = J.rest; begins = commands_same (frames_in old) ∙ ap commands_among parts.0 ∙ J.commands; moves = k.moves; at = k.at; made = made; answered = inr (sym k.answers) };
-          honest = honest A (notifications_among J.others) (notifications_among G) came (ap notifications_among parts.1 ∙ notifications_append J.others G);
-        })
+        (subst (λ (x : Setup). Made x m (Handed (handed_out J)) k.moves (first_point x J.input A J.rest) (written_by now.attempt) k.at) setups k.made) in (
+          attempted A,
+          refl,
+          record {
+            handed = refl;
+            told = record { first = J.first; input = J.input; reads = J.reads_input; rest = J.rest; begins = commands_same (frames_in old) ∙ ap commands_among parts.0 ∙ J.commands; moves = k.moves; at = k.at; made = made; answered = inr (sym k.answers) };
+            honest = honest A (notifications_among J.others) (notifications_among G) came (ap notifications_among parts.1 ∙ notifications_append J.others G);
+          },
+        )
 
     pub is_honest : Replays w.options → EndsTold m w.version w.options now.attempt → Begins E → (a : Attempted) × (a.answers ≡ now.attempt.answers) × IsHonest s m given E a (entries_of now.journal)
     is_honest r end b =

@@ -1,8 +1,7 @@
 -- A round on its way, and the journal that it leaves.
-use Rattle.std.proofs.Common.{◌≡◌, ◌≢◌, ◌⊎◌, ⊎_elim, ℕ, ◌+◌, ◌<◌, ◌≤◌, Bool, true, false, cond, List, [], ◌∷◌, ◌++◌, length, take, drop, map, Option, Some, None, Result, Ok, Err, refl, sym, ap, ◌∙◌, subst, arith, append_assoc, append-nil, length-append, Global}
+use Rattle.std.proofs.Common.{◌≡◌, ⊎_elim, ℕ, Bool, true, false, cond, List, [], ◌∷◌, ◌++◌, take, drop, map, Option, Some, None, refl, sym, ap, ◌∙◌, subst, arith, append_assoc, append-nil, length-append}
 use Rattle.std.specs.Prelude.{◌||◌, is_some}
 use Rattle.std.specs.List.{concat}
-use Rattle.std.specs.declared.alloc.AllocError.{AllocError}
 use Rattle.std.proofs.lemmas.List.{take-append-drop}
 use Rattle.std.proofs.lemmas.List.Folds.{concat-append}
 use Rattle.journal_protocol.specs.declared.error.Error.{Error}
@@ -16,10 +15,10 @@ use Rattle.vm_rounds.specs.Journals.{commands_among, is_command, is_notification
 use Rattle.vm_rounds.specs.Record.{Record}
 use Rattle.vm_rounds.specs.Stepping.{taken_from}
 use Rattle.vm_rounds.specs.Told.{CompleteOnce, bytes_fed}
-use Rattle.vm_rounds.proofs.Pieces.{commands_append, notifications_append}
+use Rattle.vm_rounds.proofs.Pieces.{commands_append}
 use Rattle.vm_world.specs.declared.types.Event.{Event}
 use Rattle.vm_world.specs.declared.types.Event.TheVariants as event
-use Rattle.vm_world.specs.Arrivals.{arrival_fault, most}
+use Rattle.vm_world.specs.Arrivals.{arrival_fault}
 use Rattle.vm_world.specs.Entries.{AreEntries, frame_in, frame_of, framed_by, frames_in, may_stand, note_in, note_of, notes_in, read_from}
 use Rattle.vm_world.specs.Rounds.{ArrivalsDo, Happen, Happens, Now, Pieces}
 use Rattle.vm_world.specs.Storing.{Stores}
@@ -92,7 +91,8 @@ commands_twice (raw ∷ raws) = by_test (is_command raw) refl (commands_twice ra
     by_test false e h = h
     by_test true e h = (
       ap (λ b. cond b (raw ∷ commands_among C) (commands_among C)) e ∙ ap (λ l. raw ∷ l) h.0,
-      ap (λ b. cond b (notified_by (notification_in raw.body) (notifications_among C)) (notifications_among C)) (command_no_note raw e) ∙ h.1)
+      ap (λ b. cond b (notified_by (notification_in raw.body) (notifications_among C)) (notifications_among C)) (command_no_note raw e) ∙ h.1,
+    )
 
 -- ---- a round on its way
 
@@ -118,16 +118,26 @@ module _ (m : Meaning) (start : List ℕ) (first : List (List ℕ)) where
   -- the attempt alone has changed, and was fed nothing
   acts : (now : Now) (r : Record) (closed : Bool) (error : Option Error) → Stepped now.attempt r → Going start first now → Going start first (record now { attempt = r; closed = closed; error = error })
   acts now r closed error s g = record {
-    arrived = g.arrived; arrivals = g.arrivals; delivered = g.delivered; all = g.all;
+    arrived = g.arrived;
+    arrivals = g.arrivals;
+    delivered = g.delivered;
+    all = g.all;
     fed_front = subst (λ f. IsPrefix (bytes_fed f) g.delivered) (sym s.fed) g.fed_front;
     fed_open = λ o. ap bytes_fed s.fed ∙ g.fed_open (s.opens o);
     output_is = ap concat s.taken ∙ g.output_is;
-    scanned = g.scanned; output_frames = g.output_frames; added = g.added; extends = g.extends; commands = g.commands; notifications = g.notifications; journal = g.journal;
+    scanned = g.scanned;
+    output_frames = g.output_frames;
+    added = g.added;
+    extends = g.extends;
+    commands = g.commands;
+    notifications = g.notifications;
+    journal = g.journal;
   }
 
   takes : (now : Now) (piece rest : List ℕ) (r : Record) (error : Option Error) → now.waiting ≡ piece ++ rest → Takes piece now.attempt r → r.taken ≡ now.attempt.taken → Going start first now → Going start first (record now { waiting = rest; attempt = r; error = error })
   takes now piece rest r error is t same g = record {
-    arrived = g.arrived; arrivals = g.arrivals;
+    arrived = g.arrived;
+    arrivals = g.arrivals;
     delivered = g.delivered ++ piece;
     all = append_assoc g.delivered piece rest ∙ ap (λ l. g.delivered ++ l) (sym is) ∙ g.all;
     fed_front = ⊎_elim
@@ -139,7 +149,13 @@ module _ (m : Meaning) (start : List ℕ) (first : List (List ℕ)) where
         (λ (x : IsOpen now.attempt × (bytes_fed r.fed ≡ bytes_fed now.attempt.fed ++ piece)). λ o. x.1 ∙ ap (λ l. l ++ piece) (g.fed_open x.0))
         t;
     output_is = ap concat same ∙ g.output_is;
-    scanned = g.scanned; output_frames = g.output_frames; added = g.added; extends = g.extends; commands = g.commands; notifications = g.notifications; journal = g.journal;
+    scanned = g.scanned;
+    output_frames = g.output_frames;
+    added = g.added;
+    extends = g.extends;
+    commands = g.commands;
+    notifications = g.notifications;
+    journal = g.journal;
   }
     where
       front : bytes_fed r.fed ≡ bytes_fed now.attempt.fed → IsPrefix (bytes_fed r.fed) (g.delivered ++ piece)
@@ -164,7 +180,11 @@ module _ (m : Meaning) (start : List ℕ) (first : List (List ℕ)) where
         arrivals = entries_join g.arrived (x ∷ []) g.arrivals one.stands;
         delivered = g.delivered;
         all = sym (append_assoc g.delivered now.waiting x) ∙ ap (λ l. l ++ x) g.all ∙ append_assoc start (concat first ++ concat g.arrived) x ∙ ap (λ l. start ++ l) (append_assoc (concat first) (concat g.arrived) x ∙ ap (λ l. concat first ++ l) more);
-        fed_front = g.fed_front; fed_open = g.fed_open; output_is = g.output_is; scanned = g.scanned; output_frames = g.output_frames;
+        fed_front = g.fed_front;
+        fed_open = g.fed_open;
+        output_is = g.output_is;
+        scanned = g.scanned;
+        output_frames = g.output_frames;
         added = g.added ++ x ∷ [];
         extends = ap (λ l. l ++ x ∷ []) g.extends ∙ append_assoc first g.added (x ∷ []);
         commands = ap commands_among (frames_append g.added (x ∷ [])) ∙ commands_append (frames_in g.added) (frames_in (x ∷ [])) ∙ ap (λ l. commands_among (frames_in g.added) ++ l) one.none ∙ append-nil (commands_among (frames_in g.added)) ∙ g.commands;
@@ -180,7 +200,11 @@ module _ (m : Meaning) (start : List ℕ) (first : List (List ℕ)) where
       let twice = commands_twice s.seen in
       let none : notes_in (map frame_of C) ≡ [] = notes_are (map frame_of C) ∙ ap notifications_among s.back ∙ twice.1 in
       record {
-        arrived = g.arrived; arrivals = g.arrivals; delivered = g.delivered; all = g.all; fed_front = g.fed_front;
+        arrived = g.arrived;
+        arrivals = g.arrivals;
+        delivered = g.delivered;
+        all = g.all;
+        fed_front = g.fed_front;
         fed_open = λ o. g.fed_open (record { starved = o.starved; failure = o.failure; phase = o.phase });
         output_is = concat-append now.attempt.taken (more ∷ []) ∙ (λ i. g.output_is i ++ append-nil more i);
         scanned = g.scanned ++ s.seen;

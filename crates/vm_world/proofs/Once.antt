@@ -97,7 +97,7 @@ completion_room None done brings room e = absurd (cc)
 completion_room (Some kind) true brings room e = absurd (cc)
 completion_room (Some completes.InvocationId) false brings room e = room_by (is_invocation_id brings) room e
 completion_room (Some completes.Proposal) false brings room e = absurd (cc)
-completion_room (Some completes.Result) false brings room e = e
+completion_room (Some completes.AnyResult) false brings room e = e
 
 note_room : (id : NotificationId) (brings : NotificationResult) (journal : List (List ℕ)) → note_fault id brings journal ≡ None → room_fault journal ≡ None
 note_room (CompletionId id) brings journal e = completion_room (completes_among id (said_in journal) None) (is_completed id (notes_in journal)) brings (room_fault journal) e

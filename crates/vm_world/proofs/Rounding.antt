@@ -1,28 +1,24 @@
 -- Rounds, one after another: the journal grows by entries, and each round is an honest one.
-use Rattle.std.proofs.Common.{◌≡◌, ◌⊎◌, inl, inr, ⊎_elim, ℕ, ◌≤◌, Bool, false, List, [], ◌∷◌, ◌++◌, length, map, Option, Some, None, refl, sym, ap, ◌∙◌, subst, append_assoc, append-nil, Global}
+use Rattle.std.proofs.Common.{◌≡◌, inl, inr, ℕ, List, [], ◌∷◌, ◌++◌, map, Option, Some, None, refl, sym, ap, ◌∙◌, subst, append_assoc, append-nil}
 use Rattle.std.specs.Prelude.{option_map}
 use Rattle.std.specs.List.{AllByRecursion, concat}
 use Rattle.journal_protocol.specs.declared.message.Message.TheVariants as message
-use Rattle.journal_protocol.specs.declared.message.RawMessage.{RawMessage}
 use Rattle.journal_protocol.specs.declared.start.Start.{Start}
 use Rattle.journal_protocol.specs.declared.types.MessageType.TheVariants as type
-use Rattle.journal_protocol.specs.declared.version.Version.{Version}
 use Rattle.journal_protocol.specs.Message.{encoding}
 use Rattle.journal_protocol.specs.Reading.{message_in, start_in}
 use Rattle.journal_protocol.specs.Runs.{IsWhole}
 use Rattle.journal_protocol.proofs.Alone.{read_back}
 use Rattle.invocation_vm.specs.Making.{made}
 use Rattle.vm_parts.specs.declared.context.StateMap.{StateMap}
-use Rattle.vm_parts.specs.declared.options.VMOptions.{VMOptions}
-use Rattle.vm_parts.specs.declared.steps.Answer.{Answer}
 use Rattle.vm_model.specs.Calls.{Meaning, Setup}
 use Rattle.vm_model.specs.Journal.{Entry, commands_in, messages_in, notifications_in, stored_form}
 use Rattle.vm_model.specs.Moves.{changed_by, start as first_point}
 use Rattle.vm_model.specs.Histories.{History, Honest, IsAllOf, IsTrueOf, Knowledge, Whole, behind}
-use Rattle.vm_model.specs.HonestRounds.{Attempted, HonestRound, HonestRounds, IsOneRun}
+use Rattle.vm_model.specs.HonestRounds.{Attempted, IsOneRun}
 use Rattle.vm_model.proofs.Events.{commands-append}
 use Rattle.vm_model.proofs.Honesty.{honest_rounds, run_is_history, whole_rounds}
-use Rattle.vm_rounds.specs.Journals.{as_entries, commands_among}
+use Rattle.vm_rounds.specs.Journals.{as_entries}
 use Rattle.vm_rounds.specs.Record.{Record}
 use Rattle.vm_rounds.specs.Stepping.{fresh_record}
 use Rattle.vm_rounds.specs.Told.{bytes_fed}
@@ -31,28 +27,34 @@ use Rattle.vm_world.specs.declared.types.Event.{Event}
 use Rattle.vm_world.specs.declared.types.Round.{Round}
 use Rattle.vm_world.specs.declared.types.RoundFault.{RoundFault}
 use Rattle.vm_world.specs.declared.types.Setting.{Setting}
-use Rattle.vm_world.specs.Arrivals.{most}
-use Rattle.vm_world.specs.Entries.{entries_of, frames_in, said_in}
-use Rattle.vm_world.specs.Rounds.{AreHonest, AreWhole, AttemptDoes, Happen, IsShort, Now, Ran, RefusedDoes, Replays, ReportView, RoundDoes, RoundFaults, RoundsDo, RoundsFault, begin, new_now}
+use Rattle.vm_world.specs.Entries.{entries_of, frames_in}
+use Rattle.vm_world.specs.Rounds.{AreHonest, AreWhole, AttemptDoes, IsShort, RefusedDoes, Replays, ReportView, RoundDoes, RoundFaults, RoundsDo, RoundsFault, begin, new_now}
 use Rattle.vm_world.specs.States.{base_of, state_of}
 use Rattle.vm_world.specs.Worlds.{IsJournal, setup_of, start_for, start_message}
 use Rattle.vm_world.proofs.Framing.{AreFrames, as_entries_append, frames_append, one_framed, said_are}
 use Rattle.vm_world.proofs.Handing.{base_in_order, handed, round_all, round_true}
 use Rattle.vm_world.proofs.Headline.{Begins, IsHonest, input_says, is_honest}
-use Rattle.vm_world.proofs.Keeping.{Arrived, Going, arrivals_keep, events_keep}
+use Rattle.vm_world.proofs.Keeping.{Going, arrivals_keep, events_keep}
 
 -- ---- one round
 
 -- a round begins with the whole journal
 begun : (start : List ℕ) (old : List (List ℕ)) (r : Record) → IsJournal old → r.fed ≡ [] → r.taken ≡ [] → Going start old (new_now old (start ++ concat old) r)
 begun start old r j fed taken = record {
-  arrived = []; arrivals = tt; delivered = [];
+  arrived = [];
+  arrivals = tt;
+  delivered = [];
   all = ap (λ l. start ++ l) (sym (append-nil (concat old)));
   fed_front = ([], ap (λ l. bytes_fed l ++ []) (sym fed));
   fed_open = λ o. ap bytes_fed fed;
   output_is = ap concat taken;
-  scanned = []; output_frames = refl;
-  added = []; extends = sym (append-nil old); commands = refl; notifications = refl; journal = j;
+  scanned = [];
+  output_frames = refl;
+  added = [];
+  extends = sym (append-nil old);
+  commands = refl;
+  notifications = refl;
+  journal = j;
 }
 
 -- the journal has grown by entries
@@ -102,16 +104,24 @@ refused_honest : (m : Meaning) (w : Setting) (round : Round) (old : List (List �
 refused_honest m w round old report new j b d =
     let g = arrivals_keep round.events old new j d.arrivals in
     let came = notifications_in (entries_of old) ++ [] in
-    let added = as_entries (frames_in g.added) in
-    (record { given = given_to w round old; arrivals = came; written = []; answers = [] }, ap (λ (v : ReportView). v.answers) (sym d.told), record {
-      handed = refl;
-      told = record { first = b.first; input = b.input; reads = b.reads; rest = b.rest; begins = b.commands; moves = 0; at = first_point (setup_of w) b.input came b.rest; made = (refl, refl); answered = inl refl };
-      honest = record {
-        delivered = []; arrived = refl; added = added;
-        extends = ap (λ l. as_entries (frames_in l)) g.extends ∙ ap as_entries (frames_append old g.added) ∙ as_entries_append (frames_in old) (frames_in g.added);
-        undelivered = notifications_in added; notifications = refl; stored = 0; commands = commands_same (frames_in g.added) ∙ g.commands;
-      };
-    })
+    let added = as_entries (frames_in g.added) in (
+      record { given = given_to w round old; arrivals = came; written = []; answers = [] },
+      ap (λ (v : ReportView). v.answers) (sym d.told),
+      record {
+        handed = refl;
+        told = record { first = b.first; input = b.input; reads = b.reads; rest = b.rest; begins = b.commands; moves = 0; at = first_point (setup_of w) b.input came b.rest; made = (refl, refl); answered = inl refl };
+        honest = record {
+          delivered = [];
+          arrived = refl;
+          added = added;
+          extends = ap (λ l. as_entries (frames_in l)) g.extends ∙ ap as_entries (frames_append old g.added) ∙ as_entries_append (frames_in old) (frames_in g.added);
+          undelivered = notifications_in added;
+          notifications = refl;
+          stored = 0;
+          commands = commands_same (frames_in g.added) ∙ g.commands;
+        };
+      },
+    )
 
 pub round_honest : (m : Meaning) (w : Setting) (round : Round) (old : List (List ℕ)) (report : ReportView) (new : List (List ℕ)) → Replays w.options → IsJournal old → Begins (entries_of old) → RoundDoes m w round old report new → (a : Attempted) × (a.answers ≡ report.answers) × IsHonest (setup_of w) m (given_to w round old) (entries_of old) a (entries_of new)
 round_honest m w round old report new r j b (inl d) = attempt_honest m w round old report new r j b d
@@ -132,7 +142,9 @@ entries_grow old new added e = ap entries_of e ∙ ap as_entries (frames_append 
 -- a journal that has grown begins with the same input
 pub begins_on : (old new : List (List ℕ)) → Grows old new → Begins (entries_of old) → Begins (entries_of new)
 begins_on old new g b = record {
-  first = b.first; input = b.input; reads = b.reads;
+  first = b.first;
+  input = b.input;
+  reads = b.reads;
   rest = b.rest ++ commands_in (entries_of g.added);
   commands = ap commands_in (entries_grow old new g.added g.extends) ∙ commands-append (entries_of old) (entries_of g.added) ∙ ap (λ l. l ++ commands_in (entries_of g.added)) b.commands;
 }

@@ -1,5 +1,5 @@
 -- How commands are stored, one frame after another.
-use Rattle.std.proofs.Common.{◌≡◌, ◌≢◌, ℕ, zero, suc, ◌+◌, ◌-◌, ◌<◌, ◌≤◌, ◌^◌, ◌⊎◌, ◌||◌, Bool, true, false, cond, Option, Some, None, List, [], ◌∷◌, ◌++◌, length, take, drop, map, refl, sym, ap, ◌∙◌, subst, arith, append_assoc, append-nil, length-append, ⊎_elim}
+use Rattle.std.proofs.Common.{◌≡◌, ◌≢◌, ℕ, zero, suc, ◌+◌, ◌-◌, ◌<◌, ◌≤◌, ◌^◌, ◌⊎◌, ◌||◌, Bool, true, false, cond, Option, Some, None, List, [], ◌∷◌, ◌++◌, length, take, map, refl, sym, ap, ◌∙◌, subst, arith, append_assoc, append-nil, length-append, ⊎_elim}
 use Rattle.std.specs.Prelude.{if◌then◌else◌, is_some}
 use Rattle.std.proofs.lemmas.List.{length-map, take_all, map-append}
 use Rattle.std.proofs.Math.Seq.{take-append_seam}
@@ -110,7 +110,6 @@ stands_full n j u left j' u' u'' raw e commands some full s =
 
 pub shorter : (u u' : List ℕ) (raw : RawMessage) → next_of u ≡ Whole raw u' → length u' < length u
 shorter u u' raw e = omega (arith, whole_shorter u raw u' e)
-
 
 -- one frame more was looked at
 pub stands_next : (n : ℕ) (j : List (List ℕ)) (u : List ℕ) (left : ℕ) (j' j'' : List (List ℕ)) (u' u'' : List ℕ) (b : Bool) → StoresOne j' u' (Some b) j'' u'' → 0 < left → Stands n j u left j' u' → Stands n j u (if b then left - 1 else left) j'' u''

@@ -27,15 +27,15 @@ if_same false kind before = before
 
 -- what completes an id by this command, or else as before
 abbrev pub completes_by : ℕ → Message → Option Completes → Option Completes
-completes_by id (message.Sleep c) before = if_same (c.result_completion_id == id) completes.Result before
-completes_by id (message.GetLazyState c) before = if_same (c.result_completion_id == id) completes.Result before
-completes_by id (message.GetLazyStateKeys c) before = if_same (c.result_completion_id == id) completes.Result before
-completes_by id (message.GetPromise c) before = if_same (c.result_completion_id == id) completes.Result before
-completes_by id (message.PeekPromise c) before = if_same (c.result_completion_id == id) completes.Result before
-completes_by id (message.CompletePromise c) before = if_same (c.result_completion_id == id) completes.Result before
-completes_by id (message.AttachInvocation c) before = if_same (c.result_completion_id == id) completes.Result before
-completes_by id (message.GetInvocationOutput c) before = if_same (c.result_completion_id == id) completes.Result before
-completes_by id (message.Call c) before = if_same (c.result_completion_id == id) completes.Result (if_same (c.request.invocation_id_notification_idx == id) completes.InvocationId before)
+completes_by id (message.Sleep c) before = if_same (c.result_completion_id == id) completes.AnyResult before
+completes_by id (message.GetLazyState c) before = if_same (c.result_completion_id == id) completes.AnyResult before
+completes_by id (message.GetLazyStateKeys c) before = if_same (c.result_completion_id == id) completes.AnyResult before
+completes_by id (message.GetPromise c) before = if_same (c.result_completion_id == id) completes.AnyResult before
+completes_by id (message.PeekPromise c) before = if_same (c.result_completion_id == id) completes.AnyResult before
+completes_by id (message.CompletePromise c) before = if_same (c.result_completion_id == id) completes.AnyResult before
+completes_by id (message.AttachInvocation c) before = if_same (c.result_completion_id == id) completes.AnyResult before
+completes_by id (message.GetInvocationOutput c) before = if_same (c.result_completion_id == id) completes.AnyResult before
+completes_by id (message.Call c) before = if_same (c.result_completion_id == id) completes.AnyResult (if_same (c.request.invocation_id_notification_idx == id) completes.InvocationId before)
 completes_by id (message.OneWayCall c) before = if_same (c.request.invocation_id_notification_idx == id) completes.InvocationId before
 completes_by id (message.Run c) before = if_same (c.result_completion_id == id) completes.Proposal before
 completes_by id m before = before
@@ -75,7 +75,7 @@ completion_fault None done brings room = Some round_fault.NoSuchId
 completion_fault (Some kind) true brings room = Some round_fault.SecondCompletion
 completion_fault (Some completes.InvocationId) false brings room = if is_invocation_id brings then room else Some round_fault.WrongKind
 completion_fault (Some completes.Proposal) false brings room = Some round_fault.RunIsProposed
-completion_fault (Some completes.Result) false brings room = room
+completion_fault (Some completes.AnyResult) false brings room = room
 
 -- the fault of a notification
 abbrev pub note_fault : NotificationId → NotificationResult → List (List ℕ) → Option RoundFault

@@ -50,7 +50,7 @@ fn completion_fault(
             }
         }
         Completes::Proposal => Some(RoundFault::RunIsProposed),
-        Completes::Result => room,
+        Completes::AnyResult => room,
     }
 }
 

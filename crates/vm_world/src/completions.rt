@@ -11,8 +11,8 @@ use std::alloc::{AllocError, Global};
 /// What completes an id that a command carries.
 #[derive(Clone, Copy)]
 pub enum Completes {
-    /// The result of a call.
-    Result,
+    /// The result of a call, whatever it is.
+    AnyResult,
     /// The id of the invocation that a call has made.
     InvocationId,
     /// The result of a run, which the attempt that ran it proposes.
@@ -29,7 +29,7 @@ fn if_same(same: bool, kind: Completes, before: Option<Completes>) -> Option<Com
 fn completes_by(id: u32, command: &Message, before: Option<Completes>) -> Option<Completes>
     ensures { result ≡ completes_by id command.now before }
 {
-    let result = Completes::Result;
+    let result = Completes::AnyResult;
     match command {
         Message::Sleep(c) => if_same(c.result_completion_id == id, result, before),
         Message::GetLazyState(c) => if_same(c.result_completion_id == id, result, before),

@@ -36,11 +36,7 @@ fn note(error: &mut Option<Error>, next: Option<Error>)
 }
 
 /// An arrival is stored, if it has no fault.
-pub fn arrive_in(
-    alloc: Global,
-    journal: &mut Vec<Bytes>,
-    entry: &Bytes,
-) -> Result<(), RoundFault>
+pub fn arrive_in(alloc: Global, journal: &mut Vec<Bytes>, entry: &Bytes) -> Result<(), RoundFault>
     ensures ok { OnOk result ((arrival_fault entry.now journal.old.items ≡ None) × (journal.new.items ≡ journal.old.items ++ entry.now ∷ [])) }
     ensures err { IfErr result (λ f. (f ≡ round_fault.Memory) ⊎ (arrival_fault entry.now journal.old.items ≡ Some f)) }
 {
@@ -96,11 +92,7 @@ fn front(waiting: &mut BytesMut, n: usize) -> Result<Bytes, AllocError>
 }
 
 /// A piece of what waits is fed.
-fn piece<H: Handler>(
-    attempt: &mut Attempt<&H>,
-    desk: &mut Desk,
-    n: usize,
-) -> Result<(), RoundFault>
+fn piece<H: Handler>(attempt: &mut Attempt<&H>, desk: &mut Desk, n: usize) -> Result<(), RoundFault>
     ensures does { Outcome (H.meaning attempt.old.handler.now) (event.Piece n) (the_now desk.old attempt.old.record_of) result (the_now desk.new attempt.new.record_of) }
     ensures handler { attempt.new.handler.now ≡ attempt.old.handler.now }
     ensures made_for { (attempt.new.version ≡ attempt.old.version) × (attempt.new.options ≡ attempt.old.options) }
@@ -138,11 +130,7 @@ fn step<H: Handler>(attempt: &mut Attempt<&H>, desk: &mut Desk)
 }
 
 /// The next commands that were written are stored.
-fn store<H: Handler>(
-    attempt: &mut Attempt<&H>,
-    desk: &mut Desk,
-    n: usize,
-) -> Result<(), RoundFault>
+fn store<H: Handler>(attempt: &mut Attempt<&H>, desk: &mut Desk, n: usize) -> Result<(), RoundFault>
     ensures does { Outcome (H.meaning attempt.old.handler.now) (event.Store n) (the_now desk.old attempt.old.record_of) result (the_now desk.new attempt.new.record_of) }
     ensures handler { attempt.new.handler.now ≡ attempt.old.handler.now }
     ensures made_for { (attempt.new.version ≡ attempt.old.version) × (attempt.new.options ≡ attempt.old.options) }

@@ -79,11 +79,7 @@ fn arrive_only(alloc: Global, journal: &mut Vec<Bytes>, event: &Event) -> Result
 }
 
 /// All events of a round, where no attempt was made: the arrivals are stored.
-fn arrive_all(
-    alloc: Global,
-    journal: &mut Vec<Bytes>,
-    events: &[Event],
-) -> Result<(), RoundFault>
+fn arrive_all(alloc: Global, journal: &mut Vec<Bytes>, events: &[Event]) -> Result<(), RoundFault>
     ensures ok { OnOk result (ArrivalsDo events.now journal.old.items journal.new.items) }
     ensures err { IfErr result (λ f. ArrivalsFault events.now journal.old.items f) }
 {
@@ -217,7 +213,13 @@ pub fn run_round<H: Handler>(
             let Ok(waiting) = waiting_bytes(alloc, setting, round, journal.as_slice()) else {
                 return Err(RoundFault::Memory);
             };
-            made_round(alloc, &mut attempt, journal, waiting, round.events.as_slice())
+            made_round(
+                alloc,
+                &mut attempt,
+                journal,
+                waiting,
+                round.events.as_slice(),
+            )
         }
     }
 }

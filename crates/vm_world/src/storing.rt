@@ -43,11 +43,7 @@ fn next_written(unstored: &mut Decoder) -> Result<Option<RawMessage>, RoundFault
 }
 
 /// The frame is stored where it is one of a command.
-fn store_raw(
-    alloc: Global,
-    journal: &mut Vec<Bytes>,
-    raw: &RawMessage,
-) -> Result<bool, RoundFault>
+fn store_raw(alloc: Global, journal: &mut Vec<Bytes>, raw: &RawMessage) -> Result<bool, RoundFault>
     ensures ok { IfOk result (λ b. (b ≡ is_command raw.now) × (journal.new.items ≡ (if b then journal.old.items ++ frame_of raw.now ∷ [] else journal.old.items)) × (b ≡ true → length journal.old.items ≢ most)) }
     ensures err { IfErr result (λ f. (f ≡ round_fault.Memory) ⊎ ((f ≡ round_fault.JournalFull) × (is_command raw.now ≡ true) × (length journal.old.items ≡ most))) }
 {

@@ -6,4 +6,5 @@ use Rattle.vm_world.proofs.round.arrive_all.Given as goal
 abbrev pub invariant-loop-event : goal.invariant-loop-event
 invariant-loop-event l = record {
   goes_on : (final : List (List ℕ)) → ArrivalsDo (drop l.event-index l.events) l.journal.items final → ArrivalsDo l.fn.events l.fn.journal.items final;
-  fails : (f : RoundFault) → ArrivalsFault (drop l.event-index l.events) l.journal.items f → ArrivalsFault l.fn.events l.fn.journal.items f }
+  fails : (f : RoundFault) → ArrivalsFault (drop l.event-index l.events) l.journal.items f → ArrivalsFault l.fn.events l.fn.journal.items f;
+}

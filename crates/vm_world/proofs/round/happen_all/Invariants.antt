@@ -11,4 +11,5 @@ invariant-loop-event g l = record {
   goes_on : (final : Now) → Happen (g.H.Handler.meaning l.fn.attempt.handler.now) (drop l.event-index l.events) (the_now l.desk l.attempt.record_of) final
       → Happen (g.H.Handler.meaning l.fn.attempt.handler.now) l.fn.events (the_now l.fn.desk l.fn.attempt.record_of) final;
   fails : (f : RoundFault) → HappenFaults (g.H.Handler.meaning l.fn.attempt.handler.now) (drop l.event-index l.events) (the_now l.desk l.attempt.record_of) f
-      → HappenFaults (g.H.Handler.meaning l.fn.attempt.handler.now) l.fn.events (the_now l.fn.desk l.fn.attempt.record_of) f }
+      → HappenFaults (g.H.Handler.meaning l.fn.attempt.handler.now) l.fn.events (the_now l.fn.desk l.fn.attempt.record_of) f;
+}

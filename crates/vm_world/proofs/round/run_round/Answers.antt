@@ -1,9 +1,7 @@
-use Rattle.std.proofs.Common.{◌≡◌, ◌++◌, inr, subst}
-use Rattle.std.specs.List.{concat}
-use Rattle.journal_protocol.specs.Message.{encoding}
+use Rattle.std.proofs.Common.{inr, subst}
 use Rattle.vm_world.specs.Inside.{report_view}
 use Rattle.vm_world.specs.Rounds.{Ran, RefusedDoes, RoundDoes, new_now}
-use Rattle.vm_world.specs.Worlds.{IsJournal, start_message}
+use Rattle.vm_world.specs.Worlds.{IsJournal}
 use Rattle.vm_world.proofs.Beginning.{if_ok_then, round_does, round_short}
 use Rattle.vm_world.proofs.Rounding.{round_grows}
 use Rattle.vm_world.proofs.round.run_round.Goals as goal

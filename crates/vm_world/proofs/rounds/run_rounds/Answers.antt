@@ -1,4 +1,4 @@
-use Rattle.std.proofs.Common.{◌≡◌, ◌+◌, ◌<◌, ◌≤◌, arith, map, length, take, drop, ap, sym, subst, inl, refl}
+use Rattle.std.proofs.Common.{◌+◌, arith, map, take, drop, ap, subst, inl, refl}
 use Rattle.std.proofs.lemmas.List.{take_all}
 use Rattle.vm_world.specs.Rounds.{RoundDoes, RoundFaults, RoundsDo}
 use Rattle.vm_world.specs.Inside.{report_view}
@@ -18,7 +18,8 @@ pub loop-round-preserved : goal.loop-round-preserved
 loop-round-preserved g c = record {
   entries = c.in-Ok.ensures.entries;
   so_far = rw (c.if-not-keep_report.ensures, split_at c.args.rounds.now c.loop-round.round-index c.round-item.result c.loop-round-test.true c.round-item.is)
-    (rounds_then (g.H.Handler.meaning c.args.handler.now) c.args.world.setting (take c.loop-round.round-index c.args.rounds.now) c.round-item.result c.args.world.journal (map report_view c.loop-round.reports.items) c.loop-round.journal.items (report_view c.in-Ok.report) c.in-Ok.next.items c.loop-round.invariant.so_far (subst (λ x. RoundDoes (g.H.Handler.meaning c.args.handler.now) x c.round-item.result c.loop-round.journal.items (report_view c.in-Ok.report) c.in-Ok.next.items) (ap (λ (w : WorldView). w.setting) c.world.view_is) c.in-Ok.ensures.ok)) }
+      (rounds_then (g.H.Handler.meaning c.args.handler.now) c.args.world.setting (take c.loop-round.round-index c.args.rounds.now) c.round-item.result c.args.world.journal (map report_view c.loop-round.reports.items) c.loop-round.journal.items (report_view c.in-Ok.report) c.in-Ok.next.items c.loop-round.invariant.so_far (subst (λ x. RoundDoes (g.H.Handler.meaning c.args.handler.now) x c.round-item.result c.loop-round.journal.items (report_view c.in-Ok.report) c.in-Ok.next.items) (ap (λ (w : WorldView). w.setting) c.world.view_is) c.in-Ok.ensures.ok));
+}
 
 -- all rounds were run
 all : (g : given.Over) (c : goal.After-loop-round g) → RoundsDo (g.H.Handler.meaning c.args.handler.now) c.args.world.setting c.args.rounds.now c.args.world.journal (map report_view c.loop-round.reports.items) c.loop-round.journal.items

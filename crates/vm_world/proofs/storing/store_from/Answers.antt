@@ -1,4 +1,4 @@
-use Rattle.std.proofs.Common.{◌≡◌, rules, inl, inr, ⊎_elim, refl, true, false}
+use Rattle.std.proofs.Common.{rules, inl, inr, true, false}
 use Rattle.vm_world.proofs.Scanned.{stands_done, stands_fault, stands_first, then_next, then_over, then_shorter}
 use Rattle.vm_world.proofs.storing.store_from.Goals as goal
 

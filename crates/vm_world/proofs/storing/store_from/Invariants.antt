@@ -1,4 +1,4 @@
-use Rattle.std.proofs.Common.{◌≡◌, length}
+use Rattle.std.proofs.Common.{length}
 use Rattle.vm_world.proofs.Scanned.{Stands}
 use Rattle.vm_world.proofs.storing.store_from.Given as goal
 
