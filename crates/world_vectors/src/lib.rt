@@ -4,8 +4,12 @@
 #[cfg(test)]
 mod bench;
 #[cfg(test)]
+mod counts;
+#[cfg(test)]
 mod faults;
 #[cfg(test)]
 mod rounds;
+#[cfg(test)]
+mod simulation;
 #[cfg(test)]
 mod stops;

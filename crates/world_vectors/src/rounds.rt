@@ -1,6 +1,7 @@
 // Worked rounds: a sleep that is over in the second round, and a count that the next rounds find.
 use crate::bench::Happens::{self, Arrive, Close, Feed, Step, Store};
 use crate::bench::{assert_journal, played};
+use crate::counts::{OUTPUT_42, READ_41, SET_42, state_of_41};
 use handlers::counter::Counter;
 use handlers::sleeper::Sleeper;
 use std::alloc::Global;
@@ -92,23 +93,6 @@ fn a_sleep_is_over_in_the_second_round(rt: HostRuntime) -> Result<(), Fail> {
     Ok(())
 }
 
-/// The count is read, and is 41.
-const READ_41: &[u8] = b"\0\x0b\0\0\0\0\0\0\0\x21\
-    \0\0\0\0\0\0\0\0\
-    \0\0\0\0\0\0\0\x05count\
-    \x01\x01\0\0\0\0\0\0\0\x0241";
-
-/// The count is set to 42.
-const SET_42: &[u8] = b"\0\x0f\0\0\0\0\0\0\0\x1f\
-    \0\0\0\0\0\0\0\0\
-    \0\0\0\0\0\0\0\x05count\
-    \0\0\0\0\0\0\0\x0242";
-
-/// The output is 42.
-const OUTPUT_42: &[u8] = b"\0\x1d\0\0\0\0\0\0\0\x0b\
-    \0\
-    \0\0\0\0\0\0\0\x0242";
-
 /// What is stored of the first round ends with the set; of the second nothing is, and the third ends.
 const COUNTS: &[&[Happens]] = &[
     &[Feed, Step, Step, Step, Step, Step, Store(2), Step],
@@ -131,11 +115,7 @@ const COUNTS: &[&[Happens]] = &[
 fn a_count_is_read_as_it_was_recorded(rt: HostRuntime) -> Result<(), Fail> {
     let alloc = rt.alloc();
     let handler = Counter { alloc };
-    let mut state = Vec::new(alloc);
-    state.push((
-        String::from_str(alloc, "count")?,
-        bytes::Bytes::from_static(b"41"),
-    ))?;
+    let state = state_of_41(alloc)?;
     let (world, reports) = played(alloc, &handler, state, COUNTS)?
         .ok()
         .ok_or("a fault")?;

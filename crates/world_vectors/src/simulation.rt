@@ -1,0 +1,204 @@
+// Random rounds of each handler, each seed another run: cuts, stops, arrivals and parts of the state come as the dice fall. The
+// commands of each journal are a beginning of those of a run that nothing stops.
+use crate::bench::world;
+use crate::counts::{LAZY_COUNT, OUTPUT_42, READ_41, SET_42, state_of_41};
+use bytes::Bytes;
+use handlers::counter::Counter;
+use handlers::sleeper::Sleeper;
+use std::alloc::{AllocError, Global};
+use std::test::Fail;
+use vectors::frames::{COMPLETION_1, INPUT_TILL, OUTPUT_EMPTY, SLEEP_TO_1000};
+use vm_rounds::Handler;
+use vm_world::{Event, Round, World, run_rounds};
+use wire::{Items, Text};
+
+/// The count is 41, read under id 1.
+const COUNT_COMES: &[u8] = b"\0\x1e\0\0\0\0\0\0\0\x10\
+    \0\0\0\0\x01\
+    \x01\
+    \0\0\0\0\0\0\0\x0241";
+
+/// Numbers that follow from a seed, and what shapes the rounds of a run.
+#[derive(Clone, Copy)]
+struct Dice {
+    state: u64,
+    /// The one notification of the run, until it comes.
+    note: Option<&'static [u8]>,
+    /// Commands were asked to be stored.
+    has_stored: bool,
+    /// The state is handed out without the count.
+    lacks_count: bool,
+}
+
+impl Dice {
+    /// A number below 65536.
+    fn roll(&mut self) -> u16 {
+        self.state = self
+            .state
+            .wrapping_mul(6_364_136_223_846_793_005)
+            .wrapping_add(1_442_695_040_888_963_407);
+        (self.state >> 48) as u16
+    }
+
+    fn store(&mut self) -> Event {
+        self.has_stored = true;
+        Event::Store(usize::from(self.roll() % 3))
+    }
+
+    /// The notification, once, and not before commands were stored; else a step.
+    fn arrive(&mut self) -> Event {
+        match self.note {
+            Some(note) if self.has_stored => {
+                self.note = None;
+                Event::Arrive(Bytes::from_static(note))
+            }
+            _ => Event::Step,
+        }
+    }
+
+    fn event(&mut self) -> Event {
+        match self.roll() % 16 {
+            0 => Event::Piece(usize::from(self.roll() % 64)),
+            1 | 2 | 3 => Event::Piece(usize::MAX),
+            4 => self.arrive(),
+            5 | 6 | 7 => self.store(),
+            8 if self.roll() % 4 == 0 => Event::Close,
+            _ => Event::Step,
+        }
+    }
+
+    /// A round of up to 31 events.
+    fn round(&mut self, alloc: Global) -> Result<Round, AllocError> {
+        let mut events = Items::new(alloc);
+        for _ in 0..self.roll() % 32 {
+            events.push(self.event())?;
+        }
+        let mut keys = Items::new(alloc);
+        if !self.lacks_count {
+            keys.push(Text::from_str(alloc, "count")?)?;
+        }
+        Ok(Round {
+            partial: self.lacks_count || self.roll() % 4 == 0,
+            keys,
+            retry_count: u32::from(self.roll()),
+            duration: u64::from(self.roll()),
+            events,
+        })
+    }
+
+    /// Up to six rounds.
+    fn rounds(&mut self, alloc: Global) -> Result<Vec<Round>, AllocError> {
+        let mut rounds = Vec::new(alloc);
+        for _ in 0..1 + self.roll() % 6 {
+            rounds.push(self.round(alloc)?)?;
+        }
+        Ok(rounds)
+    }
+}
+
+/// The world behind the rounds that the dice give, if none has a fault.
+fn played<H: Handler>(
+    alloc: Global,
+    handler: &H,
+    state: Vec<(String, Bytes)>,
+    mut dice: Dice,
+) -> Result<Option<World>, Fail> {
+    let world = world(alloc, state)?;
+    let rounds = dice.rounds(alloc)?;
+    match run_rounds(handler, world, rounds.as_slice()) {
+        Ok((world, _)) => Ok(Some(world)),
+        Err(_) => Ok(None),
+    }
+}
+
+fn is_notification(entry: &[u8]) -> bool {
+    matches!(entry, [0, 30, ..])
+}
+
+/// The commands of the journal are a beginning of these.
+fn begins(journal: &[Bytes], wanted: &[&[u8]]) -> bool {
+    let mut wanted = wanted.iter();
+    for entry in journal {
+        let entry = entry.as_slice();
+        if is_notification(entry) {
+            continue;
+        }
+        match wanted.next() {
+            Some(frame) if *frame == entry => {}
+            _ => return false,
+        }
+    }
+    true
+}
+
+/// How the runs of many seeds ended: without a fault, and of these with all commands stored.
+#[derive(Clone, Copy, Debug)]
+struct Tally {
+    faultless: u64,
+    whole: u64,
+}
+
+impl Tally {
+    fn count(&mut self, is_whole: bool) {
+        self.faultless = self.faultless.wrapping_add(1);
+        if is_whole {
+            self.whole = self.whole.wrapping_add(1);
+        }
+    }
+}
+
+const RUNS: u64 = 5000;
+
+#[test]
+fn sleeps_leave_one_history(rt: HostRuntime) -> Result<(), Fail> {
+    let alloc = rt.alloc();
+    let handler = Sleeper { alloc };
+    let mut tally = Tally {
+        faultless: 0,
+        whole: 0,
+    };
+    for seed in 0..RUNS {
+        let dice = Dice {
+            state: seed,
+            note: Some(COMPLETION_1),
+            has_stored: false,
+            lacks_count: false,
+        };
+        if let Some(world) = played(alloc, &handler, Vec::new(alloc), dice)? {
+            let journal = world.journal();
+            let commands = &[INPUT_TILL, SLEEP_TO_1000, OUTPUT_EMPTY];
+            assert!(rt; begins(journal, commands), "seed {seed}");
+            tally.count(journal.len() == 4);
+        }
+    }
+    assert!(rt; tally.faultless > 2500 && tally.whole > 250, "{tally:?}");
+    Ok(())
+}
+
+#[test]
+fn counts_leave_one_history(rt: HostRuntime) -> Result<(), Fail> {
+    let alloc = rt.alloc();
+    let handler = Counter { alloc };
+    let mut tally = Tally {
+        faultless: 0,
+        whole: 0,
+    };
+    for seed in 0..RUNS {
+        let lacks_count = seed % 2 == 0;
+        let dice = Dice {
+            state: seed,
+            note: if lacks_count { Some(COUNT_COMES) } else { None },
+            has_stored: false,
+            lacks_count,
+        };
+        if let Some(world) = played(alloc, &handler, state_of_41(alloc)?, dice)? {
+            let journal = world.journal();
+            let is_one = begins(journal, &[INPUT_TILL, READ_41, SET_42, OUTPUT_42])
+                || begins(journal, &[INPUT_TILL, LAZY_COUNT, SET_42, OUTPUT_42]);
+            assert!(rt; is_one, "seed {seed}");
+            tally.count(journal.len() >= 4);
+        }
+    }
+    assert!(rt; tally.faultless > 2500 && tally.whole > 250, "{tally:?}");
+    Ok(())
+}
