@@ -6,7 +6,7 @@ ghost use Rattle.vm_world.specs.declared.types.Event.TheVariants as event;
 ghost use Rattle.vm_world.specs.declared.types.RoundFault.TheVariants as round_fault;
 ghost use Rattle.vm_world.specs.Inside.{the_now};
 
-use crate::arrivals::arrival_fault;
+use crate::arrival_faults::arrival_fault;
 use crate::storing::store_from;
 use crate::types::{Event, RoundFault};
 use bytes::{Bytes, BytesMut};

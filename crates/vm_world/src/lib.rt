@@ -3,7 +3,7 @@
 #![tactic(auto)]
 
 mod answers;
-mod arrivals;
+mod arrival_faults;
 mod completions;
 mod content_type;
 mod desk;
