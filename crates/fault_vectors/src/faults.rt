@@ -1,0 +1,262 @@
+// The names that others read: versions, types of messages, faults and errors; and small values, copied and read.
+use bytes::Bytes;
+use journal_protocol::{
+    Error, ErrorBehavior, MessageType, NamedFault, RelatedCommand, Said, Version,
+};
+use std::str::FromStr;
+use std::test::Fail;
+use std::time::Duration;
+use wire::{Fault, Items, Text, copy_of, is_same, whole};
+
+#[test]
+fn knows_its_versions(rt: HostRuntime) -> Result<(), Fail> {
+    let versions = [
+        ("application/vnd.restate.invocation.v1", Version::V1),
+        ("application/vnd.restate.invocation.v2", Version::V2),
+        ("application/vnd.restate.invocation.v3", Version::V3),
+        ("application/vnd.restate.invocation.v4", Version::V4),
+        ("application/vnd.restate.invocation.v5", Version::V5),
+        ("application/vnd.restate.invocation.v6", Version::V6),
+        ("application/vnd.restate.invocation.v7", Version::V7),
+        ("application/vnd.restate.invocation.v8", Version::V8),
+    ];
+    for (text, version) in versions {
+        assert_eq!(rt; Version::from_str(text)?, version);
+        assert_eq!(rt; version.content_type(), text);
+    }
+    assert!(rt; Version::V4 < Version::minimum_supported_version());
+    assert_eq!(rt; Version::maximum_supported_version(), Version::V8);
+    Ok(())
+}
+
+#[test]
+fn refuses_other_versions(rt: HostRuntime) -> Result<(), Fail> {
+    let texts = [
+        "",
+        "application/vnd.restate.invocation.v",
+        "application/vnd.restate.invocation.v9",
+        "application/vnd.restate.invocation.v77",
+        "Application/vnd.restate.invocation.v7",
+        "application/vnd.restate.invocation.V7",
+        "application/vnd.restate.invocation.v7; charset=utf-8",
+        " application/vnd.restate.invocation.v7",
+    ];
+    for text in texts {
+        let error = Version::from_str(text).err().ok_or("read")?;
+        assert_eq!(rt; error.code(), 415, "{text}");
+        assert_eq!(rt; error.message(), "BadContentType", "{text}");
+    }
+    Ok(())
+}
+
+static FAULTS: [(NamedFault, u16, &str); 39] = [
+    (NamedFault::BadRequest, 400, "BAD_REQUEST"),
+    (NamedFault::MissingContentType, 415, "MISSING_CONTENT_TYPE"),
+    (NamedFault::BadContentType, 415, "BadContentType"),
+    (
+        NamedFault::UnsupportedMediaType,
+        415,
+        "UNSUPPORTED_MEDIA_TYPE",
+    ),
+    (
+        NamedFault::CommandTypeMismatch,
+        570,
+        "CommandTypeMismatchError",
+    ),
+    (NamedFault::CommandMismatch, 570, "CommandMismatchError"),
+    (
+        NamedFault::UncompletedDoProgressDuringReplay,
+        570,
+        "UncompletedDoProgressDuringReplay",
+    ),
+    (NamedFault::UnsupportedFeature, 573, "UNSUPPORTED_FEATURE"),
+    (
+        NamedFault::UnsupportedFeatureForNegotiatedVersion,
+        573,
+        "UnsupportedFeatureForNegotiatedVersion",
+    ),
+    (NamedFault::Closed, 598, "ClosedError"),
+    (NamedFault::Suspended, 599, "SUSPENDED"),
+    (NamedFault::Memory, 500, ""),
+    (
+        NamedFault::EmptyIdempotencyKey,
+        500,
+        "EMPTY_IDEMPOTENCY_KEY",
+    ),
+    (NamedFault::EmptyScope, 500, "EMPTY_SCOPE"),
+    (NamedFault::EmptyLimitKey, 500, "EMPTY_LIMIT_KEY"),
+    (NamedFault::OutOfBoundsDuration, 500, "OutOfBoundsDuration"),
+    (
+        NamedFault::ExhaustedCompletionIds,
+        500,
+        "exhausted: completion ids",
+    ),
+    (NamedFault::ExhaustedSignalIds, 500, "exhausted: signal ids"),
+    (NamedFault::ExhaustedHandles, 500, "exhausted: handles"),
+    (
+        NamedFault::ExhaustedCommandIndexes,
+        500,
+        "exhausted: command indexes",
+    ),
+    (
+        NamedFault::ExhaustedEphemeralIds,
+        500,
+        "exhausted: ephemeral ids",
+    ),
+    (NamedFault::NoPendingRun, 500, "no pending run"),
+    (NamedFault::BadMessage, 571, "BadMessage"),
+    (NamedFault::BadEagerStateKey, 571, "BadEagerStateKeyError"),
+    (NamedFault::KnownEntriesIsZero, 571, "KNOWN_ENTRIES_IS_ZERO"),
+    (
+        NamedFault::UnexpectedEntryMessage,
+        571,
+        "UNEXPECTED_ENTRY_MESSAGE",
+    ),
+    (NamedFault::UnexpectedState, 571, "UnexpectedStateError"),
+    (
+        NamedFault::UnexpectedInputMessage,
+        571,
+        "UNEXPECTED_INPUT_MESSAGE",
+    ),
+    (
+        NamedFault::InputClosedWhileWaitingEntries,
+        571,
+        "INPUT_CLOSED_WHILE_WAITING_ENTRIES",
+    ),
+    (NamedFault::UnavailableEntry, 571, "UnavailableEntryError"),
+    (NamedFault::EmptyGetEagerState, 571, "EMPTY_GET_EAGER_STATE"),
+    (
+        NamedFault::EmptyGetEagerStateKeys,
+        571,
+        "EMPTY_GET_EAGER_STATE_KEYS",
+    ),
+    (
+        NamedFault::BadProposeRunCompletionAck,
+        571,
+        "BadProposeRunCompletionAck",
+    ),
+    (
+        NamedFault::InputClosedWhileWaitingEphemeralNotifications,
+        571,
+        "INPUT_CLOSED_WHILE_WAITING_EPHEMERAL_NOTIFICATIONS",
+    ),
+    (
+        NamedFault::EphemeralCommandDuringReplay,
+        571,
+        "EPHEMERAL_COMMAND_DURING_REPLAY",
+    ),
+    (
+        NamedFault::EphemeralStateGetWithClosedInput,
+        571,
+        "EphemeralStateGetWithClosedInput",
+    ),
+    (
+        NamedFault::EmptyGetStateEphemeralNotification,
+        571,
+        "EMPTY_GET_STATE_EPHEMERAL_NOTIFICATION",
+    ),
+    (
+        NamedFault::UnexpectedInvocationIdResult,
+        571,
+        "unexpected result for an invocation id",
+    ),
+    (NamedFault::StateKeyIsNotUtf8, 571, "state key is not UTF-8"),
+];
+
+#[test]
+fn names_its_faults(rt: HostRuntime) {
+    for (fault, code, text) in &FAULTS {
+        assert_eq!(rt; fault.code(), *code, "{text}");
+        assert_eq!(rt; fault.text(), *text);
+    }
+}
+
+#[test]
+fn numbers_its_types(rt: HostRuntime) -> Result<(), Fail> {
+    let types = [
+        (1, MessageType::Start),
+        (7, MessageType::AwaitingOn),
+        (10, MessageType::InputCommand),
+        (11, MessageType::GetEagerStateCommand),
+        (18, MessageType::SleepCommand),
+        (22, MessageType::SendSignalCommand),
+        (29, MessageType::OutputCommand),
+        (30, MessageType::Notification),
+    ];
+    for (number, ty) in types {
+        assert_eq!(rt; MessageType::from_number(number), Some(ty));
+        assert_eq!(rt; ty.number(), number);
+        assert_eq!(rt; ty.is_command(), 10 <= number && number < 30, "{number}");
+        assert_eq!(rt; ty.is_notification(), number == 30, "{number}");
+    }
+    Ok(())
+}
+
+#[test]
+fn writes_an_error(rt: HostRuntime) -> Result<(), Fail> {
+    let alloc = rt.alloc();
+    let error = Error::new(570, String::from_str(alloc, "no")?)
+        .with_stacktrace(String::from_str(alloc, "at")?)
+        .with_behavior(ErrorBehavior::Pause)
+        .with_next_retry_delay(Duration::from_micros(1_999));
+    let message = error.clone()?.to_message(alloc)?;
+    let text = format!(in alloc; "{} {} {message:?}", error.code(), error.message())?;
+    assert_eq!(rt;
+        text.as_str(),
+        "570 no ErrorMessage { code: 570, message: Text { inner: \"no\" }, \
+        stacktrace: Text { inner: \"at\" }, behavior: Pause, index: None, ty: None, name: None, \
+        delay: Some(1) }"
+    );
+    Ok(())
+}
+
+#[test]
+fn writes_what_an_error_relates_to(rt: HostRuntime) -> Result<(), Fail> {
+    let alloc = rt.alloc();
+    let related = RelatedCommand {
+        index: 1,
+        ty: MessageType::SleepCommand,
+        name: Text::from_string(String::new(alloc)),
+    };
+    let error = Error::named(NamedFault::Closed, Some(related)).with_next_retry_delay(
+        Duration::MAX,
+    );
+    let text = format!(in alloc; "{:?}", error.to_message(alloc)?)?;
+    assert_eq!(rt;
+        text.as_str(),
+        "ErrorMessage { code: 598, message: Text { inner: \"ClosedError\" }, \
+        stacktrace: Text { inner: \"\" }, behavior: Retry, index: Some(1), ty: Some(18), name: None, \
+        delay: Some(18446744073709551615) }"
+    );
+    Ok(())
+}
+
+#[test]
+fn tells_a_fault(rt: HostRuntime) {
+    assert_eq!(rt; Error::from(Fault::Malformed).message(), "BadMessage");
+    assert_eq!(rt; Error::from(Fault::Memory).code(), 500);
+}
+
+#[test]
+fn copies_texts(rt: HostRuntime) -> Result<(), Fail> {
+    let alloc = rt.alloc();
+    let text = Text::from_string(String::from_str(alloc, "text")?);
+    assert!(rt; is_same(&text, &copy_of(&text)?));
+    assert_eq!(rt; text.into_string().as_str(), "text");
+    let said = Said::own(String::from_str(alloc, "own")?);
+    assert_eq!(rt; said.clone()?.as_str(), "own");
+    Ok(())
+}
+
+#[test]
+fn reads_a_list(rt: HostRuntime) -> Result<(), Fail> {
+    let numbers = whole::<Items<u32>>(
+        rt.alloc(),
+        &Bytes::from_static(b"\0\0\0\0\0\0\0\x01\0\0\0\x07"),
+    )?;
+    assert!(rt; numbers == numbers.clone()?);
+    assert!(rt; Items::empty_like(&numbers).is_empty());
+    assert_eq!(rt; numbers.get(0), Some(&7));
+    assert_eq!(rt; numbers.into_vec().as_slice(), [7].as_slice());
+    Ok(())
+}

@@ -1,0 +1,41 @@
+//! The test bench of scripts: tables of lines with their answers, one call of the VM a line.
+#![tactic(auto)]
+
+#[cfg(test)]
+mod arguments;
+#[cfg(test)]
+mod attaches;
+#[cfg(test)]
+mod awakeables;
+#[cfg(test)]
+mod calls_and_sends;
+#[cfg(test)]
+mod commands;
+#[cfg(test)]
+mod journals;
+#[cfg(test)]
+mod meanings;
+#[cfg(test)]
+mod named_signals;
+#[cfg(test)]
+mod names;
+#[cfg(test)]
+mod places;
+#[cfg(test)]
+mod promises;
+#[cfg(test)]
+mod read_frames;
+#[cfg(test)]
+mod refusals;
+#[cfg(test)]
+mod reports;
+#[cfg(test)]
+mod sleeps;
+#[cfg(test)]
+mod state_reads;
+#[cfg(test)]
+mod states;
+#[cfg(test)]
+mod table;
+#[cfg(test)]
+mod transcripts;
