@@ -1,5 +1,6 @@
 -- What a round does, from what its parts did.
 use Rattle.std.proofs.Common.{◌≡◌, ◌⊎◌, inl, inr, ⊎_elim, ℕ, List, ◌++◌, refl, sym, subst, Global, Result, Ok, Err, IfOk}
+use Rattle.std.specs.Prelude.{IfErr}
 use Rattle.std.specs.List.{concat}
 use Rattle.journal_protocol.specs.declared.version.Version.{Version}
 use Rattle.journal_protocol.specs.Message.{encoding}
@@ -41,3 +42,8 @@ round_short m w round old alloc waiting r j e f = subst (IsShort m round.events)
 pub if_ok_then : {A E : Type 0} (r : Result A E) (P Q : A → Type 0) → ((a : A) → P a → Q a) → IfOk r P → IfOk r Q
 if_ok_then (Ok a) P Q f h = f a h
 if_ok_then (Err e) P Q f h = tt
+
+-- the same of an error
+pub if_err_then : {A E : Type 0} (r : Result A E) (P Q : E → Type 0) → ((e : E) → P e → Q e) → IfErr r P → IfErr r Q
+if_err_then (Ok a) P Q f h = tt
+if_err_then (Err e) P Q f h = f e h

@@ -1,8 +1,9 @@
-use Rattle.std.proofs.Common.{inr, subst}
+use Rattle.std.proofs.Common.{◌≡◌, ◌⊎◌, inr, subst}
 use Rattle.vm_world.specs.Inside.{report_view}
-use Rattle.vm_world.specs.Rounds.{Ran, RefusedDoes, RoundDoes, new_now}
+use Rattle.vm_world.specs.Rounds.{HappenFaults, Ran, RefusedDoes, RoundDoes, RoundFaults, new_now}
+use Rattle.vm_world.specs.declared.types.RoundFault.TheVariants as round_fault
 use Rattle.vm_world.specs.Worlds.{IsJournal}
-use Rattle.vm_world.proofs.Beginning.{if_ok_then, round_does, round_short}
+use Rattle.vm_world.proofs.Beginning.{if_err_then, if_ok_then, round_does, round_faults, round_short}
 use Rattle.vm_world.proofs.Rounding.{round_grows}
 use Rattle.vm_world.proofs.round.run_round.Goals as goal
 
@@ -32,3 +33,13 @@ returns-in-Ok-waiting_bytes-clause-entries g c =
     if_ok_then c.made_round.result (λ a. RoundDoes (g.H.Handler.meaning c.args.handler.now) c.args.setting.now c.args.round.now c.args.journal.items (report_view a.1) a.0.items) (λ a. IsJournal a.0.items)
     (λ a d. (round_grows (g.H.Handler.meaning c.args.handler.now) c.args.setting.now c.args.round.now c.args.journal.items (report_view a.1) a.0.items c.requires.entries d).journal)
     (returns-in-Ok-waiting_bytes-clause-ok g c)
+
+pub returns-in-Ok-waiting_bytes-clause-err : goal.returns-in-Ok-waiting_bytes-clause-err
+returns-in-Ok-waiting_bytes-clause-err g c =
+    if_err_then c.made_round.result (λ x. (x ≡ round_fault.Memory) ⊎ HappenFaults (g.H.Handler.meaning c.in-Ok.attempt.handler.now) c.as_slice-in-Ok.result.now (new_now c.args.journal.items c.in-Ok-waiting_bytes.waiting.items c.in-Ok.attempt.record_of) x)
+    (λ x. RoundFaults (g.H.Handler.meaning c.args.handler.now) c.args.setting.now c.args.round.now c.args.journal.items x)
+    (λ x h. subst (λ k. RoundFaults (g.H.Handler.meaning k) c.args.setting.now c.args.round.now c.args.journal.items x) c.in-Ok.ensures.handler
+    (round_faults (g.H.Handler.meaning c.in-Ok.attempt.handler.now) c.args.setting.now c.args.round.now c.args.journal.items c.args.alloc c.in-Ok-waiting_bytes.waiting.items c.in-Ok.attempt.record_of x
+    (rw c.as_slice.ensures.value at c.in-Ok-waiting_bytes.ensures.bytes) c.in-Ok.ensures.record
+    (subst (λ es. (x ≡ round_fault.Memory) ⊎ HappenFaults (g.H.Handler.meaning c.in-Ok.attempt.handler.now) es (new_now c.args.journal.items c.in-Ok-waiting_bytes.waiting.items c.in-Ok.attempt.record_of) x) c.as_slice-in-Ok.ensures h)))
+    c.made_round.ensures.err
