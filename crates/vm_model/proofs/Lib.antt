@@ -5,10 +5,10 @@ pub mod Stored
 pub mod Standing
 pub mod Eager
 pub mod Attempts
-pub mod Events
+pub mod Lasting
 pub mod Honesty
+pub mod Order
 pub mod Compared
-pub mod Reports
 pub mod Waking
 pub mod Results
 pub mod Took

@@ -1,6 +1,6 @@
 -- Runs of two handlers, computed.
-use Rattle.std.proofs.Common.{◌≡◌, ℕ, false, List, [], ◌∷◌, map, Some, None, refl}
-use Rattle.std.specs.Prelude.{codes}
+use Rattle.std.proofs.Common.{◌≡◌, ℕ, false, List, [], ◌∷◌, Option, Some, None, refl}
+use Rattle.std.specs.Prelude.{codes, option_map}
 use Rattle.std.specs.Str.{chars, is_utf8}
 use Rattle.journal_protocol.specs.declared.commands.InputCommand.{InputCommand}
 use Rattle.journal_protocol.specs.declared.message.Message.TheVariants as message
@@ -11,15 +11,12 @@ use Rattle.journal_protocol.specs.declared.notification.NotificationResult.{Noti
 use Rattle.journal_protocol.specs.declared.notification.NotificationResult.TheVariants as came
 use Rattle.journal_protocol.specs.declared.parts.ValueOrFailure.TheVariants as given
 use Rattle.journal_protocol.specs.declared.state.VoidOrValue.TheVariants as stands
-use Rattle.journal_protocol.specs.declared.types.MessageType.TheVariants as type
 use Rattle.journal_protocol.specs.declared.version.Version.TheVariants.{V7}
 use Rattle.journal_protocol.specs.Choices.{read_void_or_value}
 use Rattle.journal_protocol.specs.HeaderEqual.{header_equal}
 use Rattle.journal_protocol.specs.Reading.{body_as, message_in}
 use Rattle.journal_protocol.specs.Encoding.{clear_state, failure, get_eager_state, output, sleep}
 use Rattle.journal_protocol.specs.Parts.{read_value}
-use Rattle.vm_parts.specs.declared.context.StateCoverage.TheVariants.{Partial, Complete}
-use Rattle.vm_parts.specs.declared.context.StateMap.{StateMap}
 use Rattle.vm_parts.specs.declared.steps.Answer.{Answer}
 use Rattle.vm_parts.specs.declared.steps.Answer.TheVariants as answer
 use Rattle.vm_parts.specs.declared.steps.Step.TheVariants as step
@@ -31,10 +28,8 @@ use Rattle.vm_parts.specs.Options.{default_options}
 use Rattle.vm_parts.specs.CommandTypes.{message_type}
 use Rattle.wire.specs.Format.{bytes, list, option, read_byte, read_bytes, read_flag, read_items, read_list, read_option, read_pair, read_text, read_u16, read_u32, read_u64, u16s, u32s, u64s}
 use Rattle.vm_model.specs.Calls.{Setup, Meaning}
-use Rattle.vm_model.specs.Journal.{Recorded, Notified, stored_form}
+use Rattle.vm_model.specs.Journal.{stored_form}
 use Rattle.vm_model.specs.Moves.{after, start, told_input}
-use Rattle.vm_model.specs.Histories.{Round, reports, rounds}
-use Rattle.vm_model.specs.Histories.Event.{Arrive, Feed, Act, Store}
 
 setup : Setup
 setup = record { version = V7; options = default_options; identity = record { id = codes "abc"; debug_id = codes "abc"; key = []; random_seed = 0; scope = None; limit_key = None; idempotency_key = None } }
@@ -46,10 +41,6 @@ sleeper (i ∷ answer.Handle h ∷ []) = step.Await (Single h)
 sleeper (i ∷ answer.Handle h ∷ answer.Awake ∷ []) = step.Take h
 sleeper (i ∷ answer.Handle h ∷ answer.Awake ∷ answer.Taken x ∷ []) = step.WriteOutput (Success []) (record { unstable_serialization = false })
 sleeper _ = step.End
-
--- a state of which nothing is known
-nothing : StateMap
-nothing = record { entries = []; coverage = Partial }
 
 input : InputCommand
 input = record { headers = []; value = codes "Till" }
@@ -63,16 +54,9 @@ handle n = record { 0 = n }
 told : Answer
 told = answer.Input (told_input setup.identity input)
 
--- the first command of the journal; which bytes it has plays no part here
-first : RawMessage
-first = record { ty = type.InputCommand; body = [] }
-
--- the first round stops once the sleep is stored, the second goes on to the end
-two : List Round
-two =
-    record { given = nothing; events = Act ∷ Act ∷ Store ∷ [] }
-    ∷ record { given = nothing; events = Act ∷ Act ∷ Arrive (void 1) ∷ Feed ∷ Act ∷ Act ∷ Act ∷ Act ∷ Act ∷ Store ∷ [] }
-    ∷ []
+-- the answers after so many moves, and the recorded commands that are left
+told_by : Meaning → ℕ → List Notification → List RawMessage → Option (List Answer × List RawMessage)
+told_by m n ns cs = option_map (λ p. (p.answers, p.left)) (after setup m n (start setup input ns cs))
 
 slept : RawMessage
 slept = stored_form (message.Sleep (record { wake_up_time = 1000; result_completion_id = 1; name = [] }))
@@ -80,14 +64,10 @@ slept = stored_form (message.Sleep (record { wake_up_time = 1000; result_complet
 done : RawMessage
 done = stored_form (message.Output (record { result = given.Value [] }))
 
-after_two : rounds setup sleeper input two (Recorded first ∷ []) ≡ Recorded first ∷ Recorded slept ∷ Notified (void 1) ∷ Recorded done ∷ []
-unfolding setup sleeper nothing two void slept done is_utf8 chars header_equal message_in body_as sleep output read_value bytes read_byte read_bytes read_text read_pair read_u16 read_u32 read_u64 u16s u32s u64s
-after_two = refl
-
--- the first attempt was answered as far as the second, which went on
-answers_of_two : map (λ r. r.answers) (reports setup sleeper input two (Recorded first ∷ [])) ≡ (told ∷ answer.Handle (handle 17) ∷ []) ∷ (told ∷ answer.Handle (handle 17) ∷ answer.Awake ∷ answer.Taken (Some value.Void) ∷ answer.Unit ∷ []) ∷ []
-unfolding setup sleeper nothing two void told handle is_utf8 chars header_equal message_in body_as sleep output read_value bytes read_byte read_bytes read_text read_pair read_u16 read_u32 read_u64 u16s u32s u64s
-answers_of_two = refl
+-- the calls behind the input go through both recorded commands and the arrival
+told_two : told_by sleeper 5 (void 1 ∷ []) (slept ∷ done ∷ []) ≡ Some (told ∷ answer.Handle (handle 17) ∷ answer.Awake ∷ answer.Taken (Some value.Void) ∷ answer.Unit ∷ [], [])
+unfolding told_by slept done setup sleeper void told handle is_utf8 chars header_equal message_in body_as sleep output read_value bytes read_byte read_bytes read_text read_pair read_u16 read_u32 read_u64 u16s u32s u64s
+told_two = refl
 
 cleared : RawMessage
 cleared = stored_form (message.ClearState (record { name = []; key = codes "k" }))
@@ -109,19 +89,15 @@ chooser _ = step.End
 sent : NotificationResult → Notification
 sent r = record { id = SignalId 17; result = r }
 
--- the signal comes, and the handler goes on to its command, which is stored
-once : NotificationResult → List Round
-once r = record { given = nothing; events = Arrive (sent r) ∷ Feed ∷ Act ∷ Act ∷ Act ∷ Act ∷ Act ∷ Store ∷ [] } ∷ []
-
-completed : rounds setup chooser input (once (came.Value (codes "x"))) (Recorded first ∷ []) ≡ Recorded first ∷ Notified (sent (came.Value (codes "x"))) ∷ Recorded cleared ∷ []
-unfolding setup chooser nothing once sent cleared is_utf8 chars header_equal message_in body_as clear_state bytes read_byte read_bytes read_text read_pair read_u16 read_u32 read_u64 u16s u32s u64s lib.Utf8.encode
+completed : option_map (λ a. a.1) (told_by chooser 5 (sent (came.Value (codes "x")) ∷ []) (cleared ∷ [])) ≡ Some []
+unfolding told_by setup chooser sent cleared is_utf8 chars header_equal message_in body_as clear_state bytes read_byte read_bytes read_text read_pair read_u16 read_u32 read_u64 u16s u32s u64s lib.Utf8.encode
 completed = refl
 
 refused : RawMessage
 refused = stored_form (message.Output (record { result = given.Failure (record { code = 409; message = codes "no"; metadata = [] }) }))
 
-failed : rounds setup chooser input (once (came.Failure (record { code = 65945; message = codes "no"; metadata = [] }))) (Recorded first ∷ []) ≡ Recorded first ∷ Notified (sent (came.Failure (record { code = 65945; message = codes "no"; metadata = [] }))) ∷ Recorded refused ∷ []
-unfolding setup chooser nothing once sent refused is_utf8 chars header_equal message_in body_as output failure list option read_value read_items read_list bytes read_byte read_bytes read_text read_pair read_u16 read_u32 read_u64 u16s u32s u64s lib.Utf8.encode
+failed : option_map (λ a. a.1) (told_by chooser 5 (sent (came.Failure (record { code = 65945; message = codes "no"; metadata = [] })) ∷ []) (refused ∷ [])) ≡ Some []
+unfolding told_by setup chooser sent refused is_utf8 chars header_equal message_in body_as output failure list option read_value read_items read_list bytes read_byte read_bytes read_text read_pair read_u16 read_u32 read_u64 u16s u32s u64s lib.Utf8.encode
 failed = refl
 
 -- it reads a key, takes the result at once and ends
@@ -130,23 +106,11 @@ reader (i ∷ []) = step.StateGet (codes "k") None (record { unstable_serializat
 reader (i ∷ answer.Handle h ∷ []) = step.Take h
 reader _ = step.End
 
--- the key has a value, and no other key has
-one_value : StateMap
-one_value = record { entries = (codes "k", Some (codes "v")) ∷ []; coverage = Complete }
-
--- the first attempt is handed the state, the second nothing of it
-twice : List Round
-twice = record { given = one_value; events = Act ∷ Store ∷ [] } ∷ record { given = nothing; events = Act ∷ Act ∷ [] } ∷ []
-
 -- the eager read, with the value of then
 read_eagerly : RawMessage
 read_eagerly = stored_form (message.GetEagerState (record { name = []; key = codes "k"; result = Some (stands.Value (codes "v")) }))
 
-after_twice : rounds setup reader input twice (Recorded first ∷ []) ≡ Recorded first ∷ Recorded read_eagerly ∷ []
-unfolding setup reader one_value nothing twice read_eagerly is_utf8 chars header_equal message_in body_as get_eager_state option read_value read_option read_flag bytes read_byte read_bytes read_text read_pair read_u16 read_u32 read_u64 u16s u32s u64s read_void_or_value lib.Utf8.encode
-after_twice = refl
-
--- the second attempt takes the recorded value
-answers_of_twice : map (λ r. r.answers) (reports setup reader input twice (Recorded first ∷ [])) ≡ (told ∷ answer.Handle (handle 17) ∷ []) ∷ (told ∷ answer.Handle (handle 17) ∷ answer.Taken (Some (value.Success (codes "v"))) ∷ []) ∷ []
-unfolding setup reader one_value nothing twice read_eagerly told handle is_utf8 chars header_equal message_in body_as get_eager_state option read_value read_option read_flag bytes read_byte read_bytes read_text read_pair read_u16 read_u32 read_u64 u16s u32s u64s read_void_or_value lib.Utf8.encode
-answers_of_twice = refl
+-- the recorded value is taken, whatever the state is
+told_read : told_by reader 2 [] (read_eagerly ∷ []) ≡ Some (told ∷ answer.Handle (handle 17) ∷ answer.Taken (Some (value.Success (codes "v"))) ∷ [], [])
+unfolding told_by setup reader read_eagerly told handle is_utf8 chars header_equal message_in body_as get_eager_state option read_value read_option read_flag bytes read_byte read_bytes read_text read_pair read_u16 read_u32 read_u64 u16s u32s u64s read_void_or_value lib.Utf8.encode
+told_read = refl

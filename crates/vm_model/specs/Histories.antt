@@ -1,4 +1,4 @@
--- What a journal tells of a handler's run, what an attempt writes, and what rounds of attempts leave.
+-- What a journal tells of a handler's run, and what an attempt writes.
 use Rattle.std.specs.Prelude.{◌≡◌, ◌⊎◌, ◌<◌, ◌≤◌, length, take, ℕ, zero, suc, Bool, true, false, List, [], ◌∷◌, ◌++◌, Option, Some, None}
 use Rattle.journal_protocol.specs.declared.commands.InputCommand.{InputCommand}
 use Rattle.journal_protocol.specs.declared.message.Message.{Message}
@@ -11,7 +11,6 @@ use Rattle.journal_protocol.specs.Reading.{message_in}
 use Rattle.vm_parts.specs.declared.context.Known.{Known}
 use Rattle.vm_parts.specs.declared.context.Known.TheVariants.{Unknown, Empty, Value}
 use Rattle.vm_parts.specs.declared.context.StateMap.{StateMap}
-use Rattle.vm_parts.specs.declared.steps.Answer.{Answer}
 use Rattle.vm_parts.specs.declared.steps.Step.TheVariants as step
 use Rattle.vm_parts.specs.declared.types.UnresolvedFuture.{UnresolvedFuture}
 use Rattle.vm_parts.specs.Entries.{IsInOrder}
@@ -19,8 +18,8 @@ use Rattle.vm_parts.specs.States.{known, known_keys}
 use Rattle.vm_machine.specs.declared.reads.StateRead.TheVariants as reads
 use Rattle.vm_machine.specs.Reads.{own_form}
 use Rattle.vm_model.specs.Calls.{Setup, Meaning, Derived}
-use Rattle.vm_model.specs.Journal.{Entry, Recorded, Notified, commands_in, notifications_in, input_read_from, messages_in, stored_form}
-use Rattle.vm_model.specs.Moves.{Point, after, next, start, supplied, longer, later, arrival_used, changed_by}
+use Rattle.vm_model.specs.Journal.{Entry, commands_in, notifications_in, input_read_from, messages_in, stored_form}
+use Rattle.vm_model.specs.Moves.{Point, after, next, start, supplied, longer, arrival_used, changed_by}
 
 -- A point is told by a journal: so many moves lead to it from the point after the input.
 abbrev pub Told : Setup → Meaning → InputCommand → List Notification → List RawMessage → Point → Type 0
@@ -107,6 +106,11 @@ Undisturbed s m base input ns cs = (n : ℕ) × (q : Point) × Made s m (Whole b
 abbrev pub IsStuck : Setup → Meaning → StateMap → Point → Type 0
 IsStuck s m state p = next s m (longer (supplied s m state p) p) ≡ None
 
+-- all but the first
+abbrev pub behind : {A : Type 0} → List A → List A
+behind [] = []
+behind (x ∷ xs) = xs
+
 -- the second list begins with the first
 abbrev pub IsPrefix : {A : Type 0} → List A → List A → Type 0
 IsPrefix {A} xs ys = (rest : List A) × (ys ≡ xs ++ rest)
@@ -131,96 +135,3 @@ pub record IsLeast (test : Derived → Bool) (d : Derived) (queue : List Notific
 -- the handler awaits this future
 abbrev pub IsAwaiting : Meaning → Point → UnresolvedFuture → Type 0
 IsAwaiting m p future = m p.answers ≡ step.Await future
-
--- ---- rounds
-
--- A notification is stored and waits; what waits is fed; the attempt makes a move; what it wrote is stored.
-pub data Event : Type 0 where
-  Arrive : Notification → Event
-  Feed : Event
-  Act : Event
-  Store : Event
-
--- a round: the state that its attempt is handed, and its events
-pub record Round : Type 0 where
-  pub given : StateMap
-  pub events : List Event
-
--- a round on its way
-pub record Now : Type 0 where
-  pub journal : List Entry
-  pub point : Point
-  pub unstored : List RawMessage
-  pub waiting : List Notification
-
--- the first of what waits is fed
-abbrev pub fed : List Notification → Now → Now
-fed [] now = now
-fed (n ∷ ns) now = record now { point = later (n ∷ []) now.point; waiting = ns }
-
--- the attempt has moved, if there was a move
-abbrev pub acted : Option Point → List RawMessage → Now → Now
-acted None made now = now
-acted (Some p) made now = record now { point = p; unstored = now.unstored ++ made }
-
--- the first command that waits is stored
-abbrev pub stored : List RawMessage → Now → Now
-stored [] now = now
-stored (c ∷ cs) now = record now { journal = now.journal ++ Recorded c ∷ []; unstored = cs }
-
--- what an attempt that was handed this state brings itself to its next call
-abbrev pub brings : Setup → Meaning → StateMap → Point → List RawMessage
-brings s m given p = supplied s m (changed_by p.said given) p
-
--- one event
-abbrev pub happens : Setup → Meaning → StateMap → Event → Now → Now
-happens s m given (Arrive n) now = record now { journal = now.journal ++ Notified n ∷ []; waiting = now.waiting ++ n ∷ [] }
-happens s m given Feed now = fed now.waiting now
-happens s m given Act now = acted (next s m (longer (brings s m given now.point) now.point)) (brings s m given now.point) now
-happens s m given Store now = stored now.unstored now
-
--- events, one after another
-abbrev pub happen : Setup → Meaning → StateMap → List Event → Now → Now
-happen s m given [] now = now
-happen s m given (e ∷ es) now = happen s m given es (happens s m given e now)
-
--- all but the first
-abbrev pub behind : {A : Type 0} → List A → List A
-behind [] = []
-behind (x ∷ xs) = xs
-
--- an attempt begins with the whole journal
-abbrev pub begin : Setup → InputCommand → List Entry → Now
-begin s input journal = record { journal = journal; point = start s input (notifications_in journal) (behind (commands_in journal)); unstored = []; waiting = [] }
-
--- a round after all its events; what wasn't stored is lost
-abbrev pub ended : Setup → Meaning → InputCommand → Round → List Entry → Now
-ended s m input r journal = happen s m r.given r.events (begin s input journal)
-
--- the journal that a round leaves
-abbrev pub round : Setup → Meaning → InputCommand → Round → List Entry → List Entry
-round s m input r journal = (ended s m input r journal).journal
-
--- the journal that rounds leave
-abbrev pub rounds : Setup → Meaning → InputCommand → List Round → List Entry → List Entry
-rounds s m input [] journal = journal
-rounds s m input (r ∷ rs) journal = rounds s m input rs (round s m input r journal)
-
--- of the state that each round is handed, and of what the journal's commands behind the input say then, this holds
-abbrev pub EachHanded : Setup → Meaning → Knowledge → InputCommand → List Round → List Entry → Type 0
-EachHanded s m Knows input [] journal = Unit {0}
-EachHanded s m Knows input (r ∷ rs) journal = Knows r.given (messages_in (behind (commands_in journal))) × EachHanded s m Knows input rs (round s m input r journal)
-
--- what a round tells: its attempt's answers, and the journal's length after it
-pub record Report : Type 0 where
-  pub answers : List Answer
-  pub entries : ℕ
-
--- what is told of a round
-abbrev pub report : Setup → Meaning → InputCommand → Round → List Entry → Report
-report s m input r journal = record { answers = (ended s m input r journal).point.answers; entries = length (round s m input r journal) }
-
--- what is told of each round
-abbrev pub reports : Setup → Meaning → InputCommand → List Round → List Entry → List Report
-reports s m input [] journal = []
-reports s m input (r ∷ rs) journal = report s m input r journal ∷ reports s m input rs (round s m input r journal)

@@ -1,14 +1,14 @@
 -- What an honest round leaves of a journal, whoever runs its attempt; no program is named here.
-use Rattle.std.specs.Prelude.{◌≡◌, ◌⊎◌, ℕ, List, [], ◌∷◌, ◌++◌, take, Some}
+use Rattle.std.specs.Prelude.{◌≡◌, ◌⊎◌, ◌<◌, ℕ, zero, suc, List, [], ◌∷◌, ◌++◌, length, take, Some}
 use Rattle.journal_protocol.specs.declared.commands.InputCommand.{InputCommand}
 use Rattle.journal_protocol.specs.declared.message.RawMessage.{RawMessage}
 use Rattle.journal_protocol.specs.declared.notification.Notification.{Notification}
 use Rattle.vm_parts.specs.declared.context.StateMap.{StateMap}
 use Rattle.vm_parts.specs.declared.steps.Answer.{Answer}
 use Rattle.vm_model.specs.Calls.{Setup, Meaning}
-use Rattle.vm_model.specs.Journal.{Entry, commands_in, notifications_in, input_read_from, messages_in}
+use Rattle.vm_model.specs.Journal.{Entry, Recorded, Notified, commands_in, notifications_in, input_read_from, messages_in}
 use Rattle.vm_model.specs.Moves.{Point, start}
-use Rattle.vm_model.specs.Histories.{Handed, Knowledge, Made, behind}
+use Rattle.vm_model.specs.Histories.{Handed, IsPrefix, Knowledge, Made, behind}
 
 -- One run made the journal, whose calls went by so much of the state: it begins with an input, and the commands behind it are
 -- the very ones that the handler's calls define, by the journal's notifications and with nothing recorded.
@@ -22,15 +22,15 @@ pub record IsOneRun (s : Setup) (m : Meaning) (Knows : Knowledge) (journal : Lis
   pub at : Point
   pub made : Made s m Knows moves (start s input (notifications_in journal) []) rest at
 
--- An attempt on a journal: the state that it was handed, the notifications that came, the commands that it wrote, and its answers.
+-- An attempt on a journal: the state that it was handed; its course, which is the notifications that were delivered to it behind
+-- the journal's and the commands that it wrote, in the order in which this happened; and its answers.
 pub record Attempted : Type 0 where
   pub given : StateMap
-  pub arrivals : List Notification
-  pub written : List RawMessage
+  pub course : List Entry
   pub answers : List Answer
 
--- The attempt is told by the journal and by what it was handed: so many moves made what it wrote, and its answers are those of the
--- point that they lead to, or it hasn't read its input.
+-- The attempt is told by the journal and by what it was handed: with the journal's notifications and the delivered ones, so many
+-- moves made what it wrote, and its answers are those of the point that they lead to, or it hasn't read its input.
 pub record IsToldOn (s : Setup) (m : Meaning) (journal : List Entry) (a : Attempted) : Type 0 where
   pub first : RawMessage
   pub input : InputCommand
@@ -39,21 +39,27 @@ pub record IsToldOn (s : Setup) (m : Meaning) (journal : List Entry) (a : Attemp
   pub begins : commands_in journal ≡ first ∷ rest
   pub moves : ℕ
   pub at : Point
-  pub made : Made s m (Handed a.given) moves (start s input a.arrivals rest) a.written at
+  pub made : Made s m (Handed a.given) moves (start s input (notifications_in journal ++ notifications_in a.course) rest) (commands_in a.course) at
   pub answered : (a.answers ≡ []) ⊎ (a.answers ≡ at.answers)
 
--- An honest round: the arrivals are the journal's notifications and those that were delivered behind them; the new journal
--- begins with the old one; its new notifications are the delivered ones, and behind them some that weren't delivered; its new
--- commands are a beginning of those that the attempt wrote.
-pub record HonestRound (before : List Entry) (arrivals : List Notification) (written : List RawMessage) (after : List Entry) : Type 0 where
-  pub delivered : List Notification
-  pub arrived : arrivals ≡ notifications_in before ++ delivered
+-- the notifications in front of the command with this index, from 0
+abbrev pub ahead_of : ℕ → List Entry → List Notification
+ahead_of n [] = []
+ahead_of n (Notified x ∷ es) = x ∷ ahead_of n es
+ahead_of zero (Recorded c ∷ es) = []
+ahead_of (suc n) (Recorded c ∷ es) = ahead_of n es
+
+-- An honest round, by what was delivered and written: the new journal begins with the old one; its new notifications are the
+-- delivered ones, and behind them some that weren't delivered; its new commands are a beginning of the written ones; and each
+-- of them stands behind all notifications that were delivered before it was written.
+pub record HonestRound (before : List Entry) (course : List Entry) (after : List Entry) : Type 0 where
   pub added : List Entry
   pub extends : after ≡ before ++ added
   pub undelivered : List Notification
-  pub notifications : notifications_in added ≡ delivered ++ undelivered
+  pub notifications : notifications_in added ≡ notifications_in course ++ undelivered
   pub stored : ℕ
-  pub commands : commands_in added ≡ take stored written
+  pub commands : commands_in added ≡ take stored (commands_in course)
+  pub order : (n : ℕ) → n < length (commands_in added) → IsPrefix (ahead_of n course) (ahead_of n added)
 
 -- what the attempt was handed is as this says, behind what the journal's commands say
 abbrev pub IsHanded : Knowledge → List Entry → Attempted → Type 0
@@ -63,4 +69,4 @@ IsHanded Knows journal a = Knows a.given (messages_in (behind (commands_in journ
 abbrev pub HonestRounds : Setup → Meaning → Knowledge → List Entry → List Attempted → List Entry → Type 0
 HonestRounds s m Knows before [] after = after ≡ before
 HonestRounds s m Knows before (a ∷ more) after =
-    (mid : List Entry) × IsHanded Knows before a × IsToldOn s m before a × HonestRound before a.arrivals a.written mid × HonestRounds s m Knows mid more after
+    (mid : List Entry) × IsHanded Knows before a × IsToldOn s m before a × HonestRound before a.course mid × HonestRounds s m Knows mid more after

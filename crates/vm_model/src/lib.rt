@@ -5,15 +5,15 @@
 mod awaits;
 mod honest;
 mod numbers;
-mod rounds;
+mod reads;
 mod told;
 
 pub use awaits::{awaits_wake, results_are_present};
-pub use honest::{attempts_agree, honest_rounds, whole_rounds};
-pub use numbers::numbers_are_sums;
-pub use rounds::{
-    answers_agree, eager_reads_are_so, handed_stays_so, one_history, one_undisturbed, undisturbed,
+pub use honest::{
+    attempts_agree, commands_stand_behind, honest_rounds, one_undisturbed, whole_rounds,
 };
+pub use numbers::numbers_are_sums;
+pub use reads::{eager_reads_are_so, handed_stays_so};
 pub use told::{
     attempt_is_told, attempts_go_on, later_changes_nothing, none_refused, one_told,
     own_commands_stand,

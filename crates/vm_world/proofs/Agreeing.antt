@@ -9,26 +9,27 @@ use Rattle.vm_model.specs.Calls.{Meaning, Setup}
 use Rattle.vm_model.specs.Journal.{Entry, commands_in, notifications_in, input_read_from}
 use Rattle.vm_model.specs.Moves.{Point}
 use Rattle.vm_model.specs.Histories.{OneBegins, Told}
-use Rattle.vm_model.specs.HonestRounds.{Attempted, HonestRound, IsToldOn}
-use Rattle.vm_model.proofs.Events.{commands-append}
+use Rattle.vm_model.specs.HonestRounds.{Attempted, IsToldOn}
+use Rattle.vm_model.proofs.Lasting.{commands-append}
 use Rattle.vm_model.proofs.Honesty.{attempts_agree}
 use Rattle.vm_rounds.proofs.Replayed.{head_same}
 use Rattle.vm_world.specs.declared.types.Round.{Round}
 use Rattle.vm_world.specs.declared.types.Setting.{Setting}
+use Rattle.vm_world.specs.Courses.{attempt_of}
 use Rattle.vm_world.specs.Entries.{entries_of}
 use Rattle.vm_world.specs.Rounds.{Agree, Replays, ReportView, RoundDoes, RoundsDo, TellsAlong}
 use Rattle.vm_world.specs.Worlds.{IsJournal, setup_of}
 use Rattle.vm_world.proofs.Headline.{Begins}
-use Rattle.vm_world.proofs.Rounding.{begins_on, entries_grow, round_grows, round_honest, rounds_grow}
+use Rattle.vm_world.proofs.Rounding.{begins_on, entries_grow, round_gives, round_grows, round_honest, rounds_grow}
 
 -- an attempt over a journal that has grown, and what the journal told before
-attempt_along : (s : Setup) (m : Meaning) (before more now : List Entry) (a : Attempted) → now ≡ before ++ more → (t : IsToldOn s m now a) (after : List Entry) → HonestRound now a.arrivals a.written after
+attempt_along : (s : Setup) (m : Meaning) (before more now : List Entry) (a : Attempted) → now ≡ before ++ more → (t : IsToldOn s m now a)
     → (first : RawMessage) (input : InputCommand) (rest : List RawMessage) (p : Point) → commands_in before ≡ first ∷ rest → input_read_from first ≡ Some input → Told s m input (notifications_in before) rest p → OneBegins p.answers a.answers
-attempt_along s m before more now a grown t after round first input rest p begins reads told =
+attempt_along s m before more now a grown t first input rest p begins reads told =
     let t' : IsToldOn s m (before ++ more) a = subst (λ j. IsToldOn s m j a) grown t in
     let head : first ≡ t'.first = head_same first t'.first (rest ++ commands_in more) t'.rest (sym (commands-append before more ∙ ap (λ l. l ++ commands_in more) begins) ∙ t'.begins) in
     let one : input ≡ t'.input = same_Some input t'.input (sym reads ∙ ap input_read_from head ∙ t'.reads) in
-    attempts_agree s m before more a t' rest round.delivered (begins ∙ ap (λ c. c ∷ rest) head) (round.arrived ∙ ap (λ j. notifications_in j ++ round.delivered) grown) p (subst (λ i. Told s m i (notifications_in before) rest p) one told)
+    attempts_agree s m before more a t' rest (begins ∙ ap (λ c. c ∷ rest) head) p (subst (λ i. Told s m i (notifications_in before) rest p) one told)
 
 -- the rounds that follow, over a journal that has grown
 rounds_along : (m : Meaning) (w : Setting) (rounds : List Round) (then_old added old : List (List ℕ)) (reports : List ReportView) (new : List (List ℕ)) → Replays w.options → IsJournal old → Begins (entries_of old) → old ≡ then_old ++ added → RoundsDo m w rounds old reports new → TellsAlong (setup_of w) m (entries_of then_old) reports
@@ -36,7 +37,7 @@ rounds_along m w [] then_old added old reports new r j b grown d first input res
 rounds_along m w (q ∷ qs) then_old added old reports new r j b grown (mid, report, more, is, one, others) first input rest p begins reads told =
     let g = round_grows m w q old report mid j one in
     let h = round_honest m w q old report mid r j b one in
-    let here : OneBegins p.answers report.answers = subst (OneBegins p.answers) h.1 (attempt_along (setup_of w) m (entries_of then_old) (entries_of added) (entries_of old) h.0 (entries_grow then_old old added grown) h.2.told (entries_of mid) h.2.honest first input rest p begins reads told) in
+    let here : OneBegins p.answers report.answers = subst (OneBegins p.answers) (round_gives m w q old report mid one).1 (attempt_along (setup_of w) m (entries_of then_old) (entries_of added) (entries_of old) (attempt_of m w q old report mid one) (entries_grow then_old old added grown) h.told first input rest p begins reads told) in
     let behind = rounds_along m w qs then_old (added ++ g.added) mid more new r g.journal (begins_on old mid g b) (g.extends ∙ ap (λ l. l ++ g.added) grown ∙ append_assoc then_old added g.added) others first input rest p begins reads told in
     subst (AllByRecursion (λ v. OneBegins p.answers v.answers)) (sym is) (here, behind)
 

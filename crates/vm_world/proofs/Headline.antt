@@ -1,5 +1,5 @@
 -- What a round leaves is what an honest round leaves, of an attempt that its journal tells.
-use Rattle.std.proofs.Common.{◌≡◌, inl, inr, ⊎_elim, ℕ, Bool, true, false, List, [], ◌∷◌, ◌++◌, length, take, Option, Some, None, refl, sym, ap, ◌∙◌, subst, append_assoc}
+use Rattle.std.proofs.Common.{◌≡◌, inl, inr, ⊎_elim, ℕ, Bool, true, false, List, [], ◌∷◌, ◌++◌, length, take, drop, Option, Some, None, refl, sym, ap, ◌∙◌, subst, append_assoc}
 use Rattle.std.specs.Prelude.{◌==◌, if◌then◌else◌}
 use Rattle.std.specs.List.{concat}
 use Rattle.std.proofs.lemmas.Option.{same_Some}
@@ -22,7 +22,7 @@ use Rattle.vm_machine.specs.Inputs.{coverage_of}
 use Rattle.vm_model.specs.Calls.{Meaning, Setup}
 use Rattle.vm_model.specs.Journal.{Entry, commands_in, notifications_in, input_read_from, messages_in, read_before}
 use Rattle.vm_model.specs.Moves.{changed_by, start as first_point}
-use Rattle.vm_model.specs.Histories.{Handed, Made, behind}
+use Rattle.vm_model.specs.Histories.{Handed, IsPrefix, Made, behind}
 use Rattle.vm_model.specs.HonestRounds.{Attempted, HonestRound, IsToldOn}
 use Rattle.vm_model.proofs.Stored.{changes_state, unchanged}
 use Rattle.vm_rounds.specs.Journals.{as_entries, commands_among, notifications_among, setup_for}
@@ -31,10 +31,12 @@ use Rattle.vm_rounds.proofs.Pieces.{commands_append, more_frames, notifications_
 use Rattle.vm_rounds.proofs.Replayed.{commands_same, head_same, notes_same, tail_same}
 use Rattle.vm_rounds.proofs.Under.{once_before}
 use Rattle.vm_world.specs.declared.types.Setting.{Setting}
+use Rattle.vm_world.specs.Courses.{given_by}
 use Rattle.vm_world.specs.Entries.{entries_of, frames_in, notes_in}
 use Rattle.vm_world.specs.Rounds.{EndsTold, Now, Replays}
 use Rattle.vm_world.specs.Worlds.{IsJournal}
-use Rattle.vm_world.proofs.Framing.{AreFrames, as_entries_append, frames_append, join, journal_framed, journal_length, notes_append, notes_are, same_front}
+use Rattle.vm_world.proofs.Coursing.{Along, behind_commands, behind_first, delivered_arrived, fed_frames, new_behind, stored_among}
+use Rattle.vm_world.proofs.Framing.{AreFrames, as_entries_append, frames_append, journal_length, notes_append, notes_are, same_front}
 use Rattle.vm_world.proofs.Handing.{entries_found}
 use Rattle.vm_world.proofs.Keeping.{Going}
 
@@ -83,59 +85,39 @@ once_front raw X (f ∷ fs) G e once =
 -- ---- a round with its attempt
 
 -- a round is an honest one, of an attempt that its journal tells
-pub record IsHonest (s : Setup) (m : Meaning) (given : StateMap) (before : List Entry) (a : Attempted) (after : List Entry) : Type 0 where
-  pub handed : a.given ≡ given
+pub record IsHonest (s : Setup) (m : Meaning) (before : List Entry) (a : Attempted) (after : List Entry) : Type 0 where
   pub told : IsToldOn s m before a
-  pub honest : HonestRound before a.arrivals a.written after
+  pub honest : HonestRound before a.course after
 
-module _ (m : Meaning) (w : Setting) (begin_bytes : List ℕ) (raw : RawMessage) (st : Start) (old : List (List ℕ)) (j : IsJournal old) (framed : AreFrames begin_bytes (raw ∷ [])) (found : start_in raw.body ≡ Some st) (known : st.known_entries ≡ length old) (s : Setup) (same_setup : setup_for w.version w.options st ≡ s) (now : Now) (g : Going begin_bytes old now) where
+module _ (m : Meaning) (w : Setting) (begin_bytes : List ℕ) (raw : RawMessage) (st : Start) (old : List (List ℕ)) (j : IsJournal old) (framed : AreFrames begin_bytes (raw ∷ [])) (found : start_in raw.body ≡ Some st) (known : st.known_entries ≡ length old) (s : Setup) (same_setup : setup_for w.version w.options st ≡ s) (now : Now) (course : List Entry) (a : Along m begin_bytes raw old j framed course now) where
   abbrev E : List Entry
-  E = as_entries (frames_in old)
+  E = entries_of old
+
+  abbrev g : Going begin_bytes old now
+  g = a.going
 
   abbrev N : List RawMessage
   N = frames_in g.arrived
 
-  -- the stored commands are a beginning of those that were written
-  stored : commands_among g.scanned ≡ take (length (commands_among g.scanned)) (written_by now.attempt)
-  stored =
-      let W = concat now.attempt.vm.machine.output in
-      let more = more_frames (frames_of now.output) W in
-      let same : (frames_of (now.output ++ W)).0 ≡ (g.scanned ++ (frames_of now.unstored).0) ++ more.0 = ap (λ (p : List RawMessage × Tail). p.0) (frames_of-append now.output W) ∙ more.1 ∙ ap (λ (p : List RawMessage × Tail). p.0 ++ more.0) g.output_frames in
-      let is : written_by now.attempt ≡ commands_among g.scanned ++ commands_among ((frames_of now.unstored).0 ++ more.0) =
-      ap (λ b. commands_among (frames_of (b ++ W)).0) g.output_is
-      ∙ ap commands_among (same ∙ append_assoc g.scanned (frames_of now.unstored).0 more.0)
-      ∙ commands_append g.scanned ((frames_of now.unstored).0 ++ more.0) in
-      front_taken (commands_among g.scanned) (written_by now.attempt) (commands_among ((frames_of now.unstored).0 ++ more.0)) is
+  -- all that was delivered has arrived
+  arrived : IsPrefix (notifications_in course) (notifications_in (behind_first g))
+  arrived = subst (λ l. IsPrefix l (notifications_in (behind_first g))) (sym a.came) (delivered_arrived m begin_bytes raw old j framed now g)
 
-  grown : entries_of now.journal ≡ E ++ as_entries (frames_in g.added)
-  grown = ap (λ l. as_entries (frames_in l)) g.extends ∙ ap as_entries (frames_append old g.added) ∙ as_entries_append (frames_in old) (frames_in g.added)
+  honest : HonestRound E course (entries_of now.journal)
+  honest =
+      let s = stored_among begin_bytes old now g in
+      record {
+        added = behind_first g;
+        extends = ap entries_of g.extends ∙ ap as_entries (frames_append old g.added) ∙ as_entries_append (frames_in old) (frames_in g.added);
+        undelivered = arrived.0;
+        notifications = arrived.1;
+        stored = length (commands_among g.scanned);
+        commands = behind_commands begin_bytes old now g ∙ front_taken (commands_among g.scanned) (written_by now.attempt) s.0 s.1 ∙ ap (take (length (commands_among g.scanned))) (sym a.written);
+        order = a.order;
+      }
 
-  new_notes : notifications_in (as_entries (frames_in g.added)) ≡ notifications_among N
-  new_notes = notes_same (frames_in g.added) ∙ sym (notes_are g.added) ∙ g.notifications ∙ notes_are g.arrived
-
-  honest : (came D U : List Notification) → came ≡ notifications_in E ++ D → notifications_among N ≡ D ++ U → HonestRound E came (written_by now.attempt) (entries_of now.journal)
-  honest came D U is notes = record {
-    delivered = D;
-    arrived = is;
-    added = as_entries (frames_in g.added);
-    extends = grown;
-    undelivered = U;
-    notifications = new_notes ∙ notes;
-    stored = length (commands_among g.scanned);
-    commands = commands_same (frames_in g.added) ∙ g.commands ∙ stored;
-  }
-
-  -- all bytes that were to be fed, as frames
-  all_frames : AreFrames (begin_bytes ++ (concat old ++ concat g.arrived)) (raw ∷ (frames_in old ++ N))
-  all_frames = join begin_bytes (concat old ++ concat g.arrived) (raw ∷ []) (frames_in old ++ N) framed (join (concat old) (concat g.arrived) (frames_in old) N (journal_framed old j.entries) (journal_framed g.arrived g.arrivals))
-
-  fed_frames : (G : List RawMessage) × (raw ∷ (frames_in old ++ N) ≡ frames_fed now.attempt.fed ++ G)
-  fed_frames =
-      let F = bytes_fed now.attempt.fed in
-      let unfed = g.fed_front.0 ++ now.waiting in
-      let bytes : begin_bytes ++ (concat old ++ concat g.arrived) ≡ F ++ unfed = sym g.all ∙ ap (λ l. l ++ now.waiting) g.fed_front.1 ∙ append_assoc F g.fed_front.0 now.waiting in
-      let more = more_frames (frames_of F) unfed in
-      (more.0, sym (ap (λ (p : List RawMessage × Tail). p.0) all_frames) ∙ ap (λ b. (frames_of b).0) bytes ∙ ap (λ (p : List RawMessage × Tail). p.0) (frames_of-append F unfed) ∙ more.1)
+  frames : (G : List RawMessage) × (raw ∷ (frames_in old ++ N) ≡ frames_fed now.attempt.fed ++ G)
+  frames = fed_frames m begin_bytes raw old j framed now g
 
   all_notes : notifications_among (frames_in old ++ N) ≡ notes_in now.journal
   all_notes =
@@ -144,56 +126,67 @@ module _ (m : Meaning) (w : Setting) (begin_bytes : List ℕ) (raw : RawMessage)
       ∙ sym (notes_append old g.added) ∙ ap notes_in (sym g.extends)
 
   pub premises : Replays w.options → Premises w.options (arrivals_of now.attempt.fed)
-  premises r = record { replays = r.replays; queues = r.queues; once = once_front raw (frames_in old ++ N) (frames_fed now.attempt.fed) fed_frames.0 fed_frames.1 (subst CompleteOnce (sym all_notes) g.journal.once) }
+  premises r = record { replays = r.replays; queues = r.queues; once = once_front raw (frames_in old ++ N) (frames_fed now.attempt.fed) frames.0 frames.1 (subst CompleteOnce (sym all_notes) g.journal.once) }
 
-  module _ (given : StateMap) (same_given : record { entries = state_entries st.state; coverage = coverage_of st.partial } ≡ given) where
-    -- the attempt, with these arrivals
-    abbrev attempted : List Notification → Attempted
-    attempted came = record { given = given; arrivals = came; written = written_by now.attempt; answers = now.attempt.answers }
+  -- what the attempt was fed behind its journal are the notifications of the frames behind it
+  notes_behind : (entries others : List RawMessage) → frames_fed now.attempt.fed ≡ raw ∷ (entries ++ others) → frames_in old ≡ entries → notifications_in course ≡ notifications_among others
+  notes_behind entries others fed is =
+      let came : arrivals_of now.attempt.fed ≡ notes_in old ++ notifications_among others = ap (λ l. notifications_among (behind l)) fed ∙ notifications_append entries others ∙ ap (λ l. notifications_among l ++ notifications_among others) (sym is) ∙ ap (λ l. l ++ notifications_among others) (sym (notes_are old)) in
+      a.came ∙ ap (drop (length (notes_in old))) came ∙ new_behind (notes_in old) (notifications_among others)
 
-    -- the handler hasn't read its input
-    unread : Begins E → now.attempt.answers ≡ [] → written_by now.attempt ≡ [] → (a : Attempted) × (a.answers ≡ now.attempt.answers) × IsHonest s m given E a (entries_of now.journal)
-    unread b none wrote =
-        let came = notifications_in E ++ [] in (
-          attempted came,
-          refl,
-          record {
-            handed = refl;
-            told = record { first = b.first; input = b.input; reads = b.reads; rest = b.rest; begins = b.commands; moves = 0; at = first_point s b.input came b.rest; made = (wrote, refl); answered = inl none };
-            honest = honest came [] (notifications_among N) refl refl;
-          },
-        )
+  abbrev given : StateMap
+  given = given_by st
 
-    runs : AnswersAreTold m w.version w.options now.attempt → (a : Attempted) × (a.answers ≡ now.attempt.answers) × IsHonest s m given E a (entries_of now.journal)
-    runs k =
-        let J = k.journal in
-        let G = fed_frames.0 in
-        let same : raw ∷ (frames_in old ++ N) ≡ J.first_frame ∷ ((J.entries ++ J.others) ++ G) = fed_frames.1 ∙ ap (λ l. l ++ G) J.frames in
-        let head : raw ≡ J.first_frame = head_same raw J.first_frame (frames_in old ++ N) ((J.entries ++ J.others) ++ G) same in
-        let tail : frames_in old ++ N ≡ J.entries ++ (J.others ++ G) = tail_same raw J.first_frame (frames_in old ++ N) ((J.entries ++ J.others) ++ G) same ∙ append_assoc J.entries J.others G in
-        let is_st : J.start ≡ st = same_Some J.start st (sym J.reads_start ∙ ap (λ (r : RawMessage). start_in r.body) (sym head) ∙ found) in
-        let count : length (frames_in old) ≡ length J.entries = journal_length old j.entries ∙ sym (J.count ∙ ap (λ (x : Start). x.known_entries) is_st ∙ known) in
-        let parts = same_front (frames_in old) J.entries N (J.others ++ G) count tail in
-        let A = arrivals J in
-        let came : A ≡ notifications_in E ++ notifications_among J.others = notifications_append J.entries J.others ∙ ap (λ l. notifications_among l ++ notifications_among J.others) (sym parts.0) ∙ ap (λ l. l ++ notifications_among J.others) (sym (notes_same (frames_in old))) in
-        let setups : setup_for w.version w.options J.start ≡ s = ap (setup_for w.version w.options) is_st ∙ same_setup in
-        let state : J.state ≡ state_entries st.state = entries_found J.start.state J.state J.reads_state ∙ ap (λ (x : Start). state_entries x.state) is_st in
-        let gave : handed_out J ≡ given = (λ i. record { entries = state i; coverage = coverage_of (is_st i).partial }) ∙ same_given in
-        let made : Made s m (Handed given) k.moves (first_point s J.input A J.rest) (written_by now.attempt) k.at =
-        subst (λ (x : StateMap). Made s m (Handed x) k.moves (first_point s J.input A J.rest) (written_by now.attempt) k.at) gave
-        (subst (λ (x : Setup). Made x m (Handed (handed_out J)) k.moves (first_point x J.input A J.rest) (written_by now.attempt) k.at) setups k.made) in (
-          attempted A,
-          refl,
-          record {
-            handed = refl;
-            told = record { first = J.first; input = J.input; reads = J.reads_input; rest = J.rest; begins = commands_same (frames_in old) ∙ ap commands_among parts.0 ∙ J.commands; moves = k.moves; at = k.at; made = made; answered = inr (sym k.answers) };
-            honest = honest A (notifications_among J.others) (notifications_among G) came (ap notifications_among parts.1 ∙ notifications_append J.others G);
-          },
-        )
+  -- the attempt, with its answers
+  abbrev attempted : Attempted
+  attempted = record { given = given; course = course; answers = now.attempt.answers }
 
-    pub is_honest : Replays w.options → EndsTold m w.version w.options now.attempt → Begins E → (a : Attempted) × (a.answers ≡ now.attempt.answers) × IsHonest s m given E a (entries_of now.journal)
-    is_honest r end b =
-        ⊎_elim
-        (λ (none : now.attempt.answers ≡ []). unread b none (end.begins none))
-        (λ (k : AnswersAreTold m w.version w.options now.attempt). runs k)
-        (end.told (premises r))
+  -- the handler hasn't read its input
+  unread : Begins E → now.attempt.answers ≡ [] → written_by now.attempt ≡ [] → IsHonest s m E attempted (entries_of now.journal)
+  unread b none wrote =
+      record {
+        told = record { first = b.first; input = b.input; reads = b.reads; rest = b.rest; begins = b.commands; moves = 0; at = first_point s b.input (notifications_in E ++ notifications_in course) b.rest; made = (a.written ∙ wrote, refl); answered = inl none };
+        honest = honest;
+      }
+
+  runs : AnswersAreTold m w.version w.options now.attempt → IsHonest s m E attempted (entries_of now.journal)
+  runs k =
+      let J = k.journal in
+      let G = frames.0 in
+      let same : raw ∷ (frames_in old ++ N) ≡ J.first_frame ∷ ((J.entries ++ J.others) ++ G) = frames.1 ∙ ap (λ l. l ++ G) J.frames in
+      let head : raw ≡ J.first_frame = head_same raw J.first_frame (frames_in old ++ N) ((J.entries ++ J.others) ++ G) same in
+      let tail : frames_in old ++ N ≡ J.entries ++ (J.others ++ G) = tail_same raw J.first_frame (frames_in old ++ N) ((J.entries ++ J.others) ++ G) same ∙ append_assoc J.entries J.others G in
+      let is_st : J.start ≡ st = same_Some J.start st (sym J.reads_start ∙ ap (λ (r : RawMessage). start_in r.body) (sym head) ∙ found) in
+      let count : length (frames_in old) ≡ length J.entries = journal_length old j.entries ∙ sym (J.count ∙ ap (λ (x : Start). x.known_entries) is_st ∙ known) in
+      let parts = same_front (frames_in old) J.entries N (J.others ++ G) count tail in
+      let A = arrivals J in
+      let came : A ≡ notifications_in E ++ notifications_in course =
+      notifications_append J.entries J.others ∙ ap (λ l. notifications_among l ++ notifications_among J.others) (sym parts.0)
+      ∙ (λ i. sym (notes_same (frames_in old)) i ++ sym (notes_behind J.entries J.others (J.frames ∙ ap (λ r. r ∷ (J.entries ++ J.others)) (sym head)) parts.0) i) in
+      let setups : setup_for w.version w.options J.start ≡ s = ap (setup_for w.version w.options) is_st ∙ same_setup in
+      let state : J.state ≡ state_entries st.state = entries_found J.start.state J.state J.reads_state ∙ ap (λ (x : Start). state_entries x.state) is_st in
+      let gave : handed_out J ≡ given = λ i. record { entries = state i; coverage = coverage_of (is_st i).partial } in
+      let made : Made s m (Handed given) k.moves (first_point s J.input A J.rest) (written_by now.attempt) k.at =
+      subst (λ (x : StateMap). Made s m (Handed x) k.moves (first_point s J.input A J.rest) (written_by now.attempt) k.at) gave
+      (subst (λ (x : Setup). Made x m (Handed (handed_out J)) k.moves (first_point x J.input A J.rest) (written_by now.attempt) k.at) setups k.made) in
+      record {
+        told = record {
+          first = J.first;
+          input = J.input;
+          reads = J.reads_input;
+          rest = J.rest;
+          begins = commands_same (frames_in old) ∙ ap commands_among parts.0 ∙ J.commands;
+          moves = k.moves;
+          at = k.at;
+          made = subst (λ (x : List Notification × List RawMessage). Made s m (Handed given) k.moves (first_point s J.input x.0 J.rest) x.1 k.at) (λ i. (came i, sym a.written i)) made;
+          answered = inr (sym k.answers);
+        };
+        honest = honest;
+      }
+
+  pub is_honest : Replays w.options → EndsTold m w.version w.options now.attempt → Begins E → IsHonest s m E attempted (entries_of now.journal)
+  is_honest r end b =
+      ⊎_elim
+      (λ (none : now.attempt.answers ≡ []). unread b none (end.begins none))
+      (λ (k : AnswersAreTold m w.version w.options now.attempt). runs k)
+      (end.told (premises r))

@@ -48,11 +48,11 @@ note_frame x n e = by_frame (frame_in x) refl e
     by_frame (Some raw) is h = record { raw = raw; is = is; kind = by_kind raw (is_notification raw) refl h; note = h }
 
 -- An arrival is an entry without a command.
-record OneNote (x : List ℕ) : Type 0 where
-  stands : AreEntries (x ∷ [])
-  none : commands_among (frames_in (x ∷ [])) ≡ []
+pub record OneNote (x : List ℕ) : Type 0 where
+  pub stands : AreEntries (x ∷ [])
+  pub none : commands_among (frames_in (x ∷ [])) ≡ []
 
-one_note : (x : List ℕ) (n : Notification) → note_in x ≡ Some n → OneNote x
+pub one_note : (x : List ℕ) (n : Notification) → note_in x ≡ Some n → OneNote x
 one_note x n e =
     let f = note_frame x n e in
     record {
@@ -220,7 +220,7 @@ module _ (m : Meaning) (start : List ℕ) (first : List (List ℕ)) where
         };
       }
 
-  event_keeps : (e : Event) (now new : Now) → Happens m e now new → Going start first now → Going start first new
+  pub event_keeps : (e : Event) (now new : Now) → Happens m e now new → Going start first now → Going start first new
   event_keeps (event.Piece n) now new d g = pieces now.closed n now new d g
   event_keeps event.Close now new (result, r, d, is) g = subst (Going start first) (sym is) (acts now r true _ (closes now.attempt result r d) g)
   event_keeps event.Step now new (result, r, d, is) g = subst (Going start first) (sym is) (acts now r now.closed _ (stepped m now.attempt result r d) g)

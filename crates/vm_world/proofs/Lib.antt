@@ -3,6 +3,8 @@ pub mod Scanned
 pub mod Once
 pub mod Going
 pub mod Keeping
+pub mod Writing
+pub mod Coursing
 pub mod Handing
 pub mod Headline
 pub mod Rounding

@@ -1,8 +1,9 @@
 -- Rounds, one after another: the journal grows by entries, and each round is an honest one.
-use Rattle.std.proofs.Common.{◌≡◌, inl, inr, ℕ, List, [], ◌∷◌, ◌++◌, map, Option, Some, None, refl, sym, ap, ◌∙◌, subst, append_assoc, append-nil}
+use Rattle.std.proofs.Common.{◌≡◌, inl, inr, ℕ, zero, suc, List, [], ◌∷◌, ◌++◌, length, drop, Option, Some, None, refl, sym, ap, ◌∙◌, subst, arith, append_assoc, append-nil}
 use Rattle.std.specs.Prelude.{option_map}
 use Rattle.std.specs.List.{AllByRecursion, concat}
 use Rattle.journal_protocol.specs.declared.message.Message.TheVariants as message
+use Rattle.journal_protocol.specs.declared.notification.Notification.{Notification}
 use Rattle.journal_protocol.specs.declared.start.Start.{Start}
 use Rattle.journal_protocol.specs.declared.types.MessageType.TheVariants as type
 use Rattle.journal_protocol.specs.Message.{encoding}
@@ -10,13 +11,13 @@ use Rattle.journal_protocol.specs.Reading.{message_in, start_in}
 use Rattle.journal_protocol.specs.Runs.{IsWhole}
 use Rattle.journal_protocol.proofs.Alone.{read_back}
 use Rattle.invocation_vm.specs.Making.{made}
-use Rattle.vm_parts.specs.declared.context.StateMap.{StateMap}
+use Rattle.vm_parts.specs.declared.steps.Answer.{Answer}
 use Rattle.vm_model.specs.Calls.{Meaning, Setup}
 use Rattle.vm_model.specs.Journal.{Entry, commands_in, messages_in, notifications_in, stored_form}
 use Rattle.vm_model.specs.Moves.{changed_by, start as first_point}
 use Rattle.vm_model.specs.Histories.{History, Honest, IsAllOf, IsTrueOf, Knowledge, Whole, behind}
-use Rattle.vm_model.specs.HonestRounds.{Attempted, IsOneRun}
-use Rattle.vm_model.proofs.Events.{commands-append}
+use Rattle.vm_model.specs.HonestRounds.{IsOneRun}
+use Rattle.vm_model.proofs.Lasting.{commands-append}
 use Rattle.vm_model.proofs.Honesty.{honest_rounds, run_is_history, whole_rounds}
 use Rattle.vm_rounds.specs.Journals.{as_entries}
 use Rattle.vm_rounds.specs.Record.{Record}
@@ -27,10 +28,12 @@ use Rattle.vm_world.specs.declared.types.Event.{Event}
 use Rattle.vm_world.specs.declared.types.Round.{Round}
 use Rattle.vm_world.specs.declared.types.RoundFault.{RoundFault}
 use Rattle.vm_world.specs.declared.types.Setting.{Setting}
-use Rattle.vm_world.specs.Entries.{entries_of, frames_in}
-use Rattle.vm_world.specs.Rounds.{AreHonest, AreWhole, AttemptDoes, IsShort, RefusedDoes, Replays, ReportView, RoundDoes, RoundFaults, RoundsDo, RoundsFault, begin, new_now}
+use Rattle.vm_world.specs.Courses.{AreHonest, attempt_of, attempts_of, course_of, given_by}
+use Rattle.vm_world.specs.Entries.{entries_of, frames_in, notes_in}
+use Rattle.vm_world.specs.Rounds.{AreWhole, AttemptDoes, IsShort, RefusedDoes, Replays, ReportView, RoundDoes, RoundFaults, RoundsDo, RoundsFault, begin, new_now}
 use Rattle.vm_world.specs.States.{base_of, state_of}
 use Rattle.vm_world.specs.Worlds.{IsJournal, setup_of, start_for, start_message}
+use Rattle.vm_world.proofs.Coursing.{Along, events_go_along}
 use Rattle.vm_world.proofs.Framing.{AreFrames, as_entries_append, frames_append, one_framed, said_are}
 use Rattle.vm_world.proofs.Handing.{base_in_order, handed, round_all, round_true}
 use Rattle.vm_world.proofs.Headline.{Begins, IsHonest, input_says, is_honest}
@@ -89,43 +92,58 @@ start_reads st whole = start_found (stored_form (message.Start st)).body st (rea
 start_framed : (st : Start) → IsWhole (message.Start st) → AreFrames (encoding (message.Start st)) (stored_form (message.Start st) ∷ [])
 start_framed st whole = one_framed (stored_form (message.Start st)) whole.1
 
--- what a round hands out
-abbrev pub given_to : Setting → Round → List (List ℕ) → StateMap
-given_to w round journal = handed round.partial round.keys (state_of w journal)
+-- the course of a round's attempt, from its beginning on
+attempt_along : (m : Meaning) (w : Setting) (round : Round) (old : List (List ℕ)) (report : ReportView) (new : List (List ℕ)) (j : IsJournal old) (d : AttemptDoes m w round old report new) → Along m (encoding (start_message w round old)) (stored_form (start_message w round old)) old j (start_framed (start_for w round old) d.start) (course_of m old round.events (begin d.alloc w round old) d.ran.now d.ran.happen) d.ran.now
+attempt_along m w round old report new j d =
+    let bytes = encoding (start_message w round old) in
+    let framed = start_framed (start_for w round old) d.start in
+    let first : Along m bytes (stored_form (start_message w round old)) old j framed [] (begin d.alloc w round old) = record {
+      going = begun bytes old (fresh_record (made d.alloc w.options w.version)) j refl refl;
+      written = refl;
+      came = sym (drop_nil (length (notes_in old)));
+      order = λ n h. absurd (omega (arith, h));
+    } in
+    events_go_along m bytes (stored_form (start_message w round old)) old j framed round.events (begin d.alloc w round old) d.ran.now [] d.ran.happen first
+  where
+    drop_nil : (k : ℕ) → drop k ([] {A = Notification}) ≡ []
+    drop_nil zero = refl
+    drop_nil (suc k) = refl
 
-attempt_honest : (m : Meaning) (w : Setting) (round : Round) (old : List (List ℕ)) (report : ReportView) (new : List (List ℕ)) → Replays w.options → IsJournal old → Begins (entries_of old) → AttemptDoes m w round old report new → (a : Attempted) × (a.answers ≡ report.answers) × IsHonest (setup_of w) m (given_to w round old) (entries_of old) a (entries_of new)
+-- a round with its attempt is an honest one
+attempt_honest : (m : Meaning) (w : Setting) (round : Round) (old : List (List ℕ)) (report : ReportView) (new : List (List ℕ)) → Replays w.options → IsJournal old → Begins (entries_of old) → (d : AttemptDoes m w round old report new) → IsHonest (setup_of w) m (entries_of old) (attempt_of m w round old report new (inl d)) (entries_of new)
 attempt_honest m w round old report new r j b d =
     let st = start_for w round old in
-    let g = attempt_goes m w round old report new j d in
-    let h = is_honest m w (encoding (message.Start st)) (stored_form (message.Start st)) st old j (start_framed st d.start) (start_reads st d.start) refl (setup_of w) refl d.ran.now g (given_to w round old) refl r d.ran.ends b in
-    (h.0, h.1 ∙ ap (λ (v : ReportView). v.answers) (sym d.ran.told), subst (λ n. IsHonest (setup_of w) m (given_to w round old) (entries_of old) h.0 (entries_of n)) (sym d.ran.left) h.2)
+    let course = course_of m old round.events (begin d.alloc w round old) d.ran.now d.ran.happen in
+    let h = is_honest m w (encoding (message.Start st)) (stored_form (message.Start st)) st old j (start_framed st d.start) (start_reads st d.start) refl (setup_of w) refl d.ran.now course (attempt_along m w round old report new j d) r d.ran.ends b in
+    subst (λ (x : List Answer × List (List ℕ)). IsHonest (setup_of w) m (entries_of old) (record { given = given_by st; course = course; answers = x.0 }) (entries_of x.1)) (λ i. (sym (ap (λ (v : ReportView). v.answers) d.ran.told) i, sym d.ran.left i)) h
 
-refused_honest : (m : Meaning) (w : Setting) (round : Round) (old : List (List ℕ)) (report : ReportView) (new : List (List ℕ)) → IsJournal old → Begins (entries_of old) → RefusedDoes w round old report new → (a : Attempted) × (a.answers ≡ report.answers) × IsHonest (setup_of w) m (given_to w round old) (entries_of old) a (entries_of new)
+-- a round whose attempt was refused too: nothing was delivered or written
+refused_honest : (m : Meaning) (w : Setting) (round : Round) (old : List (List ℕ)) (report : ReportView) (new : List (List ℕ)) → IsJournal old → Begins (entries_of old) → (d : RefusedDoes w round old report new) → IsHonest (setup_of w) m (entries_of old) (attempt_of m w round old report new (inr d)) (entries_of new)
 refused_honest m w round old report new j b d =
     let g = arrivals_keep round.events old new j d.arrivals in
-    let came = notifications_in (entries_of old) ++ [] in
-    let added = as_entries (frames_in g.added) in (
-      record { given = given_to w round old; arrivals = came; written = []; answers = [] },
-      ap (λ (v : ReportView). v.answers) (sym d.told),
-      record {
-        handed = refl;
-        told = record { first = b.first; input = b.input; reads = b.reads; rest = b.rest; begins = b.commands; moves = 0; at = first_point (setup_of w) b.input came b.rest; made = (refl, refl); answered = inl refl };
-        honest = record {
-          delivered = [];
-          arrived = refl;
-          added = added;
-          extends = ap (λ l. as_entries (frames_in l)) g.extends ∙ ap as_entries (frames_append old g.added) ∙ as_entries_append (frames_in old) (frames_in g.added);
-          undelivered = notifications_in added;
-          notifications = refl;
-          stored = 0;
-          commands = commands_same (frames_in g.added) ∙ g.commands;
-        };
-      },
-    )
+    let added = entries_of g.added in
+    let none : commands_in added ≡ [] = commands_same (frames_in g.added) ∙ g.commands in
+    record {
+      told = record { first = b.first; input = b.input; reads = b.reads; rest = b.rest; begins = b.commands; moves = 0; at = first_point (setup_of w) b.input (notifications_in (entries_of old) ++ []) b.rest; made = (refl, refl); answered = inl (ap (λ (v : ReportView). v.answers) d.told) };
+      honest = record {
+        added = added;
+        extends = ap entries_of g.extends ∙ ap as_entries (frames_append old g.added) ∙ as_entries_append (frames_in old) (frames_in g.added);
+        undelivered = notifications_in added;
+        notifications = refl;
+        stored = 0;
+        commands = none;
+        order = λ n h. absurd (let k = ap length none in omega (arith, h, k));
+      };
+    }
 
-pub round_honest : (m : Meaning) (w : Setting) (round : Round) (old : List (List ℕ)) (report : ReportView) (new : List (List ℕ)) → Replays w.options → IsJournal old → Begins (entries_of old) → RoundDoes m w round old report new → (a : Attempted) × (a.answers ≡ report.answers) × IsHonest (setup_of w) m (given_to w round old) (entries_of old) a (entries_of new)
+pub round_honest : (m : Meaning) (w : Setting) (round : Round) (old : List (List ℕ)) (report : ReportView) (new : List (List ℕ)) → Replays w.options → IsJournal old → Begins (entries_of old) → (d : RoundDoes m w round old report new) → IsHonest (setup_of w) m (entries_of old) (attempt_of m w round old report new d) (entries_of new)
 round_honest m w round old report new r j b (inl d) = attempt_honest m w round old report new r j b d
 round_honest m w round old report new r j b (inr d) = refused_honest m w round old report new j b d
+
+-- what a round's attempt is handed and what it answers, whether it was refused or not
+pub round_gives : (m : Meaning) (w : Setting) (round : Round) (old : List (List ℕ)) (report : ReportView) (new : List (List ℕ)) (d : RoundDoes m w round old report new) → ((attempt_of m w round old report new d).given ≡ given_by (start_for w round old)) × ((attempt_of m w round old report new d).answers ≡ report.answers)
+round_gives m w round old report new (inl d) = (refl, refl)
+round_gives m w round old report new (inr d) = (refl, refl)
 
 -- ---- rounds
 
@@ -151,19 +169,14 @@ begins_on old new g b = record {
 
 -- each of the rounds hands out so much, over whatever journal
 abbrev HandsOut : Knowledge → Setting → List Round → Type 0
-HandsOut K w rounds = AllByRecursion (λ r. (journal : List (List ℕ)) → Begins (entries_of journal) → K (given_to w r journal) (messages_in (behind (commands_in (entries_of journal))))) rounds
+HandsOut K w rounds = AllByRecursion (λ r. (journal : List (List ℕ)) → Begins (entries_of journal) → K (given_by (start_for w r journal)) (messages_in (behind (commands_in (entries_of journal))))) rounds
 
-rounds_honest : (K : Knowledge) (m : Meaning) (w : Setting) (rounds : List Round) (old : List (List ℕ)) (reports : List ReportView) (new : List (List ℕ)) → Replays w.options → HandsOut K w rounds → IsJournal old → Begins (entries_of old) → RoundsDo m w rounds old reports new → AreHonest (setup_of w) m K (entries_of old) reports (entries_of new)
-rounds_honest K m w [] old reports new r hands j b d = record { attempts = []; answers = ap (map (λ (v : ReportView). v.answers)) (sym d.0); rounds = ap entries_of d.1 }
+rounds_honest : (K : Knowledge) (m : Meaning) (w : Setting) (rounds : List Round) (old : List (List ℕ)) (reports : List ReportView) (new : List (List ℕ)) → Replays w.options → HandsOut K w rounds → IsJournal old → Begins (entries_of old) → (d : RoundsDo m w rounds old reports new) → AreHonest K m w rounds old reports new d
+rounds_honest K m w [] old reports new r hands j b d = ap entries_of d.1
 rounds_honest K m w (q ∷ qs) old reports new r hands j b (mid, report, more, is, one, others) =
     let g = round_grows m w q old report mid j one in
     let h = round_honest m w q old report mid r j b one in
-    let rest = rounds_honest K m w qs mid more new r hands.1 g.journal (begins_on old mid g b) others in
-    record {
-      attempts = h.0 ∷ rest.attempts;
-      answers = (λ i. h.1 i ∷ rest.answers i) ∙ ap (map (λ (v : ReportView). v.answers)) (sym is);
-      rounds = (entries_of mid, subst (λ x. K x (messages_in (behind (commands_in (entries_of old))))) (sym h.2.handed) (hands.0 old b), h.2.told, h.2.honest, rest.rounds);
-    }
+    (entries_of mid, subst (λ x. K x (messages_in (behind (commands_in (entries_of old))))) (sym (round_gives m w q old report mid one).0) (hands.0 old b), h.told, h.honest, rounds_honest K m w qs mid more new r hands.1 g.journal (begins_on old mid g b) others)
 
 -- ---- what is handed out
 
@@ -173,11 +186,11 @@ said_behind w journal b = ap (λ l. changed_by l (base_of w)) (said_are journal 
 
 pub hands_honest : (w : Setting) (rounds : List Round) → HandsOut (Honest (base_of w)) w rounds
 hands_honest w [] = tt
-hands_honest w (r ∷ rs) = (λ journal b. subst (λ now. IsTrueOf now (given_to w r journal)) (said_behind w journal b) (round_true w r journal), hands_honest w rs)
+hands_honest w (r ∷ rs) = (λ journal b. subst (λ now. IsTrueOf now (given_by (start_for w r journal))) (said_behind w journal b) (round_true w r journal), hands_honest w rs)
 
 pub hands_whole : (w : Setting) (rounds : List Round) → AreWhole rounds → HandsOut (Whole (base_of w)) w rounds
 hands_whole w [] h = tt
-hands_whole w (r ∷ rs) h = (λ journal b. subst (λ now. IsAllOf now (given_to w r journal)) (said_behind w journal b) (round_all w r journal h.0), hands_whole w rs h.1)
+hands_whole w (r ∷ rs) h = (λ journal b. subst (λ now. IsAllOf now (given_by (start_for w r journal))) (said_behind w journal b) (round_all w r journal h.0), hands_whole w rs h.1)
 
 -- ---- the headline
 
@@ -185,11 +198,11 @@ pub run_begins : (s : Setup) (m : Meaning) (K : Knowledge) (journal : List Entry
 run_begins s m K journal h = record { first = h.first; input = h.input; reads = h.reads; rest = h.rest; commands = h.begins }
 
 module _ (m : Meaning) (w : Setting) (rounds : List Round) (old : List (List ℕ)) (reports : List ReportView) (new : List (List ℕ)) (j : IsJournal old) (d : RoundsDo m w rounds old reports new) where
-  pub are_honest : Replays w.options → IsOneRun (setup_of w) m (Honest (base_of w)) (entries_of old) → AreHonest (setup_of w) m (Honest (base_of w)) (entries_of old) reports (entries_of new)
+  pub are_honest : Replays w.options → IsOneRun (setup_of w) m (Honest (base_of w)) (entries_of old) → AreHonest (Honest (base_of w)) m w rounds old reports new d
   are_honest r h = rounds_honest (Honest (base_of w)) m w rounds old reports new r (hands_honest w rounds) j (run_begins (setup_of w) m (Honest (base_of w)) (entries_of old) h) d
 
   pub stays_one_run : Replays w.options → IsOneRun (setup_of w) m (Honest (base_of w)) (entries_of old) → IsOneRun (setup_of w) m (Honest (base_of w)) (entries_of new)
-  stays_one_run r h = let a = are_honest r h in honest_rounds (setup_of w) m (base_of w) (entries_of old) a.attempts (entries_of new) (base_in_order w) h a.rounds
+  stays_one_run r h = honest_rounds (setup_of w) m (base_of w) (entries_of old) (attempts_of m w rounds old reports new d) (entries_of new) (base_in_order w) h (are_honest r h)
 
   pub stays_history : Replays w.options → IsOneRun (setup_of w) m (Honest (base_of w)) (entries_of old) → History (setup_of w) m (base_of w) (entries_of new)
   stays_history r h = run_is_history (setup_of w) m (base_of w) (entries_of new) (stays_one_run r h)
@@ -197,7 +210,7 @@ module _ (m : Meaning) (w : Setting) (rounds : List Round) (old : List (List ℕ
   pub stays_undisturbed : Replays w.options → AreWhole rounds → IsOneRun (setup_of w) m (Whole (base_of w)) (entries_of old) → IsOneRun (setup_of w) m (Whole (base_of w)) (entries_of new)
   stays_undisturbed r whole h =
       let a = rounds_honest (Whole (base_of w)) m w rounds old reports new r (hands_whole w rounds whole) j (run_begins (setup_of w) m (Whole (base_of w)) (entries_of old) h) d in
-      whole_rounds (setup_of w) m (base_of w) (entries_of old) a.attempts (entries_of new) (base_in_order w) h a.rounds
+      whole_rounds (setup_of w) m (base_of w) (entries_of old) (attempts_of m w rounds old reports new d) (entries_of new) (base_in_order w) h a
 
 -- ---- one round more
 

@@ -4,5 +4,6 @@ pub mod Arrivals
 pub mod Storing
 pub mod Worlds
 pub mod Rounds
+pub mod Courses
 pub mod Inside
 pub mod ContentTypes

@@ -14,8 +14,7 @@ use Rattle.vm_parts.specs.declared.options.VMOptions.{VMOptions}
 use Rattle.vm_parts.specs.declared.steps.Answer.{Answer}
 use Rattle.invocation_vm.specs.Making.{made, supported}
 use Rattle.vm_model.specs.Calls.{Meaning, Setup}
-use Rattle.vm_model.specs.Histories.{Knowledge, OneBegins, Told}
-use Rattle.vm_model.specs.HonestRounds.{Attempted, HonestRounds}
+use Rattle.vm_model.specs.Histories.{OneBegins, Told}
 use Rattle.vm_model.specs.Journal.{Entry, commands_in, input_read_from, notifications_in}
 use Rattle.vm_model.specs.Moves.{Point}
 use Rattle.journal_protocol.specs.declared.commands.InputCommand.{InputCommand}
@@ -234,13 +233,6 @@ pub record Replays (options : VMOptions) : Type 0 where
 -- no round is partial
 abbrev pub AreWhole : List Round → Type 0
 AreWhole rounds = AllByRecursion (λ r. r.partial ≡ false) rounds
-
--- Rounds are honest ones: those of attempts with the answers that are reported, each told by its journal and handed so much of
--- the state.
-pub record AreHonest (s : Setup) (m : Meaning) (Knows : Knowledge) (before : List Entry) (reports : List ReportView) (after : List Entry) : Type 0 where
-  pub attempts : List Attempted
-  pub answers : map (λ (a : Attempted). a.answers) attempts ≡ map (λ (r : ReportView). r.answers) reports
-  pub rounds : HonestRounds s m Knows before attempts after
 
 -- What a journal told, and the answers of these reports: one begins the other.
 abbrev pub TellsAlong : Setup → Meaning → List Entry → List ReportView → Type 0

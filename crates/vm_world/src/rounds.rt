@@ -2,9 +2,10 @@
 ghost use Rattle.std.specs.Prelude.{◌≡◌, ◌∷◌, [], ◌++◌, map, IfOk, IfErr, if◌then◌else◌};
 ghost use Rattle.vm_model.specs.Histories.{History, Honest, IsPrefix, Whole};
 ghost use Rattle.vm_model.specs.HonestRounds.{IsOneRun};
+ghost use Rattle.vm_world.specs.Courses.{AreHonest};
 ghost use Rattle.vm_world.specs.Entries.{entries_of};
 ghost use Rattle.vm_world.specs.Inside.{report_view};
-ghost use Rattle.vm_world.specs.Rounds.{Agree, AreHonest, AreWhole, Replays, RoundsDo, RoundsFault};
+ghost use Rattle.vm_world.specs.Rounds.{Agree, AreWhole, Replays, RoundsDo, RoundsFault};
 ghost use Rattle.vm_world.specs.States.{base_of};
 ghost use Rattle.vm_world.specs.Worlds.{setup_of};
 
@@ -34,10 +35,10 @@ pub fn run_rounds<H: Handler>(
     ensures err { IfErr result (λ f. RoundsFault (H.meaning handler.now) world.setting rounds.now world.journal f) }
     // The journal begins with the old one.
     ensures extends { IfOk result (λ r. IsPrefix world.journal r.0.journal) }
-    // Where recorded commands are replayed and signals queue: the rounds are honest ones, whose attempts are told, if one run of the
-    // handler made the journal.
+    // Where recorded commands are replayed and signals queue, and one run of the handler made the journal: the rounds are honest ones.
+    // Each attempt is told by its journal, and each command stands behind all that was delivered before it was written.
     ensures honest { IfOk result (λ r. Replays world.setting.options → IsOneRun (setup_of world.setting) (H.meaning handler.now) (Honest (base_of world.setting)) (entries_of world.journal)
-        → AreHonest (setup_of world.setting) (H.meaning handler.now) (Honest (base_of world.setting)) (entries_of world.journal) (map report_view r.1.items) (entries_of r.0.journal)) }
+        → (d : RoundsDo (H.meaning handler.now) world.setting rounds.now world.journal (map report_view r.1.items) r.0.journal) → AreHonest (Honest (base_of world.setting)) (H.meaning handler.now) world.setting rounds.now world.journal (map report_view r.1.items) r.0.journal d) }
     // Then one run of it makes the new journal, each command once.
     ensures one_run { IfOk result (λ r. Replays world.setting.options → IsOneRun (setup_of world.setting) (H.meaning handler.now) (Honest (base_of world.setting)) (entries_of world.journal)
         → IsOneRun (setup_of world.setting) (H.meaning handler.now) (Honest (base_of world.setting)) (entries_of r.0.journal)) }

@@ -36,7 +36,7 @@ pub returns-clause-extends : goal.returns-clause-extends
 returns-clause-extends g c = ((grows g c).added, (grows g c).extends)
 
 pub returns-clause-honest : goal.returns-clause-honest
-returns-clause-honest g c r h = are_honest (g.H.Handler.meaning c.args.handler.now) c.args.world.setting c.args.rounds.now c.args.world.journal (map report_view c.loop-round.reports.items) c.loop-round.journal.items (before g c) (all g c) r h
+returns-clause-honest g c r h d = are_honest (g.H.Handler.meaning c.args.handler.now) c.args.world.setting c.args.rounds.now c.args.world.journal (map report_view c.loop-round.reports.items) c.loop-round.journal.items (before g c) d r h
 
 pub returns-clause-one_run : goal.returns-clause-one_run
 returns-clause-one_run g c r h = stays_one_run (g.H.Handler.meaning c.args.handler.now) c.args.world.setting c.args.rounds.now c.args.world.journal (map report_view c.loop-round.reports.items) c.loop-round.journal.items (before g c) (all g c) r h

@@ -1,5 +1,5 @@
 use Rattle.vm_model.proofs.Compared.{undisturbed_compare}
-use Rattle.vm_model.proofs.rounds.one_undisturbed.Goals as goal
+use Rattle.vm_model.proofs.honest.one_undisturbed.Goals as goal
 
 pub returns : goal.returns
 returns c = undisturbed_compare

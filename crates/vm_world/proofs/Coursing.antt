@@ -1,0 +1,288 @@
+-- The course of a round's attempt is what was delivered to it and what it wrote; each stored command stands behind what was delivered
+-- before it was written.
+use Rattle.std.proofs.Common.{◌≡◌, ◌<◌, ◌≤◌, ◌+◌, ◌⊎◌, inl, inr, ⊎_elim, ℕ, zero, suc, Bool, true, false, List, [], ◌∷◌, ◌++◌, length, take, drop, map, Option, Some, None, refl, sym, ap, ◌∙◌, subst, arith, append_assoc, append-nil, length-append}
+use Rattle.std.specs.List.{concat}
+use Rattle.std.proofs.lemmas.List.Folds.{concat-append}
+use Rattle.std.proofs.lemmas.Bool.{cases_lt}
+use Rattle.std.proofs.Math.Seq.{take-append_seam}
+use Rattle.journal_protocol.specs.declared.message.RawMessage.{RawMessage}
+use Rattle.journal_protocol.specs.declared.notification.Notification.{Notification}
+use Rattle.invocation_vm.specs.Frames.{Tail, frames_of}
+use Rattle.invocation_vm.proofs.Cuts.{frames_of-append}
+use Rattle.vm_model.specs.Calls.{Meaning}
+use Rattle.vm_model.specs.Histories.{IsPrefix, behind}
+use Rattle.vm_model.specs.HonestRounds.{ahead_of}
+use Rattle.vm_model.specs.Journal.{Entry, Recorded, Notified, commands_in, notifications_in}
+use Rattle.vm_model.proofs.Lasting.{commands-append, notifications-append}
+use Rattle.vm_rounds.specs.declared.progress.Fed.{Fed}
+use Rattle.vm_rounds.specs.Journals.{as_entries, commands_among, notifications_among}
+use Rattle.vm_rounds.specs.Record.{Record, bytes_written}
+use Rattle.vm_rounds.specs.Stepping.{taken_from}
+use Rattle.vm_rounds.specs.Told.{arrivals_of, bytes_fed, frames_fed, written_by}
+use Rattle.vm_rounds.proofs.Pieces.{commands_append, more_frames, notifications_append}
+use Rattle.vm_rounds.proofs.Replayed.{commands_same, notes_same, tail_same}
+use Rattle.vm_world.specs.declared.types.Event.{Event}
+use Rattle.vm_world.specs.declared.types.Event.TheVariants as event
+use Rattle.vm_world.specs.Courses.{brought_by, course_of, delivered, new_in}
+use Rattle.vm_world.specs.Entries.{entries_of, frames_in, notes_in}
+use Rattle.vm_world.specs.Rounds.{Happen, Happens, Now, Pieces}
+use Rattle.vm_world.specs.Worlds.{IsJournal}
+use Rattle.vm_world.proofs.Framing.{AreFrames, as_entries_append, frames_append, join, journal_framed, notes_are}
+use Rattle.vm_world.proofs.Going.{IsOpen, Takes, closes, fed, stepped}
+use Rattle.vm_world.proofs.Keeping.{Going, event_keeps, one_note}
+use Rattle.vm_world.proofs.Once.{is_new}
+use Rattle.vm_world.proofs.Writing.{bytes_grow, close_wrote, feed_wrote, step_wrote}
+
+-- ---- lists that grow
+
+pub new_behind : {A : Type 0} (xs rest : List A) → drop (length xs) (xs ++ rest) ≡ rest
+new_behind [] rest = refl
+new_behind (x ∷ xs) rest = new_behind xs rest
+
+-- what has grown is what was and what is new
+grown : {A : Type 0} (old new : List A) → IsPrefix old new → new ≡ old ++ new_in old new
+grown old new (rest, e) = e ∙ ap (λ l. old ++ l) (sym (ap (drop (length old)) e ∙ new_behind old rest))
+
+drop_grows : {A : Type 0} (k : ℕ) (xs rest : List A) → IsPrefix (drop k xs) (drop k (xs ++ rest))
+drop_grows zero xs rest = (rest, refl)
+drop_grows (suc k) [] rest = (drop (suc k) rest, refl)
+drop_grows (suc k) (x ∷ xs) rest = drop_grows k xs rest
+
+dropped : {A : Type 0} (k : ℕ) (old new : List A) → IsPrefix old new → IsPrefix (drop k old) (drop k new)
+dropped k old new (rest, e) = subst (λ l. IsPrefix (drop k old) (drop k l)) (sym e) (drop_grows k old rest)
+
+behind_grows : {A : Type 0} (old new : List A) → IsPrefix old new → IsPrefix (behind old) (behind new)
+behind_grows [] new h = (behind new, refl)
+behind_grows (x ∷ xs) new (rest, e) = (rest, ap behind e)
+
+same_prefix : {A : Type 0} (old new : List A) → new ≡ old → IsPrefix old new
+same_prefix old new e = ([], e ∙ sym (append-nil old))
+
+-- ---- what grows as an event happens
+
+frames_grow : (old new : List ℕ) → IsPrefix old new → IsPrefix (frames_of old).0 (frames_of new).0
+frames_grow old new (rest, e) =
+    let more = more_frames (frames_of old) rest in
+    (more.0, ap (λ b. (frames_of b).0) e ∙ ap (λ (p : List RawMessage × Tail). p.0) (frames_of-append old rest) ∙ more.1)
+
+commands_grow : (old new : List RawMessage) → IsPrefix old new → IsPrefix (commands_among old) (commands_among new)
+commands_grow old new (rest, e) = (commands_among rest, ap commands_among e ∙ commands_append old rest)
+
+notifications_grow : (old new : List RawMessage) → IsPrefix old new → IsPrefix (notifications_among old) (notifications_among new)
+notifications_grow old new (rest, e) = (notifications_among rest, ap notifications_among e ∙ notifications_append old rest)
+
+written_grows : (old new : Record) → IsPrefix (bytes_written old) (bytes_written new) → IsPrefix (written_by old) (written_by new)
+written_grows old new h = commands_grow (frames_of (bytes_written old)).0 (frames_of (bytes_written new)).0 (frames_grow (bytes_written old) (bytes_written new) h)
+
+arrivals_grow : (old new : List Fed) → IsPrefix (bytes_fed old) (bytes_fed new) → IsPrefix (arrivals_of old) (arrivals_of new)
+arrivals_grow old new h = notifications_grow (behind (frames_fed old)) (behind (frames_fed new)) (behind_grows (frames_fed old) (frames_fed new) (frames_grow (bytes_fed old) (bytes_fed new) h))
+
+-- What an event adds to the journal, to what was written and to what was fed. It stores no command, or the attempt writes none by it.
+record Brings (now mid : Now) : Type 0 where
+  stored : IsPrefix now.journal mid.journal
+  wrote : IsPrefix (bytes_written now.attempt) (bytes_written mid.attempt)
+  fed : IsPrefix (bytes_fed now.attempt.fed) (bytes_fed mid.attempt.fed)
+  apart : (commands_among (frames_in stored.0) ≡ []) ⊎ (bytes_written mid.attempt ≡ bytes_written now.attempt)
+
+-- the attempt alone has changed
+acts : (now mid : Now) → mid.journal ≡ now.journal → IsPrefix (bytes_written now.attempt) (bytes_written mid.attempt) → IsPrefix (bytes_fed now.attempt.fed) (bytes_fed mid.attempt.fed) → Brings now mid
+acts now mid same wrote fed = record { stored = same_prefix now.journal mid.journal same; wrote = wrote; fed = fed; apart = inl refl }
+
+takes : (piece : List ℕ) (r new : Record) → Takes piece r new → IsPrefix (bytes_fed r.fed) (bytes_fed new.fed)
+takes piece r new t =
+    ⊎_elim
+    (λ (x : (bytes_fed new.fed ≡ bytes_fed r.fed) × (IsOpen new → ⊥)). same_prefix (bytes_fed r.fed) (bytes_fed new.fed) x.0)
+    (λ (x : IsOpen r × (bytes_fed new.fed ≡ bytes_fed r.fed ++ piece)). (piece, x.1))
+    t
+
+by_attempt : (now mid : Now) (r : Record) → mid.journal ≡ now.journal → mid.attempt ≡ r → IsPrefix (bytes_written now.attempt) (bytes_written r) → IsPrefix (bytes_fed now.attempt.fed) (bytes_fed r.fed) → Brings now mid
+by_attempt now mid r same is wrote fed = acts now mid same (subst (λ (x : Record). IsPrefix (bytes_written now.attempt) (bytes_written x)) (sym is) wrote) (subst (λ (x : Record). IsPrefix (bytes_fed now.attempt.fed) (bytes_fed x.fed)) (sym is) fed)
+
+pieces_bring : (closed : Bool) (n : ℕ) (now mid : Now) → Pieces closed n now mid → Brings now mid
+pieces_bring true n now mid d = by_attempt now mid now.attempt (ap (λ x. x.journal) d) (ap (λ x. x.attempt) d) (same_prefix (bytes_written now.attempt) (bytes_written now.attempt) refl) (same_prefix (bytes_fed now.attempt.fed) (bytes_fed now.attempt.fed) refl)
+pieces_bring false n now mid (result, r, d, is) =
+    let piece = take n now.waiting in
+    by_attempt now mid r (ap (λ x. x.journal) is) (ap (λ x. x.attempt) is) (bytes_grow now.attempt r (feed_wrote piece now.attempt result r d)) (takes piece now.attempt r (fed piece now.attempt result r d).0)
+
+taken_same : (r : Record) → bytes_written (taken_from r) ≡ bytes_written r
+taken_same r =
+    let out = concat r.vm.machine.output in
+    append-nil (concat (r.taken ++ out ∷ [])) ∙ concat-append r.taken (out ∷ []) ∙ ap (λ l. concat r.taken ++ l) (append-nil out)
+
+event_brings : (m : Meaning) (e : Event) (now mid : Now) → Happens m e now mid → Brings now mid
+event_brings m (event.Piece n) now mid d = pieces_bring now.closed n now mid d
+event_brings m event.Close now mid (result, r, d, is) =
+    by_attempt now mid r (ap (λ x. x.journal) is) (ap (λ x. x.attempt) is) (bytes_grow now.attempt r (close_wrote now.attempt result r d)) (same_prefix (bytes_fed now.attempt.fed) (bytes_fed r.fed) (ap bytes_fed (closes now.attempt result r d).fed))
+event_brings m event.Step now mid (result, r, d, is) =
+    by_attempt now mid r (ap (λ x. x.journal) is) (ap (λ x. x.attempt) is) (bytes_grow now.attempt r (step_wrote m now.attempt result r d)) (same_prefix (bytes_fed now.attempt.fed) (bytes_fed r.fed) (ap bytes_fed (stepped m now.attempt result r d).fed))
+event_brings m (event.Arrive x) now mid (none, is) =
+    let note = is_new x now.journal none in
+    record {
+      stored = (x ∷ [], ap (λ s. s.journal) is);
+      wrote = same_prefix (bytes_written now.attempt) (bytes_written mid.attempt) (ap (λ s. bytes_written s.attempt) is);
+      fed = same_prefix (bytes_fed now.attempt.fed) (bytes_fed mid.attempt.fed) (ap (λ s. bytes_fed s.attempt.fed) is);
+      apart = inl (one_note x note.note note.reads).none;
+    }
+event_brings m (event.Store n) now mid (journal, unstored, s, is) =
+    let same : bytes_written mid.attempt ≡ bytes_written now.attempt = ap (λ x. bytes_written x.attempt) is ∙ taken_same now.attempt in
+    record {
+      stored = (_, ap (λ x. x.journal) is ∙ s.stored);
+      wrote = same_prefix (bytes_written now.attempt) (bytes_written mid.attempt) same;
+      fed = same_prefix (bytes_fed now.attempt.fed) (bytes_fed mid.attempt.fed) (ap (λ x. bytes_fed x.attempt.fed) is);
+      apart = inr same;
+    }
+
+-- ---- courses
+
+notes_brought : (ns : List Notification) (cs : List RawMessage) → (commands_in (map Notified ns ++ map Recorded cs) ≡ cs) × (notifications_in (map Notified ns ++ map Recorded cs) ≡ ns)
+notes_brought [] [] = (refl, refl)
+notes_brought [] (c ∷ cs) = let h = notes_brought [] cs in (ap (λ l. c ∷ l) h.0, h.1)
+notes_brought (n ∷ ns) cs = let h = notes_brought ns cs in (h.0, ap (λ l. n ∷ l) h.1)
+
+-- ---- the order of commands among what was delivered
+
+-- each command of these entries stands behind all that was delivered before it was written
+abbrev pub Ordered : List Entry → List Entry → Type 0
+Ordered course es = (n : ℕ) → n < length (commands_in es) → IsPrefix (ahead_of n course) (ahead_of n es)
+
+ahead_within : (n : ℕ) (es more : List Entry) → n < length (commands_in es) → ahead_of n (es ++ more) ≡ ahead_of n es
+ahead_within n [] more h = absurd (omega (arith, h))
+ahead_within n (Notified x ∷ es) more h = ap (λ l. x ∷ l) (ahead_within n es more h)
+ahead_within zero (Recorded c ∷ es) more h = refl
+ahead_within (suc n) (Recorded c ∷ es) more h = ahead_within n es more (omega (arith, h))
+
+-- what stands in front of a command is a beginning of all
+ahead_begins : (n : ℕ) (es : List Entry) → IsPrefix (ahead_of n es) (notifications_in es)
+ahead_begins n [] = ([], refl)
+ahead_begins n (Notified x ∷ es) = let h = ahead_begins n es in (h.0, ap (λ l. x ∷ l) h.1)
+ahead_begins zero (Recorded c ∷ es) = (notifications_in es, refl)
+ahead_begins (suc n) (Recorded c ∷ es) = ahead_begins n es
+
+-- in front of a later command stands all of these entries
+ahead_behind : (n : ℕ) (es more : List Entry) → length (commands_in es) ≤ n → IsPrefix (notifications_in es) (ahead_of n (es ++ more))
+ahead_behind n [] more h = (ahead_of n more, refl)
+ahead_behind n (Notified x ∷ es) more h = let t = ahead_behind n es more h in (t.0, ap (λ l. x ∷ l) t.1)
+ahead_behind zero (Recorded c ∷ es) more h = absurd (omega (arith, h))
+ahead_behind (suc n) (Recorded c ∷ es) more h = ahead_behind n es more (omega (arith, h))
+
+after_front : {A : Type 0} (xs ys zs : List A) → xs ++ ys ≡ xs ++ zs → ys ≡ zs
+after_front [] ys zs e = e
+after_front (x ∷ xs) ys zs e = after_front xs ys zs (let t : xs ++ ys ≡ xs ++ zs = cc in t)
+
+prefix_then : {A : Type 0} (xs ys zs : List A) → IsPrefix xs ys → IsPrefix ys zs → IsPrefix xs zs
+prefix_then xs ys zs (a, e) (b, f) = (a ++ b, f ∙ ap (λ l. l ++ b) e ∙ append_assoc xs a b)
+
+-- more entries are added, where all that was delivered stands among those before
+order_kept : (course es more : List Entry) → Ordered course es → IsPrefix (notifications_in course) (notifications_in es) → Ordered course (es ++ more)
+order_kept course es more o p n h = by_test (cases_lt n (length (commands_in es)))
+  where
+    by_test : (n < length (commands_in es)) ⊎ (length (commands_in es) ≤ n) → IsPrefix (ahead_of n course) (ahead_of n (es ++ more))
+    by_test (inl t) = subst (IsPrefix (ahead_of n course)) (sym (ahead_within n es more t)) (o n t)
+    by_test (inr t) =
+        prefix_then (ahead_of n course) (notifications_in course) (ahead_of n (es ++ more)) (ahead_begins n course)
+        (prefix_then (notifications_in course) (notifications_in es) (ahead_of n (es ++ more)) p (ahead_behind n es more t))
+
+-- the course goes on, and its commands were stored before
+order_longer : (course more es : List Entry) → Ordered course es → length (commands_in es) ≤ length (commands_in course) → Ordered (course ++ more) es
+order_longer course more es o short n h = subst (λ l. IsPrefix l (ahead_of n es)) (sym (ahead_within n course more (omega (arith, h, short)))) (o n h)
+
+-- ---- a round on its way
+
+-- the stored commands are among those that were written
+pub stored_among : (start : List ℕ) (first : List (List ℕ)) (now : Now) (g : Going start first now) → (rest : List RawMessage) × (written_by now.attempt ≡ commands_among g.scanned ++ rest)
+stored_among start first now g =
+    let W = concat now.attempt.vm.machine.output in
+    let more = more_frames (frames_of now.output) W in
+    let same : (frames_of (now.output ++ W)).0 ≡ (g.scanned ++ (frames_of now.unstored).0) ++ more.0 = ap (λ (p : List RawMessage × Tail). p.0) (frames_of-append now.output W) ∙ more.1 ∙ ap (λ (p : List RawMessage × Tail). p.0 ++ more.0) g.output_frames in (
+      commands_among ((frames_of now.unstored).0 ++ more.0),
+      ap (λ b. commands_among (frames_of (b ++ W)).0) g.output_is
+      ∙ ap commands_among (same ∙ append_assoc g.scanned (frames_of now.unstored).0 more.0)
+      ∙ commands_append g.scanned ((frames_of now.unstored).0 ++ more.0),
+    )
+
+-- the entries that came behind the first journal
+abbrev pub behind_first : {start : List ℕ} {first : List (List ℕ)} {now : Now} → Going start first now → List Entry
+behind_first g = entries_of g.added
+
+-- its commands are those that were looked at
+pub behind_commands : (start : List ℕ) (first : List (List ℕ)) (now : Now) (g : Going start first now) → commands_in (behind_first g) ≡ commands_among g.scanned
+behind_commands start first now g = commands_same (frames_in g.added) ∙ g.commands
+
+pub behind_notes : (start : List ℕ) (first : List (List ℕ)) (now : Now) (g : Going start first now) → notifications_in (behind_first g) ≡ notifications_among (frames_in g.arrived)
+behind_notes start first now g = notes_same (frames_in g.added) ∙ sym (notes_are g.added) ∙ g.notifications ∙ notes_are g.arrived
+
+module _ (m : Meaning) (start : List ℕ) (raw : RawMessage) (first : List (List ℕ)) (j : IsJournal first) (framed : AreFrames start (raw ∷ [])) where
+  -- all bytes that are to be fed, as frames
+  all_frames : (now : Now) (g : Going start first now) → AreFrames (start ++ (concat first ++ concat g.arrived)) (raw ∷ (frames_in first ++ frames_in g.arrived))
+  all_frames now g = join start (concat first ++ concat g.arrived) (raw ∷ []) (frames_in first ++ frames_in g.arrived) framed (join (concat first) (concat g.arrived) (frames_in first) (frames_in g.arrived) (journal_framed first j.entries) (journal_framed g.arrived g.arrivals))
+
+  -- the frames that were fed are a beginning of them
+  pub fed_frames : (now : Now) (g : Going start first now) → (G : List RawMessage) × (raw ∷ (frames_in first ++ frames_in g.arrived) ≡ frames_fed now.attempt.fed ++ G)
+  fed_frames now g =
+      let F = bytes_fed now.attempt.fed in
+      let unfed = g.fed_front.0 ++ now.waiting in
+      let bytes : start ++ (concat first ++ concat g.arrived) ≡ F ++ unfed = sym g.all ∙ ap (λ l. l ++ now.waiting) g.fed_front.1 ∙ append_assoc F g.fed_front.0 now.waiting in
+      let more = more_frames (frames_of F) unfed in
+      (more.0, sym (ap (λ (p : List RawMessage × Tail). p.0) (all_frames now g)) ∙ ap (λ b. (frames_of b).0) bytes ∙ ap (λ (p : List RawMessage × Tail). p.0) (frames_of-append F unfed) ∙ more.1)
+
+  -- what was delivered behind the first journal begins what arrived
+  pub delivered_arrived : (now : Now) (g : Going start first now) → IsPrefix (delivered first now.attempt) (notifications_in (behind_first g))
+  delivered_arrived now g =
+      let f = fed_frames now g in
+      let X = frames_in first in
+      let N = frames_in g.arrived in
+      let came : IsPrefix (arrivals_of now.attempt.fed) (notifications_among (X ++ N)) = notifications_grow (behind (frames_fed now.attempt.fed)) (X ++ N) (behind_grows (frames_fed now.attempt.fed) (raw ∷ (X ++ N)) f) in
+      let k = length (notes_in first) in
+      let cut : drop k (notifications_among (X ++ N)) ≡ notifications_among N = ap (drop k) (notifications_append X N ∙ ap (λ l. l ++ notifications_among N) (sym (notes_are first))) ∙ new_behind (notes_in first) (notifications_among N) in
+      subst (IsPrefix (delivered first now.attempt)) (cut ∙ sym (behind_notes start first now g)) (dropped k (arrivals_of now.attempt.fed) (notifications_among (X ++ N)) came)
+
+  -- The course so far: what was written and delivered, and where the stored commands stand.
+  pub record Along (course : List Entry) (now : Now) : Type 0 where
+    pub going : Going start first now
+    pub written : commands_in course ≡ written_by now.attempt
+    pub came : notifications_in course ≡ delivered first now.attempt
+    pub order : Ordered course (behind_first going)
+
+  event_goes_along : (e : Event) (now mid : Now) (course : List Entry) → Happens m e now mid → Along course now → Along (course ++ brought_by first now.attempt mid.attempt) mid
+  event_goes_along e now mid course d a =
+      let g = a.going in
+      let g' = event_keeps m start first e now mid d g in
+      let b = event_brings m e now mid d in
+      let ns = new_in (delivered first now.attempt) (delivered first mid.attempt) in
+      let cs = new_in (written_by now.attempt) (written_by mid.attempt) in
+      let new = map Notified ns ++ map Recorded cs in
+      let x = notes_brought ns cs in
+      let more = entries_of b.stored.0 in
+      let writes = written_grows now.attempt mid.attempt b.wrote in
+      let delivers = dropped (length (notes_in first)) (arrivals_of now.attempt.fed) (arrivals_of mid.attempt.fed) (arrivals_grow now.attempt.fed mid.attempt.fed b.fed) in
+      let added : g'.added ≡ g.added ++ b.stored.0 = after_front first g'.added (g.added ++ b.stored.0) (sym g'.extends ∙ b.stored.1 ∙ ap (λ l. l ++ b.stored.0) g.extends ∙ append_assoc first g.added b.stored.0) in
+      let entries : behind_first g' ≡ behind_first g ++ more = ap entries_of added ∙ ap as_entries (frames_append g.added b.stored.0) ∙ as_entries_append (frames_in g.added) (frames_in b.stored.0) in
+      let kept : Ordered course (behind_first g ++ more) = order_kept course (behind_first g) more a.order (subst (λ l. IsPrefix l (notifications_in (behind_first g))) (sym a.came) (delivered_arrived now g)) in
+      record {
+        going = g';
+        written = commands-append course new ∙ (λ i. a.written i ++ x.0 i) ∙ sym (grown (written_by now.attempt) (written_by mid.attempt) writes);
+        came = notifications-append course new ∙ (λ i. a.came i ++ x.1 i) ∙ sym (grown (delivered first now.attempt) (delivered first mid.attempt) delivers);
+        order = subst (Ordered (course ++ new)) (sym entries) (order_longer course new (behind_first g ++ more) kept (within a b g' entries));
+      }
+    where
+      within : (a : Along course now) (b : Brings now mid) (g' : Going start first mid) → behind_first g' ≡ behind_first a.going ++ entries_of b.stored.0 → length (commands_in (behind_first a.going ++ entries_of b.stored.0)) ≤ length (commands_in course)
+      within a b g' is =
+          ⊎_elim
+          (λ (none : commands_among (frames_in b.stored.0) ≡ []).
+            let s = stored_among start first now a.going in
+            let here : length (commands_in (behind_first a.going ++ entries_of b.stored.0)) ≡ length (commands_among a.going.scanned) =
+            ap length (commands-append (behind_first a.going) (entries_of b.stored.0) ∙ (λ i. behind_commands start first now a.going i ++ (commands_same (frames_in b.stored.0) ∙ none) i) ∙ append-nil (commands_among a.going.scanned)) in
+            let all : length (commands_in course) ≡ length (commands_among a.going.scanned) + length s.0 = ap length (a.written ∙ s.1) ∙ length-append (commands_among a.going.scanned) s.0 in
+            omega (arith, here, all))
+          (λ (same : bytes_written mid.attempt ≡ bytes_written now.attempt).
+            let s = stored_among start first mid g' in
+            let here : length (commands_in (behind_first a.going ++ entries_of b.stored.0)) ≡ length (commands_among g'.scanned) = ap (λ l. length (commands_in l)) (sym is) ∙ ap length (behind_commands start first mid g') in
+            let all : length (commands_in course) ≡ length (commands_among g'.scanned) + length s.0 = ap length (a.written ∙ sym (ap (λ l. commands_among (frames_of l).0) same) ∙ s.1) ∙ length-append (commands_among g'.scanned) s.0 in
+            omega (arith, here, all))
+          b.apart
+
+  pub events_go_along : (es : List Event) (now end : Now) (course : List Entry) (h : Happen m es now end) → Along course now → Along (course ++ course_of m first es now end h) end
+  events_go_along [] now end course h a = subst (Along (course ++ [])) (sym h) (subst (λ l. Along l now) (sym (append-nil course)) a)
+  events_go_along (e ∷ es) now end course (mid, d, others) a =
+      let new = brought_by first now.attempt mid.attempt in
+      subst (λ l. Along l end) (append_assoc course new (course_of m first es mid end others)) (events_go_along es mid end (course ++ new) others (event_goes_along e now mid course d a))
