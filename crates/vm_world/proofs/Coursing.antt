@@ -1,10 +1,9 @@
 -- The course of a round's attempt is what was delivered to it and what it wrote; each stored command stands behind what was delivered
 -- before it was written.
-use Rattle.std.proofs.Common.{◌≡◌, ◌<◌, ◌≤◌, ◌+◌, ◌⊎◌, inl, inr, ⊎_elim, ℕ, zero, suc, Bool, true, false, List, [], ◌∷◌, ◌++◌, length, take, drop, map, Option, Some, None, refl, sym, ap, ◌∙◌, subst, arith, append_assoc, append-nil, length-append}
+use Rattle.std.proofs.Common.{◌≡◌, ◌<◌, ◌≤◌, ◌+◌, ◌⊎◌, inl, inr, ⊎_elim, ℕ, zero, suc, Bool, true, false, List, [], ◌∷◌, ◌++◌, length, take, drop, map, refl, sym, ap, ◌∙◌, subst, arith, append_assoc, append-nil, length-append}
 use Rattle.std.specs.List.{concat}
 use Rattle.std.proofs.lemmas.List.Folds.{concat-append}
 use Rattle.std.proofs.lemmas.Bool.{cases_lt}
-use Rattle.std.proofs.Math.Seq.{take-append_seam}
 use Rattle.journal_protocol.specs.declared.message.RawMessage.{RawMessage}
 use Rattle.journal_protocol.specs.declared.notification.Notification.{Notification}
 use Rattle.invocation_vm.specs.Frames.{Tail, frames_of}
@@ -20,7 +19,7 @@ use Rattle.vm_rounds.specs.Record.{Record, bytes_written}
 use Rattle.vm_rounds.specs.Stepping.{taken_from}
 use Rattle.vm_rounds.specs.Told.{arrivals_of, bytes_fed, frames_fed, written_by}
 use Rattle.vm_rounds.proofs.Pieces.{commands_append, more_frames, notifications_append}
-use Rattle.vm_rounds.proofs.Replayed.{commands_same, notes_same, tail_same}
+use Rattle.vm_rounds.proofs.Replayed.{commands_same, notes_same}
 use Rattle.vm_world.specs.declared.types.Event.{Event}
 use Rattle.vm_world.specs.declared.types.Event.TheVariants as event
 use Rattle.vm_world.specs.Courses.{brought_by, course_of, delivered, new_in}
@@ -86,7 +85,8 @@ record Brings (now mid : Now) : Type 0 where
 
 -- the attempt alone has changed
 acts : (now mid : Now) → mid.journal ≡ now.journal → IsPrefix (bytes_written now.attempt) (bytes_written mid.attempt) → IsPrefix (bytes_fed now.attempt.fed) (bytes_fed mid.attempt.fed) → Brings now mid
-acts now mid same wrote fed = record { stored = same_prefix now.journal mid.journal same; wrote = wrote; fed = fed; apart = inl refl }
+unfolding same_prefix
+acts now mid same wrote came = record { stored = same_prefix now.journal mid.journal same; wrote = wrote; fed = came; apart = inl refl }
 
 takes : (piece : List ℕ) (r new : Record) → Takes piece r new → IsPrefix (bytes_fed r.fed) (bytes_fed new.fed)
 takes piece r new t =
@@ -96,7 +96,7 @@ takes piece r new t =
     t
 
 by_attempt : (now mid : Now) (r : Record) → mid.journal ≡ now.journal → mid.attempt ≡ r → IsPrefix (bytes_written now.attempt) (bytes_written r) → IsPrefix (bytes_fed now.attempt.fed) (bytes_fed r.fed) → Brings now mid
-by_attempt now mid r same is wrote fed = acts now mid same (subst (λ (x : Record). IsPrefix (bytes_written now.attempt) (bytes_written x)) (sym is) wrote) (subst (λ (x : Record). IsPrefix (bytes_fed now.attempt.fed) (bytes_fed x.fed)) (sym is) fed)
+by_attempt now mid r same is wrote came = acts now mid same (subst (λ (x : Record). IsPrefix (bytes_written now.attempt) (bytes_written x)) (sym is) wrote) (subst (λ (x : Record). IsPrefix (bytes_fed now.attempt.fed) (bytes_fed x.fed)) (sym is) came)
 
 pieces_bring : (closed : Bool) (n : ℕ) (now mid : Now) → Pieces closed n now mid → Brings now mid
 pieces_bring true n now mid d = by_attempt now mid now.attempt (ap (λ x. x.journal) d) (ap (λ x. x.attempt) d) (same_prefix (bytes_written now.attempt) (bytes_written now.attempt) refl) (same_prefix (bytes_fed now.attempt.fed) (bytes_fed now.attempt.fed) refl)
@@ -196,8 +196,8 @@ stored_among start first now g =
     let same : (frames_of (now.output ++ W)).0 ≡ (g.scanned ++ (frames_of now.unstored).0) ++ more.0 = ap (λ (p : List RawMessage × Tail). p.0) (frames_of-append now.output W) ∙ more.1 ∙ ap (λ (p : List RawMessage × Tail). p.0 ++ more.0) g.output_frames in (
       commands_among ((frames_of now.unstored).0 ++ more.0),
       ap (λ b. commands_among (frames_of (b ++ W)).0) g.output_is
-      ∙ ap commands_among (same ∙ append_assoc g.scanned (frames_of now.unstored).0 more.0)
-      ∙ commands_append g.scanned ((frames_of now.unstored).0 ++ more.0),
+          ∙ ap commands_among (same ∙ append_assoc g.scanned (frames_of now.unstored).0 more.0)
+          ∙ commands_append g.scanned ((frames_of now.unstored).0 ++ more.0),
     )
 
 -- the entries that came behind the first journal
@@ -269,16 +269,16 @@ module _ (m : Meaning) (start : List ℕ) (raw : RawMessage) (first : List (List
       within a b g' is =
           ⊎_elim
           (λ (none : commands_among (frames_in b.stored.0) ≡ []).
-            let s = stored_among start first now a.going in
-            let here : length (commands_in (behind_first a.going ++ entries_of b.stored.0)) ≡ length (commands_among a.going.scanned) =
-            ap length (commands-append (behind_first a.going) (entries_of b.stored.0) ∙ (λ i. behind_commands start first now a.going i ++ (commands_same (frames_in b.stored.0) ∙ none) i) ∙ append-nil (commands_among a.going.scanned)) in
-            let all : length (commands_in course) ≡ length (commands_among a.going.scanned) + length s.0 = ap length (a.written ∙ s.1) ∙ length-append (commands_among a.going.scanned) s.0 in
-            omega (arith, here, all))
+          let s = stored_among start first now a.going in
+          let here : length (commands_in (behind_first a.going ++ entries_of b.stored.0)) ≡ length (commands_among a.going.scanned) =
+          ap length (commands-append (behind_first a.going) (entries_of b.stored.0) ∙ (λ i. behind_commands start first now a.going i ++ (commands_same (frames_in b.stored.0) ∙ none) i) ∙ append-nil (commands_among a.going.scanned)) in
+          let all : length (commands_in course) ≡ length (commands_among a.going.scanned) + length s.0 = ap length (a.written ∙ s.1) ∙ length-append (commands_among a.going.scanned) s.0 in
+          omega (arith, here, all))
           (λ (same : bytes_written mid.attempt ≡ bytes_written now.attempt).
-            let s = stored_among start first mid g' in
-            let here : length (commands_in (behind_first a.going ++ entries_of b.stored.0)) ≡ length (commands_among g'.scanned) = ap (λ l. length (commands_in l)) (sym is) ∙ ap length (behind_commands start first mid g') in
-            let all : length (commands_in course) ≡ length (commands_among g'.scanned) + length s.0 = ap length (a.written ∙ sym (ap (λ l. commands_among (frames_of l).0) same) ∙ s.1) ∙ length-append (commands_among g'.scanned) s.0 in
-            omega (arith, here, all))
+          let s = stored_among start first mid g' in
+          let here : length (commands_in (behind_first a.going ++ entries_of b.stored.0)) ≡ length (commands_among g'.scanned) = ap (λ l. length (commands_in l)) (sym is) ∙ ap length (behind_commands start first mid g') in
+          let all : length (commands_in course) ≡ length (commands_among g'.scanned) + length s.0 = ap length (a.written ∙ sym (ap (λ l. commands_among (frames_of l).0) same) ∙ s.1) ∙ length-append (commands_among g'.scanned) s.0 in
+          omega (arith, here, all))
           b.apart
 
   pub events_go_along : (es : List Event) (now end : Now) (course : List Entry) (h : Happen m es now end) → Along course now → Along (course ++ course_of m first es now end h) end

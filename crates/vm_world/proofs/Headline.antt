@@ -1,7 +1,6 @@
 -- What a round leaves is what an honest round leaves, of an attempt that its journal tells.
 use Rattle.std.proofs.Common.{◌≡◌, inl, inr, ⊎_elim, ℕ, Bool, true, false, List, [], ◌∷◌, ◌++◌, length, take, drop, Option, Some, None, refl, sym, ap, ◌∙◌, subst, append_assoc}
 use Rattle.std.specs.Prelude.{◌==◌, if◌then◌else◌}
-use Rattle.std.specs.List.{concat}
 use Rattle.std.proofs.lemmas.Option.{same_Some}
 use Rattle.std.proofs.Math.Seq.{take-append_seam}
 use Rattle.journal_protocol.specs.declared.commands.InputCommand.{InputCommand}
@@ -14,8 +13,6 @@ use Rattle.journal_protocol.specs.declared.types.MessageType.TheVariants as type
 use Rattle.journal_protocol.specs.Reading.{input_in, message_in, start_in}
 use Rattle.journal_protocol.specs.Types.{type_number}
 use Rattle.journal_protocol.proofs.Reading.{message_is}
-use Rattle.invocation_vm.specs.Frames.{Tail, frames_of}
-use Rattle.invocation_vm.proofs.Cuts.{frames_of-append}
 use Rattle.vm_parts.specs.declared.context.StateMap.{StateMap}
 use Rattle.vm_parts.specs.Entries.{entries_of as state_entries}
 use Rattle.vm_machine.specs.Inputs.{coverage_of}
@@ -26,8 +23,8 @@ use Rattle.vm_model.specs.Histories.{Handed, IsPrefix, Made, behind}
 use Rattle.vm_model.specs.HonestRounds.{Attempted, HonestRound, IsToldOn}
 use Rattle.vm_model.proofs.Stored.{changes_state, unchanged}
 use Rattle.vm_rounds.specs.Journals.{as_entries, commands_among, notifications_among, setup_for}
-use Rattle.vm_rounds.specs.Told.{AnswersAreTold, CompleteOnce, Premises, arrivals, arrivals_of, bytes_fed, frames_fed, handed_out, written_by}
-use Rattle.vm_rounds.proofs.Pieces.{commands_append, more_frames, notifications_append}
+use Rattle.vm_rounds.specs.Told.{AnswersAreTold, CompleteOnce, Premises, arrivals, arrivals_of, frames_fed, handed_out, written_by}
+use Rattle.vm_rounds.proofs.Pieces.{notifications_append}
 use Rattle.vm_rounds.proofs.Replayed.{commands_same, head_same, notes_same, tail_same}
 use Rattle.vm_rounds.proofs.Under.{once_before}
 use Rattle.vm_world.specs.declared.types.Setting.{Setting}

@@ -10,6 +10,8 @@ use Rattle.journal_protocol.specs.Message.{encoding}
 use Rattle.journal_protocol.specs.Reading.{message_in, start_in}
 use Rattle.journal_protocol.specs.Runs.{IsWhole}
 use Rattle.journal_protocol.proofs.Alone.{read_back}
+use Rattle.journal_protocol.specs.declared.message.RawMessage.{RawMessage}
+use Rattle.invocation_vm.specs.Frames.{Tail, frames_of}
 use Rattle.invocation_vm.specs.Making.{made}
 use Rattle.vm_parts.specs.declared.steps.Answer.{Answer}
 use Rattle.vm_model.specs.Calls.{Meaning, Setup}
@@ -19,7 +21,7 @@ use Rattle.vm_model.specs.Histories.{History, Honest, IsAllOf, IsTrueOf, Knowled
 use Rattle.vm_model.specs.HonestRounds.{IsOneRun}
 use Rattle.vm_model.proofs.Lasting.{commands-append}
 use Rattle.vm_model.proofs.Honesty.{honest_rounds, run_is_history, whole_rounds}
-use Rattle.vm_rounds.specs.Journals.{as_entries}
+use Rattle.vm_rounds.specs.Journals.{as_entries, commands_among, notifications_among}
 use Rattle.vm_rounds.specs.Record.{Record}
 use Rattle.vm_rounds.specs.Stepping.{fresh_record}
 use Rattle.vm_rounds.specs.Told.{bytes_fed}
@@ -34,8 +36,8 @@ use Rattle.vm_world.specs.Rounds.{AreWhole, AttemptDoes, IsShort, RefusedDoes, R
 use Rattle.vm_world.specs.States.{base_of, state_of}
 use Rattle.vm_world.specs.Worlds.{IsJournal, setup_of, start_for, start_message}
 use Rattle.vm_world.proofs.Coursing.{Along, events_go_along}
-use Rattle.vm_world.proofs.Framing.{AreFrames, as_entries_append, frames_append, one_framed, said_are}
-use Rattle.vm_world.proofs.Handing.{base_in_order, handed, round_all, round_true}
+use Rattle.vm_world.proofs.Framing.{AreFrames, as_entries_append, frames_append, one_framed, said_are, none_framed}
+use Rattle.vm_world.proofs.Handing.{base_in_order, round_all, round_true}
 use Rattle.vm_world.proofs.Headline.{Begins, IsHonest, input_says, is_honest}
 use Rattle.vm_world.proofs.Keeping.{Going, arrivals_keep, events_keep}
 
@@ -94,20 +96,22 @@ start_framed st whole = one_framed (stored_form (message.Start st)) whole.1
 
 -- the course of a round's attempt, from its beginning on
 attempt_along : (m : Meaning) (w : Setting) (round : Round) (old : List (List ℕ)) (report : ReportView) (new : List (List ℕ)) (j : IsJournal old) (d : AttemptDoes m w round old report new) → Along m (encoding (start_message w round old)) (stored_form (start_message w round old)) old j (start_framed (start_for w round old) d.start) (course_of m old round.events (begin d.alloc w round old) d.ran.now d.ran.happen) d.ran.now
+unfolding begun
 attempt_along m w round old report new j d =
+    let none : (frames_of []).0 ≡ [] = ap (λ (p : List RawMessage × Tail). p.0) none_framed in
     let bytes = encoding (start_message w round old) in
     let framed = start_framed (start_for w round old) d.start in
     let first : Along m bytes (stored_form (start_message w round old)) old j framed [] (begin d.alloc w round old) = record {
       going = begun bytes old (fresh_record (made d.alloc w.options w.version)) j refl refl;
-      written = refl;
-      came = sym (drop_nil (length (notes_in old)));
+      written = sym (ap commands_among none);
+      came = sym (drop_nil (length (notes_in old)) _ (ap (λ l. notifications_among (behind l)) none));
       order = λ n h. absurd (omega (arith, h));
     } in
     events_go_along m bytes (stored_form (start_message w round old)) old j framed round.events (begin d.alloc w round old) d.ran.now [] d.ran.happen first
   where
-    drop_nil : (k : ℕ) → drop k ([] {A = Notification}) ≡ []
-    drop_nil zero = refl
-    drop_nil (suc k) = refl
+    drop_nil : (k : ℕ) (ns : List Notification) → ns ≡ [] → drop k ns ≡ []
+    drop_nil zero ns e = e
+    drop_nil (suc k) ns e = ap (drop (suc k)) e
 
 -- a round with its attempt is an honest one
 attempt_honest : (m : Meaning) (w : Setting) (round : Round) (old : List (List ℕ)) (report : ReportView) (new : List (List ℕ)) → Replays w.options → IsJournal old → Begins (entries_of old) → (d : AttemptDoes m w round old report new) → IsHonest (setup_of w) m (entries_of old) (attempt_of m w round old report new (inl d)) (entries_of new)

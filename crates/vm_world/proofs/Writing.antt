@@ -1,14 +1,12 @@
 -- What an attempt wrote stays: each of its calls writes behind it.
-use Rattle.std.proofs.Common.{◌≡◌, ◌⊎◌, ⊎_elim, inl, inr, ℕ, Bool, true, false, List, [], ◌∷◌, ◌++◌, map, Option, Some, None, Result, Ok, Err, refl, sym, ap, ◌∙◌, subst, append_assoc, append-nil}
+use Rattle.std.proofs.Common.{◌≡◌, inl, inr, ℕ, Bool, true, false, List, [], ◌++◌, map, Option, Some, None, Result, Ok, Err, refl, sym, ap, ◌∙◌, subst, append_assoc, append-nil}
 use Rattle.std.specs.Prelude.{if◌then◌else◌}
 use Rattle.std.specs.List.{concat}
 use Rattle.std.proofs.lemmas.List.Folds.{concat-append}
 use Rattle.std.specs.declared.alloc.AllocError.{AllocError}
 use Rattle.journal_protocol.specs.declared.error.Error.{Error}
 use Rattle.journal_protocol.specs.declared.faults.NamedFault.TheVariants as fault
-use Rattle.journal_protocol.specs.declared.message.RawMessage.{RawMessage}
 use Rattle.journal_protocol.specs.Message.{encoding}
-use Rattle.vm_parts.specs.declared.steps.Step.{Step}
 use Rattle.vm_parts.specs.declared.types.AwakeableHandle.{AwakeableHandle}
 use Rattle.vm_parts.specs.declared.types.UnresolvedFuture.{UnresolvedFuture}
 use Rattle.vm_parts.specs.declared.types.UnresolvedFuture.TheVariants.{Single}
@@ -33,8 +31,8 @@ use Rattle.vm_rounds.specs.declared.progress.Progress.{Progress}
 use Rattle.vm_rounds.specs.declared.progress.Reply.{Reply}
 use Rattle.vm_rounds.specs.declared.progress.Reply.TheVariants as reply
 use Rattle.vm_rounds.specs.Record.{Record, bytes_written}
-use Rattle.vm_rounds.specs.Stepping.{Advances, Asks, CloseDoes, Closes, FeedDoes, Feeds, Reads, StepAt, StepDoes, StepFrom, StepUnless, future_in, kept, kept_at, replied, step_asked, with_vm}
-use Rattle.vm_rounds.specs.Steps.{StepMade, mapped, performed, performed_by}
+use Rattle.vm_rounds.specs.Stepping.{Advances, Asks, CloseDoes, Closes, FeedDoes, Feeds, Reads, StepAt, StepDoes, StepFrom, StepUnless, future_in, kept_at, replied, step_asked, with_vm}
+use Rattle.vm_rounds.specs.Steps.{mapped, performed, performed_by}
 use Rattle.vm_rounds.proofs.Quiet.{input_quiet}
 
 -- ---- one event of the machine
@@ -93,7 +91,9 @@ replied_vm r future (Ok reply.Ended) w = (refl, refl)
 replied_vm r future (Err e) w = (refl, refl)
 
 reads_wrote : (r : Record) (result : Result Progress Error) (new : Record) → Reads r result new → Wrote r new
-reads_wrote r (Ok g) new (made, input, w, calls, is) = wrote_vm r new w (ap (λ x. x.taken) is) (ap (λ x. x.vm) is) (does_extend (called (input_step r.vm.machine) r.vm.machine) (Ok input) r.vm.machine w.machine (input_writes r.vm.machine) calls.0)
+reads_wrote r (Ok g) new h =
+    let w = h.1.1 in
+    wrote_vm r new w (ap (λ x. x.taken) h.1.3) (ap (λ x. x.vm) h.1.3) (does_extend (called (input_step r.vm.machine) r.vm.machine) (Ok h.1.0) r.vm.machine w.machine (input_writes r.vm.machine) h.1.2.0)
 reads_wrote r (Err e) new (w, calls, is) = wrote_vm r new w (ap (λ x. x.taken) is) (ap (λ x. x.vm) is) (does_extend (called (input_step r.vm.machine) r.vm.machine) (Err e) r.vm.machine w.machine (input_writes r.vm.machine) calls.0)
 
 asks_wrote : (m : Meaning) (r : Record) (result : Result Progress Error) (new : Record) → Asks m r result new → Wrote r new
@@ -169,7 +169,7 @@ close_wrote r result new h = by_test r.starved result h
 
 -- the bytes that were written begin those that are written now
 pub bytes_grow : (r new : Record) → Wrote r new → IsPrefix (bytes_written r) (bytes_written new)
-bytes_grow r new (taken, more, is) = (
+bytes_grow r new (taken, (more, is)) = (
   concat more,
   (λ i. concat (taken i) ++ concat (is i)) ∙ ap (λ l. concat r.taken ++ l) (concat-append r.vm.machine.output more) ∙ sym (append_assoc (concat r.taken) (concat r.vm.machine.output) (concat more)),
 )

@@ -1,6 +1,6 @@
 -- The course of a round's attempt: what was delivered to it behind its journal and what it wrote, in the order in which this happened.
-use Rattle.std.specs.Prelude.{◌≡◌, ℕ, List, [], ◌∷◌, ◌++◌, length, map, drop}
-use Rattle.std.specs.Prelude.{◌⊎◌, inl, inr}
+use Rattle.std.specs.Prelude.{ℕ, List, [], ◌∷◌, ◌++◌, length, map, drop}
+use Rattle.std.proofs.Common.{inl, inr}
 use Rattle.journal_protocol.specs.declared.notification.Notification.{Notification}
 use Rattle.journal_protocol.specs.declared.start.Start.{Start}
 use Rattle.vm_machine.specs.Inputs.{coverage_of}
