@@ -11,14 +11,18 @@ use Rattle.journal_protocol.specs.HeaderEqual.{header_equal}
 use Rattle.journal_protocol.specs.Message.{type_of}
 use Rattle.journal_protocol.specs.Reading.{message_in}
 use Rattle.journal_protocol.specs.Types.{type_number}
+use Rattle.vm_parts.specs.declared.steps.Answer.{Answer}
+use Rattle.vm_parts.specs.declared.steps.Answer.TheVariants as answer
 use Rattle.vm_parts.specs.declared.steps.Step.{Step}
+use Rattle.vm_parts.specs.declared.steps.Step.TheVariants as step
+use Rattle.vm_parts.specs.declared.values.Value.{Value}
 use Rattle.vm_machine.specs.declared.asks.Ask.{Ask}
 use Rattle.vm_machine.specs.declared.asks.Ask.TheVariants as ask
 use Rattle.vm_machine.specs.Asks.{ask_of}
 use Rattle.vm_machine.specs.Commands.{ignores_payloads}
 use Rattle.vm_machine.specs.Reads.{recorded_as}
 use Rattle.vm_machine.specs.Requests.{ids_of, with_ids}
-use Rattle.vm_model.specs.Calls.{Demand, Setup, Usage}
+use Rattle.vm_model.specs.Calls.{Demand, Meaning, Setup, Usage}
 use Rattle.vm_model.specs.Calls.Demand.{Exactly, Reads}
 use Rattle.vm_model.specs.Calls.Usage.{Used, Read, Taken}
 use Rattle.vm_model.specs.Sums.{completion_ids, signal_ids}
@@ -87,3 +91,7 @@ item (suc n) (x ∷ xs) = item n xs
 -- A handle stands for its id: 1 for the cancel signal, and from 17 on each for the id that was given in its turn.
 abbrev pub IsGiven : List NotificationId → ℕ → NotificationId → Type 0
 IsGiven given handle id = ((handle ≡ 1) × (id ≡ SignalId 1)) ⊎ ((k : ℕ) × (handle ≡ 17 + k) × (item k given ≡ Some id))
+
+-- a take of the handle was answered with a value
+abbrev pub WasTaken : Meaning → ℕ → List Answer → Type 0
+WasTaken m handle answers = (before : List Answer) × (value : Value) × (behind : List Answer) × (answers ≡ before ++ answer.Taken (Some value) ∷ behind) × (m before ≡ step.Take (record { 0 = handle }))
