@@ -8,7 +8,7 @@ use std::alloc::{AllocError, Global};
 use std::test::Fail;
 use wire::{Fault, Items, Text, is_same, whole};
 
-// A function that owns a message does little else: each `?` behind it drops every kind of message once more.
+// A message is owned by a closure, and by no `?`: that would take all kinds of messages apart.
 
 /// The one frame of a stream.
 fn frame_of(alloc: Global, stream: Bytes) -> Result<RawMessage, Fail> {
@@ -30,8 +30,8 @@ fn spelled(alloc: Global, message: &Message) -> Result<(String, Bytes), AllocErr
 
 /// How the message of a frame is printed, and its frame again.
 fn decoded(alloc: Global, raw: &RawMessage) -> Result<(String, Bytes), Fail> {
-    let message = raw.decode(alloc)?;
-    spelled(alloc, &message).map_err(Fail::from)
+    let spelled = raw.decode(alloc).map(|message| spelled(alloc, &message))?;
+    Ok(spelled?)
 }
 
 /// What is wrong with a frame: an error of the decoder, or of the body.
@@ -327,20 +327,21 @@ fn deep_frame(alloc: Global, kind: u8) -> Result<Bytes, AllocError> {
     Bytes::copy_from_slice(alloc, frame.as_slice())
 }
 
-fn is_alike(alloc: Global, message: &Message, raw: &RawMessage) -> Result<bool, Fail> {
-    let other = raw.decode(alloc)?;
-    Ok(header_eq(&other, message, false))
+fn is_alike(alloc: Global, message: &Message, raw: &RawMessage) -> Result<bool, Error> {
+    raw.decode(alloc)
+        .map(|other| header_eq(&other, message, false))
 }
 
 /// Whether two frames have one message for replay.
 fn are_alike(alloc: Global, a: &RawMessage, b: &RawMessage) -> Result<bool, Fail> {
-    let message = a.decode(alloc)?;
-    is_alike(alloc, &message, b)
+    let alike = a.decode(alloc).map(|message| is_alike(alloc, &message, b))?;
+    Ok(alike?)
 }
 
 fn encoded_again(alloc: Global, raw: &RawMessage) -> Result<Bytes, Fail> {
-    let message = raw.decode(alloc)?;
-    Encoder::new(alloc).encode(&message).map_err(Fail::from)
+    let encoder = Encoder::new(alloc);
+    let encoded = raw.decode(alloc).map(|message| encoder.encode(&message))?;
+    Ok(encoded?)
 }
 
 #[test]
