@@ -3,6 +3,7 @@
 #![tactic(auto)]
 
 pub mod asker;
+pub mod caller;
 pub mod chooser;
 pub mod frames;
 pub mod keeper;
