@@ -8,7 +8,7 @@ use std::alloc::{AllocError, Global};
 use std::test::Fail;
 use wire::{Fault, Items, Text, is_same, whole};
 
-// A function that owns a message does little else: each `?` behind it drops every kind of message once more.
+// A message is owned by a `Vec`: where a function lends one of its own, its proof takes all kinds of messages apart.
 
 /// The one frame of a stream.
 fn frame_of(alloc: Global, stream: Bytes) -> Result<RawMessage, Fail> {
@@ -28,10 +28,18 @@ fn spelled(alloc: Global, message: &Message) -> Result<(String, Bytes), AllocErr
     Ok((text, frame))
 }
 
+/// The message of a frame, as the only one.
+fn message_of(alloc: Global, raw: &RawMessage) -> Result<Vec<Message>, Fail> {
+    let mut messages = Vec::new(alloc);
+    messages.push(raw.decode(alloc)?)?;
+    Ok(messages)
+}
+
 /// How the message of a frame is printed, and its frame again.
 fn decoded(alloc: Global, raw: &RawMessage) -> Result<(String, Bytes), Fail> {
-    let message = raw.decode(alloc)?;
-    spelled(alloc, &message).map_err(Fail::from)
+    let messages = message_of(alloc, raw)?;
+    let message = messages.get(0).ok_or("no message")?;
+    spelled(alloc, message).map_err(Fail::from)
 }
 
 /// What is wrong with a frame: an error of the decoder, or of the body.
@@ -327,20 +335,18 @@ fn deep_frame(alloc: Global, kind: u8) -> Result<Bytes, AllocError> {
     Bytes::copy_from_slice(alloc, frame.as_slice())
 }
 
-fn is_alike(alloc: Global, message: &Message, raw: &RawMessage) -> Result<bool, Fail> {
-    let other = raw.decode(alloc)?;
-    Ok(header_eq(&other, message, false))
-}
-
 /// Whether two frames have one message for replay.
 fn are_alike(alloc: Global, a: &RawMessage, b: &RawMessage) -> Result<bool, Fail> {
-    let message = a.decode(alloc)?;
-    is_alike(alloc, &message, b)
+    let (a, b) = (message_of(alloc, a)?, message_of(alloc, b)?);
+    let a = a.get(0).ok_or("no message")?;
+    let b = b.get(0).ok_or("no message")?;
+    Ok(header_eq(a, b, false))
 }
 
 fn encoded_again(alloc: Global, raw: &RawMessage) -> Result<Bytes, Fail> {
-    let message = raw.decode(alloc)?;
-    Encoder::new(alloc).encode(&message).map_err(Fail::from)
+    let messages = message_of(alloc, raw)?;
+    let message = messages.get(0).ok_or("no message")?;
+    Encoder::new(alloc).encode(message).map_err(Fail::from)
 }
 
 #[test]

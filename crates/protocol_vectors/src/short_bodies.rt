@@ -8,10 +8,8 @@ use wire::Fault;
 /// Whether a body is refused as no message's.
 fn is_refused(alloc: Global, ty: MessageType, body: &[u8]) -> Result<bool, Fail> {
     let body = Bytes::copy_from_slice(alloc, body)?;
-    match (RawMessage { ty, body }).read(alloc) {
-        Ok(_) => Ok(false),
-        Err(fault) => Ok(fault == Fault::Malformed),
-    }
+    let fault = RawMessage { ty, body }.read(alloc).err();
+    Ok(fault == Some(Fault::Malformed))
 }
 
 /// Whether the body of this one byte, and each that has another behind it, is refused.

@@ -1,7 +1,7 @@
 // Journals of whole runs, cut at each byte, and one byte at a time.
 // However a journal is cut, an attempt is ready when the known entries are there, and makes the same run.
-use crate::bench::{assert_answers, assert_fails, assert_sends, attempt_of, drive};
-use crate::runs::{Ending, Replay, Run};
+use attempt_bench::runs::{Ending, Replay, Run};
+use attempt_bench::told::{attempt_of, drive, expect_answers, expect_error, expect_frames};
 use bytes::Bytes;
 use std::alloc::{AllocError, Global};
 use std::process::Abort;
@@ -36,8 +36,8 @@ fn assert_over<H: Handler>(
         Ending::Ended => assert_eq!(rt; drive(attempt)?, Progress::Ended),
         Ending::Suspended(_) => assert_eq!(rt; drive(attempt)?, Progress::Suspended),
         Ending::Refused(code, text, _) => {
-            assert_fails(rt, attempt, code, text)?;
-            assert_fails(rt, attempt, code, text)?;
+            expect_error(attempt, code, text)?;
+            expect_error(attempt, code, text)?;
         }
     }
     Ok(())
@@ -56,8 +56,8 @@ fn assert_makes<H: Handler>(
     feed_pieces(rt, alloc, &mut attempt, pieces, replay.recorded.len())?;
     attempt.close()?;
     assert_over(rt, &mut attempt, run.ending)?;
-    assert_answers(rt, attempt.answers(), run.answers);
-    assert_sends(rt, alloc, &mut attempt, &[replay.written.as_slice()])
+    expect_answers(attempt.answers(), run.answers)?;
+    expect_frames(alloc, &mut attempt, &[replay.written.as_slice()])
 }
 
 /// Each byte on its own.

@@ -1,14 +1,14 @@
 // Whole runs of handlers, replayed from each beginning of their entries.
 // Recorded and written commands together are those of the uncut run, and the answers are the same.
-use crate::bench::Told;
-use crate::chooser::Chooser;
 use crate::cuts::assert_replays;
-use crate::frames::{
+use attempt_bench::chooser::Chooser;
+use attempt_bench::frames::{
     CLEAR_A, COMPLETE_1, SET_B, SIGNAL_17_EMPTY, SIGNAL_17_FAILURE, SIGNAL_17_X,
     SUSPENSION_ON_SIGNAL_17,
 };
-use crate::keeper::Keeper;
-use crate::runs::{Ending, Entry, Run};
+use attempt_bench::keeper::Keeper;
+use attempt_bench::runs::{Ending, Entry, Run};
+use attempt_bench::told::Told;
 use std::test::Fail;
 use vectors::frames::{
     COMPLETION_1, INPUT_TILL, OUTPUT_EMPTY, OUTPUT_X, SIGNAL_17, SLEEP_TO_1000, SUSPENSION_ON_1,

@@ -1,30 +1,12 @@
-//! The test bench for whole attempts: handlers whose runs are known beforehand, and what comes of their journals,
-//! however these are cut. Frames and headers are those of `vectors`.
+//! Rows over whole runs of handlers that are replayed: from each beginning of their journal and cut at each byte, refused where
+//! the journal has another command, and without memory behind each answer.
 #![tactic(auto)]
 
-pub mod asker;
-#[cfg(test)]
-mod attempts;
-#[cfg(test)]
-mod bench;
-pub mod chooser;
-#[cfg(test)]
-mod counts;
 #[cfg(test)]
 mod cuts;
 #[cfg(test)]
-mod frames;
-#[cfg(test)]
 mod histories;
-pub mod keeper;
 #[cfg(test)]
 mod mismatches;
-pub mod napper;
-#[cfg(test)]
-mod program;
-#[cfg(test)]
-mod runs;
 #[cfg(test)]
 mod starvation;
-pub mod starving;
-mod steps;

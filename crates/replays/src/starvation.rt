@@ -1,12 +1,12 @@
 // A handler that finds no memory: the attempt answers that to each further step, and does nothing more.
 // What was written before stays, and no Error frame is added.
-use crate::bench::{Told, assert_answers, assert_fails, assert_sends, attempt_of, drive};
-use crate::chooser::Chooser;
-use crate::frames::{CLEAR_A, COMPLETE_1, SET_B};
 use crate::histories::{CHOSE_SUCCESS, KEPT};
-use crate::keeper::Keeper;
-use crate::runs::Run;
-use crate::starving::Starving;
+use attempt_bench::chooser::Chooser;
+use attempt_bench::frames::{CLEAR_A, COMPLETE_1, SET_B};
+use attempt_bench::keeper::Keeper;
+use attempt_bench::runs::Run;
+use attempt_bench::starving::Starving;
+use attempt_bench::told::{Told, attempt_of, drive, expect_answers, expect_error, expect_frames};
 use bytes::Bytes;
 use std::alloc::Global;
 use std::process::Abort;
@@ -22,9 +22,9 @@ fn assert_starved<H: Handler>(
     answers: &[Told],
     frames: &[&[u8]],
 ) -> Result<(), Fail> {
-    assert_fails(rt, attempt, 500, "")?;
-    assert_answers(rt, attempt.answers(), answers);
-    assert_sends(rt, alloc, attempt, frames)
+    expect_error(attempt, 500, "")?;
+    expect_answers(attempt.answers(), answers)?;
+    expect_frames(alloc, attempt, frames)
 }
 
 /// A command that comes now, which the VM would refuse, and the end of the input change nothing.

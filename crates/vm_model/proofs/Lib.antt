@@ -13,5 +13,6 @@ pub mod Waking
 pub mod Results
 pub mod Took
 pub mod Sums
+pub mod Uses
 pub mod Rows
 pub mod Refusals

@@ -13,7 +13,7 @@ use Rattle.vm_parts.specs.Arrived.{Ready}
 use Rattle.vm_parts.specs.Deliveries.{first, is_listed, left_among, left_ready, newest, newest_after, with_delivered, with_eager, present, results_of, same_id, without_all, without_first}
 use Rattle.vm_model.specs.Calls.{Usage, ready_after}
 use Rattle.vm_model.specs.Calls.Usage.{Used, Read, Taken}
-use Rattle.vm_model.specs.Deliveries.{EachTookAResult, deliveries, takes}
+use Rattle.vm_model.specs.Deliveries.{EachTookAResult, deliveries, next_taken, since_taken, takes}
 
 rest_of : {A : Type 0} → List A → List A
 rest_of [] = []
@@ -240,3 +240,42 @@ rest_ready id listed (Taken i ∷ us) all = rest_taken id i us listed all.0 (res
 -- of a signal the delivery is present that stands behind as many as were taken
 pub next_present : (id : NotificationId) → is_listed Queued id ≡ true → (us : List Usage) → EachTookAResult Queued us → present Queued id (ready_after Queued us) ≡ first (drop (takes id us) (deliveries id us))
 next_present id listed us all = first_present id listed us ∙ ap first (rest_ready id listed us all).ready
+
+-- ---- an id whose newest delivery stands
+
+-- none of its results stays where one is taken
+none_left : (delivery : SignalDelivery) (id i : NotificationId) (ns : List Notification) → is_listed delivery id ≡ false → same_id i id ≡ true → results_of id (left_among delivery i ns) ≡ []
+none_left delivery id i ns listed t =
+    let is = same_is i id t in
+    ap (λ b. results_of id (cond b (without_first i ns) (without_all i ns))) (subst (λ j. is_listed delivery j ≡ false) (sym is) listed) ∙ ap (λ j. results_of id (without_all j ns)) is ∙ all_gone id ns
+
+since_ready : (delivery : SignalDelivery) (id : NotificationId) → is_listed delivery id ≡ false → (us : List Usage) → newest_in id (ready_after delivery us) ≡ newest (since_taken id us)
+unfolding newest_in
+since_ready delivery id listed [] = refl
+since_ready delivery id listed (Used n ∷ us) = newest_used id n (ready_after delivery us) (since_taken id us) (since_ready delivery id listed us)
+since_ready delivery id listed (Read i result ∷ us) = newest_read id i result (ready_after delivery us) (since_taken id us) (since_ready delivery id listed us)
+since_ready delivery id listed (Taken i ∷ us) = by_test (same_id i id) refl (since_ready delivery id listed us)
+  where
+    by_test : (b : Bool) → same_id i id ≡ b → newest_in id (ready_after delivery us) ≡ newest (since_taken id us) → newest_in id (left_ready delivery i (ready_after delivery us)) ≡ newest (cond b [] (since_taken id us))
+    by_test true t ih = λ k. option_or (newest (none_left delivery id i (ready_after delivery us).delivered listed t k)) (newest (none_left delivery id i (ready_after delivery us).eager listed t k))
+    by_test false t ih = newest_taken delivery id i (ready_after delivery us) t ∙ ih
+
+-- where deliveries don't queue up the newest is present
+newest_stands : (delivery : SignalDelivery) (id : NotificationId) (r : Ready) → is_listed delivery id ≡ false → present delivery id r ≡ newest_in id r
+unfolding newest_in
+newest_stands delivery id r listed = ap (λ b. option_or (cond b (first (results_of id r.delivered)) (newest (results_of id r.delivered))) (cond b (first (results_of id r.eager)) (newest (results_of id r.eager)))) listed
+
+-- deliveries queue up only where signals do
+listed_queued : (delivery : SignalDelivery) (id : NotificationId) → is_listed delivery id ≡ true → delivery ≡ Queued
+listed_queued Queued id h = refl
+listed_queued Overwrite id h = absurd (cc)
+
+-- the present result is the one that is taken next
+pub present_next : (delivery : SignalDelivery) (id : NotificationId) (us : List Usage) → EachTookAResult delivery us → present delivery id (ready_after delivery us) ≡ next_taken delivery id us
+present_next delivery id us all = by_test (is_listed delivery id) refl
+  where
+    by_test : (b : Bool) → is_listed delivery id ≡ b → present delivery id (ready_after delivery us) ≡ cond b (first (drop (takes id us) (deliveries id us))) (newest (since_taken id us))
+    by_test true listed =
+        let q = listed_queued delivery id listed in
+        subst (λ d. present d id (ready_after d us) ≡ first (drop (takes id us) (deliveries id us))) (sym q) (next_present id (subst (λ d. is_listed d id ≡ true) q listed) us (subst (λ d. EachTookAResult d us) q all))
+    by_test false listed = newest_stands delivery id (ready_after delivery us) listed ∙ since_ready delivery id listed us

@@ -30,13 +30,13 @@ use Rattle.vm_model.specs.Sums.{calls_after, calls_for, completion_ids, completi
 use Rattle.vm_model.proofs.Runs.{and_then_some, none_some}
 
 -- so many numbers were given
-record Given (ids signals numbers : ℕ) (d e : Derived) : Type 0 where
-  completion : e.counters.completion ≡ d.counters.completion + ids
-  signal : e.counters.signal ≡ d.counters.signal + signals
-  handle : e.counters.handle ≡ d.counters.handle + numbers
+pub record Given (ids signals numbers : ℕ) (d e : Derived) : Type 0 where
+  pub completion : e.counters.completion ≡ d.counters.completion + ids
+  pub signal : e.counters.signal ≡ d.counters.signal + signals
+  pub handle : e.counters.handle ≡ d.counters.handle + numbers
 
 -- a move that answers gives one answer and so many numbers
-abbrev GivenAfter : ℕ → ℕ → ℕ → Derived → Move → Type 0
+abbrev pub GivenAfter : ℕ → ℕ → ℕ → Derived → Move → Type 0
 GivenAfter ids signals numbers d (Answers gives e) = (a : Answer) × (gives ≡ a ∷ []) × Given ids signals numbers d e
 GivenAfter ids signals numbers d (Needs demand gives e) = (a : Answer) × (gives ≡ a ∷ []) × Given ids signals numbers d e
 GivenAfter ids signals numbers d Awaits = Unit {0}
@@ -96,7 +96,7 @@ asked_given s (ask.Take handle) d = result_given handle (id_at handle.0 d.handle
 asked_given s (ask.Completed handle) d = (_, refl, nothing_given d d refl)
 asked_given s ask.End d = tt
 
-call_given : (s : Setup) (st : Step) (d : Derived) → GivenAfter (completion_ids s.version st) (signal_ids s.version st) (handles s.version st) d (call_of s st d)
+pub call_given : (s : Setup) (st : Step) (d : Derived) → GivenAfter (completion_ids s.version st) (signal_ids s.version st) (handles s.version st) d (call_of s st d)
 call_given s st d = asked_given s (ask_of s.version st) d
 
 -- ---- one move
@@ -105,7 +105,7 @@ call_given s st d = asked_given s (ask_of s.version st) d
 Moves : ℕ → ℕ → ℕ → Point → Point → Type 0
 Moves ids signals numbers p q = ((a : Answer) × (q.answers ≡ p.answers ++ a ∷ []) × Given ids signals numbers p.derived q.derived) ⊎ ((q.answers ≡ p.answers) × (q.derived.counters ≡ p.derived.counters))
 
-brought_given : (ids signals numbers id : ℕ) (result : Option NotificationResult) (d e : Derived) → Given ids signals numbers d e → Given ids signals numbers d (brought id result e)
+pub brought_given : (ids signals numbers id : ℕ) (result : Option NotificationResult) (d e : Derived) → Given ids signals numbers d e → Given ids signals numbers d (brought id result e)
 brought_given ids signals numbers id None d e g = g
 brought_given ids signals numbers id (Some result) d e g = record { completion = g.completion; signal = g.signal; handle = g.handle }
 

@@ -1,5 +1,5 @@
 -- Each take of a run took a result that was present.
-use Rattle.std.proofs.Common.{◌≡◌, ℕ, zero, suc, Bool, true, false, is_some, List, [], ◌∷◌, Option, Some, None, refl, ap, subst}
+use Rattle.std.proofs.Common.{◌≡◌, inl, inr, ℕ, zero, suc, Bool, true, false, is_some, List, [], ◌∷◌, Option, Some, None, refl, sym, ap, ◌∙◌, subst}
 use Rattle.std.specs.Prelude.{Result, Ok, Err}
 use Rattle.std.proofs.lemmas.Option.{same_Some}
 use Rattle.journal_protocol.specs.declared.commands.InputCommand.{InputCommand}
@@ -9,6 +9,8 @@ use Rattle.journal_protocol.specs.declared.notification.Notification.{Notificati
 use Rattle.journal_protocol.specs.declared.notification.NotificationId.{NotificationId}
 use Rattle.journal_protocol.specs.declared.notification.NotificationResult.{NotificationResult}
 use Rattle.vm_parts.specs.declared.steps.Answer.{Answer}
+use Rattle.vm_parts.specs.declared.steps.Answer.TheVariants as answer
+use Rattle.vm_parts.specs.declared.steps.Step.TheVariants as step
 use Rattle.vm_parts.specs.declared.types.NotificationHandle.{NotificationHandle}
 use Rattle.vm_parts.specs.declared.values.Value.{Value}
 use Rattle.vm_parts.specs.Counting.{missing, missing_signals}
@@ -21,10 +23,11 @@ use Rattle.vm_machine.specs.declared.reads.StateRead.{StateRead}
 use Rattle.vm_machine.specs.Asks.{ask_of}
 use Rattle.vm_machine.specs.Requests.{ids_of}
 use Rattle.invocation_vm.specs.Calls.{skips_replay}
-use Rattle.vm_model.specs.Calls.{Setup, Meaning, Derived, Demand, Move, asked, awakeable_made, awaiting, commanding, is_awake, making_awakeable, numbered, reading, ready_in, result_taken, signal_made, value_taken}
+use Rattle.vm_model.specs.Calls.{Setup, Meaning, Derived, Demand, Move, asked, awakeable_made, awaiting, call_of, commanding, is_awake, making_awakeable, numbered, reading, ready_in, result_taken, signal_made, value_taken}
 use Rattle.vm_model.specs.Calls.Move.{Answers, Needs, Awaits, Ends, Refuses}
 use Rattle.vm_model.specs.Moves.{Point, after, brought, command_used, move_at, moved, next, found, start, uses_arrival, uses_command}
-use Rattle.vm_model.specs.Deliveries.{EachTookAResult}
+use Rattle.vm_model.specs.Deliveries.{EachTookAResult, TakeIsAnswered, next_taken}
+use Rattle.vm_model.proofs.Results.{present_next}
 use Rattle.vm_model.proofs.Runs.{and_then_some, none_some}
 
 -- what each take of a run took was present
@@ -117,3 +120,26 @@ after_took s m (suc n) p q h e =
 -- in a run that a journal tells each take took what was present
 pub told_took : (s : Setup) (m : Meaning) (n : ℕ) (input : InputCommand) (ns : List Notification) (cs : List RawMessage) (q : Point) → after s m n (start s input ns cs) ≡ Some q → EachTookAResult s.options.signal_delivery q.derived.usage
 told_took s m n input ns cs q e = after_took s m n (start s input ns cs) q tt e
+
+-- ---- what a take is answered
+
+value_answers : (s : Setup) (handle : NotificationHandle) (id : NotificationId) (result : NotificationResult) (o : Option Value) (p q : Point) → value_of result ≡ o → id_at handle.0 p.derived.handles ≡ Some id → next_taken s.options.signal_delivery id p.derived.usage ≡ Some result → moved (value_taken handle id o p.derived) p ≡ Some q → TakeIsAnswered s handle p q
+value_answers s handle id result None p q is at taken m = none_some m
+value_answers s handle id result (Some value) p q is at taken m =
+    let now = same_Some _ q m in
+    inr (id, result, value, at, taken, is, ap (λ z. z.answers) (sym now), ap (λ z. z.derived.usage) (sym now))
+
+-- nothing is taken
+nothing_answers : (s : Setup) (handle : NotificationHandle) (p q : Point) → ((id : NotificationId) → id_at handle.0 p.derived.handles ≡ Some id → next_taken s.options.signal_delivery id p.derived.usage ≡ None) → moved (Answers (answer.Taken None ∷ []) p.derived) p ≡ Some q → TakeIsAnswered s handle p q
+nothing_answers s handle p q none m = inl (ap (λ z. z.answers) (sym (same_Some _ q m)), none)
+
+result_answers : (s : Setup) (handle : NotificationHandle) (id : Option NotificationId) (o : Option NotificationResult) (p q : Point) → Took s p.derived → id_at handle.0 p.derived.handles ≡ id → present_for s.options.signal_delivery id (ready_in s p.derived) ≡ o → moved (result_taken handle id o p.derived) p ≡ Some q → TakeIsAnswered s handle p q
+result_answers s handle (Some id) (Some result) p q h at is m = value_answers s handle id result (value_of result) p q refl at (sym (present_next s.options.signal_delivery id p.derived.usage h) ∙ is) m
+result_answers s handle (Some id) None p q h at is m =
+    nothing_answers s handle p q (λ j there. ap (λ x. next_taken s.options.signal_delivery x p.derived.usage) (same_Some j id (sym there ∙ at)) ∙ sym (present_next s.options.signal_delivery id p.derived.usage h) ∙ is) m
+result_answers s handle None o p q h at is m = nothing_answers s handle p q (λ j there. none_some (sym at ∙ there)) m
+
+-- a take of a run is answered with what is taken next
+pub take_answers : (s : Setup) (m : Meaning) (n : ℕ) (input : InputCommand) (ns : List Notification) (cs : List RawMessage) (p q : Point) (handle : NotificationHandle) → after s m n (start s input ns cs) ≡ Some p → m p.answers ≡ step.Take handle → next s m p ≡ Some q → TakeIsAnswered s handle p q
+take_answers s m n input ns cs p q handle e asks moves =
+    result_answers s handle (id_at handle.0 p.derived.handles) (present_for s.options.signal_delivery (id_at handle.0 p.derived.handles) (ready_in s p.derived)) p q (told_took s m n input ns cs p e) refl refl (ap (λ st. moved (call_of s st p.derived) p) (sym asks) ∙ moves)

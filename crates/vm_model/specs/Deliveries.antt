@@ -1,12 +1,17 @@
 -- What came for an id and how often its results were taken, by the arrivals that awaits have used.
-use Rattle.std.specs.Prelude.{◌≡◌, ℕ, zero, suc, true, cond, is_some, List, [], ◌∷◌, ◌++◌}
+use Rattle.std.specs.Prelude.{◌≡◌, ◌⊎◌, ℕ, zero, suc, true, cond, is_some, List, [], ◌∷◌, ◌++◌, drop, Option, Some, None}
 use Rattle.journal_protocol.specs.declared.notification.NotificationId.{NotificationId}
 use Rattle.journal_protocol.specs.declared.notification.NotificationId.TheVariants.{CompletionId}
 use Rattle.journal_protocol.specs.declared.notification.NotificationResult.{NotificationResult}
 use Rattle.vm_parts.specs.declared.options.SignalDelivery.{SignalDelivery}
-use Rattle.vm_parts.specs.Deliveries.{present, same_id}
-use Rattle.vm_model.specs.Calls.{Usage, ready_after}
+use Rattle.vm_parts.specs.declared.steps.Answer.TheVariants as answer
+use Rattle.vm_parts.specs.declared.types.NotificationHandle.{NotificationHandle}
+use Rattle.vm_parts.specs.declared.values.Value.{Value}
+use Rattle.vm_parts.specs.Deliveries.{first, id_at, is_listed, newest, present, same_id}
+use Rattle.vm_parts.specs.Values.{value_of}
+use Rattle.vm_model.specs.Calls.{Setup, Usage, ready_after}
 use Rattle.vm_model.specs.Calls.Usage.{Used, Read, Taken}
+use Rattle.vm_model.specs.Moves.{Point}
 
 -- what came for an id, delivered or with its eager read, in order
 abbrev pub deliveries : NotificationId → List Usage → List NotificationResult
@@ -14,6 +19,13 @@ deliveries id [] = []
 deliveries id (Used n ∷ us) = cond (same_id n.id id) (deliveries id us ++ n.result ∷ []) (deliveries id us)
 deliveries id (Read i result ∷ us) = cond (same_id (CompletionId i) id) (deliveries id us ++ result ∷ []) (deliveries id us)
 deliveries id (Taken i ∷ us) = deliveries id us
+
+-- what came for an id since its result was last taken, in order
+abbrev pub since_taken : NotificationId → List Usage → List NotificationResult
+since_taken id [] = []
+since_taken id (Used n ∷ us) = cond (same_id n.id id) (since_taken id us ++ n.result ∷ []) (since_taken id us)
+since_taken id (Read i result ∷ us) = cond (same_id (CompletionId i) id) (since_taken id us ++ result ∷ []) (since_taken id us)
+since_taken id (Taken i ∷ us) = cond (same_id i id) [] (since_taken id us)
 
 -- how often a result of an id was taken
 abbrev pub takes : NotificationId → List Usage → ℕ
@@ -28,3 +40,16 @@ EachTookAResult delivery [] = Unit {0}
 EachTookAResult delivery (Used n ∷ us) = EachTookAResult delivery us
 EachTookAResult delivery (Read i result ∷ us) = EachTookAResult delivery us
 EachTookAResult delivery (Taken i ∷ us) = (is_some (present delivery i (ready_after delivery us)) ≡ true) × EachTookAResult delivery us
+
+-- The result that a take of an id takes: where its deliveries queue up, the one behind as many as were taken; else the newest that
+-- came since its result was last taken.
+abbrev pub next_taken : SignalDelivery → NotificationId → List Usage → Option NotificationResult
+next_taken delivery id us = cond (is_listed delivery id) (first (drop (takes id us) (deliveries id us))) (newest (since_taken id us))
+
+-- A take was answered: with nothing where the handle stands for no id, or nothing is there to be taken; else with the value of what
+-- is taken next.
+abbrev pub TakeIsAnswered : Setup → NotificationHandle → Point → Point → Type 0
+TakeIsAnswered s handle p q =
+    ((q.answers ≡ p.answers ++ answer.Taken None ∷ []) × ((id : NotificationId) → id_at handle.0 p.derived.handles ≡ Some id → next_taken s.options.signal_delivery id p.derived.usage ≡ None))
+    ⊎ ((id : NotificationId) × (result : NotificationResult) × (value : Value) × (id_at handle.0 p.derived.handles ≡ Some id) × (next_taken s.options.signal_delivery id p.derived.usage ≡ Some result) × (value_of result ≡ Some value)
+    × (q.answers ≡ p.answers ++ answer.Taken (Some value) ∷ []) × (q.derived.usage ≡ Taken id ∷ p.derived.usage))

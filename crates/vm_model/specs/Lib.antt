@@ -4,5 +4,6 @@ pub mod Moves
 pub mod Histories
 pub mod Deliveries
 pub mod Sums
+pub mod Uses
 pub mod Refusals
 pub mod HonestRounds

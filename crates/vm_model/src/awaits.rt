@@ -3,16 +3,18 @@ ghost use Rattle.std.specs.Prelude.{◌≡◌, ◌∷◌, ◌++◌, [], List, �
 ghost use Rattle.journal_protocol.specs.declared.commands.InputCommand.{InputCommand};
 ghost use Rattle.journal_protocol.specs.declared.message.RawMessage.{RawMessage};
 ghost use Rattle.journal_protocol.specs.declared.notification.Notification.{Notification};
-ghost use Rattle.journal_protocol.specs.declared.notification.NotificationId.TheVariants.{CompletionId, SignalId, SignalName};
+ghost use Rattle.journal_protocol.specs.declared.notification.NotificationId.{NotificationId};
+ghost use Rattle.journal_protocol.specs.declared.notification.NotificationId.TheVariants.{CompletionId};
 ghost use Rattle.vm_parts.specs.declared.options.SignalDelivery.{SignalDelivery};
-ghost use Rattle.vm_parts.specs.declared.options.SignalDelivery.TheVariants.{Queued};
 ghost use Rattle.vm_parts.specs.declared.steps.Answer.{Answer};
+ghost use Rattle.vm_parts.specs.declared.steps.Step.TheVariants as step;
+ghost use Rattle.vm_parts.specs.declared.types.NotificationHandle.{NotificationHandle};
 ghost use Rattle.vm_parts.specs.declared.types.UnresolvedFuture.{UnresolvedFuture};
-ghost use Rattle.vm_parts.specs.Deliveries.{first, newest, present};
+ghost use Rattle.vm_parts.specs.Deliveries.{newest, present};
 ghost use Rattle.vm_model.specs.Calls.{Setup, Meaning, Usage, is_awake, ready_after};
-ghost use Rattle.vm_model.specs.Moves.{Point, after, start};
+ghost use Rattle.vm_model.specs.Moves.{Point, after, next, start};
 ghost use Rattle.vm_model.specs.Histories.{IsAwaiting, IsLeast, arrivals_used};
-ghost use Rattle.vm_model.specs.Deliveries.{EachTookAResult, deliveries, takes};
+ghost use Rattle.vm_model.specs.Deliveries.{EachTookAResult, TakeIsAnswered, deliveries, next_taken, takes};
 
 /// An await that was answered had a least prefix of the arrivals by which its future is awake, and the run uses just
 /// those. Where all arrivals are used and the future isn't awake, no number of them wakes it: it is awake at no point of the
@@ -23,12 +25,12 @@ pub fn awaits_wake()
     ensures none { (s : Setup) (m : Meaning) (future : UnresolvedFuture) (n k : ℕ) (first p q : Point) → after s m n first ≡ Some p → after s m k first ≡ Some q → q.answers ≡ p.answers → IsAwaiting m q future → is_awake s future q.derived ≡ false → q.queue ≡ [] → is_awake s future p.derived ≡ false }
 {}
 
-/// The present result of a completion that wasn't taken is its newest delivery among the arrivals that awaits have used.
-/// That of a signal is the delivery behind as many as were taken, where signals queue up. In a run each take took a
-/// result that was present.
+/// In a run the present result of an id is the one that a take takes next: of a signal whose deliveries queue up the delivery behind
+/// as many as were taken; else the newest that came since a result was last taken, so of a completion that wasn't taken its newest.
+/// Each take took a result that was present, and is answered with its value.
 pub fn results_are_present()
+    ensures present { (delivery : SignalDelivery) (id : NotificationId) (us : List Usage) → EachTookAResult delivery us → present delivery id (ready_after delivery us) ≡ next_taken delivery id us }
     ensures completions { (delivery : SignalDelivery) (n : ℕ) (us : List Usage) → takes (CompletionId n) us ≡ 0 → present delivery (CompletionId n) (ready_after delivery us) ≡ newest (deliveries (CompletionId n) us) }
-    ensures signals { (n : ℕ) (us : List Usage) → EachTookAResult Queued us → present Queued (SignalId n) (ready_after Queued us) ≡ first (drop (takes (SignalId n) us) (deliveries (SignalId n) us)) }
-    ensures named_signals { (name : List ℕ) (us : List Usage) → EachTookAResult Queued us → present Queued (SignalName name) (ready_after Queued us) ≡ first (drop (takes (SignalName name) us) (deliveries (SignalName name) us)) }
     ensures taken { (s : Setup) (m : Meaning) (n : ℕ) (input : InputCommand) (ns : List Notification) (cs : List RawMessage) (q : Point) → after s m n (start s input ns cs) ≡ Some q → EachTookAResult s.options.signal_delivery q.derived.usage }
+    ensures answered { (s : Setup) (m : Meaning) (n : ℕ) (input : InputCommand) (ns : List Notification) (cs : List RawMessage) (p q : Point) (handle : NotificationHandle) → after s m n (start s input ns cs) ≡ Some p → m p.answers ≡ step.Take handle → next s m p ≡ Some q → TakeIsAnswered s handle p q }
 {}

@@ -1,6 +1,7 @@
 // Arrivals that the rounds don't take, each with its fault.
 use crate::bench::Happens::{self, Arrive, Feed, Step, Store};
 use crate::bench::played;
+use attempt_bench::caller::Caller;
 use handlers::sleeper::Sleeper;
 use std::test::Fail;
 use vectors::frames::{COMPLETION_1, SIGNAL_17, SLEEP_TO_1000};
@@ -49,5 +50,16 @@ fn signals_arrive_at_any_time(rt: HostRuntime) -> Result<(), Fail> {
         .ok()
         .ok_or("a fault")?;
     assert_eq!(rt; world.journal().len(), 4);
+    Ok(())
+}
+
+#[test]
+fn invocation_id_of_a_call_is_no_other_result(rt: HostRuntime) -> Result<(), Fail> {
+    let alloc = rt.alloc();
+    let handler = Caller { alloc };
+    // The call has the completion ids 1, of the invocation's id, and 2, of its result.
+    let rounds: &[&[Happens]] = &[&[Feed, Step, Step, Store(1), Arrive(COMPLETION_1)]];
+    let fault = played(alloc, &handler, Vec::new(alloc), rounds)?.err();
+    assert_eq!(rt; fault, Some(RoundFault::WrongKind));
     Ok(())
 }

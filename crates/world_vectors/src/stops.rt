@@ -1,49 +1,131 @@
-// A round that is stopped behind each of its events in turn, and then rounds to the end: the commands are those of a run that
+// A round that is stopped behind each of its events in turn, and then one to the end: the commands are those of a run that
 // nothing stops, each once.
 use crate::bench::Happens::{self, Arrive, Feed, Step, Store};
 use crate::bench::{assert_journal, played};
+use attempt_bench::chooser::Chooser;
+use attempt_bench::frames::{CLEAR_A, COMPLETE_1, SET_B, SIGNAL_17_X};
+use attempt_bench::keeper::Keeper;
 use handlers::sleeper::Sleeper;
 use std::alloc::Global;
+use std::process::Abort;
 use std::test::Fail;
-use vectors::frames::{COMPLETION_1, INPUT_TILL, OUTPUT_EMPTY, SLEEP_TO_1000};
-use vm_world::World;
+use vectors::frames::{COMPLETION_1, INPUT_TILL, OUTPUT_EMPTY, OUTPUT_X, SLEEP_TO_1000};
+use vm_rounds::Handler;
 
-/// Nothing is stored before the last event.
-const FIRST: &[Happens] = &[Feed, Step, Step, Step, Store(9)];
+/// The first round stops behind each of its events, the second goes on to the end of the handler and leaves this journal.
+struct Stops {
+    first: &'static [Happens],
+    second: &'static [Happens],
+    journal: &'static [&'static [u8]],
+}
 
-const ENDS: &[Happens] = &[
-    Feed,
-    Step,
-    Step,
-    Step,
-    Store(9),
-    Arrive(COMPLETION_1),
-    Feed,
-    Step,
-    Step,
-    Step,
-    Step,
-    Store(9),
-];
+/// It ends once its sleep is over, as `KEEPER` does.
+const SLEEPER: Stops = Stops {
+    first: &[Feed, Step, Step, Step, Store(9)],
+    second: &[
+        Feed,
+        Step,
+        Step,
+        Step,
+        Store(9),
+        Arrive(COMPLETION_1),
+        Feed,
+        Step,
+        Step,
+        Step,
+        Step,
+        Store(9),
+    ],
+    journal: &[INPUT_TILL, SLEEP_TO_1000, COMPLETION_1, OUTPUT_EMPTY],
+};
 
-fn stopped(alloc: Global, at: usize) -> Result<World, Fail> {
-    let handler = Sleeper { alloc };
-    let first = FIRST.get(..at).ok_or("no such event")?;
-    let (world, _) = played(alloc, &handler, Vec::new(alloc), &[first, ENDS])?
-        .ok()
-        .ok_or("a fault")?;
-    Ok(world)
+const KEEPER: Stops = Stops {
+    first: &[
+        Feed,
+        Step,
+        Step,
+        Store(1),
+        Step,
+        Step,
+        Store(1),
+        Step,
+        Store(9),
+    ],
+    second: &[
+        Feed,
+        Step,
+        Step,
+        Step,
+        Step,
+        Store(9),
+        Arrive(COMPLETION_1),
+        Feed,
+        Step,
+        Step,
+        Step,
+        Step,
+        Store(9),
+    ],
+    journal: &[
+        INPUT_TILL,
+        CLEAR_A,
+        SET_B,
+        SLEEP_TO_1000,
+        COMPLETION_1,
+        OUTPUT_EMPTY,
+    ],
+};
+
+/// It writes what its awakeable was completed with.
+const CHOOSER: Stops = Stops {
+    first: &[Feed, Step, Step, Store(1), Step, Step],
+    second: &[
+        Feed,
+        Step,
+        Step,
+        Step,
+        Store(9),
+        Arrive(SIGNAL_17_X),
+        Feed,
+        Step,
+        Step,
+        Step,
+        Step,
+        Store(9),
+    ],
+    journal: &[INPUT_TILL, COMPLETE_1, SIGNAL_17_X, OUTPUT_X],
+};
+
+fn assert_leaves_no_trace<H: Handler>(
+    rt: &impl Abort,
+    alloc: Global,
+    handler: &H,
+    stops: &Stops,
+) -> Result<(), Fail> {
+    for at in 0..stops.first.len() + 1 {
+        let first = stops.first.get(..at).ok_or("no such event")?;
+        let (world, _) = played(alloc, handler, Vec::new(alloc), &[first, stops.second])?
+            .ok()
+            .ok_or("a fault")?;
+        assert_journal(rt, &world, stops.journal);
+    }
+    Ok(())
 }
 
 #[test]
-fn where_a_round_stops_leaves_no_trace(rt: HostRuntime) -> Result<(), Fail> {
-    for at in 0..FIRST.len() + 1 {
-        let world = stopped(rt.alloc(), at)?;
-        assert_journal(
-            &rt,
-            &world,
-            &[INPUT_TILL, SLEEP_TO_1000, COMPLETION_1, OUTPUT_EMPTY],
-        );
-    }
-    Ok(())
+fn where_a_sleep_stops_leaves_no_trace(rt: HostRuntime) -> Result<(), Fail> {
+    let alloc = rt.alloc();
+    assert_leaves_no_trace(&rt, alloc, &Sleeper { alloc }, &SLEEPER)
+}
+
+#[test]
+fn where_changes_of_the_state_stop_leaves_no_trace(rt: HostRuntime) -> Result<(), Fail> {
+    let alloc = rt.alloc();
+    assert_leaves_no_trace(&rt, alloc, &Keeper { alloc }, &KEEPER)
+}
+
+#[test]
+fn where_an_awakeable_stops_leaves_no_trace(rt: HostRuntime) -> Result<(), Fail> {
+    let alloc = rt.alloc();
+    assert_leaves_no_trace(&rt, alloc, &Chooser { alloc }, &CHOOSER)
 }

@@ -1,10 +1,4 @@
 // Each call of a VM once where it succeeds.
-use crate::frames::{
-    AWAKEABLE_X, CANCEL_INV1, CLEAR_ALL, CLEAR_K, COMPLETION_1, END, ERROR_INPUT_CLOSED,
-    INPUT_TILL, OF_NOTHING, OUTPUT_EMPTY, SET_K, SIGNAL_V, SLEEP_TO_1000, SLEEP_TO_2024, START_1,
-    START_3,
-};
-use crate::headers::Headers;
 use bytes::Bytes;
 use invocation_vm::{
     AwaitResponse, CANCEL_NOTIFICATION_HANDLE, CoreVM, Error, Input, NonEmptyValue,
@@ -15,6 +9,12 @@ use std::alloc::{AllocError, Global};
 use std::process::Abort;
 use std::test::Fail;
 use std::time::Duration;
+use vectors::frames::{
+    AWAKEABLE_X, CANCEL_INV1, CLEAR_ALL, CLEAR_K, COMPLETION_1, END, ERROR_INPUT_CLOSED,
+    INPUT_TILL, OF_NOTHING, OUTPUT_EMPTY, SET_K, SIGNAL_V, SLEEP_TO_1000, SLEEP_TO_2024, START_1,
+    START_3,
+};
+use vectors::headers::Headers;
 
 const CONTENT_TYPE: &str = "application/vnd.restate.invocation.v7";
 

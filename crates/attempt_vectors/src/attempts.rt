@@ -1,8 +1,8 @@
 // One attempt of a handler, from the bytes of its journal to the bytes of its commands.
 // Rows tell what happens to it in turn.
-use crate::asker::Asker;
-use crate::bench::{Told, assert_answers, assert_fails, assert_sends, attempt_of};
-use crate::napper::Napper;
+use attempt_bench::asker::Asker;
+use attempt_bench::napper::Napper;
+use attempt_bench::told::{Told, attempt_of, expect_answers, expect_error, expect_frames};
 use bytes::Bytes;
 use std::alloc::Global;
 use std::process::Abort;
@@ -74,9 +74,9 @@ fn play<H: Handler>(
         Act::Trickle(bytes) => trickle(rt, alloc, attempt, bytes)?,
         Act::Close => attempt.close()?,
         Act::Step(count, progress) => assert_steps(rt, attempt, count, progress)?,
-        Act::Fails(code, text) => assert_fails(rt, attempt, code, text)?,
-        Act::Answers(answers) => assert_answers(rt, attempt.answers(), answers),
-        Act::Sends(frames) => assert_sends(rt, alloc, attempt, frames)?,
+        Act::Fails(code, text) => expect_error(attempt, code, text)?,
+        Act::Answers(answers) => expect_answers(attempt.answers(), answers)?,
+        Act::Sends(frames) => expect_frames(alloc, attempt, frames)?,
     }
     Ok(())
 }

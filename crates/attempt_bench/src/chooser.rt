@@ -2,7 +2,7 @@
 //! It completes the awakeable of another, and waits for one of its own.
 ghost use Rattle.std.specs.Prelude.{◌≡◌, slice_get};
 ghost use Rattle.std.specs.Option.{option_copied};
-ghost use Rattle.replays.specs.Choosing.{bytes_of, bytes_taken};
+ghost use Rattle.attempt_bench.specs.Choosing.{bytes_of, bytes_taken};
 
 use crate::steps::{output, sleep};
 use bytes::Bytes;
@@ -42,7 +42,7 @@ fn taken(answers: &[Answer]) -> Option<&Bytes>
 }
 
 impl Handler for Chooser {
-    ghost use Rattle.replays.specs.Choosing.{choose_step};
+    ghost use Rattle.attempt_bench.specs.Choosing.{choose_step};
 
     ghost meaning = { λ h. choose_step };
 

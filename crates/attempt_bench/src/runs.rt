@@ -1,7 +1,8 @@
-// Whole runs of handlers: the entries of the journal in order, the answers, and what stands at the end.
-// An attempt is given a beginning of the entries as known; notifications behind it arrive, commands behind it are written.
-use crate::bench::Told;
+//! Whole runs of handlers: the entries of the journal in order, the answers, and what stands at the end.
+//! An attempt is given a beginning of the entries as known; notifications behind it arrive, commands behind it are written.
+
 use crate::frames::{START_BACK, START_FRONT};
+use crate::told::Told;
 use std::alloc::{AllocError, Global};
 use std::test::Fail;
 use vectors::frames::END;

@@ -1,6 +1,4 @@
 // A signal that comes a thousand times: a thousand handles take its deliveries in order, or one takes the newest.
-use crate::frames::{COMPLETION_1, INPUT_TILL, START_1};
-use crate::headers::Headers;
 use bytes::Bytes;
 use invocation_vm::{
     AwaitResponse, CoreVM, NotificationHandle, SignalDelivery, UnresolvedFuture, VM, VMOptions,
@@ -10,6 +8,8 @@ use std::alloc::Global;
 use std::process::Abort;
 use std::test::Fail;
 use std::time::Duration;
+use vectors::frames::{COMPLETION_1, INPUT_TILL, START_1};
+use vectors::headers::Headers;
 
 const CONTENT_TYPE: &str = "application/vnd.restate.invocation.v7";
 

@@ -4,7 +4,7 @@ use Rattle.vm_parts.specs.declared.steps.Answer.{Answer}
 use Rattle.vm_parts.specs.declared.steps.Step.{Step}
 use Rattle.vm_parts.specs.declared.steps.Step.TheVariants as step
 use Rattle.vm_parts.specs.declared.types.UnresolvedFuture.TheVariants.{Single}
-use Rattle.replays.specs.Steps.{first_handle}
+use Rattle.attempt_bench.specs.Steps.{first_handle}
 
 -- the step after so many answers
 abbrev pub ask_step : List Answer → Step

@@ -1,5 +1,5 @@
-// Frames of these runs, written out byte by byte from the layout: the type's number in two bytes, the body's length in
-// eight, and the body's fields, one a line.
+//! Frames of these runs, written out byte by byte from the layout: the type's number in two bytes, the body's length in
+//! eight, and the body's fields, one a line.
 
 /// A Start of the invocation "abc" with a part of the state, which is empty: what stands before the number of its known
 /// entries.

@@ -1,11 +1,12 @@
-// What the tests of attempts share: answers as rows tell them, and what an attempt sends.
-// The attempts are made for the version 7, under the options by default.
+//! What rows tell of an attempt: its answers, its errors and what it sends. A row that doesn't hold is a failure.
+//! The attempts are made for the version 7, under the options by default.
+
 use invocation_vm::{VMOptions, VMResult, Value};
 use std::alloc::Global;
-use std::process::Abort;
 use std::test::Fail;
 use vectors::headers::Headers;
-use vm_rounds::{Answer, Attempt, Handler, Progress};
+use vm_parts::Answer;
+use vm_rounds::{Attempt, Handler, Progress};
 
 /// An answer, as a row tells it.
 #[derive(Clone, Copy, Debug)]
@@ -50,41 +51,50 @@ fn is_told(answer: &Answer, told: Told) -> bool {
     }
 }
 
-/// These are the answers so far.
-pub fn assert_answers(rt: &impl Abort, answers: &[Answer], wanted: &[Told]) {
-    assert_eq!(rt; answers.len(), wanted.len());
-    for (answer, told) in answers.iter().zip(wanted) {
-        assert!(rt; is_told(answer, *told), "{answer:?} is not {told:?}");
+/// Fails unless these are the answers so far.
+pub fn expect_answers(answers: &[Answer], wanted: &[Told]) -> Result<(), Fail> {
+    if answers.len() != wanted.len() {
+        return Err(Fail::new(format_args!("{answers:?} are not {wanted:?}")));
     }
+    for (answer, told) in answers.iter().zip(wanted) {
+        if !is_told(answer, *told) {
+            return Err(Fail::new(format_args!("{answer:?} is not {told:?}")));
+        }
+    }
+    Ok(())
 }
 
-/// A step is answered with an error of this code and text.
-pub fn assert_fails<H: Handler>(
-    rt: &impl Abort,
+/// Fails unless a step is answered with an error of this code and text.
+pub fn expect_error<H: Handler>(
     attempt: &mut Attempt<H>,
     code: u16,
     text: &str,
 ) -> Result<(), Fail> {
     let error = attempt.step().err().ok_or("no error")?;
-    assert_eq!(rt; error.message(), text);
-    assert_eq!(rt; error.code(), code);
+    if error.code() != code || error.message() != text {
+        return Err(Fail::new(format_args!("{error:?} is not {code} {text}")));
+    }
     Ok(())
 }
 
-/// The attempt sends these frames, and nothing more.
-pub fn assert_sends<H: Handler>(
-    rt: &impl Abort,
+/// Fails unless the attempt sends these frames, and nothing more.
+pub fn expect_frames<H: Handler>(
     alloc: Global,
     attempt: &mut Attempt<H>,
     frames: &[&[u8]],
 ) -> Result<(), Fail> {
     let output = attempt.take_output()?;
     let wanted = frames.concat(alloc)?;
-    assert_eq!(rt; output.as_slice(), wanted.as_slice());
-    assert!(rt; attempt.take_output()?.is_empty());
+    if output.as_slice() != wanted.as_slice() {
+        return Err(Fail::new(format_args!("{output:?} are not these frames")));
+    }
+    if !attempt.take_output()?.is_empty() {
+        return Err(Fail::from("more frames"));
+    }
     Ok(())
 }
 
+/// A new attempt of this handler.
 pub fn attempt_of<H: Handler + Drop>(alloc: Global, handler: H) -> VMResult<Attempt<H>> {
     let headers = Headers::ContentType("application/vnd.restate.invocation.v7");
     Attempt::new(alloc, headers, VMOptions::default(), handler)

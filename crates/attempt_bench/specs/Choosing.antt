@@ -9,7 +9,7 @@ use Rattle.vm_parts.specs.declared.types.UnresolvedFuture.TheVariants.{Single}
 use Rattle.vm_parts.specs.declared.values.NonEmptyValue.TheVariants.{Success}
 use Rattle.vm_parts.specs.declared.values.Value.{Value}
 use Rattle.vm_parts.specs.declared.values.Value.TheVariants as value
-use Rattle.replays.specs.Steps.{first_handle, sleep_step, output_step}
+use Rattle.attempt_bench.specs.Steps.{first_handle, sleep_step, output_step}
 
 -- the second handle that an attempt hands out
 abbrev pub second_handle : NotificationHandle

@@ -1,12 +1,12 @@
 // The small public types: conversions, defaults and texts.
 use bytes::Bytes;
-use invocation_vm::{
+use std::test::Fail;
+use vm_parts::{
     AwaitingOnPolicy, CANCEL_NOTIFICATION_HANDLE, CommandType, EphemeralCompletionId,
     ImplicitCancellationOption, JournalMismatchRetryBehavior, JournalReplay,
     NonDeterministicChecksOption, NonEmptyValue, NotificationHandle, PayloadOptions,
     SignalDelivery, State, TerminalFailure, UnresolvedFuture, VMOptions, Value,
 };
-use std::test::Fail;
 use wire::{Items, Text};
 
 #[test]
@@ -183,16 +183,4 @@ fn commands_have_texts(rt: HostRuntime) -> Result<(), Fail> {
         assert_eq!(rt; shown.as_str(), text);
     }
     Ok(())
-}
-
-#[test]
-fn laws_are_called() {
-    vm_parts::context::state_changes();
-    vm_machine::laws::state_is_changed();
-    vm_machine::laws::numbers_are_in_order();
-    vm_machine::laws::replay_pops_what_is_equal();
-    vm_machine::laws::nothing_follows();
-    vm_machine::laws::first_error_stays::<bool>();
-    invocation_vm::sleep_is_written();
-    invocation_vm::first_error_is_answered::<bool>();
 }

@@ -1,4 +1,5 @@
 pub mod Asking
+pub mod Calling
 pub mod Choosing
 pub mod Keeping
 pub mod Napping

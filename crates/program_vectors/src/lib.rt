@@ -1,0 +1,7 @@
+//! Rows over whole runs of the program `vmrun`, over readers and writers in memory.
+#![tactic(auto)]
+
+#[cfg(test)]
+mod counts;
+#[cfg(test)]
+mod runs;

@@ -1,0 +1,97 @@
+-- What a run used of its journal and what its handles stand for, by its calls and answers alone.
+use Rattle.std.specs.Prelude.{◌≡◌, ◌⊎◌, ℕ, zero, suc, ◌+◌, true, List, [], ◌∷◌, ◌++◌, Option, Some, None, Ok}
+use Rattle.journal_protocol.specs.declared.message.Message.{Message}
+use Rattle.journal_protocol.specs.declared.message.RawMessage.{RawMessage}
+use Rattle.journal_protocol.specs.declared.notification.Notification.{Notification}
+use Rattle.journal_protocol.specs.declared.notification.NotificationId.{NotificationId}
+use Rattle.journal_protocol.specs.declared.notification.NotificationId.TheVariants.{CompletionId, SignalId, SignalName}
+use Rattle.journal_protocol.specs.declared.notification.NotificationResult.{NotificationResult}
+use Rattle.journal_protocol.specs.declared.version.Version.{Version}
+use Rattle.journal_protocol.specs.HeaderEqual.{header_equal}
+use Rattle.journal_protocol.specs.Message.{type_of}
+use Rattle.journal_protocol.specs.Reading.{message_in}
+use Rattle.journal_protocol.specs.Types.{type_number}
+use Rattle.vm_parts.specs.declared.steps.Answer.{Answer}
+use Rattle.vm_parts.specs.declared.steps.Answer.TheVariants as answer
+use Rattle.vm_parts.specs.declared.steps.Step.{Step}
+use Rattle.vm_parts.specs.declared.steps.Step.TheVariants as step
+use Rattle.vm_parts.specs.declared.values.Value.{Value}
+use Rattle.vm_machine.specs.declared.asks.Ask.{Ask}
+use Rattle.vm_machine.specs.declared.asks.Ask.TheVariants as ask
+use Rattle.vm_machine.specs.Asks.{ask_of}
+use Rattle.vm_machine.specs.Commands.{ignores_payloads}
+use Rattle.vm_machine.specs.Reads.{recorded_as}
+use Rattle.vm_machine.specs.Requests.{ids_of, with_ids}
+use Rattle.vm_model.specs.Calls.{Demand, Meaning, Setup, Usage}
+use Rattle.vm_model.specs.Calls.Demand.{Exactly, Reads}
+use Rattle.vm_model.specs.Calls.Usage.{Used, Read, Taken}
+use Rattle.vm_model.specs.Sums.{completion_ids, signal_ids}
+
+-- ---- recorded commands
+
+-- what is needed recorded, where this is the next completion id
+abbrev pub needed_by : Setup → ℕ → Ask → List Demand
+needed_by s id (ask.Command c) = Exactly (with_ids id c.message) (ignores_payloads s.options.non_determinism_checks c.unstable) ∷ []
+needed_by s id (ask.Read r) = Reads r id ∷ []
+needed_by s id a = []
+
+-- What calls need recorded, in order: the completion ids of each stand behind so many, and behind those of the calls before it.
+abbrev pub needed : Setup → ℕ → List Step → List Demand
+needed s before [] = []
+needed s before (st ∷ steps) = needed_by s (1 + before) (ask_of s.version st) ++ needed s (before + completion_ids s.version st) steps
+
+-- a recorded command stands for what is needed: it has the type of the command and is header-equal to it, or is a form of the read
+abbrev pub Stands : Demand → RawMessage → Type 0
+Stands (Exactly command ignore) raw = (type_number raw.ty ≡ type_number (type_of command)) × ((recorded : Message) × (message_in raw.ty raw.body ≡ Some recorded) × (header_equal recorded command ignore ≡ true))
+Stands (Reads r id) raw = (result : Option NotificationResult) × (recorded_as r id raw ≡ Ok result)
+
+-- recorded commands stand for what is needed, one for one
+abbrev pub StandFor : List Demand → List RawMessage → Type 0
+StandFor [] [] = Unit {0}
+StandFor [] (c ∷ cs) = ⊥
+StandFor (d ∷ ds) [] = ⊥
+StandFor (d ∷ ds) (c ∷ cs) = Stands d c × StandFor ds cs
+
+-- ---- arrivals
+
+-- the arrivals that awaits used, in order; what was used stands newest first
+abbrev pub arrivals_in : List Usage → List Notification
+arrivals_in [] = []
+arrivals_in (Used n ∷ us) = arrivals_in us ++ n ∷ []
+arrivals_in (Read id result ∷ us) = arrivals_in us
+arrivals_in (Taken id ∷ us) = arrivals_in us
+
+-- ---- handles
+
+-- so many completion ids from this one on
+abbrev pub ids_from : ℕ → ℕ → List NotificationId
+ids_from zero id = []
+ids_from (suc n) id = CompletionId id ∷ ids_from n (id + 1)
+
+-- the ids that are given, where these are the next completion id and the next signal id
+abbrev pub given_for : ℕ → ℕ → Ask → List NotificationId
+given_for completion signal (ask.Command c) = ids_from (ids_of c.message) completion
+given_for completion signal (ask.Read r) = CompletionId completion ∷ []
+given_for completion signal ask.Awakeable = SignalId signal ∷ []
+given_for completion signal (ask.Signal name) = SignalName name ∷ []
+given_for completion signal a = []
+
+-- The ids that calls were given, in order: completion ids from 1 and signal ids from 17, behind so many of each.
+abbrev pub ids_given : Version → ℕ → ℕ → List Step → List NotificationId
+ids_given version completions signals [] = []
+ids_given version completions signals (st ∷ steps) =
+    given_for (1 + completions) (17 + signals) (ask_of version st) ++ ids_given version (completions + completion_ids version st) (signals + signal_ids version st) steps
+
+-- the item with this index, from 0
+abbrev pub item : {A : Type 0} → ℕ → List A → Option A
+item n [] = None
+item zero (x ∷ xs) = Some x
+item (suc n) (x ∷ xs) = item n xs
+
+-- A handle stands for its id: 1 for the cancel signal, and from 17 on each for the id that was given in its turn.
+abbrev pub IsGiven : List NotificationId → ℕ → NotificationId → Type 0
+IsGiven given handle id = ((handle ≡ 1) × (id ≡ SignalId 1)) ⊎ ((k : ℕ) × (handle ≡ 17 + k) × (item k given ≡ Some id))
+
+-- a take of the handle was answered with a value
+abbrev pub WasTaken : Meaning → ℕ → List Answer → Type 0
+WasTaken m handle answers = (before : List Answer) × (value : Value) × (behind : List Answer) × (answers ≡ before ++ answer.Taken (Some value) ∷ behind) × (m before ≡ step.Take (record { 0 = handle }))

@@ -1,0 +1,30 @@
+//! Laws of what a run used of its journal, and of what its handles stand for.
+ghost use Rattle.std.specs.Prelude.{◌≡◌, ◌⊎◌, ◌+◌, ◌++◌, List, ℕ, Some};
+ghost use Rattle.journal_protocol.specs.declared.commands.InputCommand.{InputCommand};
+ghost use Rattle.journal_protocol.specs.declared.message.RawMessage.{RawMessage};
+ghost use Rattle.journal_protocol.specs.declared.notification.Notification.{Notification};
+ghost use Rattle.journal_protocol.specs.declared.notification.NotificationId.{NotificationId};
+ghost use Rattle.vm_parts.specs.Deliveries.{id_at};
+ghost use Rattle.vm_model.specs.Calls.{Setup, Meaning};
+ghost use Rattle.vm_model.specs.Moves.{Point, after, start};
+ghost use Rattle.vm_model.specs.Sums.{calls_for};
+ghost use Rattle.vm_model.specs.Uses.{IsGiven, StandFor, WasTaken, arrivals_in, ids_given, item, needed};
+
+/// Both lists of a journal are used from the front. The recorded commands are those that were used and those that are left; each
+/// used one stands for what its call needs, by its type and header, and the calls follow from the answers alone. The arrivals are
+/// those that awaits used and those that wait.
+pub fn lists_are_used()
+    ensures commands { (s : Setup) (m : Meaning) (n : ℕ) (input : InputCommand) (ns : List Notification) (cs : List RawMessage) (q : Point) → after s m n (start s input ns cs) ≡ Some q
+        → (used : List RawMessage) × (cs ≡ used ++ q.left) × StandFor (needed s 0 (calls_for m q.answers)) used }
+    ensures arrivals { (s : Setup) (m : Meaning) (n : ℕ) (input : InputCommand) (ns : List Notification) (cs : List RawMessage) (q : Point) → after s m n (start s input ns cs) ≡ Some q
+        → ns ≡ arrivals_in q.derived.usage ++ q.queue }
+{}
+
+/// Whatever a handle stands for is what its call was given: 1 is the cancel signal, and the handles from 17 on stand for the
+/// completion ids, signal ids and names that the calls were given, in order. Each of these stands for it until it is taken.
+pub fn handles_stand_for_ids()
+    ensures stands { (s : Setup) (m : Meaning) (n : ℕ) (input : InputCommand) (ns : List Notification) (cs : List RawMessage) (q : Point) → after s m n (start s input ns cs) ≡ Some q
+        → (handle : ℕ) (id : NotificationId) → id_at handle q.derived.handles ≡ Some id → IsGiven (ids_given s.version 0 0 (calls_for m q.answers)) handle id }
+    ensures stays { (s : Setup) (m : Meaning) (n : ℕ) (input : InputCommand) (ns : List Notification) (cs : List RawMessage) (q : Point) → after s m n (start s input ns cs) ≡ Some q
+        → (k : ℕ) (id : NotificationId) → item k (ids_given s.version 0 0 (calls_for m q.answers)) ≡ Some id → (id_at (17 + k) q.derived.handles ≡ Some id) ⊎ WasTaken m (17 + k) q.answers }
+{}
