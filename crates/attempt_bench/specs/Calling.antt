@@ -1,5 +1,5 @@
 -- A handler that calls another one, and ends.
-use Rattle.std.specs.Prelude.{◌==◌, codes, if◌then◌else◌, List, [], length, None}
+use Rattle.std.specs.Prelude.{◌==◌, codes, false, if◌then◌else◌, List, [], length, None}
 use Rattle.vm_parts.specs.declared.steps.Answer.{Answer}
 use Rattle.vm_parts.specs.declared.steps.Step.{Step}
 use Rattle.vm_parts.specs.declared.steps.Step.TheVariants as step
