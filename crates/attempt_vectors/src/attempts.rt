@@ -81,6 +81,19 @@ fn play<H: Handler>(
     Ok(())
 }
 
+/// Plays a row on an attempt.
+fn play_all<H: Handler>(
+    rt: &impl Abort,
+    alloc: Global,
+    attempt: &mut Attempt<H>,
+    acts: &[Act],
+) -> Result<(), Fail> {
+    for act in acts {
+        play(rt, alloc, attempt, *act)?;
+    }
+    Ok(())
+}
+
 /// Plays a row on an attempt of this handler.
 fn assert_row<H: Handler + Drop>(
     rt: &impl Abort,
@@ -89,10 +102,9 @@ fn assert_row<H: Handler + Drop>(
     acts: &[Act],
 ) -> Result<(), Fail> {
     let mut attempt = attempt_of(alloc, handler)?;
-    for act in acts {
-        play(rt, alloc, &mut attempt, *act)?;
-    }
-    Ok(())
+    let played = play_all(rt, alloc, &mut attempt, acts);
+    drop(attempt);
+    played
 }
 
 /// The answers of a sleep that is over.

@@ -27,11 +27,14 @@ fn delivery(alloc: Global, number: u32) -> Result<Bytes, Fail> {
     Ok(Bytes::from_vec(frame)?)
 }
 
-/// A VM whose handler has slept while the deliveries came.
-fn delivered(alloc: Global, signal_delivery: SignalDelivery) -> Result<CoreVM, Fail> {
+fn made(alloc: Global, signal_delivery: SignalDelivery) -> Result<CoreVM, Fail> {
     let mut options = VMOptions::default();
     options.signal_delivery = signal_delivery;
-    let mut vm = CoreVM::new(alloc, Headers::ContentType(CONTENT_TYPE), options)?;
+    Ok(CoreVM::new(alloc, Headers::ContentType(CONTENT_TYPE), options)?)
+}
+
+/// The handler has slept while the deliveries came.
+fn deliver(alloc: Global, vm: &mut CoreVM) -> Result<(), Fail> {
     vm.notify_input(Bytes::from_static(START_1))?;
     vm.notify_input(Bytes::from_static(INPUT_TILL))?;
     drop(vm.sys_input()?);
@@ -40,7 +43,7 @@ fn delivered(alloc: Global, signal_delivery: SignalDelivery) -> Result<CoreVM, F
         vm.notify_input(delivery(alloc, number)?)?;
     }
     vm.notify_input(Bytes::from_static(COMPLETION_1))?;
-    Ok(vm)
+    Ok(())
 }
 
 /// The next handle takes this number.
@@ -66,22 +69,34 @@ fn assert_wakes(rt: &impl Abort, vm: &mut CoreVM) -> Result<(), Fail> {
     Ok(())
 }
 
+fn assert_all(rt: &impl Abort, alloc: Global, vm: &mut CoreVM) -> Result<(), Fail> {
+    deliver(alloc, vm)?;
+    assert_wakes(rt, vm)?;
+    for number in 0..DELIVERIES {
+        assert_next(rt, alloc, vm, number)?;
+    }
+    assert_none(rt, alloc, vm)
+}
+
+fn assert_newest(rt: &impl Abort, alloc: Global, vm: &mut CoreVM) -> Result<(), Fail> {
+    deliver(alloc, vm)?;
+    assert_wakes(rt, vm)?;
+    assert_next(rt, alloc, vm, DELIVERIES - 1)?;
+    assert_none(rt, alloc, vm)
+}
+
 #[test]
 fn deliveries_are_taken_in_order(rt: HostRuntime) -> Result<(), Fail> {
-    let alloc = rt.alloc();
-    let mut vm = delivered(alloc, SignalDelivery::Queued)?;
-    assert_wakes(&rt, &mut vm)?;
-    for number in 0..DELIVERIES {
-        assert_next(&rt, alloc, &mut vm, number)?;
-    }
-    assert_none(&rt, alloc, &mut vm)
+    let mut vm = made(rt.alloc(), SignalDelivery::Queued)?;
+    let taken = assert_all(&rt, rt.alloc(), &mut vm);
+    drop(vm);
+    taken
 }
 
 #[test]
 fn newest_delivery_is_taken(rt: HostRuntime) -> Result<(), Fail> {
-    let alloc = rt.alloc();
-    let mut vm = delivered(alloc, SignalDelivery::Overwrite)?;
-    assert_wakes(&rt, &mut vm)?;
-    assert_next(&rt, alloc, &mut vm, DELIVERIES - 1)?;
-    assert_none(&rt, alloc, &mut vm)
+    let mut vm = made(rt.alloc(), SignalDelivery::Overwrite)?;
+    let taken = assert_newest(&rt, rt.alloc(), &mut vm);
+    drop(vm);
+    taken
 }

@@ -24,7 +24,11 @@ fn print_raw(raw: &RawMessage, line: &mut Line) -> Result<(), AllocError> {
 /// Writes the message of a frame, or the frame as it is where its body doesn't decode.
 pub fn print_frame(alloc: Global, raw: &RawMessage, line: &mut Line) -> Result<(), AllocError> {
     match raw.read(alloc) {
-        Ok(message) => print_message(&message, line),
+        Ok(message) => {
+            let printed = print_message(&message, line);
+            drop(message);
+            printed
+        }
         Err(Fault::Malformed) => print_raw(raw, line),
         Err(Fault::Memory) => Err(AllocError),
     }
@@ -38,7 +42,9 @@ pub fn print_rest(rest: &[u8], line: &mut Line) -> Result<(), AllocError> {
 
 fn frame_of_message(alloc: Global, ty: MessageType, fields: Fields<'_>) -> Result<Bytes, Fault> {
     let message = parse_message(ty, fields)?;
-    Encoder::new(alloc).encode(&message).map_err(Fault::from)
+    let frame = Encoder::new(alloc).encode(&message);
+    drop(message);
+    Ok(frame?)
 }
 
 /// A frame of any type and any body.

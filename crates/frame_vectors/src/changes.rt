@@ -26,7 +26,9 @@ enum Seen {
 /// A frame's message, as a frame again.
 fn written(alloc: Global, raw: &RawMessage) -> Result<Bytes, Fault> {
     let message = raw.read(alloc)?;
-    Encoder::new(alloc).encode(&message).map_err(Fault::from)
+    let frame = Encoder::new(alloc).encode(&message);
+    drop(message);
+    Ok(frame?)
 }
 
 /// Whether a frame's message is written as the front of the stream again.

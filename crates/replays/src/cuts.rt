@@ -43,6 +43,22 @@ fn assert_over<H: Handler>(
     Ok(())
 }
 
+/// A new attempt that is fed these pieces of the journal makes the run.
+fn assert_run<H: Handler>(
+    rt: &impl Abort,
+    alloc: Global,
+    attempt: &mut Attempt<H>,
+    run: &Run,
+    replay: &Replay,
+    pieces: &[&[u8]],
+) -> Result<(), Fail> {
+    feed_pieces(rt, alloc, attempt, pieces, replay.recorded.len())?;
+    attempt.close()?;
+    assert_over(rt, attempt, run.ending)?;
+    expect_answers(attempt.answers(), run.answers)?;
+    expect_frames(alloc, attempt, &[replay.written.as_slice()])
+}
+
 /// An attempt that is fed these pieces of the journal makes the run.
 fn assert_makes<H: Handler>(
     rt: &impl Abort,
@@ -53,11 +69,9 @@ fn assert_makes<H: Handler>(
     pieces: &[&[u8]],
 ) -> Result<(), Fail> {
     let mut attempt = attempt_of(alloc, handler)?;
-    feed_pieces(rt, alloc, &mut attempt, pieces, replay.recorded.len())?;
-    attempt.close()?;
-    assert_over(rt, &mut attempt, run.ending)?;
-    expect_answers(attempt.answers(), run.answers)?;
-    expect_frames(alloc, &mut attempt, &[replay.written.as_slice()])
+    let made = assert_run(rt, alloc, &mut attempt, run, replay, pieces);
+    drop(attempt);
+    made
 }
 
 /// Each byte on its own.

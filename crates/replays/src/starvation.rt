@@ -16,7 +16,6 @@ use vm_rounds::{Attempt, Handler};
 
 /// The attempt answers want of memory to a step, has these answers, and sends these frames.
 fn assert_starved<H: Handler>(
-    rt: &impl Abort,
     alloc: Global,
     attempt: &mut Attempt<H>,
     answers: &[Told],
@@ -29,15 +28,14 @@ fn assert_starved<H: Handler>(
 
 /// A command that comes now, which the VM would refuse, and the end of the input change nothing.
 fn assert_stays<H: Handler>(
-    rt: &impl Abort,
     alloc: Global,
     attempt: &mut Attempt<H>,
     answers: &[Told],
 ) -> Result<(), Fail> {
     attempt.feed(Bytes::from_static(CLEAR_ALL))?;
-    assert_starved(rt, alloc, attempt, answers, &[])?;
+    assert_starved(alloc, attempt, answers, &[])?;
     attempt.close()?;
-    assert_starved(rt, alloc, attempt, answers, &[])
+    assert_starved(alloc, attempt, answers, &[])
 }
 
 /// An attempt that has this journal fails.
@@ -50,6 +48,20 @@ fn assert_fails_on<H: Handler>(
     attempt.feed(Bytes::copy_from_slice(alloc, journal)?)?;
     assert!(rt; drive(attempt).is_err());
     Ok(())
+}
+
+/// An attempt that has this journal sends these frames, and fails for good.
+fn assert_starved_on<H: Handler>(
+    rt: &impl Abort,
+    alloc: Global,
+    attempt: &mut Attempt<H>,
+    journal: &[u8],
+    answers: &[Told],
+    frames: &[&[u8]],
+) -> Result<(), Fail> {
+    assert_fails_on(rt, alloc, attempt, journal)?;
+    assert_starved(alloc, attempt, answers, frames)?;
+    assert_stays(alloc, attempt, answers)
 }
 
 /// An attempt of a handler that finds no memory behind these answers sends these frames, and fails for good.
@@ -66,9 +78,9 @@ fn assert_starves<H: Handler>(
         answers: answers.len(),
     };
     let mut attempt = attempt_of(alloc, starving)?;
-    assert_fails_on(rt, alloc, &mut attempt, journal)?;
-    assert_starved(rt, alloc, &mut attempt, answers, frames)?;
-    assert_stays(rt, alloc, &mut attempt, answers)
+    let starved = assert_starved_on(rt, alloc, &mut attempt, journal, answers, frames);
+    drop(attempt);
+    starved
 }
 
 /// Memory wants behind each answer of the run, when these frames were written.

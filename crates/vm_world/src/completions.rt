@@ -65,7 +65,11 @@ fn completes_at(
     match said_at(alloc, entry) {
         Err(error) => Err(error),
         Ok(None) => Ok(before),
-        Ok(Some(command)) => Ok(completes_by(id, &command, before)),
+        Ok(Some(command)) => {
+            let completes = completes_by(id, &command, before);
+            drop(command);
+            Ok(completes)
+        }
     }
 }
 

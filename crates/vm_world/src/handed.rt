@@ -37,7 +37,11 @@ fn apply(alloc: Global, values: &mut Values, entry: &Bytes) -> Result<(), AllocE
     match said_at(alloc, entry) {
         Err(error) => Err(error),
         Ok(None) => Ok(()),
-        Ok(Some(command)) => values.change(&command),
+        Ok(Some(command)) => {
+            let changed = values.change(&command);
+            drop(command);
+            changed
+        }
     }
 }
 
@@ -101,7 +105,9 @@ fn encode_start(alloc: Global, start: Start) -> Result<Bytes, AllocError>
     ensures whole { OnOk result (IsWhole (message.Start start)) }
 {
     let message = Message::Start(start);
-    Encoder::new(alloc).encode(&message)
+    let frame = Encoder::new(alloc).encode(&message);
+    drop(message);
+    frame
 }
 
 /// The frame of a round's Start.

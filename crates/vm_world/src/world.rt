@@ -40,7 +40,9 @@ fn input_bytes(alloc: Global, input: Bytes) -> Result<Bytes, AllocError>
         headers: Items::new(alloc),
         value: input,
     });
-    Encoder::new(alloc).encode(&message)
+    let frame = Encoder::new(alloc).encode(&message);
+    drop(message);
+    frame
 }
 
 /// A journal of one frame.
