@@ -1,9 +1,9 @@
 -- What the events of a round keep: a journal whose commands one run could have made.
 use Rattle.std.proofs.Common.{◌≡◌, ℕ, ◌+◌, List, [], ◌∷◌, ◌++◌, Option, Some, None, refl, sym, ap, ◌∙◌, subst, append_assoc, append-nil}
-use Rattle.journal_protocol.specs.declared.commands.InputCommand.{InputCommand}
-use Rattle.journal_protocol.specs.declared.message.Message.{Message}
-use Rattle.journal_protocol.specs.declared.message.RawMessage.{RawMessage}
-use Rattle.journal_protocol.specs.declared.notification.Notification.{Notification}
+use Rattle.journal_attempt.specs.declared.commands.InputCommand.{InputCommand}
+use Rattle.journal_messages.specs.declared.message.Message.{Message}
+use Rattle.journal_messages.specs.declared.message.RawMessage.{RawMessage}
+use Rattle.journal_values.specs.declared.notification.Notification.{Notification}
 use Rattle.vm_parts.specs.declared.context.StateMap.{StateMap}
 use Rattle.vm_parts.specs.Entries.{IsInOrder}
 use Rattle.vm_model.specs.Calls.{Setup, Meaning}

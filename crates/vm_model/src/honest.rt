@@ -1,7 +1,7 @@
 //! Laws of honest rounds, whoever runs their attempts.
 ghost use Rattle.std.specs.Prelude.{◌≡◌, ◌∷◌, ◌++◌, List};
-ghost use Rattle.journal_protocol.specs.declared.message.RawMessage.{RawMessage};
-ghost use Rattle.journal_protocol.specs.declared.notification.Notification.{Notification};
+ghost use Rattle.journal_messages.specs.declared.message.RawMessage.{RawMessage};
+ghost use Rattle.journal_values.specs.declared.notification.Notification.{Notification};
 ghost use Rattle.vm_parts.specs.declared.context.StateMap.{StateMap};
 ghost use Rattle.vm_parts.specs.Entries.{IsInOrder};
 ghost use Rattle.vm_model.specs.Calls.{Setup, Meaning};

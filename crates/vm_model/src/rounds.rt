@@ -1,15 +1,15 @@
 //! Laws of rounds of attempts, whatever they are and wherever they stop.
 ghost use Rattle.std.specs.Prelude.{◌≡◌, ◌∷◌, ◌++◌, List, [], Some, take};
 ghost use Rattle.std.specs.List.{AllByRecursion};
-ghost use Rattle.journal_protocol.specs.declared.commands.InputCommand.{InputCommand};
-ghost use Rattle.journal_protocol.specs.declared.message.Message.TheVariants as message;
-ghost use Rattle.journal_protocol.specs.declared.message.RawMessage.{RawMessage};
-ghost use Rattle.journal_protocol.specs.declared.state.GetEagerStateCommand.{GetEagerStateCommand};
-ghost use Rattle.journal_protocol.specs.declared.state.GetEagerStateKeysCommand.{GetEagerStateKeysCommand};
-ghost use Rattle.journal_protocol.specs.Reading.{message_in};
-ghost use Rattle.journal_protocol.specs.Runs.{IsWhole};
-ghost use Rattle.journal_protocol.specs.declared.notification.Notification.{Notification};
-ghost use Rattle.journal_protocol.specs.declared.message.Message.{Message};
+ghost use Rattle.journal_attempt.specs.declared.commands.InputCommand.{InputCommand};
+ghost use Rattle.journal_messages.specs.declared.message.Message.TheVariants as message;
+ghost use Rattle.journal_messages.specs.declared.message.RawMessage.{RawMessage};
+ghost use Rattle.journal_state.specs.declared.state.GetEagerStateCommand.{GetEagerStateCommand};
+ghost use Rattle.journal_state.specs.declared.state.GetEagerStateKeysCommand.{GetEagerStateKeysCommand};
+ghost use Rattle.journal_messages.specs.Reading.{message_in};
+ghost use Rattle.journal_messages.specs.Message.{IsWhole};
+ghost use Rattle.journal_values.specs.declared.notification.Notification.{Notification};
+ghost use Rattle.journal_messages.specs.declared.message.Message.{Message};
 ghost use Rattle.vm_parts.specs.declared.context.StateMap.{StateMap};
 ghost use Rattle.vm_parts.specs.declared.context.Known.TheVariants.{Unknown};
 ghost use Rattle.vm_parts.specs.Entries.{IsInOrder};

@@ -1,5 +1,5 @@
 use Rattle.std.proofs.Common.{refl}
-use Rattle.journal_protocol.specs.declared.notification.NotificationId.TheVariants.{SignalId, SignalName}
+use Rattle.journal_values.specs.declared.notification.NotificationId.TheVariants.{SignalId, SignalName}
 use Rattle.vm_model.proofs.Results.{newest_present, next_present}
 use Rattle.vm_model.proofs.Took.{told_took}
 use Rattle.vm_model.proofs.awaits.results_are_present.Goals as goal
