@@ -3,9 +3,9 @@ use Rattle.std.proofs.Common.{◌≡◌, ◌≢◌, ℕ, ◌<◌, ◌≤◌, Boo
 use Rattle.std.proofs.Math.ListN.{set}
 use Rattle.std.proofs.lemmas.List.{get_or-take, get_or-set_same, get_or-set_other, length-set}
 use Rattle.arrivals.specs.declared.index.Index.{Index}
-use Rattle.journal_protocol.specs.declared.notification.Notification.{Notification}
-use Rattle.journal_protocol.specs.declared.notification.NotificationId.{NotificationId}
-use Rattle.journal_protocol.specs.declared.notification.NotificationResult.{NotificationResult}
+use Rattle.journal_values.specs.declared.notification.Notification.{Notification}
+use Rattle.journal_values.specs.declared.notification.NotificationId.{NotificationId}
+use Rattle.journal_values.specs.declared.notification.NotificationResult.{NotificationResult}
 use Rattle.arrivals.specs.declared.log.Entry.{Entry}
 use Rattle.arrivals.specs.Ids.{same_id, slot_of}
 use Rattle.std.specs.Option.{is_some}

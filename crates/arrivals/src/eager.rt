@@ -3,7 +3,7 @@ ghost use Rattle.std.specs.Prelude.{◌≡◌, [], ◌∷◌, ◌++◌, OnOk, On
 ghost use Rattle.arrivals.specs.Results.{first, newest, results_of, has_result_among, without_first, without_all};
 
 use crate::log::Log;
-use journal_protocol::{Notification, NotificationId, NotificationResult};
+use journal_values::{Notification, NotificationId, NotificationResult};
 use std::alloc::{AllocError, Global};
 use std::marker::Model;
 
@@ -16,7 +16,7 @@ pub struct EagerResults {
 impl Model for EagerResults {
     ghost use Rattle.std.specs.Prelude.{List};
     ghost use Rattle.arrivals.specs.Entries.{given};
-    ghost use Rattle.journal_protocol.specs.declared.notification.Notification.{Notification};
+    ghost use Rattle.journal_values.specs.declared.notification.Notification.{Notification};
 
     ghost Value = { List Notification };
 

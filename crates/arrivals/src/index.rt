@@ -2,7 +2,7 @@
 ghost use Rattle.std.specs.Prelude.{◌≡◌, Some, None, cond, OnOk, OnErr};
 ghost use Rattle.arrivals.specs.Ids.{same_id, slot_of};
 
-use journal_protocol::NotificationId;
+use journal_values::NotificationId;
 use std::alloc::{AllocError, Global};
 use std::collections::BTreeMap;
 use wire::Text;

@@ -6,7 +6,7 @@ ghost use Rattle.arrivals.specs.Entries.{given, places, Tracked};
 
 use crate::index::Index;
 use crate::places::Places;
-use journal_protocol::{Notification, NotificationId, NotificationResult};
+use journal_values::{Notification, NotificationId, NotificationResult};
 use std::alloc::{AllocError, Global};
 use std::marker::Model;
 

@@ -1,6 +1,6 @@
 // The names that others read: versions, types of messages, faults and errors; and small values, copied and read.
 use bytes::Bytes;
-use journal_protocol::{
+use journal_errors::{
     Error, ErrorBehavior, MessageType, NamedFault, RelatedCommand, Said, Version,
 };
 use std::str::FromStr;

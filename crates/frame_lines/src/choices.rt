@@ -1,10 +1,10 @@
 //! Choices as they are written on a line: the case, and in round brackets what it holds.
 use crate::forms::Form;
 use crate::value::Value;
-use journal_protocol::{
-    ErrorBehavior, InvocationTarget, NotificationId, NotificationResult, Signal, SignalResult,
-    ValueOrFailure, VoidOrValue,
-};
+use journal_calls::{InvocationTarget, Signal, SignalResult};
+use journal_errors::ErrorBehavior;
+use journal_state::VoidOrValue;
+use journal_values::{NotificationId, NotificationResult, ValueOrFailure};
 use lines::fields::Fields;
 use lines::line::Line;
 use lines::pieces::{between, words};

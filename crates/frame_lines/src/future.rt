@@ -1,7 +1,7 @@
 //! What an attempt waits for, as it is written on a line.
 use crate::nested::{Begun, begun_of};
 use crate::value::{PrintsValues, TakesValues, Value};
-use journal_protocol::{Future, FutureKind, FutureNode};
+use journal_attempt::{Future, FutureKind, FutureNode};
 use lines::fields::Fields;
 use lines::line::Line;
 use std::alloc::{AllocError, Global};

@@ -1,7 +1,8 @@
 //! A message as a line.
 use crate::forms::Form;
 use crate::type_names::name_of;
-use journal_protocol::{Message, MessageType};
+use journal_errors::MessageType;
+use journal_messages::Message;
 use lines::fields::Fields;
 use lines::line::Line;
 use std::alloc::AllocError;

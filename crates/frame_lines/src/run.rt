@@ -1,11 +1,12 @@
 //! The two runs of the program: a stream of frames to lines, and lines to a stream of frames.
 ghost use Rattle.std.specs.Prelude.{◌≡◌, ◌++◌, IfOk, IfSome, IfNone, OnErr};
-ghost use Rattle.journal_protocol.specs.Message.{frame};
+ghost use Rattle.journal_messages.specs.Message.{frame};
 
 use crate::entry::{frame_of, print_frame, print_rest};
 use crate::exit_status::ExitStatus;
 use bytes::Bytes;
-use journal_protocol::{Decoder, RawMessage};
+use journal_messages::RawMessage;
+use journal_streams::Decoder;
 use lines::line::Line;
 use std::alloc::{AllocError, Global};
 use std::io::{self, Read, Write};

@@ -1,5 +1,5 @@
 //! The names of the types of messages.
-use journal_protocol::MessageType;
+use journal_errors::MessageType;
 
 /// The name that the type has on a line.
 pub fn name_of(ty: MessageType) -> &'static str {

@@ -1,6 +1,6 @@
 //! The values of fields as they are written on a line.
 use bytes::Bytes;
-use journal_protocol::Header;
+use journal_values::Header;
 use lines::atoms::{bytes_of, number_of};
 use lines::fields::Fields;
 use lines::line::Line;

@@ -4,7 +4,8 @@ ghost use Rattle.std.specs.Prelude.{◌<◌, length};
 
 use crate::frame_rows::FRAMES;
 use bytes::Bytes;
-use journal_protocol::{Decoder, Encoder, RawMessage};
+use journal_messages::{Encoder, RawMessage};
+use journal_streams::Decoder;
 use lines::atoms::bytes_of;
 use std::alloc::Global;
 use std::test::Fail;

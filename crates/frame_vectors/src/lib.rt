@@ -1,5 +1,5 @@
 //! The test bench of frames as lines: frames whose bytes another program wrote, and their lines, that `frame_lines` and
-//! `journal_protocol` are held against.
+//! the `journal_*` crates are held against.
 #![tactic(auto)]
 
 #[cfg(test)]

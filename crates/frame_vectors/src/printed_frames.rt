@@ -4,7 +4,7 @@ use bytes::Bytes;
 use frame_lines::entry::{frame_of, print_frame};
 use frame_lines::exit_status::ExitStatus;
 use frame_lines::run::{Unread, decode, encode, frames_of};
-use journal_protocol::Decoder;
+use journal_streams::Decoder;
 use lines::atoms::bytes_of;
 use lines::line::Line;
 use std::alloc::Global;

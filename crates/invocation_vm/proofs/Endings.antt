@@ -6,12 +6,12 @@ use Rattle.std.proofs.lemmas.List.{append-nil}
 use Rattle.std.proofs.lemmas.List.Folds.{concat-append}
 use Rattle.std.proofs.lemmas.Grind.{flat_map-append}
 use Rattle.std.specs.declared.alloc.AllocError.{AllocError}
-use Rattle.journal_protocol.specs.declared.error.Error.{Error}
-use Rattle.journal_protocol.specs.declared.faults.NamedFault.TheVariants as fault
-use Rattle.journal_protocol.specs.declared.message.Message.{Message}
-use Rattle.journal_protocol.specs.declared.message.RawMessage.{RawMessage}
-use Rattle.journal_protocol.specs.declared.version.Version.{Version}
-use Rattle.journal_protocol.specs.Message.{encoding}
+use Rattle.journal_errors.specs.declared.error.Error.{Error}
+use Rattle.journal_errors.specs.declared.faults.NamedFault.TheVariants as fault
+use Rattle.journal_messages.specs.declared.message.Message.{Message}
+use Rattle.journal_messages.specs.declared.message.RawMessage.{RawMessage}
+use Rattle.journal_errors.specs.declared.version.Version.{Version}
+use Rattle.journal_messages.specs.Message.{encoding}
 use Rattle.vm_parts.specs.declared.command_type.CommandRelationship.{CommandRelationship}
 use Rattle.vm_parts.specs.declared.options.VMOptions.{VMOptions}
 use Rattle.vm_parts.specs.declared.types.AwaitResponse.{AwaitResponse}

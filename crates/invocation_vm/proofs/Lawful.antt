@@ -3,13 +3,13 @@ use Rattle.std.proofs.Common.{◌≡◌, inl, inr, ℕ, ◌<◌, Option, Some, N
 use Rattle.std.specs.Prelude.{if◌then◌else◌, Result, Ok, Err}
 use Rattle.std.proofs.lemmas.Bool.{lt-ltb}
 use Rattle.std.specs.declared.alloc.AllocError.{AllocError}
-use Rattle.journal_protocol.specs.declared.error.Error.{Error}
-use Rattle.journal_protocol.specs.declared.message.RawMessage.{RawMessage}
-use Rattle.journal_protocol.specs.declared.faults.NamedFault.{NamedFault}
-use Rattle.journal_protocol.specs.declared.faults.NamedFault.TheVariants as fault
+use Rattle.journal_errors.specs.declared.error.Error.{Error}
+use Rattle.journal_messages.specs.declared.message.RawMessage.{RawMessage}
+use Rattle.journal_errors.specs.declared.faults.NamedFault.{NamedFault}
+use Rattle.journal_errors.specs.declared.faults.NamedFault.TheVariants as fault
 use Rattle.vm_parts.specs.declared.types.NotificationHandle.{NotificationHandle}
-use Rattle.journal_protocol.specs.declared.message.Message.{Message}
-use Rattle.journal_protocol.specs.declared.message.Message.TheVariants as message
+use Rattle.journal_messages.specs.declared.message.Message.{Message}
+use Rattle.journal_messages.specs.declared.message.Message.TheVariants as message
 use Rattle.vm_parts.specs.Counting.{missing}
 use Rattle.vm_machine.specs.declared.machine.Machine.{Machine}
 use Rattle.vm_machine.specs.declared.phase.Phase.{Phase}

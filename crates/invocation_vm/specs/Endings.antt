@@ -1,8 +1,8 @@
 -- All that a VM writes, over any list of calls, has at most one terminal message, and nothing behind it.
 use Rattle.std.specs.Prelude.{◌≡◌, ℕ, false, List, ◌++◌}
 use Rattle.std.specs.List.{concat, flat_map}
-use Rattle.journal_protocol.specs.declared.message.Message.{Message}
-use Rattle.journal_protocol.specs.Message.{encoding}
+use Rattle.journal_messages.specs.declared.message.Message.{Message}
+use Rattle.journal_messages.specs.Message.{encoding}
 use Rattle.vm_machine.specs.Endings.{EndsOnce, is_over}
 use Rattle.invocation_vm.specs.Views.{View}
 

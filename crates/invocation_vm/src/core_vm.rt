@@ -13,7 +13,8 @@ use crate::shared::{both_handles, id_handle, make_awakeable, name_text, unanswer
 use crate::versions::{response_head, version_in};
 use crate::vm::VM;
 use bytes::Bytes;
-use journal_protocol::{Decoder, Error, HeaderMap, NamedFault, Version};
+use journal_errors::{Error, HeaderMap, NamedFault, Version};
+use journal_streams::Decoder;
 use std::alloc::{AllocError, Global};
 use std::fmt;
 use std::time::Duration;

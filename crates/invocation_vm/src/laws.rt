@@ -2,9 +2,9 @@
 ghost use Rattle.std.specs.Prelude.{◌≡◌, ◌<◌, ◌^◌, ℕ, false, List, [], ◌++◌, Option, Some, Result, Ok, Err};
 ghost use Rattle.std.proofs.Common.{Global};
 ghost use Rattle.std.specs.declared.alloc.AllocError.{AllocError};
-ghost use Rattle.journal_protocol.specs.declared.error.Error.{Error};
-ghost use Rattle.journal_protocol.specs.declared.message.RawMessage.{RawMessage};
-ghost use Rattle.journal_protocol.specs.declared.version.Version.{Version};
+ghost use Rattle.journal_errors.specs.declared.error.Error.{Error};
+ghost use Rattle.journal_messages.specs.declared.message.RawMessage.{RawMessage};
+ghost use Rattle.journal_errors.specs.declared.version.Version.{Version};
 ghost use Rattle.vm_parts.specs.declared.command_type.CommandRelationship.{CommandRelationship};
 ghost use Rattle.vm_parts.specs.declared.options.VMOptions.{VMOptions};
 ghost use Rattle.vm_parts.specs.declared.types.AwaitResponse.{AwaitResponse};

@@ -10,7 +10,8 @@ mod vm;
 
 pub use core_vm::CoreVM;
 pub use feed::any_cut;
-pub use journal_protocol::{Error, ErrorBehavior, HeaderMap, IdempotencyId, Version, WorkflowId};
+pub use journal_calls::{IdempotencyId, WorkflowId};
+pub use journal_errors::{Error, ErrorBehavior, HeaderMap, Version};
 pub use laws::{all_output_ends_once, first_error_is_answered, sleep_is_written};
 pub use vm::VM;
 pub use vm_parts::{

@@ -4,7 +4,7 @@ ghost use Rattle.vm_machine.specs.Asks.{call_handles, send_handle};
 ghost use Rattle.vm_machine.specs.Outcomes.{Gives};
 ghost use Rattle.invocation_vm.specs.Calls.{name_or_empty, new_awakeable_step, result_by, skips_replay};
 
-use journal_protocol::NamedFault;
+use journal_errors::NamedFault;
 use std::alloc::Global;
 use vm_machine::asks::{call_handles, send_handle};
 use vm_machine::fault::refuse;

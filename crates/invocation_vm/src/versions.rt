@@ -2,7 +2,8 @@
 ghost use Rattle.std.specs.Prelude.{◌≡◌, codes, IfOk};
 ghost use Rattle.invocation_vm.specs.Making.{supported, version_in, response_head};
 
-use journal_protocol::{Error, Header, HeaderMap, NamedFault, Version};
+use journal_errors::{Error, HeaderMap, NamedFault, Version};
+use journal_values::Header;
 use std::alloc::{AllocError, Global};
 use vm_parts::ResponseHead;
 use wire::{Items, Text};

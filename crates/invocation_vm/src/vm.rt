@@ -13,7 +13,7 @@ ghost use Rattle.invocation_vm.specs.Making.{Makes, response_head, version_in};
 ghost use Rattle.invocation_vm.specs.Views.{View, Calls, CallsFlat, Leaves, TakesOutput, after_closing, after_error, after_input, brought};
 
 use bytes::Bytes;
-use journal_protocol::{Error, HeaderMap};
+use journal_errors::{Error, HeaderMap};
 use std::alloc::{AllocError, Global};
 use std::time::Duration;
 use vm_parts::{

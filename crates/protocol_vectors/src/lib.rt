@@ -1,5 +1,5 @@
-//! The test bench of the protocol: bytes of messages and their bodies, written out by hand, that `journal_protocol` is
-//! held against.
+//! The test bench of the protocol: bytes of messages and their bodies, written out by hand, that the `journal_*`
+//! crates are held against.
 #![tactic(auto)]
 
 #[cfg(test)]

@@ -1,9 +1,10 @@
 // The bytes of each message, written out by hand from the layout; and that each call succeeds where there is memory.
 use bytes::Bytes;
-use journal_protocol::{
-    Decoder, Encoder, Error, Future, FutureKind, FutureNode, Message, RawMessage, header_eq,
-    messages_of,
-};
+use journal_attempt::{Future, FutureKind, FutureNode};
+use journal_equality::header_eq;
+use journal_errors::Error;
+use journal_messages::{Encoder, Message, RawMessage};
+use journal_streams::{Decoder, messages_of};
 use std::alloc::{AllocError, Global};
 use std::test::Fail;
 use wire::{Fault, Items, Text, is_same, whole};

@@ -1,6 +1,7 @@
 // Every body of up to two bytes, for every number of a type.
 use bytes::Bytes;
-use journal_protocol::{MessageType, RawMessage};
+use journal_errors::MessageType;
+use journal_messages::RawMessage;
 use std::alloc::Global;
 use std::test::Fail;
 use wire::Fault;

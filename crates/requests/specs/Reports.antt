@@ -3,9 +3,9 @@ use Rattle.std.specs.Prelude.{ℕ, List, [], codes, Option, Some, None, string_b
 use Rattle.std.proofs.Common.{Global}
 use Rattle.std.specs.declared.string.String.{String}
 use Rattle.std.specs.declared.time.Duration.{Duration}
-use Rattle.journal_protocol.specs.declared.error.Error.{Error}
-use Rattle.journal_protocol.specs.declared.error.ErrorBehavior.{ErrorBehavior}
-use Rattle.journal_protocol.specs.declared.error.ErrorBehavior.TheVariants as behavior
+use Rattle.journal_errors.specs.declared.error.Error.{Error}
+use Rattle.journal_errors.specs.declared.error.ErrorBehavior.{ErrorBehavior}
+use Rattle.journal_errors.specs.declared.error.ErrorBehavior.TheVariants as behavior
 use Rattle.vm_parts.specs.declared.command_type.CommandType.{CommandType}
 use Rattle.vm_parts.specs.declared.command_type.CommandType.TheVariants as command
 use Rattle.requests.specs.declared.report.Details.{Details}

@@ -10,7 +10,7 @@ use crate::arguments::{
 use crate::atoms::shared_of;
 use crate::request::Call;
 use bytes::Bytes;
-use journal_protocol::Header;
+use journal_values::Header;
 use lines::fields::Fields;
 use std::alloc::Global;
 use vm_parts::{PayloadOptions, Step, Target};

@@ -1,7 +1,7 @@
 //! The headers of a request that has a content type and nothing else.
 ghost use Rattle.std.specs.Prelude.{◌≡◌};
 
-use journal_protocol::HeaderMap;
+use journal_errors::HeaderMap;
 
 /// A request's content type.
 #[derive(Debug, Drop)]

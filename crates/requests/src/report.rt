@@ -6,7 +6,7 @@ ghost use Rattle.requests.specs.Reports.{behavior_name, type_name, reported, sta
 
 use crate::atoms::{duration_of, string_of, text_of, u16_of, u32_of};
 use crate::request::Call;
-use journal_protocol::{Error, ErrorBehavior};
+use journal_errors::{Error, ErrorBehavior};
 use lines::fields::Fields;
 use lines::pieces::{between, words};
 use std::alloc::Global;

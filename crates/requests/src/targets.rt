@@ -2,7 +2,7 @@
 
 use crate::arguments::{take_optional_text, text_alone, two_texts};
 use crate::atoms::text_of;
-use journal_protocol::{IdempotencyId, WorkflowId};
+use journal_calls::{IdempotencyId, WorkflowId};
 use lines::fields::Fields;
 use std::alloc::Global;
 use vm_parts::AttachInvocationTarget;

@@ -9,7 +9,7 @@ use invocation_vm::{
     AwaitResponse, AwakeableHandle, CallHandle, Error, Input, ResponseHead, State, TerminalFailure,
     Value, Version,
 };
-use journal_protocol::Header;
+use journal_values::Header;
 use lines::line::Line;
 use std::alloc::AllocError;
 use vm_parts::Answer;

@@ -3,19 +3,19 @@ use Rattle.std.specs.Prelude.{ℕ, zero, suc, ◌+◌, ◌<◌, ◌^◌, ◌/◌
 use Rattle.std.specs.Duration.{as_nanos}
 use Rattle.std.specs.Option.{option_or}
 use Rattle.std.specs.declared.time.Duration.{Duration}
-use Rattle.journal_protocol.specs.declared.calls.CallRequest.{CallRequest}
-use Rattle.journal_protocol.specs.declared.faults.NamedFault.{NamedFault}
-use Rattle.journal_protocol.specs.declared.faults.NamedFault.TheVariants as fault
-use Rattle.journal_protocol.specs.declared.invocations.InvocationTarget.{InvocationTarget}
-use Rattle.journal_protocol.specs.declared.invocations.InvocationTarget.TheVariants as target
-use Rattle.journal_protocol.specs.declared.message.Message.{Message}
-use Rattle.journal_protocol.specs.declared.message.Message.TheVariants as message
-use Rattle.journal_protocol.specs.declared.parts.ValueOrFailure.{ValueOrFailure}
-use Rattle.journal_protocol.specs.declared.parts.ValueOrFailure.TheVariants as given
-use Rattle.journal_protocol.specs.declared.signals.Signal.TheVariants.{Index, Name}
-use Rattle.journal_protocol.specs.declared.signals.SignalResult.{SignalResult}
-use Rattle.journal_protocol.specs.declared.signals.SignalResult.TheVariants as sent
-use Rattle.journal_protocol.specs.declared.version.Version.{Version}
+use Rattle.journal_calls.specs.declared.calls.CallRequest.{CallRequest}
+use Rattle.journal_errors.specs.declared.faults.NamedFault.{NamedFault}
+use Rattle.journal_errors.specs.declared.faults.NamedFault.TheVariants as fault
+use Rattle.journal_calls.specs.declared.invocations.InvocationTarget.{InvocationTarget}
+use Rattle.journal_calls.specs.declared.invocations.InvocationTarget.TheVariants as target
+use Rattle.journal_messages.specs.declared.message.Message.{Message}
+use Rattle.journal_messages.specs.declared.message.Message.TheVariants as message
+use Rattle.journal_values.specs.declared.parts.ValueOrFailure.{ValueOrFailure}
+use Rattle.journal_values.specs.declared.parts.ValueOrFailure.TheVariants as given
+use Rattle.journal_calls.specs.declared.signals.Signal.TheVariants.{Index, Name}
+use Rattle.journal_calls.specs.declared.signals.SignalResult.{SignalResult}
+use Rattle.journal_calls.specs.declared.signals.SignalResult.TheVariants as sent
+use Rattle.journal_errors.specs.declared.version.Version.{Version}
 use Rattle.vm_parts.specs.declared.options.PayloadOptions.{PayloadOptions}
 use Rattle.vm_parts.specs.declared.steps.Answer.{Answer}
 use Rattle.vm_parts.specs.declared.steps.Answer.TheVariants as answer

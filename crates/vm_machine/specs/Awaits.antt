@@ -1,15 +1,15 @@
 -- Awaits and takes of a handle, and what can be asked of a machine at any time.
 use Rattle.std.specs.Prelude.{◌≡◌, ◌⊎◌, ℕ, ℤ, pos, negsuc, Bool, true, false, if◌then◌else◌, List, [], ◌∷◌, ◌++◌, Option, Some, None, is_some, Result, Ok, Err}
-use Rattle.journal_protocol.specs.declared.error.Error.{Error}
-use Rattle.journal_protocol.specs.declared.faults.NamedFault.TheVariants as fault
-use Rattle.journal_protocol.specs.declared.future.Future.{Future}
-use Rattle.journal_protocol.specs.declared.future.FutureKind.TheVariants.{FirstCompleted}
-use Rattle.journal_protocol.specs.declared.message.Message.TheVariants as message
-use Rattle.journal_protocol.specs.declared.notification.NotificationId.{NotificationId}
-use Rattle.journal_protocol.specs.declared.notification.NotificationId.TheVariants.{CompletionId, SignalId, SignalName}
-use Rattle.journal_protocol.specs.declared.notification.NotificationResult.{NotificationResult}
-use Rattle.journal_protocol.specs.Errors.{named_error, no_memory}
-use Rattle.journal_protocol.specs.Message.{encoding}
+use Rattle.journal_errors.specs.declared.error.Error.{Error}
+use Rattle.journal_errors.specs.declared.faults.NamedFault.TheVariants as fault
+use Rattle.journal_attempt.specs.declared.future.Future.{Future}
+use Rattle.journal_attempt.specs.declared.future.FutureKind.TheVariants.{FirstCompleted}
+use Rattle.journal_messages.specs.declared.message.Message.TheVariants as message
+use Rattle.journal_values.specs.declared.notification.NotificationId.{NotificationId}
+use Rattle.journal_values.specs.declared.notification.NotificationId.TheVariants.{CompletionId, SignalId, SignalName}
+use Rattle.journal_values.specs.declared.notification.NotificationResult.{NotificationResult}
+use Rattle.journal_errors.specs.Errors.{named_error, no_memory}
+use Rattle.journal_messages.specs.Message.{encoding}
 use Rattle.vm_parts.specs.declared.types.AwaitResponse.{AwaitResponse}
 use Rattle.vm_parts.specs.declared.types.AwaitResponse.TheVariants.{AnyCompleted, WaitingExternalProgress}
 use Rattle.vm_parts.specs.declared.types.State.{State}

@@ -1,21 +1,21 @@
 -- State reads: eager where the state is known, lazy where it isn't; in replay the recorded form decides.
 use Rattle.std.specs.Prelude.{◌≡◌, ℕ, Bool, true, ◌==◌, if◌then◌else◌, List, [], ◌∷◌, ◌++◌, Option, Some, None, Result, Ok, Err, OnOk}
-use Rattle.journal_protocol.specs.declared.faults.NamedFault.{NamedFault}
-use Rattle.journal_protocol.specs.declared.faults.NamedFault.TheVariants as fault
-use Rattle.journal_protocol.specs.declared.message.Message.{Message}
-use Rattle.journal_protocol.specs.declared.message.Message.TheVariants as message
-use Rattle.journal_protocol.specs.declared.message.RawMessage.{RawMessage}
-use Rattle.journal_protocol.specs.declared.notification.NotificationResult.{NotificationResult}
-use Rattle.journal_protocol.specs.declared.notification.NotificationResult.TheVariants as gives
-use Rattle.journal_protocol.specs.declared.state.VoidOrValue.{VoidOrValue}
-use Rattle.journal_protocol.specs.declared.state.VoidOrValue.TheVariants as stored
-use Rattle.journal_protocol.specs.declared.types.MessageType.{MessageType}
-use Rattle.journal_protocol.specs.declared.types.MessageType.TheVariants as type
-use Rattle.journal_protocol.specs.HeaderEqual.{header_equal}
-use Rattle.journal_protocol.specs.Message.{type_of}
-use Rattle.journal_protocol.specs.Reading.{message_in}
-use Rattle.journal_protocol.specs.Runs.{IsWhole}
-use Rattle.journal_protocol.specs.Types.{type_number}
+use Rattle.journal_errors.specs.declared.faults.NamedFault.{NamedFault}
+use Rattle.journal_errors.specs.declared.faults.NamedFault.TheVariants as fault
+use Rattle.journal_messages.specs.declared.message.Message.{Message}
+use Rattle.journal_messages.specs.declared.message.Message.TheVariants as message
+use Rattle.journal_messages.specs.declared.message.RawMessage.{RawMessage}
+use Rattle.journal_values.specs.declared.notification.NotificationResult.{NotificationResult}
+use Rattle.journal_values.specs.declared.notification.NotificationResult.TheVariants as gives
+use Rattle.journal_state.specs.declared.state.VoidOrValue.{VoidOrValue}
+use Rattle.journal_state.specs.declared.state.VoidOrValue.TheVariants as stored
+use Rattle.journal_errors.specs.declared.types.MessageType.{MessageType}
+use Rattle.journal_errors.specs.declared.types.MessageType.TheVariants as type
+use Rattle.journal_equality.specs.HeaderEqual.{header_equal}
+use Rattle.journal_messages.specs.Message.{type_of}
+use Rattle.journal_messages.specs.Reading.{message_in}
+use Rattle.journal_messages.specs.Message.{IsWhole}
+use Rattle.journal_errors.specs.Types.{type_number}
 use Rattle.vm_parts.specs.declared.context.Known.{Known}
 use Rattle.vm_parts.specs.declared.context.Known.TheVariants.{Unknown, Empty, Value}
 use Rattle.vm_parts.specs.declared.context.StateMap.{StateMap}

@@ -1,10 +1,10 @@
 -- An error that the handler's runner reports.
 use Rattle.std.specs.Prelude.{Bool, true, false, not, ◌&&◌, if◌then◌else◌, [], Option, Some, None, unwrap_or}
-use Rattle.journal_protocol.specs.declared.error.Error.{Error}
-use Rattle.journal_protocol.specs.declared.error.ErrorBehavior.{ErrorBehavior}
-use Rattle.journal_protocol.specs.declared.error.ErrorBehavior.TheVariants.{Retry, Pause, Fail}
-use Rattle.journal_protocol.specs.declared.error.RelatedCommand.{RelatedCommand}
-use Rattle.journal_protocol.specs.declared.faults.NamedFault.TheVariants as fault
+use Rattle.journal_errors.specs.declared.error.Error.{Error}
+use Rattle.journal_errors.specs.declared.error.ErrorBehavior.{ErrorBehavior}
+use Rattle.journal_errors.specs.declared.error.ErrorBehavior.TheVariants.{Retry, Pause, Fail}
+use Rattle.journal_errors.specs.declared.error.RelatedCommand.{RelatedCommand}
+use Rattle.journal_errors.specs.declared.faults.NamedFault.TheVariants as fault
 use Rattle.vm_parts.specs.declared.command_type.CommandRelationship.{CommandRelationship}
 use Rattle.vm_parts.specs.declared.command_type.CommandRelationship.TheVariants.{Last, Next, Specific}
 use Rattle.vm_parts.specs.CommandTypes.{message_type}

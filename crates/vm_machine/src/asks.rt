@@ -9,12 +9,15 @@ use crate::machine::empty_text;
 use crate::reads::StateRead;
 use crate::request;
 use bytes::Bytes;
-use journal_protocol::{
-    CallCommand, CallRequest, ClearAllStateCommand, ClearStateCommand, CompleteAwakeableCommand,
-    CompletePromiseCommand, InvocationCommand, InvocationTarget, Message, NamedFault,
-    OneWayCallCommand, OutputCommand, PromiseCommand, SendSignalCommand, SetStateCommand, Signal,
-    SignalResult, SleepCommand, ValueOrFailure, Version,
+use journal_attempt::{OutputCommand, SleepCommand};
+use journal_calls::{
+    CallCommand, CallRequest, CompleteAwakeableCommand, CompletePromiseCommand, InvocationCommand,
+    InvocationTarget, OneWayCallCommand, PromiseCommand, SendSignalCommand, Signal, SignalResult,
 };
+use journal_errors::{NamedFault, Version};
+use journal_messages::Message;
+use journal_state::{ClearAllStateCommand, ClearStateCommand, SetStateCommand};
+use journal_values::ValueOrFailure;
 use std::alloc::Global;
 use std::time::Duration;
 use vm_parts::values::write_value;

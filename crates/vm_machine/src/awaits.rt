@@ -1,16 +1,17 @@
 //! Awaits and takes of one handle.
 ghost use Rattle.std.specs.Prelude.{◌≡◌, ◌∷◌, ◌++◌, [], IfOk, OnOk, OnErr};
-ghost use Rattle.journal_protocol.specs.Message.{encoding};
-ghost use Rattle.journal_protocol.specs.declared.message.Message.TheVariants as message;
+ghost use Rattle.journal_messages.specs.Message.{encoding};
+ghost use Rattle.journal_messages.specs.declared.message.Message.TheVariants as message;
 ghost use Rattle.vm_machine.specs.Outcomes.{Gives};
 ghost use Rattle.vm_machine.specs.Awaits.{future_of, pending, await_step, take_step, is_completed, value_taken};
 
 use crate::fault::{Fault, refuse};
 use crate::machine::Machine;
 use crate::phase::Phase;
-use journal_protocol::{
-    Error, Future, FutureKind, Message, NamedFault, NotificationId, Suspension,
-};
+use journal_attempt::{Future, FutureKind, Suspension};
+use journal_errors::{Error, NamedFault};
+use journal_messages::Message;
+use journal_values::NotificationId;
 use std::alloc::{AllocError, Global};
 use vm_parts::values::read_result;
 use vm_parts::{AwaitResponse, NotificationHandle, Value};

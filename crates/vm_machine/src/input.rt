@@ -8,7 +8,9 @@ ghost use Rattle.vm_machine.specs.Inputs.{input_of, input_counted, input_step, e
 use crate::fault::{Fault, refuse};
 use crate::machine::{Machine, empty_text};
 use crate::phase::Phase;
-use journal_protocol::{Error, InputCommand, Message, MessageType, NamedFault, RelatedCommand};
+use journal_attempt::InputCommand;
+use journal_errors::{Error, MessageType, NamedFault, RelatedCommand};
+use journal_messages::Message;
 use std::alloc::AllocError;
 use vm_parts::{Input, StartInfo};
 use wire::{Text, copy_of};

@@ -1,7 +1,7 @@
 //! The event of all calls that have a command: the command is written, or in replay the recorded one is popped.
 ghost use Rattle.std.specs.Prelude.{◌≡◌, ◌<◌, ◌+◌, ◌^◌, ◌∷◌, [], true, Some, IfNone, IfSome, IfOk, OnOk, OnErr};
-ghost use Rattle.journal_protocol.specs.Errors.{named_error};
-ghost use Rattle.journal_protocol.specs.Runs.{IsWhole};
+ghost use Rattle.journal_errors.specs.Errors.{named_error};
+ghost use Rattle.journal_messages.specs.Message.{IsWhole};
 ghost use Rattle.vm_machine.specs.Outcomes.{Gives, about_last, last_related, lasting};
 ghost use Rattle.vm_machine.specs.Commands.{entered, phase_after, written, popped, replayed, carried_out, handed_out, checks_are_off, Carries, Issues};
 ghost use Rattle.vm_machine.specs.Phases.{is_processing};
@@ -12,9 +12,10 @@ use crate::fault::{Fault, refuse};
 use crate::machine::Machine;
 use crate::phase::Phase;
 use crate::request::{give_ids, ids_of, name_of, shown_type};
-use journal_protocol::{
-    Error, Message, MessageType, NamedFault, NotificationId, RawMessage, RelatedCommand, header_eq,
-};
+use journal_equality::header_eq;
+use journal_errors::{Error, MessageType, NamedFault, RelatedCommand};
+use journal_messages::{Message, RawMessage};
+use journal_values::NotificationId;
 use std::alloc::AllocError;
 use vm_parts::{LastCommand, NonDeterministicChecksOption, NotificationHandle};
 use wire::{Text, copy_of};

@@ -4,7 +4,8 @@ ghost use Rattle.vm_machine.specs.Making.{fresh, nothing_started};
 
 use crate::phase::Phase;
 use bytes::Bytes;
-use journal_protocol::{Error, MessageType, RawMessage, Version};
+use journal_errors::{Error, MessageType, Version};
+use journal_messages::RawMessage;
 use std::alloc::{AllocError, Global};
 use vm_parts::{
     AsyncResults, Counters, EphemeralCommand, KeptProposal, LastCommand, Outbox, PendingRun, Queue,

@@ -1,7 +1,7 @@
 //! State reads: eager where the state is known, lazy where it isn't; in replay the recorded form decides.
 ghost use Rattle.std.specs.Prelude.{◌≡◌, ◌<◌, ◌+◌, ◌^◌, true, Some, IfOk, OnOk, OnErr};
-ghost use Rattle.journal_protocol.specs.Reading.{message_in};
-ghost use Rattle.journal_protocol.specs.Runs.{IsWhole};
+ghost use Rattle.journal_messages.specs.Reading.{message_in};
+ghost use Rattle.journal_messages.specs.Message.{IsWhole};
 ghost use Rattle.vm_machine.specs.Commands.{entered, handed_out};
 ghost use Rattle.vm_machine.specs.Outcomes.{Gives, lasting};
 ghost use Rattle.vm_machine.specs.Reads.{Reads, ReadsNumbered, eager_form, eager_type, form_of, keys_form, lazy_form, lazy_type, name_read, own_form, read_by, read_popped, read_step, read_written, recorded_as, recorded_type, result_in, value_form, value_result, with_result};
@@ -10,10 +10,14 @@ use crate::fault::Fault;
 use crate::issue::about_next;
 use crate::machine::{Machine, empty_text};
 use bytes::Bytes;
-use journal_protocol::{
+use journal_equality::header_eq;
+use journal_errors::{MessageType, NamedFault};
+use journal_messages::{Message, RawMessage};
+use journal_state::{
     GetEagerStateCommand, GetEagerStateKeysCommand, GetLazyStateCommand, GetLazyStateKeysCommand,
-    Message, MessageType, NamedFault, NotificationResult, RawMessage, VoidOrValue, header_eq,
+    VoidOrValue,
 };
+use journal_values::NotificationResult;
 use std::alloc::{AllocError, Global};
 use vm_parts::{Known, NotificationHandle, StateMap};
 use wire::{Items, Text, copy_of};

@@ -5,7 +5,7 @@ ghost use Rattle.vm_machine.specs.Reports.{related_by, related_to, is_retry, rep
 
 use crate::fault::{Fault, refuse};
 use crate::machine::{Machine, empty_text};
-use journal_protocol::{Error, ErrorBehavior, NamedFault, RelatedCommand, Version};
+use journal_errors::{Error, ErrorBehavior, NamedFault, RelatedCommand, Version};
 use std::alloc::{AllocError, Global};
 use vm_parts::CommandRelationship;
 use wire::Text;

@@ -3,7 +3,8 @@ ghost use Rattle.std.specs.Prelude.{◌≡◌, ◌<◌, ◌+◌, ◌^◌, IfOk};
 ghost use Rattle.vm_machine.specs.Requests.{ids_of, name_of, shown_type, with_ids};
 
 use crate::machine::empty_text;
-use journal_protocol::{Message, MessageType};
+use journal_errors::MessageType;
+use journal_messages::Message;
 use std::alloc::{AllocError, Global};
 use wire::{Text, copy_of};
 

@@ -1,14 +1,15 @@
 //! The error rule: what becomes of a machine whose event was refused or found no memory.
 ghost use Rattle.std.specs.Prelude.{◌≡◌, ◌∷◌, ◌++◌, [], IfOk, OnOk, OnErr, IsErr, Ok, is_some};
-ghost use Rattle.journal_protocol.specs.Errors.{no_memory, error_message};
-ghost use Rattle.journal_protocol.specs.Message.{encoding};
-ghost use Rattle.journal_protocol.specs.declared.message.Message.TheVariants as message;
+ghost use Rattle.journal_errors.specs.Errors.{no_memory, error_message};
+ghost use Rattle.journal_messages.specs.Message.{encoding};
+ghost use Rattle.journal_messages.specs.declared.message.Message.TheVariants as message;
 ghost use Rattle.vm_machine.specs.Outcomes.{ruled, failed, starved, Settles, Lives, mismatch_behavior, flattened};
 ghost use Rattle.vm_machine.specs.Inputs.{Quiets};
 
 use crate::fault::Fault;
 use crate::machine::Machine;
-use journal_protocol::{Error, ErrorBehavior, Message, NamedFault, Version};
+use journal_errors::{Error, ErrorBehavior, NamedFault, Version};
+use journal_messages::Message;
 use std::alloc::{AllocError, Global};
 use vm_parts::{Counters, JournalMismatchRetryBehavior};
 

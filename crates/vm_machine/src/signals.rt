@@ -7,7 +7,7 @@ use crate::fault::{Fault, refuse};
 use crate::machine::Machine;
 use base64::engine::general_purpose::URL_SAFE_NO_PAD;
 use bytes::Bytes;
-use journal_protocol::NotificationId;
+use journal_values::NotificationId;
 use std::alloc::{AllocError, Global};
 use vm_parts::{AwakeableHandle, NotificationHandle};
 use wire::Text;

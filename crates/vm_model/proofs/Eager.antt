@@ -1,17 +1,17 @@
 -- What a run makes changes the state as its calls do, and its eager reads are as the state is.
 use Rattle.std.proofs.Common.{◌≡◌, ℕ, zero, suc, Bool, true, false, List, [], ◌∷◌, ◌++◌, Option, Some, None, refl, sym, ap, ◌∙◌, subst}
-use Rattle.journal_protocol.specs.declared.faults.NamedFault.{NamedFault}
-use Rattle.journal_protocol.specs.declared.message.Message.{Message}
-use Rattle.journal_protocol.specs.declared.message.RawMessage.{RawMessage}
-use Rattle.journal_protocol.specs.declared.notification.NotificationId.{NotificationId}
-use Rattle.journal_protocol.specs.declared.notification.NotificationResult.{NotificationResult}
-use Rattle.journal_protocol.specs.declared.version.Version.{Version}
-use Rattle.journal_protocol.specs.declared.message.Message.TheVariants as message
-use Rattle.journal_protocol.specs.declared.state.GetEagerStateCommand.{GetEagerStateCommand}
-use Rattle.journal_protocol.specs.declared.state.GetEagerStateKeysCommand.{GetEagerStateKeysCommand}
-use Rattle.journal_protocol.specs.Runs.{IsWhole}
-use Rattle.journal_protocol.specs.Message.{type_of}
-use Rattle.journal_protocol.specs.Reading.{message_in}
+use Rattle.journal_errors.specs.declared.faults.NamedFault.{NamedFault}
+use Rattle.journal_messages.specs.declared.message.Message.{Message}
+use Rattle.journal_messages.specs.declared.message.RawMessage.{RawMessage}
+use Rattle.journal_values.specs.declared.notification.NotificationId.{NotificationId}
+use Rattle.journal_values.specs.declared.notification.NotificationResult.{NotificationResult}
+use Rattle.journal_errors.specs.declared.version.Version.{Version}
+use Rattle.journal_messages.specs.declared.message.Message.TheVariants as message
+use Rattle.journal_state.specs.declared.state.GetEagerStateCommand.{GetEagerStateCommand}
+use Rattle.journal_state.specs.declared.state.GetEagerStateKeysCommand.{GetEagerStateKeysCommand}
+use Rattle.journal_messages.specs.Message.{IsWhole}
+use Rattle.journal_messages.specs.Message.{type_of}
+use Rattle.journal_messages.specs.Reading.{message_in}
 use Rattle.vm_parts.specs.declared.context.Known.TheVariants.{Unknown}
 use Rattle.vm_parts.specs.States.{known, known_keys}
 use Rattle.vm_machine.specs.declared.reads.StateRead.TheVariants as reads

@@ -2,21 +2,23 @@
 use Rattle.std.proofs.Common.{◌≡◌, ℕ, false, List, [], ◌∷◌, Option, Some, None, refl}
 use Rattle.std.specs.Prelude.{codes, option_map}
 use Rattle.std.specs.Str.{chars, is_utf8}
-use Rattle.journal_protocol.specs.declared.commands.InputCommand.{InputCommand}
-use Rattle.journal_protocol.specs.declared.message.Message.TheVariants as message
-use Rattle.journal_protocol.specs.declared.message.RawMessage.{RawMessage}
-use Rattle.journal_protocol.specs.declared.notification.Notification.{Notification}
-use Rattle.journal_protocol.specs.declared.notification.NotificationId.TheVariants.{CompletionId, SignalId}
-use Rattle.journal_protocol.specs.declared.notification.NotificationResult.{NotificationResult}
-use Rattle.journal_protocol.specs.declared.notification.NotificationResult.TheVariants as came
-use Rattle.journal_protocol.specs.declared.parts.ValueOrFailure.TheVariants as given
-use Rattle.journal_protocol.specs.declared.state.VoidOrValue.TheVariants as stands
-use Rattle.journal_protocol.specs.declared.version.Version.TheVariants.{V7}
-use Rattle.journal_protocol.specs.Choices.{read_void_or_value}
-use Rattle.journal_protocol.specs.HeaderEqual.{header_equal}
-use Rattle.journal_protocol.specs.Reading.{body_as, message_in}
-use Rattle.journal_protocol.specs.Encoding.{clear_state, failure, get_eager_state, output, sleep}
-use Rattle.journal_protocol.specs.Parts.{read_value}
+use Rattle.journal_attempt.specs.declared.commands.InputCommand.{InputCommand}
+use Rattle.journal_messages.specs.declared.message.Message.TheVariants as message
+use Rattle.journal_messages.specs.declared.message.RawMessage.{RawMessage}
+use Rattle.journal_values.specs.declared.notification.Notification.{Notification}
+use Rattle.journal_values.specs.declared.notification.NotificationId.TheVariants.{CompletionId, SignalId}
+use Rattle.journal_values.specs.declared.notification.NotificationResult.{NotificationResult}
+use Rattle.journal_values.specs.declared.notification.NotificationResult.TheVariants as came
+use Rattle.journal_values.specs.declared.parts.ValueOrFailure.TheVariants as given
+use Rattle.journal_state.specs.declared.state.VoidOrValue.TheVariants as stands
+use Rattle.journal_errors.specs.declared.version.Version.TheVariants.{V7}
+use Rattle.journal_state.specs.Choices.{read_void_or_value}
+use Rattle.journal_equality.specs.HeaderEqual.{header_equal}
+use Rattle.journal_messages.specs.Reading.{body_as, message_in}
+use Rattle.journal_state.specs.Encoding.{clear_state, get_eager_state}
+use Rattle.journal_values.specs.Encoding.{failure}
+use Rattle.journal_attempt.specs.Encoding.{output, sleep}
+use Rattle.journal_values.specs.Parts.{read_value}
 use Rattle.vm_parts.specs.declared.steps.Answer.{Answer}
 use Rattle.vm_parts.specs.declared.steps.Answer.TheVariants as answer
 use Rattle.vm_parts.specs.declared.steps.Step.TheVariants as step

@@ -4,26 +4,26 @@ use Rattle.std.specs.Prelude.{nat_eq, ◌==◌, if◌then◌else◌, Ok, Err}
 use Rattle.std.proofs.lemmas.List.{append_cancel_left}
 use Rattle.std.proofs.lemmas.Option.{same_Some}
 use Rattle.std.specs.Cmp.Lexicographic.{bytes_decides, pointwise}
-use Rattle.journal_protocol.specs.declared.faults.NamedFault.TheVariants as fault
-use Rattle.journal_protocol.specs.declared.message.Message.{Message}
-use Rattle.journal_protocol.specs.declared.message.Message.TheVariants as message
-use Rattle.journal_protocol.specs.declared.message.RawMessage.{RawMessage}
-use Rattle.journal_protocol.specs.declared.notification.NotificationResult.{NotificationResult}
-use Rattle.journal_protocol.specs.declared.state.SetStateCommand.{SetStateCommand}
-use Rattle.journal_protocol.specs.declared.state.GetEagerStateCommand.{GetEagerStateCommand}
-use Rattle.journal_protocol.specs.declared.state.GetEagerStateKeysCommand.{GetEagerStateKeysCommand}
-use Rattle.journal_protocol.specs.declared.state.VoidOrValue.{VoidOrValue}
-use Rattle.journal_protocol.specs.declared.state.VoidOrValue.TheVariants as stands
-use Rattle.journal_protocol.specs.declared.types.MessageType.{MessageType}
-use Rattle.journal_protocol.specs.declared.types.MessageType.TheVariants as type
-use Rattle.journal_protocol.specs.Encoding.{get_eager_state, set_state, void_or_value}
-use Rattle.journal_protocol.specs.HeaderEqual.{header_equal}
-use Rattle.journal_protocol.specs.Message.{body, type_of}
-use Rattle.journal_protocol.specs.Reading.{message_in}
-use Rattle.journal_protocol.specs.Types.{type_number}
-use Rattle.journal_protocol.specs.Runs.{IsWhole}
-use Rattle.journal_protocol.proofs.Alone.{read_back}
-use Rattle.journal_protocol.proofs.Reading.{message_is}
+use Rattle.journal_errors.specs.declared.faults.NamedFault.TheVariants as fault
+use Rattle.journal_messages.specs.declared.message.Message.{Message}
+use Rattle.journal_messages.specs.declared.message.Message.TheVariants as message
+use Rattle.journal_messages.specs.declared.message.RawMessage.{RawMessage}
+use Rattle.journal_values.specs.declared.notification.NotificationResult.{NotificationResult}
+use Rattle.journal_state.specs.declared.state.SetStateCommand.{SetStateCommand}
+use Rattle.journal_state.specs.declared.state.GetEagerStateCommand.{GetEagerStateCommand}
+use Rattle.journal_state.specs.declared.state.GetEagerStateKeysCommand.{GetEagerStateKeysCommand}
+use Rattle.journal_state.specs.declared.state.VoidOrValue.{VoidOrValue}
+use Rattle.journal_state.specs.declared.state.VoidOrValue.TheVariants as stands
+use Rattle.journal_errors.specs.declared.types.MessageType.{MessageType}
+use Rattle.journal_errors.specs.declared.types.MessageType.TheVariants as type
+use Rattle.journal_state.specs.Encoding.{get_eager_state, set_state, void_or_value}
+use Rattle.journal_equality.specs.HeaderEqual.{header_equal}
+use Rattle.journal_messages.specs.Message.{body, type_of}
+use Rattle.journal_messages.specs.Reading.{message_in}
+use Rattle.journal_errors.specs.Types.{type_number}
+use Rattle.journal_messages.specs.Message.{IsWhole}
+use Rattle.journal_streams.proofs.Alone.{read_back}
+use Rattle.journal_messages.proofs.Reading.{message_is}
 use Rattle.wire.specs.Format.{bytes, option, u64s}
 use Rattle.vm_parts.specs.declared.context.Known.{Known}
 use Rattle.vm_parts.specs.declared.context.Known.TheVariants.{Unknown, Empty, Value}

@@ -1,13 +1,13 @@
 -- What comes of each step of a handler, from what is known so far: one row a kind of what steps ask for.
 use Rattle.std.specs.Prelude.{ℕ, ◌+◌, ◌==◌, Bool, true, false, cond, List, [], ◌∷◌, ◌++◌, Option, Some, None}
-use Rattle.journal_protocol.specs.declared.faults.NamedFault.{NamedFault}
-use Rattle.journal_protocol.specs.declared.faults.NamedFault.TheVariants as fault
-use Rattle.journal_protocol.specs.declared.message.Message.{Message}
-use Rattle.journal_protocol.specs.declared.notification.Notification.{Notification}
-use Rattle.journal_protocol.specs.declared.notification.NotificationId.{NotificationId}
-use Rattle.journal_protocol.specs.declared.notification.NotificationId.TheVariants.{SignalId, SignalName}
-use Rattle.journal_protocol.specs.declared.notification.NotificationResult.{NotificationResult}
-use Rattle.journal_protocol.specs.declared.version.Version.{Version}
+use Rattle.journal_errors.specs.declared.faults.NamedFault.{NamedFault}
+use Rattle.journal_errors.specs.declared.faults.NamedFault.TheVariants as fault
+use Rattle.journal_messages.specs.declared.message.Message.{Message}
+use Rattle.journal_values.specs.declared.notification.Notification.{Notification}
+use Rattle.journal_values.specs.declared.notification.NotificationId.{NotificationId}
+use Rattle.journal_values.specs.declared.notification.NotificationId.TheVariants.{SignalId, SignalName}
+use Rattle.journal_values.specs.declared.notification.NotificationResult.{NotificationResult}
+use Rattle.journal_errors.specs.declared.version.Version.{Version}
 use Rattle.vm_parts.specs.declared.async_results.Mapping.{Mapping}
 use Rattle.vm_parts.specs.declared.context.Counters.{Counters}
 use Rattle.vm_parts.specs.declared.context.StartInfo.{StartInfo}

@@ -1,10 +1,10 @@
 //! Laws of awaits and takes.
 ghost use Rattle.std.specs.Prelude.{◌≡◌, ◌∷◌, ◌++◌, [], List, ℕ, Some, drop, false, take};
-ghost use Rattle.journal_protocol.specs.declared.commands.InputCommand.{InputCommand};
-ghost use Rattle.journal_protocol.specs.declared.message.RawMessage.{RawMessage};
-ghost use Rattle.journal_protocol.specs.declared.notification.Notification.{Notification};
-ghost use Rattle.journal_protocol.specs.declared.notification.NotificationId.{NotificationId};
-ghost use Rattle.journal_protocol.specs.declared.notification.NotificationId.TheVariants.{CompletionId};
+ghost use Rattle.journal_attempt.specs.declared.commands.InputCommand.{InputCommand};
+ghost use Rattle.journal_messages.specs.declared.message.RawMessage.{RawMessage};
+ghost use Rattle.journal_values.specs.declared.notification.Notification.{Notification};
+ghost use Rattle.journal_values.specs.declared.notification.NotificationId.{NotificationId};
+ghost use Rattle.journal_values.specs.declared.notification.NotificationId.TheVariants.{CompletionId};
 ghost use Rattle.vm_parts.specs.declared.options.SignalDelivery.{SignalDelivery};
 ghost use Rattle.vm_parts.specs.declared.steps.Answer.{Answer};
 ghost use Rattle.vm_parts.specs.declared.steps.Step.TheVariants as step;

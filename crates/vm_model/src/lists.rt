@@ -1,9 +1,9 @@
 //! Laws of what a run used of its journal, and of what its handles stand for.
 ghost use Rattle.std.specs.Prelude.{◌≡◌, ◌⊎◌, ◌+◌, ◌++◌, List, ℕ, Some};
-ghost use Rattle.journal_protocol.specs.declared.commands.InputCommand.{InputCommand};
-ghost use Rattle.journal_protocol.specs.declared.message.RawMessage.{RawMessage};
-ghost use Rattle.journal_protocol.specs.declared.notification.Notification.{Notification};
-ghost use Rattle.journal_protocol.specs.declared.notification.NotificationId.{NotificationId};
+ghost use Rattle.journal_attempt.specs.declared.commands.InputCommand.{InputCommand};
+ghost use Rattle.journal_messages.specs.declared.message.RawMessage.{RawMessage};
+ghost use Rattle.journal_values.specs.declared.notification.Notification.{Notification};
+ghost use Rattle.journal_values.specs.declared.notification.NotificationId.{NotificationId};
 ghost use Rattle.vm_parts.specs.Deliveries.{id_at};
 ghost use Rattle.vm_model.specs.Calls.{Setup, Meaning};
 ghost use Rattle.vm_model.specs.Moves.{Point, after, start};

@@ -1,12 +1,12 @@
 //! Laws of one attempt: what a journal tells of it.
 ghost use Rattle.std.specs.Prelude.{◌≡◌, ◌⊎◌, ◌∷◌, ◌++◌, Bool, List, [], ℕ, Some, None, Ok};
-ghost use Rattle.journal_protocol.specs.declared.commands.InputCommand.{InputCommand};
-ghost use Rattle.journal_protocol.specs.declared.message.RawMessage.{RawMessage};
-ghost use Rattle.journal_protocol.specs.declared.notification.Notification.{Notification};
-ghost use Rattle.journal_protocol.specs.declared.faults.NamedFault.{NamedFault};
+ghost use Rattle.journal_attempt.specs.declared.commands.InputCommand.{InputCommand};
+ghost use Rattle.journal_messages.specs.declared.message.RawMessage.{RawMessage};
+ghost use Rattle.journal_values.specs.declared.notification.Notification.{Notification};
+ghost use Rattle.journal_errors.specs.declared.faults.NamedFault.{NamedFault};
 ghost use Rattle.vm_parts.specs.declared.context.StateMap.{StateMap};
-ghost use Rattle.journal_protocol.specs.declared.message.Message.{Message};
-ghost use Rattle.journal_protocol.specs.Runs.{IsWhole};
+ghost use Rattle.journal_messages.specs.declared.message.Message.{Message};
+ghost use Rattle.journal_messages.specs.Message.{IsWhole};
 ghost use Rattle.vm_machine.specs.declared.reads.StateRead.{StateRead};
 ghost use Rattle.vm_machine.specs.Reads.{own_form, own_result, result_in};
 ghost use Rattle.vm_model.specs.Calls.Demand.{Exactly, Reads};

@@ -4,9 +4,9 @@ use Rattle.std.proofs.lemmas.List.{take_more, append-nil}
 use Rattle.std.specs.Prelude.{IfOk}
 use Rattle.std.specs.List.{concat, flat_map, AllByRecursion}
 use Rattle.std.specs.declared.alloc.AllocError.{AllocError}
-use Rattle.journal_protocol.specs.declared.message.Message.{Message}
-use Rattle.journal_protocol.specs.Message.{encoding}
-use Rattle.journal_protocol.specs.Runs.{IsWhole}
+use Rattle.journal_messages.specs.declared.message.Message.{Message}
+use Rattle.journal_messages.specs.Message.{encoding}
+use Rattle.journal_messages.specs.Message.{IsWhole}
 use Rattle.vm_parts.specs.Outboxes.{WholeFrames, WholeStream, Keeps, len_of}
 
 pub all_whole : (ms ns : List Message) → AllByRecursion IsWhole ms → AllByRecursion IsWhole ns → AllByRecursion IsWhole (ms ++ ns)

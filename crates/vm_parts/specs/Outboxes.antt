@@ -1,9 +1,9 @@
 -- Frames that are written.
 use Rattle.std.specs.Prelude.{◌≡◌, ℕ, ◌-◌, ◌^◌, List, length, map, min}
 use Rattle.std.specs.List.{concat, flat_map, AllByRecursion}
-use Rattle.journal_protocol.specs.declared.message.Message.{Message}
-use Rattle.journal_protocol.specs.Message.{encoding}
-use Rattle.journal_protocol.specs.Runs.{IsWhole}
+use Rattle.journal_messages.specs.declared.message.Message.{Message}
+use Rattle.journal_messages.specs.Message.{encoding}
+use Rattle.journal_messages.specs.Message.{IsWhole}
 
 -- these are the frames of messages, each of which can be read back
 pub record WholeFrames (frames : List (List ℕ)) : Type 0 where

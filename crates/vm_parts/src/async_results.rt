@@ -9,7 +9,7 @@ use crate::handles::Handles;
 use crate::options::SignalDelivery;
 use crate::types::NotificationHandle;
 use arrivals::{Arrivals, EagerResults};
-use journal_protocol::{Notification, NotificationId, NotificationResult};
+use journal_values::{Notification, NotificationId, NotificationResult};
 use std::alloc::{AllocError, Global};
 use std::marker::Model;
 use wire::copy_of;

@@ -2,7 +2,7 @@
 ghost use Rattle.std.specs.Prelude.{◌≡◌, Some};
 ghost use Rattle.vm_parts.specs.CommandTypes.{message_type, command_text};
 
-use journal_protocol::MessageType;
+use journal_errors::MessageType;
 use std::fmt;
 use wire::Text;
 

@@ -10,7 +10,7 @@ ghost use Rattle.vm_parts.specs.Counting.{fresh_counters, next_index, missing, m
 
 use crate::entries::Entries;
 use bytes::Bytes;
-use journal_protocol::{MessageType, NamedFault};
+use journal_errors::{MessageType, NamedFault};
 use std::alloc::{AllocError, Global};
 use wire::{Items, Text, copy_of};
 

@@ -21,7 +21,7 @@ pub use command_type::{CommandRelationship, CommandType};
 pub use context::{Counters, Known, LastCommand, StartInfo, StateCoverage, StateMap};
 pub use entries::Entries;
 pub use ephemeral::EphemeralCommand;
-pub use journal_protocol::InvocationTarget as AttachInvocationTarget;
+pub use journal_calls::InvocationTarget as AttachInvocationTarget;
 pub use options::{
     AwaitingOnPolicy, ImplicitCancellationOption, JournalMismatchRetryBehavior, JournalReplay,
     NonDeterministicChecksOption, PayloadOptions, SignalDelivery, VMOptions,
@@ -37,4 +37,4 @@ pub use types::{
 pub use values::{Input, NonEmptyValue, ResponseHead, Target, TerminalFailure, Value};
 
 /// What a call of the VM answers.
-pub type VMResult<T> = Result<T, journal_protocol::Error>;
+pub type VMResult<T> = Result<T, journal_errors::Error>;

@@ -1,7 +1,7 @@
 //! Runs that wait for their result, proposals that wait for their acknowledgement, and calls whose invocation is
 //! cancelled with the handler's.
 
-use journal_protocol::ValueOrFailure;
+use journal_values::ValueOrFailure;
 use wire::Text;
 
 /// Whether the handler's runner was told to execute a run.

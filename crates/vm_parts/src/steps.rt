@@ -4,7 +4,7 @@ use crate::options::PayloadOptions;
 use crate::types::{AwakeableHandle, CallHandle, NotificationHandle, SendHandle, UnresolvedFuture};
 use crate::values::{Input, NonEmptyValue, Target, Value};
 use bytes::Bytes;
-use journal_protocol::InvocationTarget;
+use journal_calls::InvocationTarget;
 use std::time::Duration;
 use wire::Text;
 

@@ -1,6 +1,6 @@
 -- A step that was asked for and made, in the words of the record.
 use Rattle.std.proofs.Common.{◌≡◌, inr, List, [], Option, Result, Ok, Err, refl, ap, ◌∙◌, subst}
-use Rattle.journal_protocol.specs.declared.error.Error.{Error}
+use Rattle.journal_errors.specs.declared.error.Error.{Error}
 use Rattle.vm_parts.specs.declared.steps.Answer.{Answer}
 use Rattle.vm_parts.specs.declared.steps.Step.{Step}
 use Rattle.vm_parts.specs.declared.types.UnresolvedFuture.{UnresolvedFuture}

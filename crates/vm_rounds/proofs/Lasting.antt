@@ -3,16 +3,16 @@ use Rattle.vm_model.specs.Histories.{Handed}
 use Rattle.std.proofs.Common.{◌≡◌, ℕ, Bool, true, false, List, [], ◌∷◌, ◌++◌, Option, Some, None, refl, sym, ap, ◌∙◌, subst, inl, inr, ⊎_elim}
 use Rattle.std.specs.Prelude.{IsSome, ◌==◌}
 use Rattle.std.specs.List.{concat}
-use Rattle.journal_protocol.specs.declared.error.Error.{Error}
-use Rattle.journal_protocol.specs.declared.message.RawMessage.{RawMessage}
-use Rattle.journal_protocol.specs.declared.version.Version.{Version}
+use Rattle.journal_errors.specs.declared.error.Error.{Error}
+use Rattle.journal_messages.specs.declared.message.RawMessage.{RawMessage}
+use Rattle.journal_errors.specs.declared.version.Version.{Version}
 use Rattle.vm_parts.specs.declared.options.VMOptions.{VMOptions}
 use Rattle.vm_parts.specs.declared.steps.Answer.{Answer}
 use Rattle.vm_parts.specs.declared.types.UnresolvedFuture.{UnresolvedFuture}
 use Rattle.vm_machine.specs.declared.machine.Machine.{Machine}
 use Rattle.vm_machine.specs.declared.phase.Phase.{Phase}
 use Rattle.vm_machine.specs.declared.phase.Phase.TheVariants.{WaitingStart, WaitingReplayEntries, Replaying, Processing, Closed}
-use Rattle.journal_protocol.specs.Types.{type_number}
+use Rattle.journal_errors.specs.Types.{type_number}
 use Rattle.vm_model.specs.Moves.{Point, later}
 use Rattle.vm_machine.specs.Inputs.{queued}
 use Rattle.vm_machine.specs.Outcomes.{settled, ruled}
@@ -31,10 +31,10 @@ use Rattle.vm_rounds.proofs.Arriving.{failed_stays}
 use Rattle.vm_rounds.proofs.Entries.{message_by, receives_by}
 use Rattle.vm_rounds.proofs.Pieces.{journal_to, not_failed, run_to, running_fed, still_awaits, fed_frames, took_in}
 use Rattle.vm_rounds.proofs.Quiet.{input_quiet, wrote_quiet}
-use Rattle.journal_protocol.specs.declared.faults.NamedFault.{NamedFault}
-use Rattle.journal_protocol.specs.declared.notification.Notification.{Notification}
-use Rattle.journal_protocol.specs.Errors.{named_error}
-use Rattle.journal_protocol.specs.Reading.{notification_in}
+use Rattle.journal_errors.specs.declared.faults.NamedFault.{NamedFault}
+use Rattle.journal_values.specs.declared.notification.Notification.{Notification}
+use Rattle.journal_errors.specs.Errors.{named_error}
+use Rattle.journal_messages.specs.Reading.{notification_in}
 use Rattle.vm_rounds.specs.Blames.{FailsAt, frame_fault}
 use Rattle.vm_rounds.proofs.Blaming.{frames_fit, one_comes}
 use Rattle.vm_rounds.proofs.Kept.{Lasts, Reading, not_live}

@@ -2,15 +2,15 @@
 use Rattle.std.proofs.Common.{◌≡◌, ℕ, true, false, ◌&&◌, refl, ap, ◌∙◌}
 use Rattle.std.specs.Prelude.{◌==◌, nat_le, nat_lt, if◌then◌else◌}
 use Rattle.std.proofs.lemmas.Bool.{eq-eqb}
-use Rattle.journal_protocol.specs.Commands.{IsCommand}
-use Rattle.journal_protocol.specs.Message.{body, type_of}
-use Rattle.journal_protocol.specs.Reading.{message_in}
-use Rattle.journal_protocol.specs.Runs.{IsWhole}
-use Rattle.journal_protocol.specs.Types.{type_number}
-use Rattle.journal_protocol.proofs.Alone.{read_back}
-use Rattle.journal_protocol.proofs.SameHeader.{same_header}
-use Rattle.journal_protocol.specs.declared.message.Message.{Message}
-use Rattle.journal_protocol.specs.declared.version.Version.{Version}
+use Rattle.journal_messages.specs.Commands.{IsCommand}
+use Rattle.journal_messages.specs.Message.{body, type_of}
+use Rattle.journal_messages.specs.Reading.{message_in}
+use Rattle.journal_messages.specs.Message.{IsWhole}
+use Rattle.journal_errors.specs.Types.{type_number}
+use Rattle.journal_streams.proofs.Alone.{read_back}
+use Rattle.journal_equality.proofs.SameHeader.{same_header}
+use Rattle.journal_messages.specs.declared.message.Message.{Message}
+use Rattle.journal_errors.specs.declared.version.Version.{Version}
 use Rattle.vm_parts.specs.declared.steps.Step.{Step}
 use Rattle.vm_parts.specs.declared.steps.Step.TheVariants as step
 use Rattle.vm_machine.specs.declared.asks.Ask.{Ask}

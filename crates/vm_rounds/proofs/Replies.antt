@@ -1,9 +1,9 @@
 -- What a call does, with its answer as a reply.
 use Rattle.std.proofs.Common.{inl, inr, Result, Ok, Err, refl}
 use Rattle.std.specs.Prelude.{OnOk}
-use Rattle.journal_protocol.specs.declared.error.Error.{Error}
+use Rattle.journal_errors.specs.declared.error.Error.{Error}
 use Rattle.vm_machine.specs.declared.machine.Machine.{Machine}
-use Rattle.journal_protocol.specs.declared.message.Message.{Message}
+use Rattle.journal_messages.specs.declared.message.Message.{Message}
 use Rattle.vm_machine.specs.Commands.{CanBeRead}
 use Rattle.vm_machine.specs.declared.reads.StateRead.{StateRead}
 use Rattle.vm_machine.specs.Reads.{ReadCanBeRead}

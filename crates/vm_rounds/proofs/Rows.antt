@@ -4,23 +4,24 @@ use Rattle.vm_parts.specs.declared.context.StateMap.{StateMap}
 use Rattle.std.proofs.Common.{◌≡◌, ℕ, false, List, [], ◌∷◌, ◌++◌, Option, Some, None, refl, ◌∙◌, append-nil, lit<}
 use Rattle.std.specs.Prelude.{codes}
 use Rattle.std.specs.List.{flat_map}
-use Rattle.journal_protocol.specs.declared.commands.InputCommand.{InputCommand}
-use Rattle.journal_protocol.specs.declared.message.Message.{Message}
-use Rattle.journal_protocol.specs.declared.message.Message.TheVariants as message
-use Rattle.journal_protocol.specs.declared.notification.Notification.{Notification}
-use Rattle.journal_protocol.specs.declared.notification.NotificationId.TheVariants.{CompletionId}
-use Rattle.journal_protocol.specs.declared.notification.NotificationResult.TheVariants as came
-use Rattle.journal_protocol.specs.declared.start.Start.{Start}
-use Rattle.journal_protocol.specs.declared.version.Version.TheVariants.{V7}
-use Rattle.journal_protocol.specs.Encoding.{input as input_body, notification, sleep, start}
-use Rattle.journal_protocol.specs.Runs.{IsWhole}
+use Rattle.journal_attempt.specs.declared.commands.InputCommand.{InputCommand}
+use Rattle.journal_messages.specs.declared.message.Message.{Message}
+use Rattle.journal_messages.specs.declared.message.Message.TheVariants as message
+use Rattle.journal_values.specs.declared.notification.Notification.{Notification}
+use Rattle.journal_values.specs.declared.notification.NotificationId.TheVariants.{CompletionId}
+use Rattle.journal_values.specs.declared.notification.NotificationResult.TheVariants as came
+use Rattle.journal_attempt.specs.declared.start.Start.{Start}
+use Rattle.journal_errors.specs.declared.version.Version.TheVariants.{V7}
+use Rattle.journal_attempt.specs.Encoding.{input as input_body, sleep, start}
+use Rattle.journal_values.specs.Encoding.{notification}
+use Rattle.journal_messages.specs.Message.{IsWhole}
 use Rattle.wire.specs.Format.{bytes, flag, list, option, read_byte, read_bytes, read_pair, read_text, read_u16, read_u32, read_u64, u16s, u32s, u64s}
 use Rattle.vm_parts.specs.declared.steps.Step.TheVariants as step
 use Rattle.vm_parts.specs.Options.{default_options}
-use Rattle.journal_protocol.specs.Bodies.{input_format}
-use Rattle.journal_protocol.specs.HeaderEqual.{header_equal}
-use Rattle.journal_protocol.specs.Parts.{read_value}
-use Rattle.journal_protocol.specs.Reading.{body_as, input_in, message_in}
+use Rattle.journal_attempt.specs.Bodies.{input_format}
+use Rattle.journal_equality.specs.HeaderEqual.{header_equal}
+use Rattle.journal_values.specs.Parts.{read_value}
+use Rattle.journal_messages.specs.Reading.{body_as, input_in, message_in}
 use Rattle.std.specs.Str.{chars, is_utf8}
 use Rattle.wire.proofs.Read.{all_read}
 use Rattle.vm_model.specs.Calls.{Meaning, Setup}

@@ -4,15 +4,15 @@ use Rattle.std.specs.List.{AllByRecursion, concat, flat_map}
 use Rattle.std.proofs.lemmas.Grind.{flat_map-append}
 use Rattle.std.proofs.lemmas.List.Folds.{concat-append}
 use Rattle.wire.specs.Format.{bytes, u16s, u64s}
-use Rattle.journal_protocol.specs.declared.message.Message.{Message}
-use Rattle.journal_protocol.specs.declared.message.RawMessage.{RawMessage}
-use Rattle.journal_protocol.specs.declared.types.MessageType.{MessageType}
-use Rattle.journal_protocol.specs.declared.version.Version.{Version}
-use Rattle.journal_protocol.specs.Frames.{NextFrame, Whole, next_of}
-use Rattle.journal_protocol.specs.Message.{body, encoding, frame, type_of}
-use Rattle.journal_protocol.specs.Runs.{IsWhole}
-use Rattle.journal_protocol.specs.Types.{type_number}
-use Rattle.journal_protocol.proofs.Cuts.{whole_spelled}
+use Rattle.journal_messages.specs.declared.message.Message.{Message}
+use Rattle.journal_messages.specs.declared.message.RawMessage.{RawMessage}
+use Rattle.journal_errors.specs.declared.types.MessageType.{MessageType}
+use Rattle.journal_errors.specs.declared.version.Version.{Version}
+use Rattle.journal_streams.specs.Frames.{NextFrame, Whole, next_of}
+use Rattle.journal_messages.specs.Message.{body, encoding, frame, type_of}
+use Rattle.journal_messages.specs.Message.{IsWhole}
+use Rattle.journal_errors.specs.Types.{type_number}
+use Rattle.journal_streams.proofs.Cuts.{whole_spelled}
 use Rattle.vm_parts.specs.declared.options.VMOptions.{VMOptions}
 use Rattle.vm_parts.specs.Outboxes.{WholeFrames, WholeStream}
 use Rattle.vm_parts.proofs.Outboxes.{all_whole, bytes_of}

@@ -1,14 +1,14 @@
 -- When the machine of an attempt agrees with a point of the handler's run, and what a call then does.
 use Rattle.std.specs.Prelude.{◌≡◌, ◌⊎◌, ℕ, Bool, true, false, List, [], ◌∷◌, ◌++◌, map, Option, Some, None}
 use Rattle.std.proofs.Common.{Global}
-use Rattle.journal_protocol.specs.declared.control.Suspension.{Suspension}
-use Rattle.journal_protocol.specs.declared.error.Error.{Error}
-use Rattle.journal_protocol.specs.declared.error.RelatedCommand.{RelatedCommand}
-use Rattle.journal_protocol.specs.declared.faults.NamedFault.{NamedFault}
-use Rattle.journal_protocol.specs.declared.message.Message.TheVariants as message
-use Rattle.journal_protocol.specs.declared.message.RawMessage.{RawMessage}
-use Rattle.journal_protocol.specs.Errors.{error_message, named_error}
-use Rattle.journal_protocol.specs.Message.{encoding, frame}
+use Rattle.journal_attempt.specs.declared.control.Suspension.{Suspension}
+use Rattle.journal_errors.specs.declared.error.Error.{Error}
+use Rattle.journal_errors.specs.declared.error.RelatedCommand.{RelatedCommand}
+use Rattle.journal_errors.specs.declared.faults.NamedFault.{NamedFault}
+use Rattle.journal_messages.specs.declared.message.Message.TheVariants as message
+use Rattle.journal_messages.specs.declared.message.RawMessage.{RawMessage}
+use Rattle.journal_errors.specs.Errors.{error_message, named_error}
+use Rattle.journal_messages.specs.Message.{encoding, frame}
 use Rattle.vm_parts.specs.declared.context.LastCommand.{LastCommand}
 use Rattle.vm_parts.specs.declared.context.StartInfo.{StartInfo}
 use Rattle.vm_parts.specs.declared.context.StateMap.{StateMap}

@@ -1,13 +1,13 @@
 -- What an honest runtime feeds to an attempt.
 use Rattle.std.specs.Prelude.{◌≡◌, ℕ, ◌<◌, ◌^◌, true, length, List, ◌∷◌, ◌++◌, map, Option, Some}
 use Rattle.std.specs.List.{AllByRecursion, flat_map}
-use Rattle.journal_protocol.specs.declared.message.Message.TheVariants as message
-use Rattle.journal_protocol.specs.declared.message.RawMessage.{RawMessage}
-use Rattle.journal_protocol.specs.declared.notification.Notification.{Notification}
-use Rattle.journal_protocol.specs.declared.start.Start.{Start}
-use Rattle.journal_protocol.specs.declared.version.Version.{Version}
-use Rattle.journal_protocol.specs.Message.{frame}
-use Rattle.journal_protocol.specs.Runs.{IsWhole}
+use Rattle.journal_messages.specs.declared.message.Message.TheVariants as message
+use Rattle.journal_messages.specs.declared.message.RawMessage.{RawMessage}
+use Rattle.journal_values.specs.declared.notification.Notification.{Notification}
+use Rattle.journal_attempt.specs.declared.start.Start.{Start}
+use Rattle.journal_errors.specs.declared.version.Version.{Version}
+use Rattle.journal_messages.specs.Message.{frame}
+use Rattle.journal_messages.specs.Message.{IsWhole}
 use Rattle.vm_parts.specs.declared.context.StateMap.{StateMap}
 use Rattle.vm_parts.specs.declared.options.VMOptions.{VMOptions}
 use Rattle.vm_machine.specs.Inputs.{entries_in}

@@ -1,14 +1,14 @@
 -- The journal that an attempt was fed, and the machine that it makes of it.
 use Rattle.std.specs.Prelude.{◌≡◌, ◌⊎◌, ℕ, zero, suc, ◌+◌, Bool, true, false, ◌&&◌, ◌==◌, nat_le, nat_lt, cond, length, List, [], ◌∷◌, ◌++◌, Option, Some, None, IsSome}
 use Rattle.std.proofs.Common.{Global}
-use Rattle.journal_protocol.specs.declared.commands.InputCommand.{InputCommand}
-use Rattle.journal_protocol.specs.declared.message.RawMessage.{RawMessage}
-use Rattle.journal_protocol.specs.declared.notification.Notification.{Notification}
-use Rattle.journal_protocol.specs.declared.start.Start.{Start}
-use Rattle.journal_protocol.specs.declared.types.MessageType.TheVariants as type
-use Rattle.journal_protocol.specs.declared.version.Version.{Version}
-use Rattle.journal_protocol.specs.Reading.{notification_in, start_in}
-use Rattle.journal_protocol.specs.Types.{type_number}
+use Rattle.journal_attempt.specs.declared.commands.InputCommand.{InputCommand}
+use Rattle.journal_messages.specs.declared.message.RawMessage.{RawMessage}
+use Rattle.journal_values.specs.declared.notification.Notification.{Notification}
+use Rattle.journal_attempt.specs.declared.start.Start.{Start}
+use Rattle.journal_errors.specs.declared.types.MessageType.TheVariants as type
+use Rattle.journal_errors.specs.declared.version.Version.{Version}
+use Rattle.journal_messages.specs.Reading.{notification_in, start_in}
+use Rattle.journal_errors.specs.Types.{type_number}
 use Rattle.vm_parts.specs.declared.context.StateMap.{StateMap}
 use Rattle.vm_parts.specs.declared.options.VMOptions.{VMOptions}
 use Rattle.vm_parts.specs.declared.values.Input.{Input}

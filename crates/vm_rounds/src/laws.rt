@@ -1,14 +1,14 @@
 //! What an attempt's machine and a handler's run have to do with each other.
 ghost use Rattle.std.specs.Prelude.{◌≡◌, ◌⊎◌, ◌∷◌, ◌++◌, [], IsSome, List, None};
-ghost use Rattle.journal_protocol.specs.declared.message.RawMessage.{RawMessage};
-ghost use Rattle.journal_protocol.specs.declared.notification.Notification.{Notification};
+ghost use Rattle.journal_messages.specs.declared.message.RawMessage.{RawMessage};
+ghost use Rattle.journal_values.specs.declared.notification.Notification.{Notification};
 ghost use Rattle.vm_machine.specs.declared.machine.Machine.{Machine};
 ghost use Rattle.vm_machine.specs.declared.phase.Phase.TheVariants.{Replaying};
 ghost use Rattle.vm_machine.specs.Inputs.{input_step};
 ghost use Rattle.vm_machine.specs.Making.{fresh};
 ghost use Rattle.invocation_vm.specs.Making.{made};
 ghost use Rattle.std.proofs.Common.{Global};
-ghost use Rattle.journal_protocol.specs.declared.version.Version.{Version};
+ghost use Rattle.journal_errors.specs.declared.version.Version.{Version};
 ghost use Rattle.vm_parts.specs.declared.options.VMOptions.{VMOptions};
 ghost use Rattle.invocation_vm.specs.Views.{all_received};
 ghost use Rattle.vm_model.specs.Calls.{Setup, Meaning, identity_of};
@@ -25,7 +25,7 @@ ghost use Rattle.vm_rounds.specs.Steps.{performed, IfDone, ReadsBack};
 ghost use Rattle.vm_rounds.specs.Told.{AnswersAreTold, HasCome, IsKeptUnder, Premises, RefusesReplay, arrivals_of};
 ghost use Rattle.vm_rounds.specs.declared.progress.Progress.{Progress};
 ghost use Rattle.std.specs.Prelude.{Result};
-ghost use Rattle.journal_protocol.specs.declared.error.Error.{Error};
+ghost use Rattle.journal_errors.specs.declared.error.Error.{Error};
 ghost use Rattle.std.specs.declared.alloc.AllocError.{AllocError};
 ghost use Rattle.vm_rounds.specs.Stepping.{CloseDoes, FeedDoes, StepDoes, Takes, fresh_record};
 ghost use Rattle.vm_rounds.specs.declared.progress.Fed.{Fed};

@@ -4,8 +4,8 @@ use Rattle.std.proofs.Common.{◌≡◌, ◌<◌, ◌≤◌, ◌+◌, ◌⊎◌,
 use Rattle.std.specs.List.{concat}
 use Rattle.std.proofs.lemmas.List.Folds.{concat-append}
 use Rattle.std.proofs.lemmas.Bool.{cases_lt}
-use Rattle.journal_protocol.specs.declared.message.RawMessage.{RawMessage}
-use Rattle.journal_protocol.specs.declared.notification.Notification.{Notification}
+use Rattle.journal_messages.specs.declared.message.RawMessage.{RawMessage}
+use Rattle.journal_values.specs.declared.notification.Notification.{Notification}
 use Rattle.invocation_vm.specs.Frames.{Tail, frames_of}
 use Rattle.invocation_vm.proofs.Cuts.{frames_of-append}
 use Rattle.vm_model.specs.Calls.{Meaning}

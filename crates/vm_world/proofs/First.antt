@@ -1,13 +1,13 @@
 -- The journal of a new world.
 use Rattle.std.proofs.Common.{◌≡◌, ℕ, List, [], ◌∷◌, Option, Some, None, refl, sym, ap, subst, arith}
 use Rattle.std.specs.Prelude.{option_map}
-use Rattle.journal_protocol.specs.declared.commands.InputCommand.{InputCommand}
-use Rattle.journal_protocol.specs.declared.message.Message.TheVariants as message
-use Rattle.journal_protocol.specs.declared.types.MessageType.TheVariants as type
-use Rattle.journal_protocol.specs.Message.{encoding}
-use Rattle.journal_protocol.specs.Reading.{input_in, message_in}
-use Rattle.journal_protocol.specs.Runs.{IsWhole}
-use Rattle.journal_protocol.proofs.Alone.{read_back}
+use Rattle.journal_attempt.specs.declared.commands.InputCommand.{InputCommand}
+use Rattle.journal_messages.specs.declared.message.Message.TheVariants as message
+use Rattle.journal_errors.specs.declared.types.MessageType.TheVariants as type
+use Rattle.journal_messages.specs.Message.{encoding}
+use Rattle.journal_messages.specs.Reading.{input_in, message_in}
+use Rattle.journal_messages.specs.Message.{IsWhole}
+use Rattle.journal_streams.proofs.Alone.{read_back}
 use Rattle.vm_model.specs.Calls.{Meaning, Setup}
 use Rattle.vm_model.specs.Journal.{stored_form}
 use Rattle.vm_model.specs.Moves.{start}

@@ -3,13 +3,13 @@ use Rattle.std.proofs.Common.{◌≡◌, ℕ, ◌+◌, ◌<◌, ◌^◌, ◌&&�
 use Rattle.std.specs.Prelude.{◌==◌, nat_le, nat_lt}
 use Rattle.std.specs.List.{concat}
 use Rattle.std.proofs.lemmas.Bool.Decides.{nat_tests}
-use Rattle.journal_protocol.specs.declared.message.Message.{Message}
-use Rattle.journal_protocol.specs.declared.message.RawMessage.{RawMessage}
-use Rattle.journal_protocol.specs.declared.notification.Notification.{Notification}
-use Rattle.journal_protocol.specs.Frames.{NextFrame, Whole, Partial, Malformed, next_of}
-use Rattle.journal_protocol.specs.Reading.{message_in, notification_in}
-use Rattle.journal_protocol.specs.Types.{type_number}
-use Rattle.journal_protocol.proofs.Cuts.{whole_spelled}
+use Rattle.journal_messages.specs.declared.message.Message.{Message}
+use Rattle.journal_messages.specs.declared.message.RawMessage.{RawMessage}
+use Rattle.journal_values.specs.declared.notification.Notification.{Notification}
+use Rattle.journal_streams.specs.Frames.{NextFrame, Whole, Partial, Malformed, next_of}
+use Rattle.journal_messages.specs.Reading.{message_in, notification_in}
+use Rattle.journal_errors.specs.Types.{type_number}
+use Rattle.journal_streams.proofs.Cuts.{whole_spelled}
 use Rattle.invocation_vm.specs.Frames.{Tail, Rest, Garbage, frames_from, frames_of, joined}
 use Rattle.invocation_vm.proofs.Cuts.{frames_of-append, frames_of-next}
 use Rattle.vm_model.specs.Journal.{Entry, messages_in, read_before}

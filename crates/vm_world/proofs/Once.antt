@@ -2,10 +2,10 @@
 use Rattle.std.proofs.Common.{◌≡◌, ◌≢◌, ℕ, Bool, true, false, ◌||◌, List, [], ◌∷◌, ◌++◌, refl, sym, ap, ◌∙◌, arith}
 use Rattle.std.specs.Prelude.{◌==◌, Option, Some, None, length, if◌then◌else◌}
 use Rattle.std.proofs.lemmas.Bool.Decides.{nat_tests}
-use Rattle.journal_protocol.specs.declared.notification.Notification.{Notification}
-use Rattle.journal_protocol.specs.declared.notification.NotificationId.{NotificationId}
-use Rattle.journal_protocol.specs.declared.notification.NotificationId.TheVariants.{CompletionId, SignalId, SignalName}
-use Rattle.journal_protocol.specs.declared.notification.NotificationResult.{NotificationResult}
+use Rattle.journal_values.specs.declared.notification.Notification.{Notification}
+use Rattle.journal_values.specs.declared.notification.NotificationId.{NotificationId}
+use Rattle.journal_values.specs.declared.notification.NotificationId.TheVariants.{CompletionId, SignalId, SignalName}
+use Rattle.journal_values.specs.declared.notification.NotificationResult.{NotificationResult}
 use Rattle.vm_rounds.specs.Told.{CompleteOnce, HasNoOther, IsAbsent}
 use Rattle.vm_world.specs.declared.completions.Completes.{Completes}
 use Rattle.vm_world.specs.declared.completions.Completes.TheVariants as completes

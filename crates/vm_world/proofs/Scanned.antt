@@ -3,9 +3,9 @@ use Rattle.std.proofs.Common.{◌≡◌, ◌≢◌, ℕ, zero, suc, ◌+◌, ◌
 use Rattle.std.specs.Prelude.{if◌then◌else◌, is_some}
 use Rattle.std.proofs.lemmas.List.{length-map, take_all, map-append}
 use Rattle.std.proofs.Math.Seq.{take-append_seam}
-use Rattle.journal_protocol.specs.declared.message.RawMessage.{RawMessage}
-use Rattle.journal_protocol.specs.Frames.{Whole, Partial, Malformed, next_of}
-use Rattle.journal_protocol.proofs.Cuts.{whole_shorter}
+use Rattle.journal_messages.specs.declared.message.RawMessage.{RawMessage}
+use Rattle.journal_streams.specs.Frames.{Whole, Partial, Malformed, next_of}
+use Rattle.journal_streams.proofs.Cuts.{whole_shorter}
 use Rattle.invocation_vm.specs.Frames.{Tail, frames_from, frames_of}
 use Rattle.invocation_vm.proofs.Cuts.{frames_of-next}
 use Rattle.vm_rounds.specs.Journals.{commands_among, is_command}

@@ -1,8 +1,8 @@
 -- The course of a round's attempt: what was delivered to it behind its journal and what it wrote, in the order in which this happened.
 use Rattle.std.specs.Prelude.{ℕ, List, [], ◌∷◌, ◌++◌, length, map, drop}
 use Rattle.std.proofs.Common.{inl, inr}
-use Rattle.journal_protocol.specs.declared.notification.Notification.{Notification}
-use Rattle.journal_protocol.specs.declared.start.Start.{Start}
+use Rattle.journal_values.specs.declared.notification.Notification.{Notification}
+use Rattle.journal_attempt.specs.declared.start.Start.{Start}
 use Rattle.vm_machine.specs.Inputs.{coverage_of}
 use Rattle.vm_parts.specs.declared.context.StateMap.{StateMap}
 use Rattle.vm_parts.specs.Entries.{entries_of as state_entries}

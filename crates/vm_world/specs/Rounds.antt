@@ -3,11 +3,11 @@ use Rattle.std.specs.Prelude.{◌≡◌, ◌⊎◌, ℕ, ◌+◌, ◌<◌, ◌�
 use Rattle.std.proofs.Common.{Global}
 use Rattle.std.specs.List.{AllByRecursion, concat}
 use Rattle.std.specs.declared.alloc.AllocError.{AllocError}
-use Rattle.journal_protocol.specs.declared.error.Error.{Error}
-use Rattle.journal_protocol.specs.declared.version.Version.{Version}
-use Rattle.journal_protocol.specs.Errors.{no_memory}
-use Rattle.journal_protocol.specs.Message.{encoding}
-use Rattle.journal_protocol.specs.Runs.{IsWhole}
+use Rattle.journal_errors.specs.declared.error.Error.{Error}
+use Rattle.journal_errors.specs.declared.version.Version.{Version}
+use Rattle.journal_errors.specs.Errors.{no_memory}
+use Rattle.journal_messages.specs.Message.{encoding}
+use Rattle.journal_messages.specs.Message.{IsWhole}
 use Rattle.vm_parts.specs.declared.options.JournalReplay.TheVariants.{Enabled}
 use Rattle.vm_parts.specs.declared.options.SignalDelivery.TheVariants.{Queued}
 use Rattle.vm_parts.specs.declared.options.VMOptions.{VMOptions}
@@ -17,8 +17,8 @@ use Rattle.vm_model.specs.Calls.{Meaning, Setup}
 use Rattle.vm_model.specs.Histories.{OneBegins, Told}
 use Rattle.vm_model.specs.Journal.{Entry, commands_in, input_read_from, notifications_in}
 use Rattle.vm_model.specs.Moves.{Point}
-use Rattle.journal_protocol.specs.declared.commands.InputCommand.{InputCommand}
-use Rattle.journal_protocol.specs.declared.message.RawMessage.{RawMessage}
+use Rattle.journal_attempt.specs.declared.commands.InputCommand.{InputCommand}
+use Rattle.journal_messages.specs.declared.message.RawMessage.{RawMessage}
 use Rattle.vm_rounds.specs.declared.progress.Progress.{Progress}
 use Rattle.vm_rounds.specs.Record.{Record}
 use Rattle.vm_rounds.specs.Told.{AnswersAreTold, Premises, arrivals_of, written_by}

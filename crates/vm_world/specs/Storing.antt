@@ -1,7 +1,7 @@
 -- How commands are stored: those among the frames that an attempt wrote, in order.
 use Rattle.std.specs.Prelude.{◌≡◌, ◌≢◌, ◌⊎◌, ℕ, ◌<◌, ◌≤◌, ◌^◌, Bool, true, false, List, [], ◌∷◌, ◌++◌, length, take, map, Option, Some, None}
-use Rattle.journal_protocol.specs.declared.message.RawMessage.{RawMessage}
-use Rattle.journal_protocol.specs.Frames.{Whole, Partial, Malformed, next_of}
+use Rattle.journal_messages.specs.declared.message.RawMessage.{RawMessage}
+use Rattle.journal_streams.specs.Frames.{Whole, Partial, Malformed, next_of}
 use Rattle.invocation_vm.specs.Frames.{frames_of}
 use Rattle.vm_rounds.specs.Journals.{commands_among, is_command}
 use Rattle.vm_world.specs.Arrivals.{most}

@@ -6,7 +6,7 @@ use crate::completions::{Completes, completes_in, is_completed};
 use crate::entry::note_in;
 use crate::types::RoundFault;
 use bytes::Bytes;
-use journal_protocol::{Notification, NotificationId, NotificationResult};
+use journal_values::{Notification, NotificationId, NotificationResult};
 use std::alloc::{AllocError, Global};
 
 fn is_invocation_id(brings: &NotificationResult) -> bool

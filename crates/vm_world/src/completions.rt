@@ -5,7 +5,8 @@ ghost use Rattle.vm_world.specs.Entries.{notes_in, said_in};
 
 use crate::entry::{note_in, said_at};
 use bytes::Bytes;
-use journal_protocol::{Message, NotificationId};
+use journal_messages::Message;
+use journal_values::NotificationId;
 use std::alloc::{AllocError, Global};
 
 /// What completes an id that a command carries.

@@ -10,7 +10,8 @@ use crate::arrival_faults::arrival_fault;
 use crate::storing::store_from;
 use crate::types::{Event, RoundFault};
 use bytes::{Bytes, BytesMut};
-use journal_protocol::{Decoder, Error, NamedFault};
+use journal_errors::{Error, NamedFault};
+use journal_streams::Decoder;
 use std::alloc::{AllocError, Global};
 use vm_rounds::{Attempt, Handler};
 

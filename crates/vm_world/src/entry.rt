@@ -4,7 +4,9 @@ ghost use Rattle.vm_rounds.specs.Journals.{is_command, is_notification};
 ghost use Rattle.vm_world.specs.Entries.{frame_in, frame_of, note_in, note_of, said_at, said_by};
 
 use bytes::Bytes;
-use journal_protocol::{Decoder, Message, Notification, RawMessage};
+use journal_messages::{Message, RawMessage};
+use journal_streams::Decoder;
+use journal_values::Notification;
 use std::alloc::{AllocError, Global};
 use wire::{Fault, Wire};
 

@@ -1,8 +1,8 @@
 //! One round: its attempt, and what happens to it.
 ghost use Rattle.std.specs.Prelude.{◌≡◌, ◌⊎◌, ◌≤◌, ◌∷◌, [], ◌++◌, length, IfOk, IfErr, OnOk};
 ghost use Rattle.std.specs.List.{concat};
-ghost use Rattle.journal_protocol.specs.Message.{encoding};
-ghost use Rattle.journal_protocol.specs.Runs.{IsWhole};
+ghost use Rattle.journal_messages.specs.Message.{encoding};
+ghost use Rattle.journal_messages.specs.Message.{IsWhole};
 ghost use Rattle.invocation_vm.specs.Making.{made, supported};
 ghost use Rattle.vm_rounds.specs.Stepping.{fresh_record};
 ghost use Rattle.vm_world.specs.Arrivals.{most};
@@ -18,7 +18,8 @@ use crate::handed::start_bytes;
 use crate::types::{Event, Report, Round, RoundFault, Setting};
 use bytes::{Bytes, BytesMut};
 use invocation_vm::VMResult;
-use journal_protocol::{Decoder, Error};
+use journal_errors::Error;
+use journal_streams::Decoder;
 use std::alloc::{AllocError, Global};
 use vm_rounds::{Attempt, Handler};
 

@@ -9,7 +9,8 @@ ghost use Rattle.vm_world.specs.declared.types.RoundFault.TheVariants as round_f
 use crate::entry::{frame_bytes, is_command};
 use crate::types::RoundFault;
 use bytes::Bytes;
-use journal_protocol::{Decoder, RawMessage};
+use journal_messages::RawMessage;
+use journal_streams::Decoder;
 use std::alloc::Global;
 use wire::Fault;
 

@@ -1,7 +1,7 @@
 //! What a world and its rounds are made of, and what rounds tell.
 
 use bytes::Bytes;
-use journal_protocol::{Error, Version};
+use journal_errors::{Error, Version};
 use vm_parts::{Answer, VMOptions};
 use wire::{Items, Text};
 

@@ -6,7 +6,7 @@ ghost use Rattle.vm_machine.specs.Requests.{changed};
 ghost use Rattle.vm_world.specs.States.{is_asked, is_listed, pairs_in};
 
 use bytes::Bytes;
-use journal_protocol::Message;
+use journal_messages::Message;
 use std::alloc::{AllocError, Global};
 use std::collections::BTreeMap;
 use std::marker::Model;

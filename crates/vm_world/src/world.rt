@@ -1,13 +1,15 @@
 //! `World`: whose invocation it is, and its journal.
 ghost use Rattle.std.specs.Prelude.{◌≡◌, [], ◌∷◌, IfOk, OnOk};
-ghost use Rattle.journal_protocol.specs.Message.{encoding};
-ghost use Rattle.journal_protocol.specs.Runs.{IsWhole};
-ghost use Rattle.journal_protocol.specs.declared.message.Message.TheVariants as message;
+ghost use Rattle.journal_messages.specs.Message.{encoding};
+ghost use Rattle.journal_messages.specs.Message.{IsWhole};
+ghost use Rattle.journal_messages.specs.declared.message.Message.TheVariants as message;
 ghost use Rattle.vm_world.specs.Worlds.{pairs_given};
 
 use crate::types::{Identity, RoundFault, Setting};
 use bytes::Bytes;
-use journal_protocol::{Encoder, InputCommand, Message, Version};
+use journal_attempt::InputCommand;
+use journal_errors::Version;
+use journal_messages::{Encoder, Message};
 use std::alloc::{AllocError, Global};
 use std::marker::Model;
 use vm_parts::VMOptions;

@@ -1,9 +1,10 @@
 //! The commands on other invocations, signals, promises, runs and time.
 use crate::forms::Form;
 use crate::value::{PrintsValues, TakesValues};
-use journal_protocol::{
+use journal_attempt::{RunCommand, SleepCommand};
+use journal_calls::{
     CallCommand, CallRequest, CompleteAwakeableCommand, CompletePromiseCommand, InvocationCommand,
-    OneWayCallCommand, PromiseCommand, RunCommand, SendSignalCommand, SleepCommand,
+    OneWayCallCommand, PromiseCommand, SendSignalCommand,
 };
 use lines::fields::Fields;
 use lines::line::Line;

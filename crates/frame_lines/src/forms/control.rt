@@ -1,9 +1,10 @@
 //! The messages that begin and end an attempt, and what it tells of itself.
 use crate::forms::Form;
 use crate::value::{PrintsValues, TakesValues};
-use journal_protocol::{
-    AwaitingOn, ErrorMessage, ProposeRunCompletion, ProposeRunCompletionAck, Start, Suspension,
+use journal_attempt::{
+    AwaitingOn, ProposeRunCompletion, ProposeRunCompletionAck, Start, Suspension,
 };
+use journal_errors::ErrorMessage;
 use lines::fields::Fields;
 use lines::line::Line;
 use std::alloc::AllocError;

@@ -1,7 +1,8 @@
 //! What comes in for an attempt, and the read whose result the journal doesn't keep.
 use crate::forms::Form;
 use crate::value::{PrintsValues, TakesValues};
-use journal_protocol::{GetStateEphemeralCommand, GetStateEphemeralNotification, Notification};
+use journal_state::{GetStateEphemeralCommand, GetStateEphemeralNotification};
+use journal_values::Notification;
 use lines::fields::Fields;
 use lines::line::Line;
 use std::alloc::AllocError;

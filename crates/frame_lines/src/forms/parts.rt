@@ -1,7 +1,8 @@
 //! What stands in a choice's brackets.
 use crate::forms::Form;
 use crate::value::{PrintsValues, TakesValues};
-use journal_protocol::{Failure, IdempotencyId, WorkflowId};
+use journal_calls::{IdempotencyId, WorkflowId};
+use journal_values::Failure;
 use lines::fields::Fields;
 use lines::line::Line;
 use std::alloc::AllocError;

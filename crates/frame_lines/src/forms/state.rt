@@ -1,9 +1,10 @@
 //! The commands on a handler's input, state and output.
 use crate::forms::Form;
 use crate::value::{PrintsValues, TakesValues};
-use journal_protocol::{
+use journal_attempt::{InputCommand, OutputCommand};
+use journal_state::{
     ClearAllStateCommand, ClearStateCommand, GetEagerStateCommand, GetEagerStateKeysCommand,
-    GetLazyStateCommand, GetLazyStateKeysCommand, InputCommand, OutputCommand, SetStateCommand,
+    GetLazyStateCommand, GetLazyStateKeysCommand, SetStateCommand,
 };
 use lines::fields::Fields;
 use lines::line::Line;

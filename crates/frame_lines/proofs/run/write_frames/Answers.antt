@@ -1,4 +1,4 @@
-use Rattle.journal_protocol.proofs.Streams.{frame_long}
+use Rattle.journal_streams.proofs.Streams.{frame_long}
 use Rattle.frame_lines.proofs.run.write_frames.Goals as goal
 
 pub loop-raw-smaller-in_ok-write_frame : goal.loop-raw-smaller-in_ok-write_frame

@@ -1,0 +1,4 @@
+pub mod Encoding
+pub mod Futures
+pub mod Bodies
+pub mod Same

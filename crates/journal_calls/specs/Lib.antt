@@ -1,0 +1,4 @@
+pub mod Encoding
+pub mod Choices
+pub mod Bodies
+pub mod Same

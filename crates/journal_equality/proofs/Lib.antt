@@ -1,0 +1,2 @@
+pub mod SameHeader
+pub mod Erased

@@ -1,0 +1,9 @@
+pub mod Types
+pub mod Faults
+pub mod Said
+pub mod Encoding
+pub mod Parts
+pub mod Bodies
+pub mod Same
+pub mod Errors
+pub mod Versions

@@ -1,0 +1,289 @@
+//! Messages as frames: writing one, and reading the body of one.
+ghost use Rattle.std.specs.Prelude.{◌≡◌, ◌++◌, IfOk, OnOk};
+ghost use Rattle.wire.specs.Reads.{Read};
+ghost use Rattle.journal_messages.specs.Reading.{body_as, start_in, input_in, notification_in, message_in};
+ghost use Rattle.journal_messages.specs.Message.{IsWhole};
+ghost use Rattle.journal_messages.specs.Message.{body, encoding, type_of, IsValid, DecodesTo, Decodes};
+
+use bytes::Bytes;
+use journal_attempt::{
+    AwaitingOn, InputCommand, OutputCommand, ProposeRunCompletion, ProposeRunCompletionAck,
+    RunCommand, SleepCommand, Start, Suspension,
+};
+use journal_calls::{
+    CallCommand, CompleteAwakeableCommand, CompletePromiseCommand, InvocationCommand,
+    OneWayCallCommand, PromiseCommand, SendSignalCommand,
+};
+use journal_errors::{Error, ErrorMessage, MessageType};
+use journal_state::{
+    ClearAllStateCommand, ClearStateCommand, GetEagerStateCommand, GetEagerStateKeysCommand,
+    GetLazyStateCommand, GetLazyStateKeysCommand, GetStateEphemeralCommand,
+    GetStateEphemeralNotification, SetStateCommand,
+};
+use journal_values::Notification;
+use std::alloc::{AllocError, Global};
+use wire::{Fault, Wire, whole};
+
+/// What the runtime and the attempt tell each other.
+#[derive(Debug, Drop)]
+pub enum Message {
+    Start(Start),
+    Suspension(Suspension),
+    Error(ErrorMessage),
+    End,
+    ProposeRunCompletion(ProposeRunCompletion),
+    ProposeRunCompletionAck(ProposeRunCompletionAck),
+    AwaitingOn(AwaitingOn),
+    GetStateEphemeralCommand(GetStateEphemeralCommand),
+    GetStateEphemeralNotification(GetStateEphemeralNotification),
+    Input(InputCommand),
+    GetEagerState(GetEagerStateCommand),
+    GetLazyState(GetLazyStateCommand),
+    GetEagerStateKeys(GetEagerStateKeysCommand),
+    GetLazyStateKeys(GetLazyStateKeysCommand),
+    SetState(SetStateCommand),
+    ClearState(ClearStateCommand),
+    ClearAllState(ClearAllStateCommand),
+    Sleep(SleepCommand),
+    Call(CallCommand),
+    OneWayCall(OneWayCallCommand),
+    CompleteAwakeable(CompleteAwakeableCommand),
+    SendSignal(SendSignalCommand),
+    GetPromise(PromiseCommand),
+    PeekPromise(PromiseCommand),
+    CompletePromise(CompletePromiseCommand),
+    Run(RunCommand),
+    AttachInvocation(InvocationCommand),
+    GetInvocationOutput(InvocationCommand),
+    Output(OutputCommand),
+    Notification(Notification),
+}
+
+/// A frame whose body isn't decoded yet.
+#[derive(Debug, Drop, Clone, PartialEq, Eq)]
+pub struct RawMessage {
+    pub ty: MessageType,
+    pub body: Bytes,
+}
+
+impl Message {
+    pub fn ty(&self) -> MessageType
+        ensures { result ≡ type_of self.now }
+    {
+        match self {
+            Message::Start(_) => MessageType::Start,
+            Message::Suspension(_) => MessageType::Suspension,
+            Message::Error(_) => MessageType::Error,
+            Message::End => MessageType::End,
+            Message::ProposeRunCompletion(_) => MessageType::ProposeRunCompletion,
+            Message::ProposeRunCompletionAck(_) => MessageType::ProposeRunCompletionAck,
+            Message::AwaitingOn(_) => MessageType::AwaitingOn,
+            Message::GetStateEphemeralCommand(_) => MessageType::GetStateEphemeralCommand,
+            Message::GetStateEphemeralNotification(_) => MessageType::GetStateEphemeralNotification,
+            Message::Input(_) => MessageType::InputCommand,
+            Message::GetEagerState(_) => MessageType::GetEagerStateCommand,
+            Message::GetLazyState(_) => MessageType::GetLazyStateCommand,
+            Message::GetEagerStateKeys(_) => MessageType::GetEagerStateKeysCommand,
+            Message::GetLazyStateKeys(_) => MessageType::GetLazyStateKeysCommand,
+            Message::SetState(_) => MessageType::SetStateCommand,
+            Message::ClearState(_) => MessageType::ClearStateCommand,
+            Message::ClearAllState(_) => MessageType::ClearAllStateCommand,
+            Message::Sleep(_) => MessageType::SleepCommand,
+            Message::Call(_) => MessageType::CallCommand,
+            Message::OneWayCall(_) => MessageType::OneWayCallCommand,
+            Message::CompleteAwakeable(_) => MessageType::CompleteAwakeableCommand,
+            Message::SendSignal(_) => MessageType::SendSignalCommand,
+            Message::GetPromise(_) => MessageType::GetPromiseCommand,
+            Message::PeekPromise(_) => MessageType::PeekPromiseCommand,
+            Message::CompletePromise(_) => MessageType::CompletePromiseCommand,
+            Message::Run(_) => MessageType::RunCommand,
+            Message::AttachInvocation(_) => MessageType::AttachInvocationCommand,
+            Message::GetInvocationOutput(_) => MessageType::GetInvocationOutputCommand,
+            Message::Output(_) => MessageType::OutputCommand,
+            Message::Notification(_) => MessageType::Notification,
+        }
+    }
+
+    fn put_body(&self, out: &mut Vec<u8>) -> Result<(), AllocError>
+        ensures written { OnOk result (out.new.items ≡ out.old.items ++ body self.now) }
+        ensures valid { OnOk result (IsValid self.now) }
+    {
+        match self {
+            Message::Start(m) => m.put(out),
+            Message::Suspension(m) => m.put(out),
+            Message::Error(m) => m.put(out),
+            Message::End => Ok(()),
+            Message::ProposeRunCompletion(m) => m.put(out),
+            Message::ProposeRunCompletionAck(m) => m.put(out),
+            Message::AwaitingOn(m) => m.put(out),
+            Message::GetStateEphemeralCommand(m) => m.put(out),
+            Message::GetStateEphemeralNotification(m) => m.put(out),
+            Message::Input(m) => m.put(out),
+            Message::GetEagerState(m) => m.put(out),
+            Message::GetLazyState(m) => m.put(out),
+            Message::GetEagerStateKeys(m) => m.put(out),
+            Message::GetLazyStateKeys(m) => m.put(out),
+            Message::SetState(m) => m.put(out),
+            Message::ClearState(m) => m.put(out),
+            Message::ClearAllState(m) => m.put(out),
+            Message::Sleep(m) => m.put(out),
+            Message::Call(m) => m.put(out),
+            Message::OneWayCall(m) => m.put(out),
+            Message::CompleteAwakeable(m) => m.put(out),
+            Message::SendSignal(m) => m.put(out),
+            Message::GetPromise(m) => m.put(out),
+            Message::PeekPromise(m) => m.put(out),
+            Message::CompletePromise(m) => m.put(out),
+            Message::Run(m) => m.put(out),
+            Message::AttachInvocation(m) => m.put(out),
+            Message::GetInvocationOutput(m) => m.put(out),
+            Message::Output(m) => m.put(out),
+            Message::Notification(m) => m.put(out),
+        }
+    }
+}
+
+/// Writes messages as frames.
+#[derive(Debug, Drop)]
+pub struct Encoder {
+    alloc: Global,
+}
+
+#[tactic(auto, unfolding(wire::specs::Format::bytes))]
+impl Encoder {
+    pub fn new(alloc: Global) -> Encoder {
+        Encoder { alloc }
+    }
+
+    pub fn encode(&self, message: &Message) -> Result<Bytes, AllocError>
+        ensures written { IfOk result (λ b. b ≡ encoding message.now) }
+        ensures valid { OnOk result (IsWhole message.now) }
+    {
+        let mut rest = Vec::new(self.alloc);
+        message.put_body(&mut rest)?;
+        let mut frame = Vec::new(self.alloc);
+        message.ty().number().put(&mut frame)?;
+        (rest.len() as u64).put(&mut frame)?;
+        frame.extend_from_slice(&rest)?;
+        Ok(Bytes::from_vec(frame)?)
+    }
+}
+
+#[tactic(auto, unfolding(crate::specs::Reading::body_as))]
+impl RawMessage {
+    /// What the whole body spells, whatever the frame's type.
+    pub fn read_as<T: Wire>(&self, alloc: Global) -> Result<T, Fault>
+        ensures { Read (body_as T.format self.now.body) result }
+    {
+        whole(alloc, &self.body)
+    }
+}
+
+#[tactic(auto, unfolding(crate::specs::Reading::start_in, crate::specs::Reading::input_in, crate::specs::Reading::notification_in))]
+impl RawMessage {
+    pub fn read_start(&self, alloc: Global) -> Result<Start, Fault>
+        ensures { Read (start_in self.now.body) result }
+    {
+        self.read_as(alloc)
+    }
+
+    pub fn read_input(&self, alloc: Global) -> Result<InputCommand, Fault>
+        ensures { Read (input_in self.now.body) result }
+    {
+        self.read_as(alloc)
+    }
+
+    pub fn read_notification(&self, alloc: Global) -> Result<Notification, Fault>
+        ensures { Read (notification_in self.now.body) result }
+    {
+        self.read_as(alloc)
+    }
+}
+
+#[tactic(auto, unfolding(crate::specs::Reading::message_in))]
+impl RawMessage {
+    fn read_typed(&self, alloc: Global) -> Result<Message, Fault>
+        ensures { Read (message_in self.now.ty self.now.body) result }
+    {
+        match self.ty {
+            MessageType::Start => Ok(Message::Start(self.read_as(alloc)?)),
+            MessageType::Suspension => Ok(Message::Suspension(self.read_as(alloc)?)),
+            MessageType::Error => Ok(Message::Error(self.read_as(alloc)?)),
+            MessageType::End => {
+                self.read_as::<()>(alloc)?;
+                Ok(Message::End)
+            }
+            MessageType::ProposeRunCompletion => {
+                Ok(Message::ProposeRunCompletion(self.read_as(alloc)?))
+            }
+            MessageType::ProposeRunCompletionAck => {
+                Ok(Message::ProposeRunCompletionAck(self.read_as(alloc)?))
+            }
+            MessageType::AwaitingOn => Ok(Message::AwaitingOn(self.read_as(alloc)?)),
+            MessageType::GetStateEphemeralCommand => {
+                Ok(Message::GetStateEphemeralCommand(self.read_as(alloc)?))
+            }
+            MessageType::GetStateEphemeralNotification => {
+                Ok(Message::GetStateEphemeralNotification(self.read_as(alloc)?))
+            }
+            MessageType::InputCommand => Ok(Message::Input(self.read_as(alloc)?)),
+            MessageType::GetEagerStateCommand => {
+                Ok(Message::GetEagerState(self.read_as(alloc)?))
+            }
+            MessageType::GetLazyStateCommand => { Ok(Message::GetLazyState(self.read_as(alloc)?)) }
+            MessageType::GetEagerStateKeysCommand => {
+                Ok(Message::GetEagerStateKeys(self.read_as(alloc)?))
+            }
+            MessageType::GetLazyStateKeysCommand => {
+                Ok(Message::GetLazyStateKeys(self.read_as(alloc)?))
+            }
+            MessageType::SetStateCommand => Ok(Message::SetState(self.read_as(alloc)?)),
+            MessageType::ClearStateCommand => { Ok(Message::ClearState(self.read_as(alloc)?)) }
+            MessageType::ClearAllStateCommand => {
+                Ok(Message::ClearAllState(self.read_as(alloc)?))
+            }
+            MessageType::SleepCommand => Ok(Message::Sleep(self.read_as(alloc)?)),
+            MessageType::CallCommand => Ok(Message::Call(self.read_as(alloc)?)),
+            MessageType::OneWayCallCommand => { Ok(Message::OneWayCall(self.read_as(alloc)?)) }
+            MessageType::CompleteAwakeableCommand => {
+                Ok(Message::CompleteAwakeable(self.read_as(alloc)?))
+            }
+            MessageType::SendSignalCommand => { Ok(Message::SendSignal(self.read_as(alloc)?)) }
+            MessageType::GetPromiseCommand => Ok(Message::GetPromise(self.read_as(alloc)?)),
+            MessageType::PeekPromiseCommand => Ok(Message::PeekPromise(self.read_as(alloc)?)),
+            MessageType::CompletePromiseCommand => {
+                Ok(Message::CompletePromise(self.read_as(alloc)?))
+            }
+            MessageType::RunCommand => Ok(Message::Run(self.read_as(alloc)?)),
+            MessageType::AttachInvocationCommand => {
+                Ok(Message::AttachInvocation(self.read_as(alloc)?))
+            }
+            MessageType::GetInvocationOutputCommand => {
+                Ok(Message::GetInvocationOutput(self.read_as(alloc)?))
+            }
+            MessageType::OutputCommand => Ok(Message::Output(self.read_as(alloc)?)),
+            MessageType::Notification => Ok(Message::Notification(self.read_as(alloc)?)),
+        }
+    }
+}
+
+impl RawMessage {
+    /// The message that the body spells.
+    #[tactic(auto, using(crate::proofs::Reading::decodes))]
+    pub fn read(&self, alloc: Global) -> Result<Message, Fault>
+        ensures read { Read (message_in self.now.ty self.now.body) result }
+        ensures decodes { DecodesTo self.now.ty self.now.body result }
+    {
+        self.read_typed(alloc)
+    }
+
+    /// As `read`, the fault as the error that it is for the one who sent the frame.
+    pub fn decode(&self, alloc: Global) -> Result<Message, Error>
+        ensures { Decodes self.now.ty self.now.body result }
+    {
+        match self.read(alloc) {
+            Ok(message) => Ok(message),
+            Err(fault) => Err(Error::from(fault)),
+        }
+    }
+}

@@ -1,8 +1,0 @@
-use Rattle.std.proofs.Common.{append_assoc}
-use Rattle.std.proofs.lemmas.Result.{IfOk-equal}
-use Rattle.journal_protocol.specs.Encoding.{call_request}
-use Rattle.journal_protocol.proofs.calls.CallRequestWire.put.Goals as goal
-
-pub returns-clause-written : goal.returns-clause-written
-unfolding call_request
-returns-clause-written c = IfOk-equal _ _ _ _ c.put-10.ensures.written (rw (c.in_ok-put-9.ensures.written, c.in_ok-put-8.ensures.written, c.in_ok-put-7.ensures.written, c.in_ok-put-6.ensures.written, c.in_ok-put-5.ensures.written, c.in_ok-put-4.ensures.written, c.in_ok-put-3.ensures.written, c.in_ok-put-2.ensures.written, c.in_ok-put.ensures.written) (simp append_assoc))

@@ -1,0 +1,5 @@
+pub mod Alone
+pub mod Numbers
+pub mod Frames
+pub mod Streams
+pub mod Cuts
