@@ -1,0 +1,184 @@
+//! The report: what each round tells, and the journal behind the last.
+use bytes::Bytes;
+use frame_lines::entry::{print_frame, print_rest};
+use journal_protocol::{Decoder, Error, RawMessage};
+use lines::line::Line;
+use scripts::answer::answered;
+use std::alloc::{AllocError, Global};
+use vm_parts::Answer;
+use vm_world::{Report, RoundFault, World};
+use wire::Fault;
+
+/// The word by which an answer is called.
+fn answer_word(answer: &Answer) -> &'static str {
+    match answer {
+        Answer::Input(_) => "input",
+        Answer::Handle(_) | Answer::Send(_) => "handle",
+        Answer::Call(_) => "handles",
+        Answer::Awakeable(_) => "awakeable",
+        Answer::Unit => "unit",
+        Answer::Awake => "awake",
+        Answer::Cancelled => "cancelled",
+        Answer::Taken(_) => "taken",
+        Answer::Completed(_) => "completed",
+    }
+}
+
+/// The line of an answer.
+fn answer_line(alloc: Global, answer: &Answer) -> Result<Line, AllocError> {
+    let mut line = Line::new(alloc);
+    line.word("answer ")?;
+    line.word(answer_word(answer))?;
+    match answer {
+        Answer::Unit | Answer::Awake | Answer::Cancelled => {}
+        _ => {
+            line.word(" ")?;
+            answered(answer, &mut line)?;
+        }
+    }
+    line.word("\n")?;
+    Ok(line)
+}
+
+/// A line for each answer.
+fn print_answers(alloc: Global, answers: &[Answer], report: &mut Line) -> Result<(), AllocError> {
+    for answer in answers {
+        let line = answer_line(alloc, answer)?;
+        report.word(line.as_str())?;
+    }
+    Ok(())
+}
+
+/// The line of a frame, behind this word.
+fn frame_line(alloc: Global, word: &str, raw: &RawMessage) -> Result<Line, AllocError> {
+    let mut line = Line::new(alloc);
+    line.word(word)?;
+    print_frame(alloc, raw, &mut line)?;
+    line.word("\n")?;
+    Ok(line)
+}
+
+/// The line of bytes that are no frame, behind this word.
+fn rest_line(alloc: Global, word: &str, rest: &[u8]) -> Result<Line, AllocError> {
+    let mut line = Line::new(alloc);
+    line.word(word)?;
+    print_rest(rest, &mut line)?;
+    line.word("\n")?;
+    Ok(line)
+}
+
+/// The next frame, if a whole one waits.
+fn next_whole(decoder: &mut Decoder) -> Result<Option<RawMessage>, AllocError> {
+    match decoder.next_frame() {
+        Ok(frame) => Ok(frame),
+        Err(Fault::Malformed) => Ok(None),
+        Err(Fault::Memory) => Err(AllocError),
+    }
+}
+
+/// A line for each frame, each behind this word.
+fn print_frames(
+    alloc: Global,
+    word: &str,
+    decoder: &mut Decoder,
+    report: &mut Line,
+) -> Result<(), AllocError> {
+    while let Some(raw) = next_whole(decoder)? {
+        let line = frame_line(alloc, word, &raw)?;
+        report.word(line.as_str())?;
+    }
+    Ok(())
+}
+
+/// A line for each frame of these bytes, each behind this word, and one for bytes at the end that are no frame.
+fn print_bytes(
+    alloc: Global,
+    word: &str,
+    bytes: &Bytes,
+    report: &mut Line,
+) -> Result<(), AllocError> {
+    let mut decoder = Decoder::new(alloc);
+    decoder.push(bytes.clone()?)?;
+    print_frames(alloc, word, &mut decoder, report)?;
+    if !decoder.waiting().is_empty() {
+        let line = rest_line(alloc, word, decoder.waiting())?;
+        report.word(line.as_str())?;
+    }
+    Ok(())
+}
+
+/// The line of an error, if there is one.
+fn print_error(error: &Option<Error>, report: &mut Line) -> Result<(), AllocError> {
+    if let Some(error) = error {
+        report.word("error ")?;
+        report.number(u64::from(error.code()))?;
+        report.word(" ")?;
+        report.quoted(error.message().as_bytes())?;
+        report.word("\n")?;
+    }
+    Ok(())
+}
+
+/// A line of a word and a number.
+fn print_count(word: &str, count: u64, report: &mut Line) -> Result<(), AllocError> {
+    report.word(word)?;
+    report.number(count)?;
+    report.word("\n")
+}
+
+/// What a round tells.
+fn print_round(
+    alloc: Global,
+    number: u64,
+    round: &Report,
+    report: &mut Line,
+) -> Result<(), AllocError> {
+    print_count("round ", number, report)?;
+    print_answers(alloc, round.answers.as_slice(), report)?;
+    print_bytes(alloc, "output ", &round.output, report)?;
+    print_error(&round.error, report)?;
+    print_count("entries ", u64::from(round.entries), report)
+}
+
+/// The journal.
+fn print_journal(alloc: Global, journal: &[Bytes], report: &mut Line) -> Result<(), AllocError> {
+    report.word("journal\n")?;
+    for entry in journal {
+        print_bytes(alloc, "", entry, report)?;
+    }
+    Ok(())
+}
+
+/// What all rounds tell, and the journal that they leave.
+pub fn report_of(alloc: Global, world: &World, rounds: &[Report]) -> Result<Line, AllocError> {
+    let mut report = Line::new(alloc);
+    let mut number = 0u64;
+    for round in rounds {
+        number = number.saturating_add(1);
+        print_round(alloc, number, round, &mut report)?;
+    }
+    print_journal(alloc, world.journal(), &mut report)?;
+    Ok(report)
+}
+
+/// The name of a fault.
+fn fault_name(fault: RoundFault) -> &'static str {
+    match fault {
+        RoundFault::NotANotification => "NotANotification",
+        RoundFault::NoSuchId => "NoSuchId",
+        RoundFault::SecondCompletion => "SecondCompletion",
+        RoundFault::WrongKind => "WrongKind",
+        RoundFault::RunIsProposed => "RunIsProposed",
+        RoundFault::Memory => "Memory",
+        RoundFault::JournalFull => "JournalFull",
+    }
+}
+
+/// The report of rounds that were stopped by a fault.
+pub fn report_of_fault(alloc: Global, fault: RoundFault) -> Result<Line, AllocError> {
+    let mut report = Line::new(alloc);
+    report.word("fault ")?;
+    report.word(fault_name(fault))?;
+    report.word("\n")?;
+    Ok(report)
+}
