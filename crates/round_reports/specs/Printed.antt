@@ -5,9 +5,28 @@ use Rattle.lines.specs.Atoms.{quoted}
 use Rattle.journal_protocol.specs.declared.error.Error.{Error}
 use Rattle.vm_parts.specs.declared.steps.Answer.{Answer}
 use Rattle.vm_parts.specs.declared.steps.Answer.TheVariants as answer
+use Rattle.vm_world.specs.Inside.{report_view}
 use Rattle.vm_world.specs.Rounds.{ReportView}
+use Rattle.vm_world.specs.declared.types.Report.{Report}
 use Rattle.vm_world.specs.declared.types.RoundFault.{RoundFault}
 use Rattle.vm_world.specs.declared.types.RoundFault.TheVariants as round_fault
+
+-- ---- texts one behind the other
+
+-- something that this holds of is added
+abbrev pub Adds : (List ℕ → Type 0) → List ℕ → List ℕ → Type 0
+Adds holds old new = (added : List ℕ) × holds added × (new ≡ old ++ added)
+
+-- something is added
+abbrev pub AddsSome : List ℕ → List ℕ → Type 0
+AddsSome old new = (added : List ℕ) × (new ≡ old ++ added)
+
+-- a text for each item, one behind the other; the items are numbered from this number on
+abbrev pub AreEach : {A : Type 0} → (ℕ → A → List ℕ → Type 0) → ℕ → List A → List ℕ → Type 0
+AreEach holds number [] text = text ≡ []
+AreEach holds number (item ∷ items) text = (first : List ℕ) × (rest : List ℕ) × holds number item first × AreEach holds (suc number) items rest × (text ≡ first ++ rest)
+
+-- ---- answers
 
 -- the word by which an answer is called
 unfoldable pub answer_word : Answer → List ℕ
@@ -39,8 +58,9 @@ IsAnswerLine given line = (value : List ℕ) × IsAnswerValue given value × (li
 
 -- a line for each answer
 abbrev pub AreAnswerLines : List Answer → List ℕ → Type 0
-AreAnswerLines [] text = text ≡ []
-AreAnswerLines (given ∷ others) text = (line : List ℕ) × (rest : List ℕ) × IsAnswerLine given line × AreAnswerLines others rest × (text ≡ line ++ rest)
+AreAnswerLines answers text = AreEach (λ number. IsAnswerLine) 0 answers text
+
+-- ---- rounds
 
 -- the line of an error, if there is one
 abbrev pub error_text : Option Error → List ℕ
@@ -58,10 +78,19 @@ pub record IsRoundText (number : ℕ) (report : ReportView) (text : List ℕ) : 
   pub answered : AreAnswerLines report.answers answers
   pub is : text ≡ count_text (codes "round ") number ++ answers ++ frames ++ error_text report.error ++ count_text (codes "entries ") report.entries
 
--- what rounds tell one after another, from this number on, and the journal behind them
-abbrev pub IsReport : ℕ → List ReportView → List ℕ → Type 0
-IsReport number [] text = (journal : List ℕ) × (text ≡ codes "journal\n" ++ journal)
-IsReport number (report ∷ reports) text = (first : List ℕ) × (rest : List ℕ) × IsRoundText number report first × IsReport (suc number) reports rest × (text ≡ first ++ rest)
+-- what rounds tell, which are numbered from 1
+abbrev pub AreRoundTexts : List Report → List ℕ → Type 0
+AreRoundTexts reports text = AreEach (λ number report. IsRoundText number (report_view report)) 1 reports text
+
+-- what stands behind the rounds: the journal
+abbrev pub IsJournalText : List ℕ → Type 0
+IsJournalText text = (entries : List ℕ) × (text ≡ codes "journal\n" ++ entries)
+
+-- what rounds tell, and the journal behind them
+abbrev pub IsReport : List Report → List ℕ → Type 0
+IsReport reports text = (rounds : List ℕ) × (journal : List ℕ) × AreRoundTexts reports rounds × IsJournalText journal × (text ≡ rounds ++ journal)
+
+-- ---- faults
 
 -- the name of a fault
 unfoldable pub fault_name : RoundFault → List ℕ

@@ -1,13 +1,15 @@
 -- What a run of the program does: it reads a whole script, plays its rounds, and writes their report.
-use Rattle.std.specs.Prelude.{◌≡◌, ℕ, List, [], ◌∷◌, Option, Some, None, IfSome}
+use Rattle.std.specs.Prelude.{◌≡◌, ℕ, List, [], ◌∷◌, map, Option, Some, None, IfSome}
 use Rattle.std.specs.Io.KnownBytes.{Appends}
 use Rattle.std.specs.declared.io.Error.{Error as IoError}
 use Rattle.journal_protocol.specs.Message.{encoding}
 use Rattle.journal_protocol.specs.declared.message.Message.TheVariants as message
 use Rattle.journal_protocol.specs.declared.version.Version.{Version}
 use Rattle.vm_model.specs.Calls.{Meaning}
-use Rattle.vm_world.specs.Rounds.{ReportView, RoundsDo, RoundsFault}
+use Rattle.vm_world.specs.Inside.{report_view}
+use Rattle.vm_world.specs.Rounds.{RoundsDo, RoundsFault}
 use Rattle.vm_world.specs.Worlds.{pairs_given}
+use Rattle.vm_world.specs.declared.types.Report.{Report}
 use Rattle.vm_world.specs.declared.types.Round.{Round}
 use Rattle.vm_world.specs.declared.types.RoundFault.{RoundFault}
 use Rattle.vm_world.specs.declared.types.Setting.{Setting}
@@ -30,7 +32,7 @@ first_journal input = encoding (message.Input (record { headers = []; value = in
 -- how rounds end, and their report: all have run; or a fault has stopped them, and the report is its name
 abbrev pub RoundsEnd : Meaning → Setting → List Round → List (List ℕ) → Option RoundFault → List ℕ → Type 0
 RoundsEnd meaning setting rounds journal None report =
-    (reports : List ReportView) × (after : List (List ℕ)) × RoundsDo meaning setting rounds journal reports after × IsReport 1 reports report
+    (reports : List Report) × (after : List (List ℕ)) × RoundsDo meaning setting rounds journal (map report_view reports) after × IsReport reports report
 RoundsEnd meaning setting rounds journal (Some fault) report = RoundsFault meaning setting rounds journal fault × (report ≡ fault_text fault)
 
 -- a text is read as a script, and its rounds are played over a new world
@@ -46,6 +48,13 @@ pub record PlaysAll (meaning : Meaning) (version : Version) (left : Option (List
   pub all : IfSome left (λ bytes. text ≡ bytes)
   pub plays : Plays meaning version text fault report
   pub is_written : written report
+
+-- what is written of a report into a writer that held and now holds these bytes, where the rounds have ended so
+abbrev pub Ends : (IoError → Type 0) → Option (List ℕ) → Option (List ℕ) → Option RoundFault → List ℕ → RunEnd → Type 0
+Ends write_fails held holds fault report (WriteFailed e) = write_fails e × AppendsSome held holds report
+Ends write_fails held holds fault report (Stopped f) = (fault ≡ Some f) × Appends held holds report
+Ends write_fails held holds fault report Reported = (fault ≡ None) × Appends held holds report
+Ends write_fails held holds fault report other = ⊥
 
 -- What each end of a run says. `plays` says that a script was played up to such an end, and what is written of its report into a
 -- writer that held and now holds these bytes; `read` that all was read, and `unwritten` that nothing was written.

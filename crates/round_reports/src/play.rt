@@ -1,4 +1,8 @@
 //! A script that is played: its rounds over its world, and their report.
+ghost use Rattle.std.specs.Prelude.{◌≡◌, IfOk};
+ghost use Rattle.round_scripts.specs.Scripts.{IsRead};
+ghost use Rattle.round_reports.specs.Runs.{Plays, RoundsEnd, first_journal, setting_of};
+
 use crate::report::{report_of, report_of_fault};
 use journal_protocol::Version;
 use lines::line::Line;
@@ -16,7 +20,10 @@ pub struct Played {
 }
 
 /// The world of a script, if there is memory.
-fn world_of(alloc: Global, version: Version, given: Given) -> Result<World, AllocError> {
+fn world_of(alloc: Global, version: Version, given: Given) -> Result<World, AllocError>
+    ensures setting { IfOk result (λ world. world.setting ≡ setting_of version given) }
+    ensures journal { IfOk result (λ world. world.journal ≡ first_journal given.input) }
+{
     let Given {
         identity,
         options,
@@ -35,7 +42,9 @@ fn play<H: Handler>(
     version: Version,
     handler: &H,
     script: Script,
-) -> Result<Played, AllocError> {
+) -> Result<Played, AllocError>
+    ensures { IfOk result (λ played. RoundsEnd (H.meaning handler.now) (setting_of version script.given) script.rounds.items (first_journal script.given.input) played.fault played.report) }
+{
     let Script { given, rounds } = script;
     let world = world_of(alloc, version, given)?;
     match run_rounds(handler, world, rounds.as_slice()) {
@@ -56,7 +65,9 @@ pub fn play_text<H: Handler>(
     version: Version,
     handler: &H,
     text: &[u8],
-) -> Result<Played, Unread> {
+) -> Result<Played, Unread>
+    ensures { IfOk result (λ played. Plays (H.meaning handler.now) version text.now played.fault played.report) }
+{
     match script_of(alloc, text) {
         Err(unread) => Err(unread),
         Ok(script) => match play(alloc, version, handler, script) {

@@ -1,4 +1,9 @@
 //! The report: what each round tells, and the journal behind the last.
+ghost use Rattle.std.specs.Prelude.{◌≡◌, ◌++◌, IfOk, IfSome, OnOk};
+ghost use Rattle.journal_protocol.specs.Message.{frame};
+ghost use Rattle.vm_world.specs.Inside.{report_view};
+ghost use Rattle.round_reports.specs.Printed.{Adds, AddsSome, AreAnswerLines, AreRoundTexts, IsAnswerLine, IsAnswerValue, IsJournalText, IsReport, IsRoundText, answer_word, count_text, error_text, fault_name, fault_text};
+
 use bytes::Bytes;
 use frame_lines::entry::{print_frame, print_rest};
 use journal_protocol::{Decoder, Error, RawMessage};
@@ -10,7 +15,10 @@ use vm_world::{Report, RoundFault, World};
 use wire::Fault;
 
 /// The word by which an answer is called.
-fn answer_word(answer: &Answer) -> &'static str {
+#[tactic(auto, unfolding(crate::specs::Printed::answer_word))]
+fn answer_word(answer: &Answer) -> &'static str
+    ensures { result.now ≡ answer_word answer.now }
+{
     match answer {
         Answer::Input(_) => "input",
         Answer::Handle(_) | Answer::Send(_) => "handle",
@@ -24,24 +32,38 @@ fn answer_word(answer: &Answer) -> &'static str {
     }
 }
 
-/// The line of an answer.
-fn answer_line(alloc: Global, answer: &Answer) -> Result<Line, AllocError> {
-    let mut line = Line::new(alloc);
-    line.word("answer ")?;
-    line.word(answer_word(answer))?;
+/// What stands behind that word.
+fn answer_value(alloc: Global, answer: &Answer) -> Result<Line, AllocError>
+    ensures { IfOk result (λ value. IsAnswerValue answer.now value) }
+{
+    let mut value = Line::new(alloc);
     match answer {
         Answer::Unit | Answer::Awake | Answer::Cancelled => {}
         _ => {
-            line.word(" ")?;
-            answered(answer, &mut line)?;
+            value.word(" ")?;
+            answered(answer, &mut value)?;
         }
     }
+    Ok(value)
+}
+
+/// The line of an answer.
+fn answer_line(alloc: Global, answer: &Answer) -> Result<Line, AllocError>
+    ensures { IfOk result (λ line. IsAnswerLine answer.now line) }
+{
+    let value = answer_value(alloc, answer)?;
+    let mut line = Line::new(alloc);
+    line.word("answer ")?;
+    line.word(answer_word(answer))?;
+    line.word(value.as_str())?;
     line.word("\n")?;
     Ok(line)
 }
 
 /// A line for each answer.
-fn print_answers(alloc: Global, answers: &[Answer], report: &mut Line) -> Result<(), AllocError> {
+fn print_answers(alloc: Global, answers: &[Answer], report: &mut Line) -> Result<(), AllocError>
+    ensures { OnOk result (Adds (AreAnswerLines answers.now) report.old report.new) }
+{
     for answer in answers {
         let line = answer_line(alloc, answer)?;
         report.word(line.as_str())?;
@@ -68,7 +90,9 @@ fn rest_line(alloc: Global, word: &str, rest: &[u8]) -> Result<Line, AllocError>
 }
 
 /// The next frame, if a whole one waits.
-fn next_whole(decoder: &mut Decoder) -> Result<Option<RawMessage>, AllocError> {
+fn next_whole(decoder: &mut Decoder) -> Result<Option<RawMessage>, AllocError>
+    ensures { IfOk result (λ next. IfSome next (λ raw. decoder.old ≡ frame raw.ty raw.body ++ decoder.new)) }
+{
     match decoder.next_frame() {
         Ok(frame) => Ok(frame),
         Err(Fault::Malformed) => Ok(None),
@@ -82,7 +106,9 @@ fn print_frames(
     word: &str,
     decoder: &mut Decoder,
     report: &mut Line,
-) -> Result<(), AllocError> {
+) -> Result<(), AllocError>
+    ensures { OnOk result (AddsSome report.old report.new) }
+{
     while let Some(raw) = next_whole(decoder)? {
         let line = frame_line(alloc, word, &raw)?;
         report.word(line.as_str())?;
@@ -96,7 +122,9 @@ fn print_bytes(
     word: &str,
     bytes: &Bytes,
     report: &mut Line,
-) -> Result<(), AllocError> {
+) -> Result<(), AllocError>
+    ensures { OnOk result (AddsSome report.old report.new) }
+{
     let mut decoder = Decoder::new(alloc);
     decoder.push(bytes.clone()?)?;
     print_frames(alloc, word, &mut decoder, report)?;
@@ -108,7 +136,9 @@ fn print_bytes(
 }
 
 /// The line of an error, if there is one.
-fn print_error(error: &Option<Error>, report: &mut Line) -> Result<(), AllocError> {
+fn print_error(error: &Option<Error>, report: &mut Line) -> Result<(), AllocError>
+    ensures { OnOk result (report.new ≡ report.old ++ error_text error.now) }
+{
     if let Some(error) = error {
         report.word("error ")?;
         report.number(u64::from(error.code()))?;
@@ -120,7 +150,9 @@ fn print_error(error: &Option<Error>, report: &mut Line) -> Result<(), AllocErro
 }
 
 /// A line of a word and a number.
-fn print_count(word: &str, count: u64, report: &mut Line) -> Result<(), AllocError> {
+fn print_count(word: &str, count: u64, report: &mut Line) -> Result<(), AllocError>
+    ensures { OnOk result (report.new ≡ report.old ++ count_text word.now count) }
+{
     report.word(word)?;
     report.number(count)?;
     report.word("\n")
@@ -132,37 +164,63 @@ fn print_round(
     number: u64,
     round: &Report,
     report: &mut Line,
-) -> Result<(), AllocError> {
+) -> Result<(), AllocError>
+    ensures { OnOk result (Adds (IsRoundText number (report_view round.now)) report.old report.new) }
+{
     print_count("round ", number, report)?;
     print_answers(alloc, round.answers.as_slice(), report)?;
     print_bytes(alloc, "output ", &round.output, report)?;
     print_error(&round.error, report)?;
-    print_count("entries ", u64::from(round.entries), report)
+    print_count("entries ", u64::from(round.entries), report)?;
+    Ok(())
 }
 
-/// The journal.
-fn print_journal(alloc: Global, journal: &[Bytes], report: &mut Line) -> Result<(), AllocError> {
-    report.word("journal\n")?;
+/// A line for each entry of a journal.
+fn print_entries(alloc: Global, journal: &[Bytes], report: &mut Line) -> Result<(), AllocError>
+    ensures { OnOk result (AddsSome report.old report.new) }
+{
     for entry in journal {
         print_bytes(alloc, "", entry, report)?;
     }
     Ok(())
 }
 
-/// What all rounds tell, and the journal that they leave.
-pub fn report_of(alloc: Global, world: &World, rounds: &[Report]) -> Result<Line, AllocError> {
-    let mut report = Line::new(alloc);
+/// The journal.
+fn print_journal(alloc: Global, journal: &[Bytes], report: &mut Line) -> Result<(), AllocError>
+    ensures { OnOk result (Adds IsJournalText report.old report.new) }
+{
+    report.word("journal\n")?;
+    print_entries(alloc, journal, report)?;
+    Ok(())
+}
+
+/// What all rounds tell.
+fn print_rounds(alloc: Global, rounds: &[Report], report: &mut Line) -> Result<(), AllocError>
+    ensures { OnOk result (Adds (AreRoundTexts rounds.now) report.old report.new) }
+{
     let mut number = 0u64;
     for round in rounds {
-        number = number.saturating_add(1);
-        print_round(alloc, number, round, &mut report)?;
+        number += 1;
+        print_round(alloc, number, round, report)?;
     }
+    Ok(())
+}
+
+/// What all rounds tell, and the journal that they leave.
+pub fn report_of(alloc: Global, world: &World, rounds: &[Report]) -> Result<Line, AllocError>
+    ensures { IfOk result (λ report. IsReport rounds.now report) }
+{
+    let mut report = Line::new(alloc);
+    print_rounds(alloc, rounds, &mut report)?;
     print_journal(alloc, world.journal(), &mut report)?;
     Ok(report)
 }
 
 /// The name of a fault.
-fn fault_name(fault: RoundFault) -> &'static str {
+#[tactic(auto, unfolding(crate::specs::Printed::fault_name))]
+fn fault_name(fault: RoundFault) -> &'static str
+    ensures { result.now ≡ fault_name fault }
+{
     match fault {
         RoundFault::NotANotification => "NotANotification",
         RoundFault::NoSuchId => "NoSuchId",
@@ -175,7 +233,9 @@ fn fault_name(fault: RoundFault) -> &'static str {
 }
 
 /// The report of rounds that were stopped by a fault.
-pub fn report_of_fault(alloc: Global, fault: RoundFault) -> Result<Line, AllocError> {
+pub fn report_of_fault(alloc: Global, fault: RoundFault) -> Result<Line, AllocError>
+    ensures { IfOk result (λ report. report ≡ fault_text fault) }
+{
     let mut report = Line::new(alloc);
     report.word("fault ")?;
     report.word(fault_name(fault))?;
