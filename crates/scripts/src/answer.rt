@@ -209,7 +209,7 @@ fn taken(given: &Option<Value>, line: &mut Line) -> Result<(), AllocError> {
 }
 
 /// What a call of a handler answered.
-fn answered(given: &Answer, line: &mut Line) -> Result<(), AllocError>
+pub fn answered(given: &Answer, line: &mut Line) -> Result<(), AllocError>
     ensures { OnOk result (AnswerPrinted given.now line.old line.new) }
 {
     match given {

@@ -28,7 +28,7 @@ pub fn answer(alloc: Global, vm: &mut Option<CoreVM>, line: &[u8]) -> Result<Lin
 }
 
 /// The first line, without its end, and what follows it.
-fn first_line(script: &[u8]) -> (&[u8], &[u8])
+pub fn first_line(script: &[u8]) -> (&[u8], &[u8])
     requires { 0 < length script.now }
     ensures shorter { length result.1.now < length script.now }
     ensures first { IsFirstLine script.now result.0.now result.1.now }

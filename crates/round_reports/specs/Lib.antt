@@ -1,0 +1,3 @@
+pub mod Statuses
+pub mod Printed
+pub mod Runs

@@ -1,0 +1,69 @@
+-- What a run of the program does: it reads a whole script, plays its rounds, and writes their report.
+use Rattle.std.specs.Prelude.{◌≡◌, ℕ, List, [], ◌∷◌, map, Option, Some, None, IfSome}
+use Rattle.std.specs.Io.KnownBytes.{Appends}
+use Rattle.std.specs.declared.io.Error.{Error as IoError}
+use Rattle.journal_protocol.specs.Message.{encoding}
+use Rattle.journal_protocol.specs.declared.message.Message.TheVariants as message
+use Rattle.journal_protocol.specs.declared.version.Version.{Version}
+use Rattle.vm_model.specs.Calls.{Meaning}
+use Rattle.vm_world.specs.Inside.{report_view}
+use Rattle.vm_world.specs.Rounds.{RoundsDo, RoundsFault}
+use Rattle.vm_world.specs.Worlds.{pairs_given}
+use Rattle.vm_world.specs.declared.types.Report.{Report}
+use Rattle.vm_world.specs.declared.types.Round.{Round}
+use Rattle.vm_world.specs.declared.types.RoundFault.{RoundFault}
+use Rattle.vm_world.specs.declared.types.Setting.{Setting}
+use Rattle.runner.specs.Streams.{AppendsSome}
+use Rattle.round_scripts.specs.Scripts.{IsRead}
+use Rattle.round_scripts.specs.declared.given.Given.{Given}
+use Rattle.round_scripts.specs.declared.script.Script.{Script}
+use Rattle.round_reports.specs.Printed.{IsReport, fault_text}
+use Rattle.round_reports.specs.declared.run_end.RunEnd.{RunEnd}
+use Rattle.round_reports.specs.declared.run_end.RunEnd.TheVariants.{UnknownHandler, UnknownContentType, ReadFailed, NoMeaning, NoMemory, WriteFailed, Stopped, Reported}
+
+-- what all attempts of a script's world are made with
+abbrev pub setting_of : Version → Given → Setting
+setting_of version given = record { identity = given.identity; options = given.options; version = version; base = pairs_given given.state.items }
+
+-- the journal of a new world: one Input command, without headers
+abbrev pub first_journal : List ℕ → List (List ℕ)
+first_journal input = encoding (message.Input (record { headers = []; value = input })) ∷ []
+
+-- how rounds end, and their report: all have run; or a fault has stopped them, and the report is its name
+abbrev pub RoundsEnd : Meaning → Setting → List Round → List (List ℕ) → Option RoundFault → List ℕ → Type 0
+RoundsEnd meaning setting rounds journal None report =
+    (reports : List Report) × (after : List (List ℕ)) × RoundsDo meaning setting rounds journal (map report_view reports) after × IsReport reports report
+RoundsEnd meaning setting rounds journal (Some fault) report = RoundsFault meaning setting rounds journal fault × (report ≡ fault_text fault)
+
+-- a text is read as a script, and its rounds are played over a new world
+pub record Plays (meaning : Meaning) (version : Version) (text : List ℕ) (fault : Option RoundFault) (report : List ℕ) : Type 0 where
+  pub script : Script
+  pub is_read : IsRead text script
+  pub ends : RoundsEnd meaning (setting_of version script.given) script.rounds.items (first_journal script.given.input) fault report
+
+-- The text is all that the reader had left, where this is known, and this holds of its report.
+pub record PlaysAll (meaning : Meaning) (version : Version) (left : Option (List ℕ)) (fault : Option RoundFault) (written : List ℕ → Type 0) : Type 0 where
+  pub text : List ℕ
+  pub report : List ℕ
+  pub all : IfSome left (λ bytes. text ≡ bytes)
+  pub plays : Plays meaning version text fault report
+  pub is_written : written report
+
+-- what is written of a report into a writer that held and now holds these bytes, where the rounds have ended so
+abbrev pub Ends : (IoError → Type 0) → Option (List ℕ) → Option (List ℕ) → Option RoundFault → List ℕ → RunEnd → Type 0
+Ends write_fails held holds fault report (WriteFailed e) = write_fails e × AppendsSome held holds report
+Ends write_fails held holds fault report (Stopped f) = (fault ≡ Some f) × Appends held holds report
+Ends write_fails held holds fault report Reported = (fault ≡ None) × Appends held holds report
+Ends write_fails held holds fault report other = ⊥
+
+-- What each end of a run says. `plays` says that a script was played up to such an end, and what is written of its report into a
+-- writer that held and now holds these bytes; `read` that all was read, and `unwritten` that nothing was written.
+abbrev pub Tells : (Option RoundFault → (List ℕ → Type 0) → Type 0) → Option (List ℕ) → Option (List ℕ) → (IoError → Type 0) → (IoError → Type 0) → Type 0 → Type 0 → RunEnd → Type 0
+Tells plays held holds read_fails write_fails read unwritten UnknownHandler = unwritten
+Tells plays held holds read_fails write_fails read unwritten UnknownContentType = unwritten
+Tells plays held holds read_fails write_fails read unwritten (ReadFailed e) = read_fails e × unwritten
+Tells plays held holds read_fails write_fails read unwritten (NoMeaning line) = read × unwritten
+Tells plays held holds read_fails write_fails read unwritten NoMemory = read × unwritten
+Tells plays held holds read_fails write_fails read unwritten (WriteFailed e) = write_fails e × read × ((fault : Option RoundFault) × plays fault (AppendsSome held holds))
+Tells plays held holds read_fails write_fails read unwritten (Stopped fault) = read × plays (Some fault) (Appends held holds)
+Tells plays held holds read_fails write_fails read unwritten Reported = read × plays None (Appends held holds)

@@ -1,0 +1,80 @@
+//! One run of the program: what a reader gives is a script, and its report goes to a writer.
+ghost use Rattle.std.specs.Prelude.{◌≡◌, ◌≢◌, ◌↔◌, IfSome, None, Some};
+ghost use Rattle.std.specs.Io.KnownBytes.{IsAtEnd};
+ghost use Rattle.handlers.specs.Named.{step_named};
+ghost use Rattle.journal_protocol.specs.Versions.{version_of};
+ghost use Rattle.round_reports.specs.Runs.{Ends, PlaysAll, Tells};
+ghost use Rattle.round_reports.specs.declared.run_end.RunEnd.TheVariants as run_end;
+
+use crate::play::{Played, play_text};
+use crate::run_end::RunEnd;
+use handlers::named::Named;
+use journal_protocol::Version;
+use round_scripts::script::Unread;
+use runner::streams::{Sink, Source};
+use std::alloc::Global;
+use vm_rounds::Handler;
+
+/// Writes the report.
+fn write_report<W: Sink>(played: Played, writer: &mut W) -> RunEnd
+    ensures { Ends (W.fails writer.old) (W.contents writer.old) (W.contents writer.new) played.fault played.report result }
+{
+    let Played { report, fault } = played;
+    let written = writer.write_whole(report.as_str().as_bytes());
+    match (written, fault) {
+        (Err(error), _) => RunEnd::WriteFailed(error),
+        (Ok(()), Some(fault)) => RunEnd::Stopped(fault),
+        (Ok(()), None) => RunEnd::Reported,
+    }
+}
+
+/// Runs the rounds of a handler.
+fn run_handler<H: Handler, R: Source, W: Sink>(
+    alloc: Global,
+    content_type: &str,
+    handler: &H,
+    reader: &mut R,
+    writer: &mut W,
+) -> RunEnd
+    ensures known { result ≢ run_end.UnknownHandler }
+    // A text that is no content type is found before anything is read.
+    ensures refused { version_of content_type.now ≡ None → (result ≡ run_end.UnknownContentType) × (reader.new ≡ reader.old) × (writer.new ≡ writer.old) }
+    ensures runs { IfSome (version_of content_type.now) (λ version. Tells (PlaysAll (H.meaning handler.now) version (R.remaining reader.old)) (W.contents writer.old) (W.contents writer.new) (R.fails reader.old) (W.fails writer.old) (IsAtEnd (R.remaining reader.new)) (writer.new ≡ writer.old) result) }
+{
+    let Some(version) = Version::of_content_type(content_type) else {
+        return RunEnd::UnknownContentType;
+    };
+    let mut text = Vec::new(alloc);
+    if let Err(error) = reader.read_whole(&mut text) {
+        return RunEnd::ReadFailed(error);
+    }
+    match play_text(alloc, version, handler, text.as_slice()) {
+        Ok(played) => write_report(played, writer),
+        Err(Unread::Line(number)) => RunEnd::NoMeaning(number),
+        Err(Unread::Memory) => RunEnd::NoMemory,
+    }
+}
+
+/// Plays rounds of the named handler. What is read is a script, wholly before anything runs; what is written is its report.
+pub fn run<R: Source, W: Sink>(
+    alloc: Global,
+    content_type: &str,
+    handler: &str,
+    reader: &mut R,
+    writer: &mut W,
+) -> RunEnd
+    // An unknown handler is found before anything is read.
+    ensures usage { (result ≡ run_end.UnknownHandler) ↔ (step_named handler.now ≡ None) }
+    ensures unread { result ≡ run_end.UnknownHandler → reader.new ≡ reader.old }
+    ensures unwritten { result ≡ run_end.UnknownHandler → writer.new ≡ writer.old }
+    // So is a text that is no content type.
+    ensures refused { IfSome (step_named handler.now) (λ _. version_of content_type.now ≡ None → (result ≡ run_end.UnknownContentType) × (reader.new ≡ reader.old) × (writer.new ≡ writer.old)) }
+    // Each other run has read all that there was as a script and played its rounds, and all of the report is written, or a beginning
+    // where writing has failed; or reading has failed, a line has no meaning, or memory was lacking, and nothing is written.
+    ensures runs { IfSome (step_named handler.now) (λ meaning. IfSome (version_of content_type.now) (λ version. Tells (PlaysAll meaning version (R.remaining reader.old)) (W.contents writer.old) (W.contents writer.new) (R.fails reader.old) (W.fails writer.old) (IsAtEnd (R.remaining reader.new)) (writer.new ≡ writer.old) result)) }
+{
+    match Named::of_name(alloc, handler) {
+        Some(handler) => run_handler(alloc, content_type, &handler, reader, writer),
+        None => RunEnd::UnknownHandler,
+    }
+}

@@ -1,0 +1,86 @@
+-- What a whole script says: its lines, read one after another, make a world and rounds.
+use Rattle.std.specs.Prelude.{◌≡◌, ℕ, List, [], ◌∷◌, ◌++◌, Option, Some, None, replicate}
+use Rattle.scripts.specs.Transcripts.{AreLines}
+use Rattle.vm_world.specs.declared.types.Event.{Event}
+use Rattle.vm_world.specs.declared.types.Event.TheVariants as event
+use Rattle.vm_world.specs.declared.types.Round.{Round}
+use Rattle.round_scripts.specs.declared.given.Given.{Given}
+use Rattle.round_scripts.specs.declared.script.Script.{Script}
+use Rattle.round_scripts.specs.declared.script.SoFar.{SoFar}
+use Rattle.round_scripts.specs.declared.script_line.ScriptLine.{ScriptLine}
+use Rattle.round_scripts.specs.declared.script_line.ScriptLine.TheVariants as line
+use Rattle.round_scripts.specs.Said.{Reads}
+use Rattle.round_scripts.specs.Worlds.{IsDefault}
+
+-- what lines have said so far: what the world is made of, if one did, the rounds but the last, and the last
+pub record Parts : Type 0 where
+  pub given : Option Given
+  pub rounds : List Round
+  pub last : Option Round
+
+-- what the fields say
+abbrev pub parts_of : SoFar → Parts
+parts_of so_far = record { given = so_far.given; rounds = so_far.rounds.items; last = so_far.round }
+
+-- nothing yet
+abbrev pub nothing : Parts
+nothing = record { given = None; rounds = []; last = None }
+
+-- the rounds, the last one too
+abbrev pub with_last : List Round → Option Round → List Round
+with_last rounds None = rounds
+with_last rounds (Some round) = rounds ++ round ∷ []
+
+-- these events happen next in a round
+abbrev pub then_happen : List Event → Round → Round
+then_happen events round = record { partial = round.partial; keys = round.keys; retry_count = round.retry_count; duration = round.duration; events = round.events ++ events }
+
+-- these events happen next in the last round, if there is one
+abbrev pub HappensIn : Option Round → List Event → Option Round → Type 0
+HappensIn None events after = ⊥
+HappensIn (Some round) events after = after ≡ Some (then_happen events round)
+
+-- there is a last round, and these events happen next in it
+pub record Happens (events : List Event) (before after : Parts) : Type 0 where
+  pub given : after.given ≡ before.given
+  pub rounds : after.rounds ≡ before.rounds
+  pub last : HappensIn before.last events after.last
+
+-- A line more. The world stands before the rounds, once.
+abbrev pub Adds : ScriptLine → Parts → Parts → Type 0
+Adds line.Nothing before after = after ≡ before
+Adds (line.World given) before after = (before.given ≡ None) × (before.last ≡ None) × (after ≡ record { given = Some given; rounds = before.rounds; last = None })
+Adds (line.Round round) before after = after ≡ record { given = before.given; rounds = with_last before.rounds before.last; last = Some round }
+Adds (line.Event e) before after = Happens (e ∷ []) before after
+Adds (line.Steps n) before after = Happens (replicate n event.Step) before after
+
+-- what a line says more
+abbrev pub AddsLine : List ℕ → Parts → Parts → Type 0
+AddsLine text before after = (said : ScriptLine) × Reads text said × Adds said before after
+
+-- these lines more
+abbrev pub AreAdded : List (List ℕ) → Parts → Parts → Type 0
+AreAdded [] before after = after ≡ before
+AreAdded (text ∷ texts) before after = (next : Parts) × AddsLine text before next × AreAdded texts next after
+
+-- the lines of this text more
+pub record AreLinesAdded (text : List ℕ) (before after : Parts) : Type 0 where
+  pub lines : List (List ℕ)
+  pub are_lines : AreLines lines text
+  pub are_added : AreAdded lines before after
+
+-- what the world is made of: as it is said, or by default
+abbrev pub IsGiven : Option Given → Given → Type 0
+IsGiven None given = IsDefault given
+IsGiven (Some said) given = given ≡ said
+
+-- the script has what the lines have said
+pub record Has (parts : Parts) (script : Script) : Type 0 where
+  pub given : IsGiven parts.given script.given
+  pub rounds : script.rounds.items ≡ with_last parts.rounds parts.last
+
+-- what a whole text says
+pub record IsRead (text : List ℕ) (script : Script) : Type 0 where
+  pub parts : Parts
+  pub added : AreLinesAdded text nothing parts
+  pub has : Has parts script

@@ -1,0 +1,187 @@
+//! A whole script: the world that it makes, and its rounds with what happens in them.
+ghost use Rattle.std.specs.Prelude.{◌≡◌, [], ◌∷◌, IfOk, OnOk, None, Some, replicate};
+ghost use Rattle.vm_world.specs.declared.types.Event.TheVariants as event;
+ghost use Rattle.round_scripts.specs.Scripts.{Adds, AddsLine, AreLinesAdded, Happens, Has, IsRead, parts_of, then_happen, with_last};
+ghost use Rattle.round_scripts.specs.declared.script_line.ScriptLine.TheVariants as line;
+
+use crate::given::{Given, default_given};
+use crate::parse::line_of;
+use crate::script_line::ScriptLine;
+use scripts::run::first_line;
+use std::alloc::{AllocError, Global};
+use vm_world::{Event, Round};
+use wire::Fault;
+
+/// What a whole script says.
+#[derive(Drop)]
+pub struct Script {
+    pub given: Given,
+    pub rounds: Vec<Round>,
+}
+
+/// Why a script isn't read.
+#[derive(Clone, Copy, Debug, PartialEq, Eq)]
+pub enum Unread {
+    Memory,
+    /// The line of this number, counted from 1, has no meaning.
+    Line(u64),
+}
+
+/// What the lines so far have said.
+#[derive(Drop)]
+pub struct SoFar {
+    pub given: Option<Given>,
+    /// The rounds but the last.
+    pub rounds: Vec<Round>,
+    pub round: Option<Round>,
+}
+
+/// Something happens next in the last round; `Malformed` where there is none.
+fn add_event(so_far: &mut SoFar, event: Event) -> Result<(), Fault>
+    ensures { OnOk result (Happens (event ∷ []) (parts_of so_far.old) (parts_of so_far.new)) }
+{
+    match &mut so_far.round {
+        Some(round) => {
+            round.events.push(event)?;
+            Ok(())
+        }
+        None => {
+            drop(event);
+            Err(Fault::Malformed)
+        }
+    }
+}
+
+/// So many steps happen next in a round.
+#[tactic(auto, using(crate::proofs::Reading::replicate_more))]
+fn push_steps(round: &mut Round, steps: u64) -> Result<(), AllocError>
+    ensures { OnOk result (round.new ≡ then_happen (replicate steps event.Step) round.old) }
+{
+    for _ in 0..steps {
+        round.events.push(Event::Step)?;
+    }
+    Ok(())
+}
+
+/// So many steps happen next in the last round; `Malformed` where there is none.
+fn add_steps(so_far: &mut SoFar, steps: u64) -> Result<(), Fault>
+    ensures { OnOk result (Happens (replicate steps event.Step) (parts_of so_far.old) (parts_of so_far.new)) }
+{
+    match &mut so_far.round {
+        Some(round) => {
+            push_steps(round, steps)?;
+            Ok(())
+        }
+        None => Err(Fault::Malformed),
+    }
+}
+
+/// The world is made of this; `Malformed` where another world or a round stands before.
+fn add_world(so_far: &mut SoFar, given: Given) -> Result<(), Fault>
+    ensures { OnOk result (Adds (line.World given) (parts_of so_far.old) (parts_of so_far.new)) }
+{
+    if so_far.given.is_some() || so_far.round.is_some() {
+        drop(given);
+        return Err(Fault::Malformed);
+    }
+    so_far.given = Some(given);
+    Ok(())
+}
+
+/// The last round stands among the others.
+fn finish_round(so_far: &mut SoFar) -> Result<(), AllocError>
+    ensures rounds { OnOk result (so_far.new.rounds.items ≡ with_last so_far.old.rounds.items so_far.old.round) }
+    ensures given { so_far.new.given ≡ so_far.old.given }
+    ensures last { so_far.new.round ≡ None }
+{
+    if let Some(round) = so_far.round.take() {
+        so_far.rounds.push(round)?;
+    }
+    Ok(())
+}
+
+/// A round begins.
+fn add_round(so_far: &mut SoFar, round: Round) -> Result<(), Fault>
+    ensures { OnOk result (Adds (line.Round round) (parts_of so_far.old) (parts_of so_far.new)) }
+{
+    if finish_round(so_far).is_err() {
+        drop(round);
+        return Err(Fault::Memory);
+    }
+    so_far.round = Some(round);
+    Ok(())
+}
+
+/// A line more; `Malformed` where it has no meaning behind those before.
+fn add(so_far: &mut SoFar, said: ScriptLine) -> Result<(), Fault>
+    ensures { OnOk result (Adds said (parts_of so_far.old) (parts_of so_far.new)) }
+{
+    match said {
+        ScriptLine::Nothing => Ok(()),
+        ScriptLine::World(given) => add_world(so_far, given),
+        ScriptLine::Round(round) => add_round(so_far, round),
+        ScriptLine::Event(event) => add_event(so_far, event),
+        ScriptLine::Steps(steps) => add_steps(so_far, steps),
+    }
+}
+
+/// A line of the text more.
+fn add_line(alloc: Global, so_far: &mut SoFar, line: &[u8]) -> Result<(), Fault>
+    ensures { OnOk result (AddsLine line.now (parts_of so_far.old) (parts_of so_far.new)) }
+{
+    match line_of(alloc, line) {
+        Ok(said) => add(so_far, said),
+        Err(fault) => Err(fault),
+    }
+}
+
+/// All lines of the text, one after another.
+#[tactic(auto, using(crate::proofs::Reading::read_none, crate::proofs::Reading::read_more, crate::proofs::Reading::read_all))]
+fn add_lines(alloc: Global, so_far: &mut SoFar, text: &[u8]) -> Result<(), Unread>
+    ensures { OnOk result (AreLinesAdded text.now (parts_of so_far.old) (parts_of so_far.new)) }
+{
+    let mut number = 0u64;
+    let mut rest = text;
+    while !rest.is_empty() {
+        let (line, behind) = first_line(rest);
+        number = number.saturating_add(1);
+        match add_line(alloc, so_far, line) {
+            Ok(()) => {}
+            Err(Fault::Memory) => return Err(Unread::Memory),
+            Err(Fault::Malformed) => return Err(Unread::Line(number)),
+        }
+        rest = behind;
+    }
+    Ok(())
+}
+
+/// The script that the lines make.
+fn script_with(alloc: Global, mut so_far: SoFar) -> Result<Script, AllocError>
+    ensures { IfOk result (λ script. Has (parts_of so_far) script) }
+{
+    finish_round(&mut so_far)?;
+    let SoFar { given, rounds, .. } = so_far;
+    let given = match given {
+        Some(given) => given,
+        None => default_given(alloc)?,
+    };
+    Ok(Script { given, rounds })
+}
+
+/// What a text says, read as a whole. The last line may have no end.
+pub fn script_of(alloc: Global, text: &[u8]) -> Result<Script, Unread>
+    ensures { IfOk result (λ script. IsRead text.now script) }
+{
+    let mut so_far = SoFar {
+        given: None,
+        rounds: Vec::new(alloc),
+        round: None,
+    };
+    if let Err(unread) = add_lines(alloc, &mut so_far, text) {
+        return Err(unread);
+    }
+    match script_with(alloc, so_far) {
+        Ok(script) => Ok(script),
+        Err(_) => Err(Unread::Memory),
+    }
+}

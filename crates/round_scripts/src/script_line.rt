@@ -1,0 +1,18 @@
+//! What a line of a script of rounds says.
+use crate::given::Given;
+use vm_world::{Event, Round};
+
+/// A line of a script, read as a whole.
+#[derive(Drop)]
+pub enum ScriptLine {
+    /// Nothing: a blank line or a comment.
+    Nothing,
+    /// What the world is made of.
+    World(Given),
+    /// A round begins, in which nothing happens yet.
+    Round(Round),
+    /// What happens next in the round.
+    Event(Event),
+    /// So many steps happen next in the round.
+    Steps(u64),
+}

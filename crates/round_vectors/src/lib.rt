@@ -1,0 +1,19 @@
+//! The test bench of rounds as scripts: whole scripts with the reports that they must give.
+#![tactic(auto)]
+
+#[cfg(test)]
+mod bench;
+#[cfg(test)]
+mod counts;
+#[cfg(test)]
+mod faults;
+#[cfg(test)]
+mod meanings;
+#[cfg(test)]
+mod sleeps;
+#[cfg(test)]
+mod stops;
+#[cfg(test)]
+mod transports;
+#[cfg(test)]
+mod worlds;
