@@ -2,7 +2,7 @@
 use Rattle.std.specs.Prelude.{◌≡◌, ℕ, suc, List, [], ◌∷◌, ◌++◌, codes, Option, Some, None}
 use Rattle.std.specs.Fmt.{decimal}
 use Rattle.lines.specs.Atoms.{quoted}
-use Rattle.journal_protocol.specs.declared.error.Error.{Error}
+use Rattle.journal_errors.specs.declared.error.Error.{Error}
 use Rattle.vm_parts.specs.declared.steps.Answer.{Answer}
 use Rattle.vm_parts.specs.declared.steps.Answer.TheVariants as answer
 use Rattle.vm_world.specs.Inside.{report_view}

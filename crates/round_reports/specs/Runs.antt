@@ -2,9 +2,9 @@
 use Rattle.std.specs.Prelude.{◌≡◌, ℕ, List, [], ◌∷◌, map, Option, Some, None, IfSome}
 use Rattle.std.specs.Io.KnownBytes.{Appends}
 use Rattle.std.specs.declared.io.Error.{Error as IoError}
-use Rattle.journal_protocol.specs.Message.{encoding}
-use Rattle.journal_protocol.specs.declared.message.Message.TheVariants as message
-use Rattle.journal_protocol.specs.declared.version.Version.{Version}
+use Rattle.journal_messages.specs.Message.{encoding}
+use Rattle.journal_messages.specs.declared.message.Message.TheVariants as message
+use Rattle.journal_errors.specs.declared.version.Version.{Version}
 use Rattle.vm_model.specs.Calls.{Meaning}
 use Rattle.vm_world.specs.Inside.{report_view}
 use Rattle.vm_world.specs.Rounds.{RoundsDo, RoundsFault}

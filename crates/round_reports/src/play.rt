@@ -4,7 +4,7 @@ ghost use Rattle.round_scripts.specs.Scripts.{IsRead};
 ghost use Rattle.round_reports.specs.Runs.{Plays, RoundsEnd, first_journal, setting_of};
 
 use crate::report::{report_of, report_of_fault};
-use journal_protocol::Version;
+use journal_errors::Version;
 use lines::line::Line;
 use round_scripts::given::Given;
 use round_scripts::script::{Script, Unread, script_of};

@@ -1,12 +1,14 @@
 //! The report: what each round tells, and the journal behind the last.
 ghost use Rattle.std.specs.Prelude.{◌≡◌, ◌++◌, IfOk, IfSome, OnOk};
-ghost use Rattle.journal_protocol.specs.Message.{frame};
+ghost use Rattle.journal_messages.specs.Message.{frame};
 ghost use Rattle.vm_world.specs.Inside.{report_view};
 ghost use Rattle.round_reports.specs.Printed.{Adds, AddsSome, AreAnswerLines, AreRoundTexts, IsAnswerLine, IsAnswerValue, IsJournalText, IsReport, IsRoundText, answer_word, count_text, error_text, fault_name, fault_text};
 
 use bytes::Bytes;
 use frame_lines::entry::{print_frame, print_rest};
-use journal_protocol::{Decoder, Error, RawMessage};
+use journal_errors::Error;
+use journal_messages::RawMessage;
+use journal_streams::Decoder;
 use lines::line::Line;
 use scripts::answer::answered;
 use std::alloc::{AllocError, Global};
