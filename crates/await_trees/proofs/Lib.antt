@@ -1,0 +1,5 @@
+pub mod Bools
+pub mod Monotone
+pub mod Preorders
+pub mod Prune
+pub mod TreeOf

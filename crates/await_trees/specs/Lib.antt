@@ -1,0 +1,5 @@
+pub mod Handles
+pub mod Outcomes
+pub mod Preorder
+pub mod Residual
+pub mod Tree

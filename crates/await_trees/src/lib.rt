@@ -1,0 +1,14 @@
+//! What a handler awaits: trees over handles, what they come to once their leaves have, and the nodes of a tree in
+//! preorder.
+#![tactic(auto)]
+
+pub mod listing;
+pub mod nodes;
+pub mod outcome;
+pub mod tree;
+
+pub use journal_protocol::FutureKind;
+pub use listing::list_nodes;
+pub use nodes::{Label, Node};
+pub use outcome::Outcome;
+pub use tree::{NotificationHandle, UnresolvedFuture};

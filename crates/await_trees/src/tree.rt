@@ -1,0 +1,36 @@
+//! The futures that a handler can await: a handle, or a node over others.
+ghost use Rattle.std.specs.Prelude.{◌≡◌};
+
+use std::alloc::AllocError;
+use wire::Items;
+
+/// What a call that is answered later hands out; counted from 17. Handle 1 is the cancel signal's.
+#[derive(Clone, Copy, Debug, PartialEq, Eq, PartialOrd, Ord, Hash)]
+pub struct NotificationHandle(pub u32);
+
+/// What a handler awaits.
+#[derive(Drop)]
+pub enum UnresolvedFuture {
+    /// One handle.
+    Single(NotificationHandle),
+    /// Until some child has an outcome.
+    FirstCompleted(Items<UnresolvedFuture>),
+    /// Until all children have one.
+    AllCompleted(Items<UnresolvedFuture>),
+    /// Until some child succeeds, or all have failed.
+    FirstSucceededOrAllFailed(Items<UnresolvedFuture>),
+    /// Until all children succeed, or some child has failed.
+    AllSucceededOrFirstFailed(Items<UnresolvedFuture>),
+    /// Some way of the runner's own: asked again at each outcome of a child.
+    Unknown(Items<UnresolvedFuture>),
+}
+
+impl From<NotificationHandle> for UnresolvedFuture {
+    ghost use Rattle.await_trees.specs.declared.tree.UnresolvedFuture.TheVariants.{Single};
+
+    ghost from_gives = { λ handle future. future ≡ Single handle };
+
+    fn from(handle: NotificationHandle) -> UnresolvedFuture {
+        UnresolvedFuture::Single(handle)
+    }
+}
