@@ -1,0 +1,11 @@
+pub mod Await
+pub mod Leaves
+pub mod Left
+pub mod Link
+pub mod Passes
+pub mod Resolved
+pub mod Spells
+pub mod Sweep
+pub mod Try
+pub mod Turn
+pub mod Used
