@@ -2,4 +2,5 @@ pub mod Bools
 pub mod Monotone
 pub mod Preorders
 pub mod Prune
+pub mod Readings
 pub mod TreeOf

@@ -1,6 +1,6 @@
 -- `tree_of` at each form.
-use Rattle.std.proofs.Common.{◌≡◌, ℕ, List, sym, ◌∙◌, ap}
-use Rattle.await_trees.specs.Tree.{Tree, Forest, leaf, node, tree_step, tree_of, forest_of}
+use Rattle.std.proofs.Common.{◌≡◌, List, sym, ◌∙◌, ap}
+use Rattle.await_trees.specs.Tree.{Tree, leaf, node, tree_step, tree_of, forest_of}
 use Rattle.journal_protocol.specs.declared.future.FutureKind.TheVariants.{FirstCompleted as First, AllCompleted as All, FirstSucceededOrAllFailed as Any, AllSucceededOrFirstFailed as Every, Unknown as Other}
 use Rattle.await_trees.specs.declared.tree.NotificationHandle.{NotificationHandle}
 use Rattle.await_trees.specs.declared.tree.UnresolvedFuture.{UnresolvedFuture}

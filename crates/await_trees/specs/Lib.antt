@@ -3,3 +3,4 @@ pub mod Outcomes
 pub mod Preorder
 pub mod Residual
 pub mod Tree
+pub mod Wires

@@ -2,6 +2,7 @@
 //! preorder.
 #![tactic(auto)]
 
+pub mod laws;
 pub mod listing;
 pub mod nodes;
 pub mod outcome;
