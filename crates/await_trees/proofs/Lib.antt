@@ -3,4 +3,5 @@ pub mod Monotone
 pub mod Preorders
 pub mod Prune
 pub mod Readings
+pub mod Sameness
 pub mod TreeOf

@@ -132,6 +132,6 @@ module _ (id : ℕ → Option NotificationId) (at : NotificationId → Outcome) 
 
   pub sent_awake : (t : Tree) → Mapped id t → awake at (reading (sent id t)) ≡ awake bt t
   sent_awake (leaf h) m = one_leaf (id h) m
-  sent_awake (node k ts) m = 
+  sent_awake (node k ts) m =
       let as_sent : awake at (node k (rows id ts (inners id ts))) ≡ awake bt (node k ts) = rw (rows_wait k ts m, rows_fire k ts m) refl in
       ap (awake at) (reads_node id k ts) ∙ as_sent
