@@ -1,3 +1,4 @@
+pub mod Heading
 pub mod Lifting
 pub mod Links
 pub mod Moves
@@ -5,3 +6,4 @@ pub mod Settling
 pub mod Spelled
 pub mod Sweeping
 pub mod Trying
+pub mod Walking

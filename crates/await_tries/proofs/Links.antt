@@ -11,30 +11,22 @@ use Rattle.await_trees.specs.declared.nodes.Label.TheVariants.{Leaf, Inner}
 use Rattle.await_trees.specs.Tree.{Tree, Forest, leaf, node, none, more}
 use Rattle.await_trees.specs.Preorder.{preorder, preorders, size}
 use Rattle.await_tries.specs.Link.{Linked}
+use Rattle.await_tries.specs.Walks.{joined, next}
 use Rattle.await_tries.specs.Spells.{blank, node_at, children, AllAbove, Spells, a_leaf, a_node, SpellAll, no_more, one_more}
 use Rattle.await_tries.specs.Sweep.{AllUnder}
 use Rattle.await_tries.proofs.Settling.{stable}
 
 -- ---- the trees that begin at a node of a pre-order
 
-abbrev pub joined : Forest → Forest → Forest
-joined none rs = rs
-joined (more t ts) rs = more t (joined ts rs)
-
-abbrev pub next : Forest → Forest
-next none = none
-next (more (leaf h) rs) = rs
-next (more (node k us) rs) = joined us rs
-
 abbrev pub from : ℕ → Forest → Forest
 from zero ts = ts
 from (suc i) ts = next (from i ts)
 
-codes_joined : (us rs : Forest) → preorders (joined us rs) ≡ preorders us ++ preorders rs
+pub codes_joined : (us rs : Forest) → preorders (joined us rs) ≡ preorders us ++ preorders rs
 codes_joined none rs = refl
 codes_joined (more t ts) rs = ap (λ z. preorder t ++ z) (codes_joined ts rs) ∙ sym (append_assoc (preorder t) (preorders ts) (preorders rs))
 
-codes_next : (ts : Forest) → preorders (next ts) ≡ drop 1 (preorders ts)
+pub codes_next : (ts : Forest) → preorders (next ts) ≡ drop 1 (preorders ts)
 codes_next none = refl
 codes_next (more (leaf h) rs) = refl
 codes_next (more (node k us) rs) = codes_joined us rs

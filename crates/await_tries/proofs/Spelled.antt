@@ -4,6 +4,7 @@ use Rattle.await_trees.specs.declared.nodes.Node.{Node}
 use Rattle.await_trees.specs.Tree.{Tree, Forest, node, forest}
 use Rattle.await_tries.specs.Left.{Left, read, tree_left, IsWhole}
 use Rattle.await_tries.specs.Passes.{Ranged}
+use Rattle.await_tries.specs.Walks.{reads}
 use Rattle.await_tries.specs.Spells.{children, AllAbove, Spells, a_leaf, a_node, SpellAll, no_more, one_more}
 
 module _ (ns : List Node) (kids : List ℕ) where
@@ -26,11 +27,7 @@ module _ (ns : List Node) (kids : List ℕ) where
   pub spelled_once : (n : ℕ) (t u : Tree) → Spells ns kids n t → Spells ns kids n u → u ≡ t
   spelled_once n t u s r = sym (spelled_at n u r) ∙ spelled_at n t s
 
-  -- the trees of these numbers
-  abbrev pub reads : List ℕ → Forest
-  reads cs = forest (map (read ns kids (length ns)) cs)
-
-  pub reads_are : (cs : List ℕ) (ts : Forest) → SpellAll ns kids cs ts → reads cs ≡ ts
+  pub reads_are : (cs : List ℕ) (ts : Forest) → SpellAll ns kids cs ts → reads ns kids cs ≡ ts
   reads_are cs ts no_more = refl
   reads_are cs ts (one_more {c = c} {cs = ds} {t = t} {ts = us} s r) = rw (spelled_at c t s, reads_are ds us r) refl
 

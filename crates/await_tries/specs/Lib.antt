@@ -1,7 +1,10 @@
 pub mod Await
+pub mod Heads
+pub mod Later
 pub mod Leaves
 pub mod Left
 pub mod Link
+pub mod Message
 pub mod Passes
 pub mod Resolved
 pub mod Spells
@@ -9,3 +12,4 @@ pub mod Sweep
 pub mod Try
 pub mod Turn
 pub mod Used
+pub mod Walks
