@@ -1,5 +1,5 @@
 -- A node of a wire future is filled child by child.
-use Rattle.std.proofs.Common.{◌≡◌, ℕ, zero, suc, ◌+◌, ◌<◌, List, [], ◌∷◌, ◌++◌, length, map, drop, get_or, Option, Some, None, refl, sym, ap, ◌∙◌, arith, append_assoc, append-nil, drop-cons, add-one}
+use Rattle.std.proofs.Common.{◌≡◌, ℕ, zero, suc, ◌+◌, ◌<◌, List, [], ◌++◌, length, map, drop, get_or, Option, Some, None, refl, sym, ap, ◌∙◌, arith, append_assoc, append-nil, drop-cons}
 use Rattle.journal_protocol.specs.declared.future.FutureKind.{FutureKind}
 use Rattle.journal_protocol.specs.declared.future.FutureNode.{FutureNode}
 use Rattle.journal_protocol.specs.declared.notification.NotificationId.{NotificationId}
@@ -7,9 +7,9 @@ use Rattle.journal_protocol.specs.declared.notification.NotificationId.TheVarian
 use Rattle.await_trees.specs.declared.nodes.Node.{Node}
 use Rattle.await_trees.specs.declared.nodes.Label.TheVariants.{Leaf, Inner}
 use Rattle.await_trees.specs.Tree.{Forest, leaf, node, none, more, forest}
-use Rattle.await_trees.specs.Wires.{completion_of, signal_of, name_of, inner, completions, signals, names, head_of}
+use Rattle.await_trees.specs.Wires.{completion_of, signal_of, name_of, completions, signals, names, head_of}
 use Rattle.await_tries.specs.Heads.{bare, with_id, with_children}
-use Rattle.await_tries.specs.Left.{read, read_label}
+use Rattle.await_tries.specs.Left.{read}
 use Rattle.await_tries.specs.Spells.{node_at, children}
 use Rattle.await_tries.specs.Walks.{reads}
 

@@ -1,6 +1,8 @@
 pub mod Heading
+pub mod LaterArrivals
 pub mod Lifting
 pub mod Links
+pub mod Messages
 pub mod Moves
 pub mod Settling
 pub mod Spelled

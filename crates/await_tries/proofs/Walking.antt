@@ -1,5 +1,5 @@
 -- A walk over nodes, with a stack of the rows of children that are still to come.
-use Rattle.std.proofs.Common.{◌≡◌, ℕ, suc, ◌+◌, ◌-◌, ◌<◌, ◌≤◌, List, [], ◌∷◌, ◌++◌, length, take, drop, get_or, reverse, Option, Some, None, refl, sym, ap, subst, ◌∙◌, arith, append_assoc, add-one}
+use Rattle.std.proofs.Common.{◌≡◌, ℕ, suc, ◌+◌, ◌-◌, ◌<◌, ◌≤◌, List, [], ◌∷◌, ◌++◌, length, take, drop, get_or, reverse, Option, Some, refl, sym, ap, subst, ◌∙◌, arith, append_assoc}
 use Rattle.std.proofs.lemmas.List.{reverse-append, length-drop}
 use Rattle.journal_protocol.specs.declared.future.FutureKind.{FutureKind}
 use Rattle.journal_protocol.specs.declared.future.FutureNode.{FutureNode}
@@ -8,13 +8,13 @@ use Rattle.await_trees.specs.declared.nodes.Node.{Node}
 use Rattle.await_trees.specs.declared.nodes.Label.{Label}
 use Rattle.await_trees.specs.declared.nodes.Label.TheVariants.{Leaf, Inner}
 use Rattle.await_trees.specs.Handles.{handles_of, handles_in}
-use Rattle.await_trees.specs.Preorder.{preorder, preorders}
+use Rattle.await_trees.specs.Preorder.{preorders}
 use Rattle.await_trees.specs.Wires.{head_of, nested}
 use Rattle.await_trees.specs.Tree.{Tree, Forest, leaf, node, none, more}
 use Rattle.await_tries.specs.declared.walk.Row.{Row}
 use Rattle.await_tries.specs.Left.{Left, read, tree_left, IsWhole}
 use Rattle.await_tries.specs.Passes.{Ranged}
-use Rattle.await_tries.specs.Spells.{node_at, children, Spells, a_leaf, a_node, SpellAll, no_more, one_more}
+use Rattle.await_tries.specs.Spells.{node_at, children, Spells, SpellAll, one_more}
 use Rattle.await_tries.specs.Walks.{joined, next, reads, row_rest, coming, Sound, Steps}
 use Rattle.await_tries.proofs.Links.{codes_next}
 use Rattle.await_tries.proofs.Settling.{opened, leaf_is}

@@ -1,5 +1,5 @@
 -- A tree and its residual, over all later arrivals.
-use Rattle.std.specs.Prelude.{ℕ, ◌≡◌, ◌<◌, ◌≤◌, true, false, List, [], ◌++◌, ◌+◌, length}
+use Rattle.std.specs.Prelude.{ℕ, ◌≡◌, ◌<◌, ◌≤◌, true, false, List, [], ◌++◌, ◌+◌, length, None}
 use Rattle.journal_protocol.specs.declared.notification.Notification.{Notification}
 use Rattle.journal_protocol.specs.declared.notification.NotificationId.{NotificationId}
 use Rattle.journal_protocol.specs.declared.notification.NotificationId.TheVariants.{CompletionId}
@@ -7,9 +7,9 @@ use Rattle.arrivals.specs.Results.{results_of}
 use Rattle.vm_parts.specs.declared.options.SignalDelivery.{SignalDelivery}
 use Rattle.vm_parts.specs.declared.options.SignalDelivery.TheVariants.{Queued}
 use Rattle.vm_parts.specs.Arrived.{Arrived}
-use Rattle.vm_parts.specs.Deliveries.{is_listed}
+use Rattle.vm_parts.specs.Deliveries.{id_at, is_listed, present_for}
 use Rattle.await_trees.specs.Outcomes.{is_done, awake}
-use Rattle.await_trees.specs.Tree.{Tree}
+use Rattle.await_trees.specs.Tree.{Tree, Forest, leaf, node, none, more}
 use Rattle.await_tries.specs.Leaves.{leaf_outcome}
 use Rattle.await_tries.specs.Used.{used}
 
@@ -38,3 +38,17 @@ pub record EachOnce (delivery : SignalDelivery) (v : Arrived) : Type 0 where
 pub record PlainlyLeast (delivery : SignalDelivery) (v : Arrived) (t : Tree) (n : ℕ) : Type 0 where
   pub wakes : awake (leaf_outcome delivery (used v n)) t ≡ true
   pub least : (m : ℕ) → m < n → awake (leaf_outcome delivery (used v m)) t ≡ false
+
+-- a handle without a present result
+abbrev pub IsAbsent : SignalDelivery → Arrived → ℕ → Type 0
+IsAbsent delivery v h = present_for delivery (id_at h v.handles) v.ready ≡ None
+
+-- this holds of each leaf of a tree
+abbrev mutual
+  pub EachLeaf : (ℕ → Type 0) → Tree → Type 0
+  EachLeaf P (leaf h) = P h
+  EachLeaf P (node k ts) = EachLeafOf P ts
+
+  pub EachLeafOf : (ℕ → Type 0) → Forest → Type 0
+  EachLeafOf P none = Unit {0}
+  EachLeafOf P (more t ts) = EachLeaf P t × EachLeafOf P ts

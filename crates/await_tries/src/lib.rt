@@ -3,6 +3,7 @@
 #![tactic(auto)]
 
 pub mod handles;
+pub mod laws;
 pub mod leaves;
 pub mod linking;
 pub mod pass;

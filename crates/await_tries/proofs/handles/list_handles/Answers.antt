@@ -1,11 +1,10 @@
-use Rattle.std.proofs.Common.{rules, ℕ, ◌≡◌, ◌<◌, ◌+◌, ◌∷◌, ◌++◌, [], List, Option, Some, length, reverse, refl, sym, ap, subst, ◌∙◌, arith, append-nil}
+use Rattle.std.proofs.Common.{rules, ℕ, ◌≡◌, ◌+◌, ◌∷◌, ◌++◌, [], List, Option, Some, reverse, refl, sym, ap, subst, ◌∙◌}
 use Rattle.await_trees.specs.Handles.{handles_of, handles_in}
-use Rattle.await_trees.specs.Preorder.{preorders}
 use Rattle.await_tries.specs.declared.walk.Row.{Row}
-use Rattle.await_tries.specs.Left.{Left, tree_left, IsWhole}
+use Rattle.await_tries.specs.Left.{Left, IsWhole}
 use Rattle.await_tries.specs.Spells.{node_at}
 use Rattle.await_tries.specs.Walks.{coming, Sound, Steps}
-use Rattle.await_tries.proofs.Walking.{on_top, started, is_inner, handle_next, inner_next, steps_fewer, steps_within}
+use Rattle.await_tries.proofs.Walking.{on_top, started, is_inner, inner_next, steps_fewer, steps_within}
 use Rattle.await_tries.proofs.handles.list_handles.Goals as goal
 
 pub loop-rows-init : goal.loop-rows-init

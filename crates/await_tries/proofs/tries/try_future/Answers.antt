@@ -1,7 +1,6 @@
-use Rattle.std.proofs.Common.{◌≡◌, subst, sym}
-use Rattle.await_trees.specs.Tree.{Tree, tree_of}
+use Rattle.await_trees.specs.Tree.{tree_of}
 use Rattle.await_tries.specs.Await.{LeftPending}
-use Rattle.await_tries.specs.Left.{Left, tree_left}
+use Rattle.await_tries.specs.Left.{tree_left}
 use Rattle.await_tries.proofs.Spelled.{whole, spelled_at}
 use Rattle.await_tries.proofs.tries.try_future.Goals as goal
 

@@ -1,10 +1,8 @@
-use Rattle.std.proofs.Common.{◌≡◌, ◌∷◌, ◌++◌, ◌+◌, [], List, length, get_or, reverse, refl, sym, ap, ◌∙◌, subst, arith, Some}
-use Rattle.std.proofs.lemmas.List.{get_or_read, nil_from_length}
-use Rattle.await_trees.specs.declared.nodes.Node.{Node}
+use Rattle.std.proofs.Common.{◌∷◌, ◌+◌, List, get_or, reverse, refl, sym, ap, ◌∙◌, subst}
 use Rattle.await_tries.specs.declared.walk.Row.{Row}
-use Rattle.await_tries.specs.Spells.{blank, node_at}
-use Rattle.await_tries.specs.Walks.{coming, Sound, Steps}
-use Rattle.await_tries.proofs.Walking.{on_top, row_over, child_within, step_leaf, step_inner, is_leaf, steps_from}
+use Rattle.await_tries.specs.Spells.{node_at}
+use Rattle.await_tries.specs.Walks.{coming, Sound}
+use Rattle.await_tries.proofs.Walking.{on_top, step_leaf, step_inner, is_leaf, steps_from}
 use Rattle.await_tries.proofs.walk.next_node.Goals as goal
 
 pub returns-in_ok-push-2 : goal.returns-in_ok-push-2

@@ -1,4 +1,4 @@
-use Rattle.std.proofs.Common.{rules, ◌≡◌, true, Some, Option, List}
+use Rattle.std.proofs.Common.{rules, ◌≡◌, true, Some}
 use Rattle.journal_protocol.specs.Futures.{are_whole}
 use Rattle.await_trees.proofs.Readings.{sent_whole}
 use Rattle.await_tries.specs.Left.{tree_left}

@@ -1,5 +1,5 @@
 use Rattle.std.specs.Prelude.{IfOk}
-use Rattle.std.proofs.Common.{Result, Ok, Err, ◌≡◌, take, drop, ap, ◌∙◌}
+use Rattle.std.proofs.Common.{Result, Ok, Err, take, drop, ap, ◌∙◌}
 use Rattle.await_trees.specs.Wires.{head_of}
 use Rattle.await_tries.specs.Message.{ids}
 use Rattle.await_tries.specs.Spells.{node_at}

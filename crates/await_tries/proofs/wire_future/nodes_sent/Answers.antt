@@ -1,8 +1,8 @@
-use Rattle.std.proofs.Common.{rules, ℕ, ◌≡◌, ◌<◌, ◌+◌, ◌∷◌, ◌++◌, [], List, Option, Some, length, reverse, refl, sym, ap, subst, ◌∙◌}
+use Rattle.std.proofs.Common.{rules, ℕ, ◌≡◌, ◌+◌, ◌∷◌, ◌++◌, [], List, Option, Some, reverse, refl, sym, ap, subst, ◌∙◌}
 use Rattle.journal_protocol.specs.declared.future.FutureNode.{FutureNode}
 use Rattle.await_trees.specs.Wires.{head_of, nested, sent}
 use Rattle.await_tries.specs.declared.walk.Row.{Row}
-use Rattle.await_tries.specs.Left.{Left, tree_left, IsWhole}
+use Rattle.await_tries.specs.Left.{Left, IsWhole}
 use Rattle.await_tries.specs.Message.{ids}
 use Rattle.await_tries.specs.Spells.{node_at, children}
 use Rattle.await_tries.specs.Walks.{reads, coming, Sound, Steps}
