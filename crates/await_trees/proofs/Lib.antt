@@ -1,4 +1,5 @@
 pub mod Bools
+pub mod Counting
 pub mod Monotone
 pub mod Preorders
 pub mod Prune

@@ -1,3 +1,4 @@
+pub mod Counts
 pub mod Handles
 pub mod Outcomes
 pub mod Preorder

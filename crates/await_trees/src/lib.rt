@@ -3,6 +3,7 @@
 #![tactic(auto)]
 
 pub mod laws;
+pub mod letting_go;
 pub mod listing;
 pub mod nodes;
 pub mod outcome;

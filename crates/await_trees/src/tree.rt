@@ -1,7 +1,7 @@
 //! The futures that a handler can await: a handle, or a node over others.
 ghost use Rattle.std.specs.Prelude.{◌≡◌};
 
-use std::alloc::AllocError;
+use crate::letting_go::turn;
 use wire::Items;
 
 /// What a call that is answered later hands out; counted from 17. Handle 1 is the cancel signal's.
@@ -9,7 +9,6 @@ use wire::Items;
 pub struct NotificationHandle(pub u32);
 
 /// What a handler awaits.
-#[derive(Drop)]
 pub enum UnresolvedFuture {
     /// One handle.
     Single(NotificationHandle),
@@ -32,5 +31,28 @@ impl From<NotificationHandle> for UnresolvedFuture {
 
     fn from(handle: NotificationHandle) -> UnresolvedFuture {
         UnresolvedFuture::Single(handle)
+    }
+}
+
+impl Drop for UnresolvedFuture {
+    fn drop(mut self) {
+        let mut row = None;
+        'trees: loop {
+            let found = match self {
+                UnresolvedFuture::Single(_) => None,
+                UnresolvedFuture::FirstCompleted(children) => Some(children.into_vec()),
+                UnresolvedFuture::AllCompleted(children) => Some(children.into_vec()),
+                UnresolvedFuture::FirstSucceededOrAllFailed(children) => Some(children.into_vec()),
+                UnresolvedFuture::AllSucceededOrFirstFailed(children) => Some(children.into_vec()),
+                UnresolvedFuture::Unknown(children) => Some(children.into_vec()),
+            };
+            match turn(row, found) {
+                None => return,
+                Some((tree, others)) => {
+                    self = tree;
+                    row = Some(others);
+                }
+            }
+        }
     }
 }
