@@ -7,6 +7,7 @@ pub mod letting_go;
 pub mod listing;
 pub mod nodes;
 pub mod outcome;
+pub mod showing;
 pub mod tree;
 
 pub use journal_protocol::FutureKind;

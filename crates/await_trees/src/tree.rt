@@ -2,6 +2,8 @@
 ghost use Rattle.std.specs.Prelude.{◌≡◌};
 
 use crate::letting_go::turn;
+use crate::showing::show;
+use std::fmt;
 use wire::Items;
 
 /// What a call that is answered later hands out; counted from 17. Handle 1 is the cancel signal's.
@@ -53,6 +55,22 @@ impl Drop for UnresolvedFuture {
                     row = Some(others);
                 }
             }
+        }
+    }
+}
+
+impl fmt::Debug for UnresolvedFuture {
+    fn fmt<W: fmt::Write>(&self, f: &mut fmt::Formatter<W>) -> fmt::Result {
+        match self {
+            UnresolvedFuture::Single(handle) => {
+                let number = handle.0;
+                write!(f, "{number}")
+            }
+            UnresolvedFuture::FirstCompleted(children)
+            | UnresolvedFuture::AllCompleted(children)
+            | UnresolvedFuture::FirstSucceededOrAllFailed(children)
+            | UnresolvedFuture::AllSucceededOrFirstFailed(children)
+            | UnresolvedFuture::Unknown(children) => show(children.alloc(), f, self),
         }
     }
 }
