@@ -1,12 +1,12 @@
 -- The nodes of trees in pre-order.
-use Rattle.std.proofs.Common.{◌≡◌, ℕ, suc, ◌+◌, ◌*◌, ◌<◌, List, [], ◌∷◌, ◌++◌, map, length, refl, sym, ap, ◌∙◌, arith, append_assoc, append-nil}
-use Rattle.std.proofs.lemmas.List.{map_push, length_push}
+use Rattle.std.proofs.Common.{◌≡◌, ℕ, zero, suc, ◌+◌, ◌*◌, ◌<◌, List, [], ◌∷◌, ◌++◌, map, length, refl, sym, ap, ◌∙◌, arith, append_assoc, append-nil, drop, add-one}
+use Rattle.std.proofs.lemmas.List.{map_push, length_push, drop-drop}
 use Rattle.journal_protocol.specs.declared.future.FutureKind.{FutureKind}
 use Rattle.await_trees.specs.declared.tree.UnresolvedFuture.{UnresolvedFuture}
 use Rattle.await_trees.specs.declared.nodes.Node.{Node}
 use Rattle.await_trees.specs.declared.nodes.Label.TheVariants.{Inner}
-use Rattle.await_trees.specs.Tree.{node, tree_of, forest_of}
-use Rattle.await_trees.specs.Preorder.{preorder, preorders, preorders_on, size}
+use Rattle.await_trees.specs.Tree.{Tree, Forest, leaf, node, none, more, tree_of, forest_of}
+use Rattle.await_trees.specs.Preorder.{preorder, preorders, preorders_on, size, joined, next, from}
 
 size-forest : (us : List UnresolvedFuture) → size (forest_of us) ≡ length us
 size-forest [] = refl
@@ -63,3 +63,23 @@ module _ {R : Type 0} (now : R → List UnresolvedFuture) where
 
 pub node_written : (ns xs ys whole : List Node) (n : Node) → ns ++ xs ≡ whole → xs ≡ n ∷ ys → (ns ++ n ∷ []) ++ ys ≡ whole
 node_written ns xs ys whole n h e = append_assoc ns (n ∷ []) ys ∙ ap (λ z. ns ++ z) (sym e) ∙ h
+
+-- ---- the trees that begin at a node of a preorder
+
+pub codes_joined : (us rs : Forest) → preorders (joined us rs) ≡ preorders us ++ preorders rs
+codes_joined none rs = refl
+codes_joined (more t ts) rs = ap (λ z. preorder t ++ z) (codes_joined ts rs) ∙ sym (append_assoc (preorder t) (preorders ts) (preorders rs))
+
+pub codes_next : (ts : Forest) → preorders (next ts) ≡ drop 1 (preorders ts)
+codes_next none = refl
+codes_next (more (leaf h) rs) = refl
+codes_next (more (node k us) rs) = codes_joined us rs
+
+pub codes_from : (i : ℕ) (ts : Forest) → preorders (from i ts) ≡ drop i (preorders ts)
+codes_from zero ts = refl
+codes_from (suc i) ts = codes_next (from i ts) ∙ ap (drop 1) (codes_from i ts) ∙ drop-drop 1 i (preorders ts) ∙ rw add-one refl
+
+pub none_from : (ts : Forest) → preorders ts ≡ [] → ts ≡ none
+none_from none e = refl
+none_from (more (leaf h) rs) e = cc
+none_from (more (node k us) rs) e = cc

@@ -22,3 +22,19 @@ abbrev mutual
 abbrev pub preorders_on : List (List UnresolvedFuture) → List Node
 preorders_on [] = []
 preorders_on (row ∷ rows) = preorders_on rows ++ preorders (forest_of row)
+
+-- one row of trees behind another
+abbrev pub joined : Forest → Forest → Forest
+joined none rs = rs
+joined (more t ts) rs = more t (joined ts rs)
+
+-- once the first tree's root was read, its children come next
+abbrev pub next : Forest → Forest
+next none = none
+next (more (leaf h) rs) = rs
+next (more (node k us) rs) = joined us rs
+
+-- the trees that begin at a node of a preorder
+abbrev pub from : ℕ → Forest → Forest
+from zero ts = ts
+from (suc i) ts = next (from i ts)

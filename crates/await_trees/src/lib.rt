@@ -2,6 +2,7 @@
 //! preorder.
 #![tactic(auto)]
 
+pub mod copying;
 pub mod laws;
 pub mod letting_go;
 pub mod listing;

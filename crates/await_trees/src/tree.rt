@@ -1,8 +1,10 @@
 //! The futures that a handler can await: a handle, or a node over others.
 ghost use Rattle.std.specs.Prelude.{◌≡◌};
 
+use crate::copying::copy_of;
 use crate::letting_go::turn;
 use crate::showing::show;
+use std::alloc::AllocError;
 use std::fmt;
 use wire::Items;
 
@@ -55,6 +57,22 @@ impl Drop for UnresolvedFuture {
                     row = Some(others);
                 }
             }
+        }
+    }
+}
+
+impl Clone for UnresolvedFuture {
+    ghost is_clone = { λ future copy. copy ≡ future };
+
+    /// An equal tree.
+    fn clone(&self) -> Result<UnresolvedFuture, AllocError> {
+        match self {
+            UnresolvedFuture::Single(handle) => Ok(UnresolvedFuture::Single(*handle)),
+            UnresolvedFuture::FirstCompleted(children)
+            | UnresolvedFuture::AllCompleted(children)
+            | UnresolvedFuture::FirstSucceededOrAllFailed(children)
+            | UnresolvedFuture::AllSucceededOrFirstFailed(children)
+            | UnresolvedFuture::Unknown(children) => copy_of(children.alloc(), self),
         }
     }
 }

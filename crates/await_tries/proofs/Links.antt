@@ -9,36 +9,12 @@ use Rattle.std.proofs.lemmas.Bool.{cases_lt}
 use Rattle.await_trees.specs.declared.nodes.Node.{Node}
 use Rattle.await_trees.specs.declared.nodes.Label.TheVariants.{Leaf, Inner}
 use Rattle.await_trees.specs.Tree.{Tree, Forest, leaf, node, none, more}
-use Rattle.await_trees.specs.Preorder.{preorder, preorders, size}
+use Rattle.await_trees.specs.Preorder.{preorder, preorders, size, joined, next, from}
+use Rattle.await_trees.proofs.Preorders.{codes_from, none_from}
 use Rattle.await_tries.specs.Link.{Linked}
-use Rattle.await_tries.specs.Walks.{joined, next}
 use Rattle.await_tries.specs.Spells.{blank, node_at, children, AllAbove, Spells, a_leaf, a_node, SpellAll, no_more, one_more}
 use Rattle.await_tries.specs.Sweep.{AllUnder}
 use Rattle.await_tries.proofs.Settling.{stable}
-
--- ---- the trees that begin at a node of a pre-order
-
-abbrev pub from : ℕ → Forest → Forest
-from zero ts = ts
-from (suc i) ts = next (from i ts)
-
-pub codes_joined : (us rs : Forest) → preorders (joined us rs) ≡ preorders us ++ preorders rs
-codes_joined none rs = refl
-codes_joined (more t ts) rs = ap (λ z. preorder t ++ z) (codes_joined ts rs) ∙ sym (append_assoc (preorder t) (preorders ts) (preorders rs))
-
-pub codes_next : (ts : Forest) → preorders (next ts) ≡ drop 1 (preorders ts)
-codes_next none = refl
-codes_next (more (leaf h) rs) = refl
-codes_next (more (node k us) rs) = codes_joined us rs
-
-pub codes_from : (i : ℕ) (ts : Forest) → preorders (from i ts) ≡ drop i (preorders ts)
-codes_from zero ts = refl
-codes_from (suc i) ts = codes_next (from i ts) ∙ ap (drop 1) (codes_from i ts) ∙ drop-drop 1 i (preorders ts) ∙ rw add-one refl
-
-pub none_from : (ts : Forest) → preorders ts ≡ [] → ts ≡ none
-none_from none e = refl
-none_from (more (leaf h) rs) e = cc
-none_from (more (node k us) rs) e = cc
 
 -- ---- rows of roots
 
@@ -239,16 +215,3 @@ module _ (ns : List Node) (kids lids roots after : List ℕ) (h : ℕ) (within :
     where
       less : (g : ℕ) → h ≡ suc g → AllAbove g roots
       less g q = above_less g roots (rw (← q) above)
-
--- ---- a stack, its top first
-
-pub push_reverse : (xs : List ℕ) (x : ℕ) → reverse (xs ++ x ∷ []) ≡ x ∷ reverse xs
-push_reverse xs x = reverse-append xs (x ∷ [])
-
-pub one_taken : (all kids longer roots rest : List ℕ) (i x : ℕ) (start : List ℕ) → kids ≡ start ++ take i all → reverse roots ≡ drop i all → roots ≡ rest ++ x ∷ [] → longer ≡ kids ++ x ∷ []
-    → (longer ≡ start ++ take (i + 1) all) × (reverse rest ≡ drop (i + 1) all)
-one_taken all kids longer roots rest i x start k r top pushed =
-    let d : drop i all ≡ x ∷ reverse rest = sym r ∙ ap reverse top ∙ push_reverse rest x in
-    let t : take (i + 1) all ≡ take i all ++ x ∷ [] = take-add i 1 all ∙ ap (λ z. take i all ++ take 1 z) d in
-    let e : drop (i + 1) all ≡ reverse rest = sym (drop-drop 1 i all) ∙ ap (drop 1) d in
-    (pushed ∙ ap (λ z. z ++ x ∷ []) k ∙ append_assoc start (take i all) (x ∷ []) ∙ ap (λ z. start ++ z) (sym t), sym e)

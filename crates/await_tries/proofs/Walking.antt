@@ -8,15 +8,15 @@ use Rattle.await_trees.specs.declared.nodes.Node.{Node}
 use Rattle.await_trees.specs.declared.nodes.Label.{Label}
 use Rattle.await_trees.specs.declared.nodes.Label.TheVariants.{Leaf, Inner}
 use Rattle.await_trees.specs.Handles.{handles_of, handles_in}
-use Rattle.await_trees.specs.Preorder.{preorders}
+use Rattle.await_trees.specs.Preorder.{preorders, joined, next}
 use Rattle.await_trees.specs.Wires.{head_of, nested}
 use Rattle.await_trees.specs.Tree.{Tree, Forest, leaf, node, none, more}
 use Rattle.await_tries.specs.declared.walk.Row.{Row}
 use Rattle.await_tries.specs.Left.{Left, read, tree_left, IsWhole}
 use Rattle.await_tries.specs.Passes.{Ranged}
 use Rattle.await_tries.specs.Spells.{node_at, children, Spells, SpellAll, one_more}
-use Rattle.await_tries.specs.Walks.{joined, next, reads, row_rest, coming, Sound, Steps}
-use Rattle.await_tries.proofs.Links.{codes_next}
+use Rattle.await_tries.specs.Walks.{reads, row_rest, coming, Sound, Steps}
+use Rattle.await_trees.proofs.Preorders.{codes_next}
 use Rattle.await_tries.proofs.Settling.{opened, leaf_is}
 use Rattle.await_tries.proofs.Spelled.{reads_are, spells_within}
 use Rattle.await_tries.proofs.Sweeping.{come_next}

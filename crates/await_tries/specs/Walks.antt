@@ -1,21 +1,11 @@
 -- The trees that are still to come in a walk over nodes, in preorder.
 use Rattle.std.specs.Prelude.{ℕ, ◌≡◌, ◌-◌, ◌≤◌, List, [], ◌∷◌, length, take, drop, map, Option, Some, None}
 use Rattle.await_trees.specs.declared.nodes.Node.{Node}
-use Rattle.await_trees.specs.Tree.{Forest, leaf, node, none, more, forest}
+use Rattle.await_trees.specs.Preorder.{joined, next}
+use Rattle.await_trees.specs.Tree.{Forest, none, more, forest}
 use Rattle.await_tries.specs.declared.walk.Row.{Row}
 use Rattle.await_tries.specs.Left.{read}
 use Rattle.await_tries.specs.Spells.{Spells, SpellAll}
-
--- one row of trees behind another
-abbrev pub joined : Forest → Forest → Forest
-joined none rs = rs
-joined (more t ts) rs = more t (joined ts rs)
-
--- once the first tree's root was read, its children come next
-abbrev pub next : Forest → Forest
-next none = none
-next (more (leaf h) rs) = rs
-next (more (node k us) rs) = joined us rs
 
 -- the trees of these numbers
 abbrev pub reads : List Node → List ℕ → List ℕ → Forest

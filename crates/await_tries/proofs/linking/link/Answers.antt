@@ -2,7 +2,8 @@ use Rattle.std.proofs.Common.{◌≡◌, ◌-◌, ◌<◌, suc, ◌∷◌, lengt
 use Rattle.std.proofs.lemmas.List.{get_or_read, length-set, length-reverse}
 use Rattle.await_trees.specs.declared.nodes.Node.{Node}
 use Rattle.await_tries.specs.Spells.{blank}
-use Rattle.await_tries.proofs.Links.{linking_start, linking_step, push_reverse}
+use Rattle.await_tries.proofs.Links.{linking_start, linking_step}
+use Rattle.await_trees.proofs.Stacks.{push_reverse}
 use Rattle.await_tries.proofs.linking.link.Goals as goal
 
 pub loop-i-init : goal.loop-i-init

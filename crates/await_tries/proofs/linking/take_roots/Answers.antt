@@ -1,5 +1,5 @@
 use Rattle.std.proofs.Common.{reverse}
-use Rattle.await_tries.proofs.Links.{one_taken}
+use Rattle.await_trees.proofs.Stacks.{one_taken}
 use Rattle.await_tries.proofs.linking.take_roots.Goals as goal
 
 pub loop-i-preserved : goal.loop-i-preserved
