@@ -1,11 +1,11 @@
 -- Trees that are taken apart, by the numbers of their nodes.
-use Rattle.std.proofs.Common.{◌≡◌, ℕ, zero, suc, ◌+◌, ◌<◌, ◌≤◌, List, [], ◌∷◌, ◌++◌, length, get_or, refl, sym, ap, ◌∙◌, arith, ◌⊎◌, inl, inr}
+use Rattle.std.proofs.Common.{◌≡◌, ℕ, zero, suc, ◌+◌, ◌<◌, ◌≤◌, List, [], ◌∷◌, ◌++◌, length, get_or, refl, ap, ◌∙◌, arith, ◌⊎◌, inl, inr}
 use Rattle.std.proofs.Math.ListN.{set}
 use Rattle.await_trees.specs.declared.tree.NotificationHandle.{NotificationHandle}
 use Rattle.await_trees.specs.declared.tree.UnresolvedFuture.{UnresolvedFuture}
 use Rattle.await_trees.specs.declared.tree.UnresolvedFuture.TheVariants.{Single, FirstCompleted, AllCompleted, FirstSucceededOrAllFailed, AllSucceededOrFirstFailed, Unknown}
 use Rattle.await_trees.specs.Counts.{nodes_in, nodes_of, count, in_row, Fewer}
-use Rattle.await_trees.specs.Tree.{tree_of, forest_of}
+use Rattle.await_trees.specs.Tree.{forest_of}
 use Rattle.await_trees.proofs.TreeOf.{tree_of-Single, tree_of-FirstCompleted, tree_of-AllCompleted, tree_of-FirstSucceededOrAllFailed, tree_of-AllSucceededOrFirstFailed, tree_of-Unknown}
 
 row_nodes : (us : List UnresolvedFuture) → nodes_of (forest_of us) ≡ in_row us

@@ -5,7 +5,7 @@ use Rattle.journal_protocol.specs.declared.future.FutureKind.{FutureKind}
 use Rattle.await_trees.specs.declared.tree.UnresolvedFuture.{UnresolvedFuture}
 use Rattle.await_trees.specs.declared.nodes.Node.{Node}
 use Rattle.await_trees.specs.declared.nodes.Label.TheVariants.{Inner}
-use Rattle.await_trees.specs.Tree.{Tree, Forest, leaf, node, none, more, tree_of, forest_of}
+use Rattle.await_trees.specs.Tree.{Forest, leaf, node, none, more, tree_of, forest_of}
 use Rattle.await_trees.specs.Preorder.{preorder, preorders, preorders_on, size, joined, next, from}
 
 size-forest : (us : List UnresolvedFuture) → size (forest_of us) ≡ length us

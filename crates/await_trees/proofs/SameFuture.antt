@@ -4,7 +4,7 @@ use Rattle.await_trees.specs.declared.tree.UnresolvedFuture.{UnresolvedFuture, r
 use Rattle.await_trees.specs.declared.tree.UnresolvedFuture.TheFolds.{fold-roll-UnresolvedFuture, ind-UnresolvedFuture, map-UnresolvedFuture}
 use Rattle.await_trees.specs.declared.tree.UnresolvedFuture.TheOpen as Open
 use Rattle.await_trees.specs.declared.tree.UnresolvedFuture.TheOpen.{UnresolvedFuture-F}
-use Rattle.await_trees.specs.declared.tree.UnresolvedFuture.TheVariants.{rolls-Single, rolls-FirstCompleted, rolls-AllCompleted, rolls-FirstSucceededOrAllFailed, rolls-AllSucceededOrFirstFailed, rolls-Unknown, Single, FirstCompleted, AllCompleted, FirstSucceededOrAllFailed, AllSucceededOrFirstFailed, Unknown}
+use Rattle.await_trees.specs.declared.tree.UnresolvedFuture.TheVariants.{rolls-Single, rolls-FirstCompleted, rolls-AllCompleted, rolls-FirstSucceededOrAllFailed, rolls-AllSucceededOrFirstFailed, rolls-Unknown, FirstCompleted, AllCompleted, FirstSucceededOrAllFailed, AllSucceededOrFirstFailed, Unknown}
 use Rattle.await_trees.specs.Copies.{future_at, futures_at}
 use Rattle.await_trees.specs.Tree.{Tree, tree_step, tree_of, forest_of}
 

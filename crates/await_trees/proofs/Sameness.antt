@@ -3,9 +3,9 @@ use Rattle.std.proofs.Common.{◌≡◌, Bool, true, false, ◌||◌, cond, refl
 use Rattle.journal_protocol.specs.declared.future.FutureKind.{FutureKind}
 use Rattle.await_trees.specs.declared.outcome.Outcome.{Outcome}
 use Rattle.await_trees.specs.declared.outcome.Outcome.TheVariants.{Pending}
-use Rattle.await_trees.specs.Outcomes.{is_done, fires_on, waits_for, outcome_of, outcome, all_wait, fires, any_fires, awake}
+use Rattle.await_trees.specs.Outcomes.{fires_on, waits_for, outcome_of, outcome, all_wait, fires, any_fires, awake}
 use Rattle.await_trees.specs.Same.{Same, same_leaf, same_node, EachIn, no_child, one_child, SomeIn, here, later}
-use Rattle.await_trees.specs.Tree.{TreeOver, ForestOver, none, more}
+use Rattle.await_trees.specs.Tree.{TreeOver, ForestOver}
 use Rattle.await_trees.proofs.Bools.{and_both}
 use Rattle.await_trees.proofs.Monotone.{or_split, or_left, or_right}
 

@@ -12,7 +12,7 @@ use std::alloc::{AllocError, Global};
 use wire::Items;
 
 /// A node of a kind over children.
-fn node_over(kind: FutureKind, children: Items<UnresolvedFuture>) -> UnresolvedFuture
+pub fn node_over(kind: FutureKind, children: Items<UnresolvedFuture>) -> UnresolvedFuture
     ensures { result ≡ future_node kind children }
 {
     match kind {

@@ -11,6 +11,7 @@ pub mod outcome;
 pub mod showing;
 pub mod tree;
 
+pub use copying::node_over;
 pub use journal_protocol::FutureKind;
 pub use listing::list_nodes;
 pub use nodes::{Label, Node};

@@ -1,8 +1,5 @@
-use Rattle.std.proofs.Common.{◌≡◌, ◌-◌, ◌<◌, suc, length, reverse, refl, sym, ap, ◌∙◌, arith}
+use Rattle.std.proofs.Common.{◌≡◌, ◌-◌, suc, reverse, sym, ap, ◌∙◌, arith}
 use Rattle.std.proofs.lemmas.List.{length-reverse}
-use Rattle.await_trees.specs.Copies.{futures_at, future_node}
-use Rattle.await_trees.specs.Preorder.{from}
-use Rattle.await_trees.specs.Tree.{none, more}
 use Rattle.await_trees.proofs.Copied.{behind_at, nothing_behind}
 use Rattle.await_trees.proofs.Stacks.{push_reverse}
 use Rattle.await_trees.proofs.copying.copy_nodes.Goals as goal
