@@ -78,8 +78,12 @@ fn wire_futures_list_what_is_awaited(rt: HostRuntime) -> Result<(), Fail> {
         let (asked, wanted) = row.split_once(" => ").ok_or("no future")?;
         let mut results = mapped(alloc, ids)?;
         let asked = tree(alloc, asked)?;
-        let Resolution::Pending(left) =
-            try_future(alloc, &mut results, SignalDelivery::Queued, &asked)?
+        let Resolution::Pending(left) = try_future(
+            alloc,
+            &mut results,
+            SignalDelivery::Queued,
+            &asked,
+        )?
         else {
             return Err("awake")?;
         };

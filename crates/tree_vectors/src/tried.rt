@@ -8,6 +8,7 @@ use await_tries::laws::{
 use await_tries::{Resolution, list_handles, try_future};
 use std::alloc::Global;
 use std::fmt::Write;
+use std::process::Abort;
 use std::test::Fail;
 use vm_parts::SignalDelivery;
 
@@ -98,18 +99,20 @@ fn residuals_tell_their_handles(rt: HostRuntime) -> Result<(), Fail> {
     let mut results = ten(alloc)?;
     arrive(alloc, &mut results, "s1 s2")?;
     let asked = tree(alloc, "un( ac( 1 2 3 4 ) asff( 5 1 6 ) 7 )")?;
-    let Resolution::Pending(left) =
-        try_future(alloc, &mut results, SignalDelivery::Queued, &asked)?
+    let Resolution::Pending(left) = try_future(alloc, &mut results, SignalDelivery::Queued, &asked)?
     else {
         return Err("awake")?;
     };
     let handles = list_handles(alloc, &left)?;
-    assert_eq!(rt; handles.as_slice(), &[14, 13, 15, 16, 17]);
+    assert_eq!(rt; handles.as_slice(), [14, 13, 15, 16, 17].as_slice());
     let alone = tree(alloc, "8")?;
-    if let Resolution::Pending(left) =
-        try_future(alloc, &mut results, SignalDelivery::Queued, &alone)?
-    {
-        assert_eq!(rt; list_handles(alloc, &left)?.as_slice(), &[18]);
+    if let Resolution::Pending(left) = try_future(
+        alloc,
+        &mut results,
+        SignalDelivery::Queued,
+        &alone,
+    )? {
+        assert_eq!(rt; list_handles(alloc, &left)?.as_slice(), [18].as_slice());
     }
     Ok(())
 }
@@ -119,7 +122,10 @@ fn trees_are_printed_and_copied(rt: HostRuntime) -> Result<(), Fail> {
     let alloc = rt.alloc();
     let rows = [
         ("7", "17"),
-        ("fc( 7 ac( 8 9 ) )", "first_completed(17, all_completed(18, 19))"),
+        (
+            "fc( 7 ac( 8 9 ) )",
+            "first_completed(17, all_completed(18, 19))",
+        ),
         ("un( )", "unknown()"),
         (
             "asff( fsaf( 1 un( ) ) fc( ) 2 )",
