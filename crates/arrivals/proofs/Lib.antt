@@ -2,4 +2,5 @@ pub mod Entries
 pub mod Ids
 pub mod Inserts
 pub mod Moves
+pub mod Presents
 pub mod Tracking

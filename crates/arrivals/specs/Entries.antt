@@ -1,5 +1,5 @@
 -- The log: notifications in order of arrival, without the results that were taken.
-use Rattle.std.specs.Prelude.{ℕ, suc, ◌≡◌, ◌<◌, Bool, true, cond, ◌&&◌, List, [], ◌∷◌, length, map, get_or, Option, Some, None}
+use Rattle.std.specs.Prelude.{ℕ, suc, ◌≡◌, ◌<◌, nat_lt, Bool, true, cond, ◌&&◌, List, [], ◌∷◌, length, map, get_or, Option, Some, None}
 use Rattle.std.specs.Option.{is_some}
 use Rattle.journal_values.specs.declared.notification.Notification.{Notification}
 use Rattle.journal_values.specs.declared.notification.NotificationId.{NotificationId}
@@ -41,3 +41,8 @@ Located slots ps (Some k) = (k < length slots) × (get_or slots k [] ≡ ps)
 pub record Tracked (log : List Entry) (index : Index) (slots : List (List ℕ)) : Type 0 where
   pub located : (id : NotificationId) → Located slots (places id log) (slot_of index id)
   pub apart : (a b : NotificationId) (k : ℕ) → slot_of index a ≡ Some k → slot_of index b ≡ Some k → same_id a b ≡ true
+
+-- the numbers that are less than this one
+abbrev pub under : ℕ → List ℕ → List ℕ
+under n [] = []
+under n (p ∷ ps) = cond (nat_lt p n) (p ∷ under n ps) (under n ps)

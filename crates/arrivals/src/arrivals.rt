@@ -1,5 +1,6 @@
 //! The arrivals of an attempt: those that no await has used yet, and those that were used.
 ghost use Rattle.std.specs.Prelude.{◌≡◌, [], ◌∷◌, ◌++◌, OnOk, OnErr};
+ghost use Rattle.std.specs.Option.{option_copied};
 ghost use Rattle.arrivals.specs.Came.{nothing_came, is_queued, one_used};
 ghost use Rattle.arrivals.specs.Results.{first, newest, results_of, has_result_among, without_first, without_all};
 
@@ -62,6 +63,20 @@ impl Arrivals {
         ensures { result ≡ has_result_among id.now self.now.delivered }
     {
         self.log.has(id, self.seen)
+    }
+
+    /// The oldest used result of an id.
+    pub fn oldest(&self, id: &NotificationId) -> Option<&NotificationResult>
+        ensures { option_copied result ≡ first (results_of id.now self.now.delivered) }
+    {
+        self.log.oldest(id, self.seen)
+    }
+
+    /// The newest used result of an id.
+    pub fn newest(&self, id: &NotificationId) -> Option<&NotificationResult>
+        ensures { option_copied result ≡ newest (results_of id.now self.now.delivered) }
+    {
+        self.log.newest(id, self.seen)
     }
 
     /// Takes the oldest used result of an id.

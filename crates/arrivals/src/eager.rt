@@ -1,5 +1,6 @@
 //! The results that eager reads gave: a log of its own, since they never came with an arrival.
 ghost use Rattle.std.specs.Prelude.{◌≡◌, [], ◌∷◌, ◌++◌, OnOk, OnErr};
+ghost use Rattle.std.specs.Option.{option_copied};
 ghost use Rattle.arrivals.specs.Results.{first, newest, results_of, has_result_among, without_first, without_all};
 
 use crate::log::Log;
@@ -43,6 +44,20 @@ impl EagerResults {
         ensures { result ≡ has_result_among id.now self.now }
     {
         self.log.has(id, self.log.len())
+    }
+
+    /// The oldest result of an id.
+    pub fn oldest(&self, id: &NotificationId) -> Option<&NotificationResult>
+        ensures { option_copied result ≡ first (results_of id.now self.now) }
+    {
+        self.log.oldest(id, self.log.len())
+    }
+
+    /// The newest result of an id.
+    pub fn newest(&self, id: &NotificationId) -> Option<&NotificationResult>
+        ensures { option_copied result ≡ newest (results_of id.now self.now) }
+    {
+        self.log.newest(id, self.log.len())
     }
 
     /// Takes the oldest result of an id.

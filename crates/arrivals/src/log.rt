@@ -1,5 +1,6 @@
 //! The notifications that came, each found by its id.
 ghost use Rattle.std.specs.Prelude.{◌≡◌, ◌<◌, List, [], ◌∷◌, ◌++◌, take, drop, length, slice_index_or, slice_set, Some, OnOk, OnErr, IfOk};
+ghost use Rattle.std.specs.Option.{option_copied};
 ghost use Rattle.arrivals.specs.Ids.{slot_of};
 ghost use Rattle.arrivals.specs.Results.{first, newest, results_of, has_result_among, without_first, without_all};
 ghost use Rattle.arrivals.specs.Entries.{given, places, Tracked};
@@ -140,6 +141,26 @@ impl Log {
             None => false,
             Some(place) => place < seen,
         }
+    }
+
+    /// The oldest result of an id among the first `seen` entries.
+    pub fn oldest(&self, id: &NotificationId, seen: usize) -> Option<&NotificationResult>
+        ensures { option_copied result ≡ first (results_of id.now (given (take seen self.now))) }
+    {
+        let place = self.front(id)?;
+        if seen <= place {
+            return None;
+        }
+        self.entries[place].result.as_ref()
+    }
+
+    /// The newest result of an id among the first `seen` entries.
+    pub fn newest(&self, id: &NotificationId, seen: usize) -> Option<&NotificationResult>
+        ensures { option_copied result ≡ newest (results_of id.now (given (take seen self.now))) }
+    {
+        let slot = self.index.find(id)?;
+        let place = self.slots[slot].newest_under(seen)?;
+        self.entries[place].result.as_ref()
     }
 
     /// Takes the oldest result of an id out of the first `seen` entries.

@@ -1,6 +1,8 @@
 //! The places of one id in the log.
 ghost use Rattle.std.specs.Prelude.{◌≡◌, [], ◌∷◌, ◌++◌, drop, OnOk, OnErr};
-ghost use Rattle.arrivals.specs.Results.{first};
+ghost use Rattle.std.specs.List.Sorted.{IsNonDecreasing};
+ghost use Rattle.arrivals.specs.Entries.{under};
+ghost use Rattle.arrivals.specs.Results.{first, newest};
 
 use std::alloc::{AllocError, Global};
 use std::marker::Model;
@@ -20,6 +22,19 @@ impl Model for Places {
     ghost view = { λ p. drop p.cursor p.all.items };
 
     ghost invariant = { λ p. p.cursor ≤ length p.all.items };
+}
+
+/// The newest of these that lies below a number, found by halving.
+fn newest_under(places: &[usize], seen: usize) -> Option<usize>
+    requires { IsNonDecreasing places.now }
+    ensures { result ≡ newest (under seen places.now) }
+{
+    let count = places.partition_point(|place| *place < seen);
+    if count == 0 {
+        None
+    } else {
+        Some(places[count - 1])
+    }
 }
 
 impl Places {
@@ -55,5 +70,13 @@ impl Places {
         if self.cursor < self.all.len() {
             self.cursor += 1;
         }
+    }
+
+    /// The newest place below a number.
+    pub fn newest_under(&self, seen: usize) -> Option<usize>
+        requires { IsNonDecreasing self.now }
+        ensures { result ≡ newest (under seen self.now) }
+    {
+        newest_under(&self.all[self.cursor..], seen)
     }
 }

@@ -3,7 +3,7 @@
 ghost use Rattle.std.specs.Prelude.{◌≡◌, ◌∷◌, ◌++◌, [], OnOk, OnErr, IfOk};
 ghost use Rattle.std.specs.Option.{option_copied};
 ghost use Rattle.arrivals.specs.Came.{is_queued};
-ghost use Rattle.vm_parts.specs.Deliveries.{id_at, no_results, is_listed, left_among, present_among, has_result_for, next_used, used_for, with_eager, Taken};
+ghost use Rattle.vm_parts.specs.Deliveries.{id_at, no_results, is_listed, left_among, present_among, present_for, has_result_for, next_used, used_for, with_eager, Taken};
 
 use crate::handles::Handles;
 use crate::options::SignalDelivery;
@@ -80,6 +80,36 @@ fn take_eager(
     }
 }
 
+/// The present result of an id among the arrivals.
+fn find_delivered<'a>(
+    delivery: SignalDelivery,
+    arrivals: &'a Arrivals,
+    id: &NotificationId,
+) -> Option<&'a NotificationResult>
+    ensures { option_copied result ≡ present_among delivery id.now arrivals.now.delivered }
+{
+    if is_queued_id(delivery, id) {
+        arrivals.oldest(id)
+    } else {
+        arrivals.newest(id)
+    }
+}
+
+/// What an eager read gave to an id.
+fn find_eager<'a>(
+    delivery: SignalDelivery,
+    eager: &'a EagerResults,
+    id: &NotificationId,
+) -> Option<&'a NotificationResult>
+    ensures { option_copied result ≡ present_among delivery id.now eager.now }
+{
+    if is_queued_id(delivery, id) {
+        eager.oldest(id)
+    } else {
+        eager.newest(id)
+    }
+}
+
 impl AsyncResults {
     /// No notification came, and only the cancel handle stands for an id: signal 1.
     pub fn new(alloc: Global) -> Result<AsyncResults, AllocError>
@@ -123,6 +153,24 @@ impl AsyncResults {
         }
     }
 
+    /// The id that a handle stands for, where it lies.
+    pub fn find(&self, handle: u32) -> Option<&NotificationId>
+        ensures { option_copied result ≡ id_at handle self.now.handles }
+    {
+        self.handles.find(handle)
+    }
+
+    /// The present result of a handle.
+    pub fn present(&self, delivery: SignalDelivery, handle: u32) -> Option<&NotificationResult>
+        ensures { option_copied result ≡ present_for delivery (id_at handle self.now.handles) self.now.ready }
+    {
+        let id = self.handles.find(handle)?;
+        match find_delivered(delivery, &self.arrivals, id) {
+            Some(result) => Some(result),
+            None => find_eager(delivery, &self.eager, id),
+        }
+    }
+
     /// Whether a handle has a ready result.
     pub fn is_completed(&self, handle: u32) -> bool
         ensures { result ≡ has_result_for (id_at handle self.now.handles) self.now.ready }
@@ -133,8 +181,8 @@ impl AsyncResults {
         }
     }
 
-    /// Uses the oldest notification that waits, if there is one.
-    fn use_one(&mut self) -> bool
+    /// Uses the oldest notification that waits, if there is one; it takes no memory.
+    pub fn use_one(&mut self) -> bool
         ensures found { result ≡ is_queued self.old.queued }
         ensures used { self.new ≡ next_used self.old }
     {

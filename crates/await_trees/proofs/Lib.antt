@@ -1,0 +1,11 @@
+pub mod Bools
+pub mod Copied
+pub mod Counting
+pub mod Monotone
+pub mod Preorders
+pub mod Prune
+pub mod Readings
+pub mod SameFuture
+pub mod Sameness
+pub mod Stacks
+pub mod TreeOf

@@ -1,0 +1,19 @@
+//! What a handler awaits: trees over handles, what they come to once their leaves have, and the nodes of a tree in
+//! preorder.
+#![tactic(auto)]
+
+pub mod copying;
+pub mod laws;
+pub mod letting_go;
+pub mod listing;
+pub mod nodes;
+pub mod outcome;
+pub mod showing;
+pub mod tree;
+
+pub use copying::node_over;
+pub use journal_protocol::FutureKind;
+pub use listing::list_nodes;
+pub use nodes::{Label, Node};
+pub use outcome::Outcome;
+pub use tree::{NotificationHandle, UnresolvedFuture};

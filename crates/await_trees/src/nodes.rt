@@ -1,0 +1,17 @@
+//! A tree as a flat list of nodes in preorder, and their children as ranges of a second list.
+use journal_protocol::FutureKind;
+
+/// What stands at a node: a handle's number, or a kind over children.
+#[derive(Clone, Copy, Debug)]
+pub enum Label {
+    Leaf(u32),
+    Inner(FutureKind),
+}
+
+/// A node; the numbers of its children are `count` entries of the second list, from `first` on.
+#[derive(Clone, Copy, Debug)]
+pub struct Node {
+    pub label: Label,
+    pub first: usize,
+    pub count: usize,
+}

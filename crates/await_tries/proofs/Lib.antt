@@ -1,0 +1,11 @@
+pub mod Heading
+pub mod LaterArrivals
+pub mod Lifting
+pub mod Links
+pub mod Messages
+pub mod Moves
+pub mod Settling
+pub mod Spelled
+pub mod Sweeping
+pub mod Trying
+pub mod Walking

@@ -1,0 +1,15 @@
+pub mod Await
+pub mod Heads
+pub mod Later
+pub mod Leaves
+pub mod Left
+pub mod Link
+pub mod Message
+pub mod Passes
+pub mod Resolved
+pub mod Spells
+pub mod Sweep
+pub mod Try
+pub mod Turn
+pub mod Used
+pub mod Walks
