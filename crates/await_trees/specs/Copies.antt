@@ -1,18 +1,18 @@
 -- The future that a tree is.
 use Rattle.std.specs.Prelude.{List, [], ◌∷◌}
-use Rattle.journal_protocol.specs.declared.future.FutureKind.{FutureKind}
-use Rattle.journal_protocol.specs.declared.future.FutureKind.TheVariants.{FirstCompleted as First, AllCompleted as All, FirstSucceededOrAllFailed as Any, AllSucceededOrFirstFailed as Every, Unknown as Open}
+use Rattle.journal_attempt.specs.declared.future.FutureKind.{FutureKind}
+use Rattle.journal_attempt.specs.declared.future.FutureKind.TheVariants.{FirstCompleted as OfFirst, AllCompleted as OfAll, FirstSucceededOrAllFailed as OfAny, AllSucceededOrFirstFailed as OfEvery, Unknown as OfUnknown}
 use Rattle.await_trees.specs.declared.tree.UnresolvedFuture.{UnresolvedFuture}
 use Rattle.await_trees.specs.declared.tree.UnresolvedFuture.TheVariants.{Single, FirstCompleted, AllCompleted, FirstSucceededOrAllFailed, AllSucceededOrFirstFailed, Unknown}
 use Rattle.await_trees.specs.Tree.{Tree, Forest, leaf, node, none, more}
 
 -- a node over children
 abbrev pub future_node : FutureKind → List UnresolvedFuture → UnresolvedFuture
-future_node First us = FirstCompleted us
-future_node All us = AllCompleted us
-future_node Any us = FirstSucceededOrAllFailed us
-future_node Every us = AllSucceededOrFirstFailed us
-future_node Open us = Unknown us
+future_node OfFirst us = FirstCompleted us
+future_node OfAll us = AllCompleted us
+future_node OfAny us = FirstSucceededOrAllFailed us
+future_node OfEvery us = AllSucceededOrFirstFailed us
+future_node OfUnknown us = Unknown us
 
 abbrev mutual
   pub future_at : Tree → UnresolvedFuture

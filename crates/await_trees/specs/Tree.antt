@@ -1,7 +1,7 @@
 -- A tree of awaits, over leaves of any kind: handles as a handler awaits them, notification ids as they are sent.
 use Rattle.std.specs.Prelude.{ℕ, List, [], ◌∷◌, map}
-use Rattle.journal_protocol.specs.declared.future.FutureKind.{FutureKind}
-use Rattle.journal_protocol.specs.declared.future.FutureKind.TheVariants.{FirstCompleted as First, AllCompleted as All, FirstSucceededOrAllFailed as Any, AllSucceededOrFirstFailed as Every, Unknown as Open}
+use Rattle.journal_attempt.specs.declared.future.FutureKind.{FutureKind}
+use Rattle.journal_attempt.specs.declared.future.FutureKind.TheVariants.{FirstCompleted as OfFirst, AllCompleted as OfAll, FirstSucceededOrAllFailed as OfAny, AllSucceededOrFirstFailed as OfEvery, Unknown as OfUnknown}
 use Rattle.await_trees.specs.declared.tree.UnresolvedFuture.{UnresolvedFuture}
 use Rattle.await_trees.specs.declared.tree.UnresolvedFuture.TheOpen.{UnresolvedFuture-F, Single, FirstCompleted, AllCompleted, FirstSucceededOrAllFailed, AllSucceededOrFirstFailed, Unknown}
 use Rattle.await_trees.specs.declared.tree.UnresolvedFuture.TheFolds.{fold-UnresolvedFuture}
@@ -31,11 +31,11 @@ forest (t ∷ ts) = more t (forest ts)
 -- a future whose children are trees already
 abbrev pub tree_step : UnresolvedFuture-F Tree → Tree
 tree_step (Single h) = leaf h.0
-tree_step (FirstCompleted ts) = node First (forest ts)
-tree_step (AllCompleted ts) = node All (forest ts)
-tree_step (FirstSucceededOrAllFailed ts) = node Any (forest ts)
-tree_step (AllSucceededOrFirstFailed ts) = node Every (forest ts)
-tree_step (Unknown ts) = node Open (forest ts)
+tree_step (FirstCompleted ts) = node OfFirst (forest ts)
+tree_step (AllCompleted ts) = node OfAll (forest ts)
+tree_step (FirstSucceededOrAllFailed ts) = node OfAny (forest ts)
+tree_step (AllSucceededOrFirstFailed ts) = node OfEvery (forest ts)
+tree_step (Unknown ts) = node OfUnknown (forest ts)
 
 -- the tree that a future is
 abbrev pub tree_of : UnresolvedFuture → Tree

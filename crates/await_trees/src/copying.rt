@@ -7,7 +7,7 @@ ghost use Rattle.await_trees.specs.Tree.{Tree};
 use crate::listing::list_nodes;
 use crate::nodes::{Label, Node};
 use crate::tree::{NotificationHandle, UnresolvedFuture};
-use journal_protocol::FutureKind;
+use journal_attempt::FutureKind;
 use std::alloc::{AllocError, Global};
 use wire::Items;
 

@@ -12,7 +12,7 @@ pub mod showing;
 pub mod tree;
 
 pub use copying::node_over;
-pub use journal_protocol::FutureKind;
+pub use journal_attempt::FutureKind;
 pub use listing::list_nodes;
 pub use nodes::{Label, Node};
 pub use outcome::Outcome;

@@ -2,7 +2,7 @@
 ghost use Rattle.std.specs.Prelude.{◌≡◌};
 ghost use Rattle.await_trees.specs.Outcomes.{outcome_of, is_done, fires_on};
 
-use journal_protocol::FutureKind;
+use journal_attempt::FutureKind;
 
 #[derive(Clone, Copy, Debug, PartialEq, Eq)]
 pub enum Outcome {

@@ -1,6 +1,6 @@
 -- Which children of a node are left, by what each has come to.
 use Rattle.std.specs.Prelude.{ℕ, ◌≡◌, ◌<◌, Bool, true, false, ◌||◌, List, [], ◌∷◌, get_or, Option, Some, None}
-use Rattle.journal_protocol.specs.declared.future.FutureKind.{FutureKind}
+use Rattle.journal_attempt.specs.declared.future.FutureKind.{FutureKind}
 use Rattle.await_trees.specs.declared.outcome.Outcome.{Outcome}
 use Rattle.await_trees.specs.Outcomes.{is_done, fires_on}
 

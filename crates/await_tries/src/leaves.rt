@@ -2,7 +2,7 @@
 ghost use Rattle.std.specs.Prelude.{◌≡◌, ℕ};
 
 use await_trees::Outcome;
-use journal_protocol::NotificationResult;
+use journal_values::NotificationResult;
 use vm_parts::{AsyncResults, SignalDelivery};
 
 /// What each leaf has come to.

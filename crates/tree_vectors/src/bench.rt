@@ -1,7 +1,7 @@
 //! Trees and arrivals as words on a line. The number n of a row is handle 10 + n, and stands for completion n.
 use await_trees::{FutureKind, Label, NotificationHandle, UnresolvedFuture, node_over};
 use await_tries::{Residue, Resolution, try_future};
-use journal_protocol::{Failure, Notification, NotificationId, NotificationResult};
+use journal_values::{Failure, Notification, NotificationId, NotificationResult};
 use std::alloc::{AllocError, Global};
 use std::fmt::Write;
 use std::test::Fail;

@@ -1,7 +1,7 @@
 //! Deliveries that replace one another, within one try and in the next.
 use await_trees::{NotificationHandle, UnresolvedFuture};
 use await_tries::{Resolution, try_future};
-use journal_protocol::{Failure, Notification, NotificationId, NotificationResult};
+use journal_values::{Failure, Notification, NotificationId, NotificationResult};
 use std::alloc::Global;
 use std::test::Fail;
 use vm_parts::{AsyncResults, SignalDelivery};

@@ -2,7 +2,8 @@
 //! nest in it.
 use crate::bench::{handle, tree};
 use await_tries::{Resolution, future_of, try_future};
-use journal_protocol::{Future, FutureNode, NotificationId};
+use journal_attempt::{Future, FutureNode};
+use journal_values::NotificationId;
 use std::alloc::Global;
 use std::fmt::Write;
 use std::test::Fail;
