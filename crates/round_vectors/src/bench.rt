@@ -24,7 +24,7 @@ pub enum Told {
     NoMemory,
 }
 
-pub fn told(end: &RunEnd) -> Told {
+pub fn told_of(end: &RunEnd) -> Told {
     match end {
         RunEnd::Reported => Told::Reported,
         RunEnd::Stopped(_) => Told::Stopped,
@@ -59,7 +59,7 @@ pub fn assert_run(
     let mut reader = Plain(Cursor::new(script));
     let mut writer = Plain(Vec::new(alloc));
     let end = run(alloc, content_type, handler, &mut reader, &mut writer);
-    assert_eq!(rt; told(&end), wanted);
+    assert_eq!(rt; told_of(&end), wanted);
     assert_eq!(rt; end.code(), code(wanted));
     assert!(rt;
         writer.0.as_slice() == report.as_bytes(),

@@ -1,5 +1,5 @@
 // A round that is stopped behind each of its events in turn, and then a round to the end: the journal is the same.
-use crate::bench::{Told, V7, told};
+use crate::bench::{Told, V7, told_of};
 use round_reports::run::run;
 use runner::streams::Plain;
 use std::alloc::Global;
@@ -44,7 +44,7 @@ fn assert_no_trace(rt: &impl Abort, alloc: Global, at: usize) -> Result<(), Fail
     let mut writer = Plain(Vec::new(alloc));
     let mut reader = Plain(Cursor::new(script.as_bytes()));
     let end = run(alloc, V7, "sleeper", &mut reader, &mut writer);
-    assert_eq!(rt; told(&end), Told::Reported);
+    assert_eq!(rt; told_of(&end), Told::Reported);
     assert!(rt;
         writer.0.ends_with(JOURNAL.as_bytes()),
         "stopped behind {at} lines"

@@ -1,5 +1,5 @@
 // Arguments that are refused, and readers and writers that fail.
-use crate::bench::{Told, V7, code, told};
+use crate::bench::{Told, V7, code, told_of};
 use round_reports::run::run;
 use runner::streams::Plain;
 use std::alloc::Global;
@@ -37,7 +37,7 @@ fn refused_arguments_read_and_write_nothing(rt: HostRuntime) {
         let mut reader = Plain(Cursor::new(SCRIPT));
         let mut writer = Plain(Vec::new(rt.alloc()));
         let end = run(rt.alloc(), content_type, handler, &mut reader, &mut writer);
-        assert_eq!(rt; told(&end), wanted);
+        assert_eq!(rt; told_of(&end), wanted);
         assert_eq!(rt; end.code(), code(wanted));
         assert_eq!(rt; reader.0.position(), 0);
         assert!(rt; writer.0.is_empty());
@@ -69,7 +69,7 @@ fn failed_reads_write_nothing(rt: HostRuntime) -> Result<(), Fail> {
         });
         let mut writer = Plain(Vec::new(rt.alloc()));
         let end = run(rt.alloc(), V7, "sleeper", &mut reader, &mut writer);
-        assert_eq!(rt; told(&end), Told::ReadFailed);
+        assert_eq!(rt; told_of(&end), Told::ReadFailed);
         assert!(rt; writer.0.is_empty());
     }
     Ok(())
@@ -123,7 +123,7 @@ fn assert_piped(
         &mut Plain(Cursor::new(SCRIPT)),
         &mut writer,
     );
-    assert_eq!(rt; told(&end), wanted);
+    assert_eq!(rt; told_of(&end), wanted);
     assert_eq!(rt; end.code(), code(wanted));
     let front = REPORT.as_bytes().get(..room).ok_or("no such place")?;
     assert!(rt; writer.0.taken.as_slice() == front);
