@@ -35,17 +35,11 @@ fn feed(vm: &mut CoreVM, frames: &[&'static [u8]]) -> Result<(), Fail> {
     Ok(())
 }
 
+/// The handler has read its input, with no other command recorded.
 fn start(vm: &mut CoreVM) -> Result<(), Fail> {
     feed(vm, &[START_1, INPUT_TILL])?;
     drop(vm.sys_input()?);
     Ok(())
-}
-
-/// A VM whose handler has read its input, with no other command recorded.
-fn started(alloc: Global) -> Result<CoreVM, Fail> {
-    let mut vm = made(alloc)?;
-    start(&mut vm)?;
-    Ok(vm)
 }
 
 /// The VM sends these frames.
@@ -63,7 +57,9 @@ fn assert_sends(
 
 fn head_of(alloc: Global) -> Result<ResponseHead, Fail> {
     let vm = made(alloc)?;
-    Ok(vm.get_response_head()?)
+    let head = vm.get_response_head();
+    drop(vm);
+    Ok(head?)
 }
 
 #[test]
@@ -94,12 +90,18 @@ fn is_of_the_invocation(input: &Input) -> bool {
         && input.idempotency_key.is_none()
 }
 
+fn assert_input(rt: &impl Abort, vm: &mut CoreVM) -> Result<(), Fail> {
+    let input = input(vm)?;
+    assert!(rt; is_of_the_invocation(&input));
+    Ok(())
+}
+
 #[test]
 fn input_tells_of_the_invocation(rt: HostRuntime) -> Result<(), Fail> {
     let mut vm = made(rt.alloc())?;
-    let input = input(&mut vm)?;
-    assert!(rt; is_of_the_invocation(&input));
-    Ok(())
+    let told = assert_input(&rt, &mut vm);
+    drop(vm);
+    told
 }
 
 fn text(alloc: Global, text: &'static str) -> Result<String, AllocError> {
@@ -125,6 +127,7 @@ fn complete_others(alloc: Global, vm: &mut CoreVM) -> VMResult<()> {
 }
 
 fn assert_changes(rt: &impl Abort, alloc: Global, vm: &mut CoreVM) -> Result<(), Fail> {
+    start(vm)?;
     change_state(alloc, vm)?;
     assert_sends(rt, alloc, vm, &[SET_K, CLEAR_K, CLEAR_ALL])?;
     assert_eq!(rt; vm.last_command_index(), 3);
@@ -137,8 +140,10 @@ fn assert_changes(rt: &impl Abort, alloc: Global, vm: &mut CoreVM) -> Result<(),
 
 #[test]
 fn changes_are_sent(rt: HostRuntime) -> Result<(), Fail> {
-    let mut vm = started(rt.alloc())?;
-    assert_changes(&rt, rt.alloc(), &mut vm)
+    let mut vm = made(rt.alloc())?;
+    let sent = assert_changes(&rt, rt.alloc(), &mut vm);
+    drop(vm);
+    sent
 }
 
 const WAITING: AwaitResponse = AwaitResponse::WaitingExternalProgress {
@@ -184,6 +189,7 @@ fn assert_ends(rt: &impl Abort, alloc: Global, vm: &mut CoreVM) -> Result<(), Fa
 }
 
 fn assert_slept(rt: &impl Abort, alloc: Global, vm: &mut CoreVM) -> Result<(), Fail> {
+    start(vm)?;
     assert_makes(rt, vm, "sign_1YWJjAAAAEQ", 17)?;
     assert_eq!(rt; sleep(alloc, vm)?.0, 18);
     assert_awaited(rt, vm)?;
@@ -193,8 +199,10 @@ fn assert_slept(rt: &impl Abort, alloc: Global, vm: &mut CoreVM) -> Result<(), F
 
 #[test]
 fn sleep_is_awaited_and_taken(rt: HostRuntime) -> Result<(), Fail> {
-    let mut vm = started(rt.alloc())?;
-    assert_slept(&rt, rt.alloc(), &mut vm)
+    let mut vm = made(rt.alloc())?;
+    let slept = assert_slept(&rt, rt.alloc(), &mut vm);
+    drop(vm);
+    slept
 }
 
 fn assert_reported(rt: &impl Abort, alloc: Global, vm: &mut CoreVM) -> Result<(), Fail> {
@@ -205,7 +213,9 @@ fn assert_reported(rt: &impl Abort, alloc: Global, vm: &mut CoreVM) -> Result<()
 #[test]
 fn reported_error_is_sent(rt: HostRuntime) -> Result<(), Fail> {
     let mut vm = made(rt.alloc())?;
-    assert_reported(&rt, rt.alloc(), &mut vm)
+    let sent = assert_reported(&rt, rt.alloc(), &mut vm);
+    drop(vm);
+    sent
 }
 
 fn assert_missed(rt: &impl Abort, alloc: Global, vm: &mut CoreVM) -> Result<(), Fail> {
@@ -217,7 +227,9 @@ fn assert_missed(rt: &impl Abort, alloc: Global, vm: &mut CoreVM) -> Result<(), 
 #[test]
 fn missed_entries_are_told(rt: HostRuntime) -> Result<(), Fail> {
     let mut vm = made(rt.alloc())?;
-    assert_missed(&rt, rt.alloc(), &mut vm)
+    let told = assert_missed(&rt, rt.alloc(), &mut vm);
+    drop(vm);
+    told
 }
 
 fn write(vm: &mut CoreVM) -> Result<(), Fail> {
@@ -236,12 +248,20 @@ fn assert_waiting(rt: &impl Abort, vm: &mut CoreVM) -> Result<(), Fail> {
     Ok(())
 }
 
+fn assert_stays(rt: &impl Abort, vm: &mut CoreVM) -> Result<(), Fail> {
+    start(vm)?;
+    write(vm)?;
+    assert_waiting(rt, vm)
+}
+
 #[test]
 fn output_stays_until_it_is_cleared(rt: HostRuntime) -> Result<(), Fail> {
-    let mut vm = started(rt.alloc())?;
-    write(&mut vm)?;
-    assert_waiting(&rt, &mut vm)?;
-    let shown = format!(in rt.alloc(); "{vm:?}")?;
+    let mut vm = made(rt.alloc())?;
+    let stayed = assert_stays(&rt, &mut vm);
+    let shown = format!(in rt.alloc(); "{vm:?}");
+    drop(vm);
+    stayed?;
+    let shown = shown?;
     assert_eq!(rt;
         shown.as_str(),
         "CoreVM { state: Processing, last_command_index: 1 }"
@@ -250,6 +270,7 @@ fn output_stays_until_it_is_cleared(rt: HostRuntime) -> Result<(), Fail> {
 }
 
 fn assert_cancel_awaited(rt: &impl Abort, vm: &mut CoreVM) -> Result<(), Fail> {
+    start(vm)?;
     assert!(rt; vm.is_ready_to_execute()?);
     let answer = vm.try_await(CANCEL_NOTIFICATION_HANDLE.into())??;
     assert_eq!(rt; answer, WAITING);
@@ -258,8 +279,9 @@ fn assert_cancel_awaited(rt: &impl Abort, vm: &mut CoreVM) -> Result<(), Fail> {
 
 #[test]
 fn cancel_handle_is_awaited(rt: HostRuntime) -> Result<(), Fail> {
-    let mut vm = started(rt.alloc())?;
-    assert_cancel_awaited(&rt, &mut vm)?;
+    let mut vm = made(rt.alloc())?;
+    let awaited = assert_cancel_awaited(&rt, &mut vm);
+    drop(vm);
     any_cut();
-    Ok(())
+    awaited
 }
