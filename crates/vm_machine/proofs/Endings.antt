@@ -1,5 +1,5 @@
 -- Each event writes at most one terminal message, and nothing behind it.
-use Rattle.std.proofs.Common.{◌≡◌, ℕ, Bool, true, false, List, [], ◌∷◌, ◌++◌, Option, Some, None, refl, sym, ap, subst, ◌∙◌}
+use Rattle.std.proofs.Common.{◌≡◌, ℕ, Bool, true, false, List, [], ◌∷◌, ◌++◌, Option, Some, None, length, refl, sym, ap, subst, ⊎_elim, ◌∙◌}
 use Rattle.std.specs.Prelude.{if◌then◌else◌, ◌||◌, ◌&&◌, ◌==◌, nat_le, nat_lt, not, is_some, Result, Ok, Err}
 use Rattle.std.proofs.lemmas.List.{append-nil}
 use Rattle.journal_errors.specs.declared.error.Error.{Error}
@@ -17,6 +17,9 @@ use Rattle.journal_attempt.specs.declared.start.Start.{Start}
 use Rattle.journal_errors.specs.declared.types.MessageType.TheVariants as type
 use Rattle.journal_errors.specs.Errors.{error_message, named_error}
 use Rattle.journal_attempt.specs.declared.future.Future.{Future}
+use Rattle.await_trees.specs.Tree.{Tree}
+use Rattle.await_trees.specs.Wires.{sent}
+use Rattle.await_tries.specs.Message.{ids}
 use Rattle.journal_equality.specs.HeaderEqual.{header_equal}
 use Rattle.journal_messages.specs.Message.{encoding, type_of}
 use Rattle.journal_messages.specs.Reading.{input_in, message_in, notification_in, start_in}
@@ -56,6 +59,7 @@ use Rattle.vm_machine.specs.Endings.{EndsOnce, EventWrites, Writes, is_over, is_
 use Rattle.vm_machine.specs.Outcomes.{Outcome, Done, Failed, ◌>>=◌, about_last, called, called_at, failed, refused, ruled}
 use Rattle.vm_machine.specs.Phases.{is_closed, is_from_v7, is_processing, is_replaying, is_running, state_fault}
 use Rattle.vm_machine.specs.Requests.{ids_of, name_of, shown_type, with_ids}
+use Rattle.vm_machine.specs.TreeAwaits.{Awaits, AwaitsAt, Ends, StaysPending, with_used}
 
 -- ---- nothing is written
 
@@ -375,18 +379,18 @@ suspended_so v u future s goes =
       ends_once = last_message (is_over v) m (is_some u.failure || true) goes refl (or_true (is_some u.failure));
     }
 
-pending_so : (handle : ℕ) (v u : Machine) (a b : Bool) → Same v u → is_over v ≡ false
+pending_so : (future : Future) (v u : Machine) (a b : Bool) → Same v u → is_over v ≡ false
     → Event {A = Result AwaitResponse Error} v (if a then refused fault.UncompletedDoProgressDuringReplay u
-    else if b then Done (Err (named_error fault.Suspended None)) (suspended (future_of (id_at handle u.results.handles)) u)
+    else if b then Done (Err (named_error fault.Suspended None)) (suspended future u)
     else Done (Ok (WaitingExternalProgress true false)) u)
-pending_so handle v u true b s goes = s
-pending_so handle v u false true s goes = suspended_so v u (future_of (id_at handle u.results.handles)) s goes
-pending_so handle v u false false s goes = writes_nothing v u s
+pending_so future v u true b s goes = s
+pending_so future v u false true s goes = suspended_so v u future s goes
+pending_so future v u false false s goes = writes_nothing v u s
 
 tried_so : (handle : ℕ) (v u : Machine) (b : Bool) → Same v u → is_over v ≡ false
     → Event {A = Result AwaitResponse Error} v (if b then Done (Ok AnyCompleted) u else pending handle u)
 tried_so handle v u true s goes = writes_nothing v u s
-tried_so handle v u false s goes = pending_so handle v u (is_replaying u.phase) u.input_closed s goes
+tried_so handle v u false s goes = pending_so (future_of (id_at handle u.results.handles)) v u (is_replaying u.phase) u.input_closed s goes
 
 await_so : (handle : ℕ) (v : Machine) (b : Bool) → is_running v.phase ≡ b → v.failure ≡ None
     → Event v (if b then tried handle (record v { results = used_for handle v.results }) else refused (state_fault v.phase) v)
@@ -401,6 +405,18 @@ await_event handle v live = await_so handle v (is_running v.phase) refl live
 
 pub await_writes : (handle : ℕ) (v : Machine) → EventWrites v (called (await_step handle v) v)
 await_writes handle v = called_writes v (await_step handle v) (await_event handle v)
+
+tree_so : (t : Tree) (v : Machine) (o : Outcome (Result AwaitResponse Error)) (b : Bool) → is_running v.phase ≡ b → v.failure ≡ None → AwaitsAt b t v o → Event v o
+tree_so t v o true e live comes = ⊎_elim
+    (λ (x : Ends t v o). subst (Event v) (sym x.2) (writes_nothing v (with_used x.0 v) (record { output = refl; closed = refl; failure = refl })))
+    (λ (x : StaysPending t v o).
+    let u = with_used (length v.results.queued) v in
+    subst (Event v) (sym x.2) (pending_so (sent (ids v.results) x.0) v u (is_replaying u.phase) u.input_closed (record { output = refl; closed = refl; failure = refl }) (goes_on v live e)))
+    comes
+tree_so t v o false e live comes = subst (Event v) (sym comes) (same v)
+
+pub tree_writes : (t : Tree) (v : Machine) (o : Outcome (Result AwaitResponse Error)) → Awaits t v o → EventWrites v (called o v)
+tree_writes t v o comes = called_writes v o (λ live. tree_so t v o (is_running v.phase) refl live comes)
 
 value_so : (value : Option Value) (v u : Machine) → Same v u → Quiet v (value_taken value u)
 value_so None v u s = s

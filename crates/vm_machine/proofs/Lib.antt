@@ -3,4 +3,5 @@ pub mod Carried
 pub mod Endings
 pub mod Preparing
 pub mod Replaying
+pub mod Resolving
 pub mod States

@@ -12,3 +12,4 @@ pub mod Replays
 pub mod Reports
 pub mod Requests
 pub mod Signals
+pub mod TreeAwaits

@@ -49,6 +49,12 @@ Gives o (Ok a) old new = o ≡ Done a new
 Gives o (Err (fault.Refused e)) old new = (o ≡ Failed e new) × (lasting new ≡ lasting old)
 Gives o (Err fault.Memory) old new = lasting new ≡ lasting old
 
+-- The same of an event that may come to several outcomes.
+abbrev pub GivesBy : {A : Type 0} → (Outcome A → Type 0) → Result A Fault → Machine → Machine → Type 0
+GivesBy R (Ok a) old new = R (Done a new)
+GivesBy R (Err (fault.Refused e)) old new = R (Failed e new) × (lasting new ≡ lasting old)
+GivesBy R (Err fault.Memory) old new = lasting new ≡ lasting old
+
 -- a refusal that relates to no command
 abbrev pub refused : {A : Type 0} → NamedFault → Machine → Outcome A
 refused name v = Failed (named_error name None) v

@@ -1,5 +1,5 @@
 //! Laws of the calls, in replay as in Processing.
-ghost use Rattle.std.specs.Prelude.{◌≡◌, ℕ, Bool, true, false, List, [], ◌∷◌, Option, Some, None};
+ghost use Rattle.std.specs.Prelude.{◌≡◌, ℕ, Bool, true, false, List, [], ◌∷◌, Option, Some, None, Result};
 ghost use Rattle.vm_parts.specs.declared.types.AwakeableHandle.{AwakeableHandle};
 ghost use Rattle.vm_parts.specs.declared.types.NotificationHandle.{NotificationHandle};
 ghost use Rattle.vm_machine.specs.declared.machine.Machine.{Machine};
@@ -27,6 +27,9 @@ ghost use Rattle.vm_machine.specs.Requests.{changed, ids_of, with_ids};
 ghost use Rattle.vm_machine.specs.Signals.{awakeable_step, signal_step};
 ghost use Rattle.vm_machine.specs.declared.reads.StateRead.{StateRead};
 ghost use Rattle.vm_machine.specs.Reads.{read_step};
+ghost use Rattle.vm_machine.specs.TreeAwaits.{Awaits};
+ghost use Rattle.await_trees.specs.Tree.{Tree};
+ghost use Rattle.vm_parts.specs.declared.types.AwaitResponse.{AwaitResponse};
 
 /// The calls that change the state do so, whether their command is written or popped.
 #[tactic(auto, using(crate::proofs::Carried::issued_changes))]
@@ -54,6 +57,7 @@ pub fn output_ends_once()
     ensures signals { (name : List ℕ) (v : Machine) → EventWrites v (called (signal_step name v) v) }
     ensures reads { (r : StateRead) (v : Machine) → EventWrites v (called (read_step r v) v) }
     ensures awaits { (handle : ℕ) (v : Machine) → EventWrites v (called (await_step handle v) v) }
+    ensures trees { (t : Tree) (v : Machine) (o : Outcome (Result AwaitResponse Error)) → Awaits t v o → EventWrites v (called o v) }
     ensures takes { (handle : ℕ) (v : Machine) → EventWrites v (called (take_step handle v) v) }
     ensures inputs { (v : Machine) → EventWrites v (called (input_step v) v) }
     ensures ends { (v : Machine) → EventWrites v (called (end_step v) v) }

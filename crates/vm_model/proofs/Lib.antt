@@ -12,6 +12,7 @@ pub mod Compared
 pub mod Waking
 pub mod Results
 pub mod Took
+pub mod Trees
 pub mod Sums
 pub mod Uses
 pub mod Rows

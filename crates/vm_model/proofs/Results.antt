@@ -34,7 +34,7 @@ same_is (SignalName a) (SignalId b) e = absurd (cc)
 
 -- ---- lists of results
 
-results_behind : (id : NotificationId) (ns : List Notification) (n : Notification) → results_of id (ns ++ n ∷ []) ≡ cond (same_id n.id id) (results_of id ns ++ n.result ∷ []) (results_of id ns)
+pub results_behind : (id : NotificationId) (ns : List Notification) (n : Notification) → results_of id (ns ++ n ∷ []) ≡ cond (same_id n.id id) (results_of id ns ++ n.result ∷ []) (results_of id ns)
 results_behind id [] n = refl
 results_behind id (x ∷ ns) n = by_tests (same_id x.id id) (same_id n.id id) (results_behind id ns n)
   where
@@ -63,7 +63,7 @@ first_kept id i (n ∷ ns) e = by_test (same_id n.id i) refl (first_kept id i ns
     by_test true t ih = rw (ap (λ j. same_id j id) (same_is n.id i t) ∙ e) refl
     by_test false t ih = ap (λ l. cond (same_id n.id id) (n.result ∷ l) l) ih
 
-all_kept : (id i : NotificationId) (ns : List Notification) → same_id i id ≡ false → results_of id (without_all i ns) ≡ results_of id ns
+pub all_kept : (id i : NotificationId) (ns : List Notification) → same_id i id ≡ false → results_of id (without_all i ns) ≡ results_of id ns
 all_kept id i [] e = refl
 all_kept id i (n ∷ ns) e = by_test (same_id n.id i) refl (all_kept id i ns e)
   where
@@ -71,7 +71,7 @@ all_kept id i (n ∷ ns) e = by_test (same_id n.id i) refl (all_kept id i ns e)
     by_test true t ih = rw (ap (λ j. same_id j id) (same_is n.id i t) ∙ e) ih
     by_test false t ih = ap (λ l. cond (same_id n.id id) (n.result ∷ l) l) ih
 
-left_kept : (delivery : SignalDelivery) (id i : NotificationId) (ns : List Notification) → same_id i id ≡ false → results_of id (left_among delivery i ns) ≡ results_of id ns
+pub left_kept : (delivery : SignalDelivery) (id i : NotificationId) (ns : List Notification) → same_id i id ≡ false → results_of id (left_among delivery i ns) ≡ results_of id ns
 left_kept delivery id i ns e = by_test (is_listed delivery i)
   where
     by_test : (b : Bool) → results_of id (cond b (without_first i ns) (without_all i ns)) ≡ results_of id ns
@@ -79,7 +79,7 @@ left_kept delivery id i ns e = by_test (is_listed delivery i)
     by_test false = all_kept id i ns e
 
 -- none of this id's results stays
-all_gone : (id : NotificationId) (ns : List Notification) → results_of id (without_all id ns) ≡ []
+pub all_gone : (id : NotificationId) (ns : List Notification) → results_of id (without_all id ns) ≡ []
 all_gone id [] = refl
 all_gone id (n ∷ ns) = by_test (same_id n.id id) refl (all_gone id ns)
   where
@@ -163,7 +163,7 @@ not_a_completion (CompletionId n) i e = absurd (cc)
 not_a_completion (SignalId n) i e = refl
 not_a_completion (SignalName name) i e = refl
 
-none_read : (id : NotificationId) → is_listed Queued id ≡ true → (us : List Usage) → results_of id (ready_after Queued us).eager ≡ []
+pub none_read : (id : NotificationId) → is_listed Queued id ≡ true → (us : List Usage) → results_of id (ready_after Queued us).eager ≡ []
 unfolding rest_of
 none_read id listed [] = refl
 none_read id listed (Used n ∷ us) = none_read id listed us

@@ -5,5 +5,6 @@ pub mod Histories
 pub mod Deliveries
 pub mod Sums
 pub mod Uses
+pub mod Trees
 pub mod Refusals
 pub mod HonestRounds

@@ -1,5 +1,5 @@
 //! Laws of awaits and takes.
-ghost use Rattle.std.specs.Prelude.{◌≡◌, ◌∷◌, ◌++◌, [], List, ℕ, Some, drop, false, take};
+ghost use Rattle.std.specs.Prelude.{◌≡◌, ◌≤◌, ◌∷◌, ◌++◌, [], List, ℕ, Some, drop, false, length, take};
 ghost use Rattle.journal_attempt.specs.declared.commands.InputCommand.{InputCommand};
 ghost use Rattle.journal_messages.specs.declared.message.RawMessage.{RawMessage};
 ghost use Rattle.journal_values.specs.declared.notification.Notification.{Notification};
@@ -14,6 +14,10 @@ ghost use Rattle.vm_parts.specs.Deliveries.{newest, present};
 ghost use Rattle.vm_model.specs.Calls.{Setup, Meaning, Usage, is_awake, ready_after};
 ghost use Rattle.vm_model.specs.Moves.{Point, after, next, start};
 ghost use Rattle.vm_model.specs.Histories.{IsAwaiting, IsLeast, arrivals_used};
+ghost use Rattle.await_trees.specs.Tree.{Tree};
+ghost use Rattle.await_tries.specs.Await.{LeastAwake, NeverAwake};
+ghost use Rattle.vm_parts.specs.declared.options.SignalDelivery.TheVariants.{Queued};
+ghost use Rattle.vm_model.specs.Trees.{HasNoTwo, arrived_at, tree_wakes};
 ghost use Rattle.vm_model.specs.Deliveries.{EachTookAResult, TakeIsAnswered, deliveries, next_taken, takes};
 
 /// An await that was answered had a least prefix of the arrivals by which its future is awake, and the run uses just
@@ -23,6 +27,13 @@ pub fn awaits_wake()
     ensures only { (s : Setup) (m : Meaning) (future : UnresolvedFuture) (n : ℕ) (p q : Point) (a : Answer) (more : List Answer) → IsAwaiting m p future → after s m n p ≡ Some q → q.answers ≡ p.answers ++ a ∷ more → (j : ℕ) × IsLeast (is_awake s future) p.derived p.queue j }
     ensures uses { (s : Setup) (m : Meaning) (future : UnresolvedFuture) (j : ℕ) (p : Point) → IsAwaiting m p future → IsLeast (is_awake s future) p.derived p.queue j → after s m j p ≡ Some (record p { derived = arrivals_used (take j p.queue) p.derived; queue = drop j p.queue }) }
     ensures none { (s : Setup) (m : Meaning) (future : UnresolvedFuture) (n k : ℕ) (first p q : Point) → after s m n first ≡ Some p → after s m k first ≡ Some q → q.answers ≡ p.answers → IsAwaiting m q future → is_awake s future q.derived ≡ false → q.queue ≡ [] → is_awake s future p.derived ≡ false }
+{}
+
+/// Where signals are queued and no completion id has two results, an await of a tree ends in a machine after the least prefix of the
+/// arrivals by which the tree is awake at its point; and where no number of them wakes it there, it is awake after none of them.
+pub fn trees_wake()
+    ensures ends { (s : Setup) (t : Tree) (p : Point) (n : ℕ) → s.options.signal_delivery ≡ Queued → HasNoTwo p → LeastAwake s.options.signal_delivery (arrived_at s p) t n → IsLeast (tree_wakes s t) p.derived p.queue n }
+    ensures never { (s : Setup) (t : Tree) (p : Point) (n : ℕ) → s.options.signal_delivery ≡ Queued → HasNoTwo p → NeverAwake s.options.signal_delivery (arrived_at s p) t → n ≤ length p.queue → tree_wakes s t (arrivals_used (take n p.queue) p.derived) ≡ false }
 {}
 
 /// In a run the present result of an id is the one that a take takes next: of a signal whose deliveries queue up the delivery behind

@@ -1,0 +1,47 @@
+-- Awaits of trees.
+use Rattle.std.specs.Prelude.{◌≡◌, ◌⊎◌, ℕ, Bool, true, false, if◌then◌else◌, List, length, None, Result, Ok, Err}
+use Rattle.await_trees.specs.Tree.{Tree}
+use Rattle.await_trees.specs.Wires.{sent}
+use Rattle.await_tries.specs.Await.{LeastAwake, LeftPending}
+use Rattle.await_tries.specs.Message.{ids}
+use Rattle.await_tries.specs.Used.{used}
+use Rattle.journal_attempt.specs.declared.future.Future.{Future}
+use Rattle.journal_errors.specs.declared.error.Error.{Error}
+use Rattle.journal_errors.specs.declared.faults.NamedFault.TheVariants as fault
+use Rattle.journal_errors.specs.Errors.{named_error}
+use Rattle.vm_parts.specs.declared.types.AwaitResponse.{AwaitResponse}
+use Rattle.vm_parts.specs.declared.types.AwaitResponse.TheVariants.{AnyCompleted, WaitingExternalProgress}
+use Rattle.vm_machine.specs.declared.machine.Machine.{Machine}
+use Rattle.vm_machine.specs.Awaits.{suspended}
+use Rattle.vm_machine.specs.Outcomes.{Outcome, Done, refused}
+use Rattle.vm_machine.specs.Phases.{is_running, is_replaying, state_fault}
+
+-- the first n notifications that wait are used
+abbrev pub with_used : ℕ → Machine → Machine
+with_used n v = record v { results = used v.results n }
+
+-- an await that stays pending, by what the invocation then waits for
+abbrev pub pending_on : Future → Machine → Outcome (Result AwaitResponse Error)
+pending_on future v =
+    if is_replaying v.phase then refused fault.UncompletedDoProgressDuringReplay v
+    else if v.input_closed then Done (Err (named_error fault.Suspended None)) (suspended future v)
+    else Done (Ok (WaitingExternalProgress true false)) v
+
+-- The await ends: as many notifications are used as wake the tree, and no fewer would.
+abbrev pub Ends : Tree → Machine → Outcome (Result AwaitResponse Error) → Type 0
+Ends t v o = (n : ℕ) × LeastAwake v.options.signal_delivery v.results t n × (o ≡ Done (Ok AnyCompleted) (with_used n v))
+
+-- The await stays pending: no number of the notifications wakes the tree, all are used, and what is left of it is waited for.
+abbrev pub StaysPending : Tree → Machine → Outcome (Result AwaitResponse Error) → Type 0
+StaysPending t v o =
+    (left : Tree) × LeftPending v.options.signal_delivery v.results t left
+    × (o ≡ pending_on (sent (ids v.results) left) (with_used (length v.results.queued) v))
+
+-- by whether the handler may run
+abbrev pub AwaitsAt : Bool → Tree → Machine → Outcome (Result AwaitResponse Error) → Type 0
+AwaitsAt true t v o = Ends t v o ⊎ StaysPending t v o
+AwaitsAt false t v o = o ≡ refused (state_fault v.phase) v
+
+-- what an await of a tree may come to
+abbrev pub Awaits : Tree → Machine → Outcome (Result AwaitResponse Error) → Type 0
+Awaits t v o = AwaitsAt (is_running v.phase) t v o
