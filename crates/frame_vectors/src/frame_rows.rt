@@ -1,7 +1,7 @@
 // Frames of each type, whose bytes were written out from the layout by another program, and their lines; lines in
 // other forms than they are printed in; and lines that have no meaning.
 /// Lines as they are printed, and the bytes of their frames.
-pub const FRAMES: [(&str, &str); 48] = [
+pub static FRAMES: [(&str, &str); 48] = [
     (
         "Start id=\"abc\" known_entries=3 partial=true",
         "0x0001000000000000003f000000000000000361626300000000000000000000000000000000000000030000000000000000010000000000000000000000000000000000000000000000",
@@ -191,7 +191,7 @@ pub const FRAMES: [(&str, &str); 48] = [
 ];
 
 /// Other lines, and the bytes that they show.
-pub const OTHER: [(&str, &str); 9] = [
+pub static OTHER: [(&str, &str); 9] = [
     (
         "  Sleep   name=\"n\"  result_completion_id=1 wake_up_time=2",
         "0x0012000000000000001500000000000000020000000100000000000000016e",
@@ -219,7 +219,7 @@ pub const OTHER: [(&str, &str); 9] = [
 ];
 
 /// Lines that show nothing.
-pub const BAD: [&str; 43] = [
+pub static BAD: [&str; 43] = [
     "Sleeper",
     "sleep wake_up_time=1",
     "Sleep wake_up_time=-1",

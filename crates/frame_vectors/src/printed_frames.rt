@@ -15,13 +15,13 @@ use wire::Fault;
 #[test]
 fn frames_as_lines(rt: HostRuntime) -> Result<(), Fail> {
     let alloc = rt.alloc();
-    for (text, hex) in FRAMES {
+    for (text, hex) in &FRAMES {
         let mut decoder = Decoder::new(alloc);
         decoder.push(Bytes::from_vec(bytes_of(alloc, hex.as_bytes())?)?)?;
         let raw = decoder.next_frame()?.ok_or("no whole frame")?;
         let mut line = Line::new(alloc);
         print_frame(alloc, &raw, &mut line)?;
-        assert_eq!(rt; line.as_str(), text);
+        assert_eq!(rt; line.as_str(), *text);
     }
     Ok(())
 }
@@ -29,7 +29,7 @@ fn frames_as_lines(rt: HostRuntime) -> Result<(), Fail> {
 #[test]
 fn lines_as_frames(rt: HostRuntime) -> Result<(), Fail> {
     let alloc = rt.alloc();
-    for (text, hex) in FRAMES {
+    for (text, hex) in &FRAMES {
         let frame = bytes_of(alloc, hex.as_bytes())?;
         assert_eq!(rt;
             frame_of(alloc, text.as_bytes())?.as_slice(),
@@ -43,7 +43,7 @@ fn lines_as_frames(rt: HostRuntime) -> Result<(), Fail> {
 #[test]
 fn lines_in_other_forms(rt: HostRuntime) -> Result<(), Fail> {
     let alloc = rt.alloc();
-    for (text, hex) in OTHER {
+    for (text, hex) in &OTHER {
         let frame = bytes_of(alloc, hex.as_bytes())?;
         assert_eq!(rt;
             frames_of(alloc, text.as_bytes())?.as_slice(),
@@ -57,7 +57,7 @@ fn lines_in_other_forms(rt: HostRuntime) -> Result<(), Fail> {
 #[test]
 fn lines_without_a_meaning(rt: HostRuntime) -> Result<(), Fail> {
     let alloc = rt.alloc();
-    for text in BAD {
+    for text in &BAD {
         assert_eq!(rt;
             frame_of(alloc, text.as_bytes()).err(),
             Some(Fault::Malformed),

@@ -18,7 +18,7 @@ use vectors::frames::{
     START_WITH_A_BAD_KEY, SUSPENSION_ON_1, TYPE_31, TYPE_MISMATCH, UNCOMPLETED,
 };
 
-const FRAMES: [(&str, &[u8]); 81] = [
+static FRAMES: [(&str, &[u8]); 81] = [
     ("start_0", START_0),
     ("start_1", START_1),
     ("start_2", START_2),
@@ -104,15 +104,15 @@ const FRAMES: [(&str, &[u8]); 81] = [
 
 /// The frame of this name.
 pub fn frame_of(name: &str) -> Result<&'static [u8], Fail> {
-    for (known, frame) in FRAMES {
-        if known == name {
-            return Ok(frame);
+    for (known, frame) in &FRAMES {
+        if *known == name {
+            return Ok(*frame);
         }
     }
     Err("no such frame")?
 }
 
-const TYPES: [(&str, u8); 11] = [
+static TYPES: [(&str, u8); 11] = [
     ("Suspension", 2),
     ("Error", 3),
     ("End", 4),
@@ -128,9 +128,9 @@ const TYPES: [(&str, u8); 11] = [
 
 /// The number of the type of this name.
 pub fn type_of(name: &str) -> Result<u8, Fail> {
-    for (known, number) in TYPES {
-        if known == name {
-            return Ok(number);
+    for (known, number) in &TYPES {
+        if *known == name {
+            return Ok(*number);
         }
     }
     Err("no such type")?
