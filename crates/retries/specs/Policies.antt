@@ -3,7 +3,6 @@ use Rattle.std.specs.Prelude.{ℕ, Bool, true, false, ◌||◌, nat_le, if◌the
 use Rattle.std.specs.Option.{option_map}
 use Rattle.std.specs.Duration.{as_nanos}
 use Rattle.std.specs.declared.time.Duration.{Duration}
-use Rattle.retries.specs.declared.policy.EntryRetryInfo.{EntryRetryInfo}
 use Rattle.retries.specs.declared.policy.NextRetry.{NextRetry}
 use Rattle.retries.specs.declared.policy.NextRetry.TheVariants as next
 use Rattle.retries.specs.declared.policy.OnMaxAttempts.{OnMaxAttempts}
@@ -28,10 +27,9 @@ abbrev pub is_reached : Option ℕ → ℕ → Bool
 is_reached None spent = false
 is_reached (Some most) spent = nat_le most spent
 
--- the bound on attempts is reached by their count, or that on the duration
-abbrev pub is_exhausted : Option ℕ → Option Duration → EntryRetryInfo → Bool
-is_exhausted attempts duration tried =
-    is_reached attempts tried.retry_count || is_reached (option_map as_nanos duration) (as_nanos tried.retry_loop_duration)
+-- the bound on attempts is reached by so many, or that on the duration by so many nanoseconds
+abbrev pub is_exhausted : Option ℕ → Option Duration → ℕ → ℕ → Bool
+is_exhausted attempts duration count nanos = is_reached attempts count || is_reached (option_map as_nanos duration) nanos
 
 abbrev pub when_exhausted : OnMaxAttempts → Verdict
 when_exhausted on_max.FailAsTerminal = failed
@@ -48,11 +46,11 @@ pauses_on_max policy.None = false
 pauses_on_max (policy.FixedDelay interval attempts duration on) = is_pause on
 pauses_on_max (policy.Exponential initial factor most attempts duration on) = is_pause on
 
--- the bounds decide first
-abbrev pub next_retry : RetryPolicy → EntryRetryInfo → Verdict
-next_retry policy.Infinite tried = retried None
-next_retry policy.None tried = failed
-next_retry (policy.FixedDelay interval attempts duration on) tried =
-    if is_exhausted attempts duration tried then when_exhausted on else retried (option_map as_nanos interval)
-next_retry (policy.Exponential initial factor most attempts duration on) tried =
-    if is_exhausted attempts duration tried then when_exhausted on else retried (Some (delay initial factor most tried.retry_count))
+-- what a policy says of an entry that failed so often, in so many nanoseconds: its bounds decide first
+abbrev pub next_retry : RetryPolicy → ℕ → ℕ → Verdict
+next_retry policy.Infinite count nanos = retried None
+next_retry policy.None count nanos = failed
+next_retry (policy.FixedDelay interval attempts duration on) count nanos =
+    if is_exhausted attempts duration count nanos then when_exhausted on else retried (option_map as_nanos interval)
+next_retry (policy.Exponential initial factor most attempts duration on) count nanos =
+    if is_exhausted attempts duration count nanos then when_exhausted on else retried (Some (delay initial factor most count))

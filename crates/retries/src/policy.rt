@@ -1,5 +1,6 @@
 //! Policies of retries, and what they say of an entry that failed.
 ghost use Rattle.std.specs.Prelude.{◌≡◌};
+ghost use Rattle.std.specs.Duration.{as_nanos};
 ghost use Rattle.retries.specs.declared.policy.OnMaxAttempts.TheVariants as on_max;
 ghost use Rattle.retries.specs.declared.policy.RetryPolicy.TheVariants as policy;
 ghost use Rattle.retries.specs.Policies.{in_nanos, is_exhausted, next_retry, pauses_on_max, when_exhausted};
@@ -88,7 +89,7 @@ impl OnMaxAttempts {
 impl EntryRetryInfo {
     /// Whether one of the bounds is reached.
     fn exhausts(&self, max_attempts: Option<u32>, max_duration: Option<Duration>) -> bool
-        ensures { result ≡ is_exhausted max_attempts max_duration self.now }
+        ensures { result ≡ is_exhausted max_attempts max_duration self.now.retry_count (as_nanos self.now.retry_loop_duration) }
     {
         let spent = self.retry_loop_duration.as_nanos();
         max_attempts.is_some_and(|most| most <= self.retry_count)
@@ -154,7 +155,7 @@ impl RetryPolicy {
 
     /// What becomes of an entry that failed, where it has been tried so often and for so long.
     pub fn next_retry(&self, tried: EntryRetryInfo) -> NextRetry
-        ensures { in_nanos result ≡ next_retry self.now tried }
+        ensures { in_nanos result ≡ next_retry self.now tried.retry_count (as_nanos tried.retry_loop_duration) }
     {
         match self {
             RetryPolicy::Infinite => NextRetry::Retry(None),
