@@ -1,5 +1,5 @@
 -- What becomes of what a run came to.
-use Rattle.std.specs.Prelude.{ℕ, ◌≡◌, ◌+◌, ◌*◌, ◌^◌, ◌-◌, ◌==◌, min, Bool, true, false, not, ◌||◌, if◌then◌else◌, List, [], ◌∷◌, Option, Some, None}
+use Rattle.std.specs.Prelude.{ℕ, ◌≡◌, ◌+◌, ◌*◌, ◌^◌, ◌-◌, ◌==◌, min, Bool, true, false, not, ◌||◌, if◌then◌else◌, List, [], ◌∷◌, Option, Some}
 use Rattle.std.specs.Option.{option_map}
 use Rattle.std.specs.Duration.{as_nanos, max_nanos}
 use Rattle.std.specs.declared.time.Duration.{Duration}
@@ -14,8 +14,8 @@ use Rattle.retries.specs.Policies.{Verdict, retried, failed, paused, next_retry}
 use Rattle.vm_parts.specs.declared.context.StartInfo.{StartInfo}
 use Rattle.vm_parts.specs.declared.run_state.PendingRun.{PendingRun}
 use Rattle.vm_parts.specs.Values.{failure_message}
-use Rattle.runs.specs.declared.exit.RunExitResult.{RunExitResult}
-use Rattle.runs.specs.declared.exit.RunExitResult.TheVariants as exit
+use Rattle.runs.specs.declared.types.RunExitResult.{RunExitResult}
+use Rattle.runs.specs.declared.types.RunExitResult.TheVariants as exit
 use Rattle.runs.specs.declared.settling.Settlement.{Settlement}
 use Rattle.runs.specs.declared.settling.Settlement.TheVariants as settlement
 

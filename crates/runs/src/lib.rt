@@ -1,8 +1,12 @@
-//! Runs: what executing one came to, and what becomes of that.
+//! Runs: those that wait for a result, what executing one came to, what becomes of that, and proposals that are kept.
 #![tactic(auto)]
 
-pub mod exit;
+pub mod kept;
+pub mod run_state;
 pub mod settling;
+pub mod types;
 
-pub use exit::RunExitResult;
+pub use kept::KeptProposals;
+pub use run_state::RunState;
 pub use settling::{Settlement, settle};
+pub use types::{RunExitResult, RunHandle};

@@ -5,7 +5,7 @@ ghost use Rattle.journal_errors.specs.declared.error.ErrorBehavior.TheVariants a
 ghost use Rattle.retries.specs.Policies.{in_nanos};
 ghost use Rattle.runs.specs.Settling.{Becomes, FailsAs, count_with, nanos_with, run_command, terminal};
 
-use crate::exit::RunExitResult;
+use crate::types::RunExitResult;
 use journal_errors::{Error, ErrorBehavior, MessageType, RelatedCommand};
 use journal_values::{Failure, ValueOrFailure};
 use retries::{EntryRetryInfo, NextRetry, RetryPolicy};

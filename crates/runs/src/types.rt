@@ -1,12 +1,21 @@
-//! What executing a run came to.
+//! The handle of a run, and what executing it came to.
 ghost use Rattle.std.specs.Prelude.{◌≡◌};
 ghost use Rattle.runs.specs.Settling.{has_metadata};
 
 use bytes::Bytes;
 use journal_errors::Error;
 use std::time::Duration;
-use vm_parts::TerminalFailure;
+use vm_parts::{NotificationHandle, TerminalFailure};
 
+/// A run that was called.
+#[derive(Clone, Debug, Drop, PartialEq, Eq)]
+pub struct RunHandle {
+    /// Its result is already there, so it needn't be executed.
+    pub replayed: bool,
+    pub handle: NotificationHandle,
+}
+
+/// What executing a run came to.
 #[derive(Clone, Debug, Drop)]
 pub enum RunExitResult {
     Success(Bytes),
