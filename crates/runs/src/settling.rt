@@ -100,7 +100,8 @@ fn settle_failure(
     }
 }
 
-/// It takes memory only where a failure that might be retried becomes the run's result.
+/// What becomes of what a run came to: a policy says it of a failure that may be retried, by all the run's failures. It takes memory
+/// only where such a failure becomes the run's result.
 pub fn settle(
     alloc: Global,
     run: PendingRun,
