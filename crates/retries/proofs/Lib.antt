@@ -1,0 +1,4 @@
+pub mod Bounds
+pub mod Delays
+pub mod Multiples
+pub mod Strides

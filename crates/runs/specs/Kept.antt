@@ -1,0 +1,11 @@
+-- Results that were proposed and wait for their acknowledgement, in the order of the proposals.
+use Rattle.std.specs.Prelude.{ℕ, ◌==◌, Bool}
+use Rattle.journal_values.specs.declared.parts.ValueOrFailure.{ValueOrFailure}
+use Rattle.vm_parts.specs.declared.run_state.KeptProposal.{KeptProposal}
+
+-- of the run that this id completes
+abbrev pub is_for : ℕ → KeptProposal → Bool
+is_for id kept = kept.completion_id == id
+
+abbrev pub result_of : KeptProposal → ValueOrFailure
+result_of kept = kept.result

@@ -1,0 +1,4 @@
+pub mod Firsts
+pub mod Kept
+pub mod Pending
+pub mod Settling

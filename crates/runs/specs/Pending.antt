@@ -1,0 +1,48 @@
+-- Runs that were called and whose results are neither known nor proposed, in the order of their calls.
+use Rattle.std.specs.Prelude.{ℕ, ◌==◌, ◌&&◌, Bool, true, false, List}
+use Rattle.std.specs.List.{list_any}
+use Rattle.vm_parts.specs.declared.run_state.PendingRun.{PendingRun}
+use Rattle.vm_parts.specs.declared.run_state.RunExecution.{RunExecution}
+use Rattle.vm_parts.specs.declared.run_state.RunExecution.TheVariants.{Waiting, Executing}
+use Rattle.vm_parts.specs.declared.types.NotificationHandle.{NotificationHandle}
+
+-- a run that was just called
+abbrev pub to_execute : NotificationHandle → ℕ → ℕ → List ℕ → PendingRun
+to_execute handle id index name = record { handle = handle.0; completion_id = id; command_index = index; name = name; execution = Waiting }
+
+abbrev pub handle_of : PendingRun → NotificationHandle
+handle_of run = record { 0 = run.handle }
+
+-- the index and the name of its command
+abbrev pub info_of : PendingRun → ℕ × List ℕ
+info_of run = (run.command_index, run.name)
+
+abbrev pub has_handle : NotificationHandle → PendingRun → Bool
+has_handle handle run = run.handle == handle.0
+
+-- a handle's number is one of these
+abbrev pub is_one_of : List NotificationHandle → ℕ → Bool
+is_one_of any number = list_any (λ handle. handle.0 == number) any
+
+abbrev pub waits : RunExecution → Bool
+waits Waiting = true
+waits Executing = false
+
+abbrev pub executes : RunExecution → Bool
+executes Waiting = false
+executes Executing = true
+
+-- the handler's runner was told to execute it
+abbrev pub is_executing : PendingRun → Bool
+is_executing run = executes run.execution
+
+abbrev pub is_executing_in : List NotificationHandle → PendingRun → Bool
+is_executing_in any run = is_executing run && is_one_of any run.handle
+
+-- it waits, and is one of these
+abbrev pub may_execute : List NotificationHandle → PendingRun → Bool
+may_execute any run = waits run.execution && is_one_of any run.handle
+
+-- the run from when it is executed
+abbrev pub started : PendingRun → PendingRun
+started run = record run { execution = Executing }

@@ -1,0 +1,12 @@
+//! Runs: those that wait for a result, what executing one came to, what becomes of that, and proposals that are kept.
+#![tactic(auto)]
+
+pub mod kept;
+pub mod run_state;
+pub mod settling;
+pub mod types;
+
+pub use kept::KeptProposals;
+pub use run_state::RunState;
+pub use settling::{Settlement, settle};
+pub use types::{RunExitResult, RunHandle};

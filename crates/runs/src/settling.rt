@@ -1,0 +1,134 @@
+//! What becomes of what a run came to: a result that is proposed, or an error that ends the attempt.
+ghost use Rattle.std.specs.Prelude.{◌≡◌, ◌∷◌, IfOk, Some};
+ghost use Rattle.std.specs.Duration.{as_nanos};
+ghost use Rattle.journal_errors.specs.declared.error.ErrorBehavior.TheVariants as behavior;
+ghost use Rattle.retries.specs.Policies.{in_nanos};
+ghost use Rattle.runs.specs.Settling.{Becomes, FailsAs, count_with, nanos_with, run_command, terminal};
+
+use crate::types::RunExitResult;
+use journal_errors::{Error, ErrorBehavior, MessageType, RelatedCommand};
+use journal_values::{Failure, ValueOrFailure};
+use retries::{EntryRetryInfo, NextRetry, RetryPolicy};
+use std::alloc::{AllocError, Global};
+use std::time::Duration;
+use vm_parts::values::write_failure;
+use vm_parts::{PendingRun, StartInfo};
+use wire::{Items, Text};
+
+/// What becomes of what a run came to.
+#[derive(Debug, Drop)]
+pub enum Settlement {
+    /// It is proposed as the run's result.
+    Proposed(ValueOrFailure),
+    /// The attempt fails with this error.
+    Failed(Error),
+}
+
+/// The command that the run's errors relate to.
+fn run_command(run: PendingRun) -> RelatedCommand
+    ensures { result ≡ run_command run }
+{
+    RelatedCommand {
+        index: run.command_index,
+        ty: MessageType::RunCommand,
+        name: run.name,
+    }
+}
+
+fn retried(mut error: Error, delay: Option<Duration>, run: PendingRun) -> Error
+    ensures { result ≡ record error { next_retry_delay = delay; related_command = Some (run_command run) } }
+{
+    error.next_retry_delay = delay;
+    error.related_command = Some(run_command(run));
+    error
+}
+
+fn paused(mut error: Error, run: PendingRun) -> Error
+    ensures { result ≡ record error { behavior = behavior.Pause; related_command = Some (run_command run) } }
+{
+    error.behavior = ErrorBehavior::Pause;
+    error.related_command = Some(run_command(run));
+    error
+}
+
+/// The error as a failure that isn't retried.
+fn terminal(alloc: Global, error: &Error) -> Result<Failure, AllocError>
+    ensures { IfOk result (λ failure. failure ≡ terminal error.now) }
+{
+    Ok(Failure {
+        code: u32::from(error.code()),
+        message: Text::from_str(alloc, error.message())?,
+        metadata: Items::new(alloc),
+    })
+}
+
+/// How often and for how long the run has been tried, with an attempt that failed after so long. What Start tells counts only
+/// where no command was written behind the recorded ones.
+fn tried(start: &StartInfo, wrote_command: bool, attempt_duration: Duration) -> EntryRetryInfo
+    ensures count { result.retry_count ≡ count_with start.now wrote_command }
+    ensures nanos { as_nanos result.retry_loop_duration ≡ nanos_with start.now wrote_command attempt_duration }
+{
+    let (count, lasted) = if wrote_command || start.retry_count == 0 {
+        (0, Duration::ZERO)
+    } else {
+        (start.retry_count, Duration::from_millis(start.duration))
+    };
+    EntryRetryInfo {
+        retry_count: count.saturating_add(1),
+        retry_loop_duration: lasted.saturating_add(attempt_duration),
+    }
+}
+
+/// A failure with what the policy says of it.
+fn settle_failure(
+    alloc: Global,
+    run: PendingRun,
+    error: Error,
+    next: NextRetry,
+) -> Result<Settlement, AllocError>
+    ensures { IfOk result (FailsAs run error (in_nanos next)) }
+{
+    match next {
+        NextRetry::Retry(delay) => Ok(Settlement::Failed(retried(error, delay, run))),
+        NextRetry::Pause => Ok(Settlement::Failed(paused(error, run))),
+        NextRetry::FailAsTerminal => {
+            drop(run);
+            let failure = terminal(alloc, &error)?;
+            drop(error);
+            Ok(Settlement::Proposed(ValueOrFailure::Failure(failure)))
+        }
+    }
+}
+
+/// What becomes of what a run came to: a policy says it of a failure that may be retried, by all the run's failures. It takes memory
+/// only where such a failure becomes the run's result.
+pub fn settle(
+    alloc: Global,
+    run: PendingRun,
+    exit: RunExitResult,
+    policy: &RetryPolicy,
+    start: &StartInfo,
+    wrote_command: bool,
+) -> Result<Settlement, AllocError>
+    ensures { IfOk result (Becomes run exit policy.now start.now wrote_command) }
+{
+    match exit {
+        RunExitResult::Success(value) => {
+            drop(run);
+            Ok(Settlement::Proposed(ValueOrFailure::Value(value)))
+        }
+        RunExitResult::TerminalFailure(failure) => {
+            drop(run);
+            Ok(Settlement::Proposed(ValueOrFailure::Failure(write_failure(failure))))
+        }
+        RunExitResult::RetryableFailure {
+            attempt_duration,
+            error,
+        } => settle_failure(
+            alloc,
+            run,
+            error,
+            policy.next_retry(tried(start, wrote_command, attempt_duration)),
+        ),
+    }
+}

@@ -1,0 +1,40 @@
+//! The handle of a run, and what executing it came to.
+ghost use Rattle.std.specs.Prelude.{◌≡◌};
+ghost use Rattle.runs.specs.Settling.{has_metadata};
+
+use bytes::Bytes;
+use journal_errors::Error;
+use std::time::Duration;
+use vm_parts::{NotificationHandle, TerminalFailure};
+
+/// A run that was called.
+#[derive(Clone, Debug, Drop, PartialEq, Eq)]
+pub struct RunHandle {
+    /// Its result is already there, so it needn't be executed.
+    pub replayed: bool,
+    pub handle: NotificationHandle,
+}
+
+/// What executing a run came to.
+#[derive(Clone, Debug, Drop)]
+pub enum RunExitResult {
+    Success(Bytes),
+    TerminalFailure(TerminalFailure),
+    /// It failed after so long, and may be tried again.
+    RetryableFailure {
+        attempt_duration: Duration,
+        error: Error,
+    },
+}
+
+impl RunExitResult {
+    /// Whether it is a failure with metadata.
+    pub fn has_metadata(&self) -> bool
+        ensures { result ≡ has_metadata self.now }
+    {
+        match self {
+            RunExitResult::TerminalFailure(failure) => !failure.metadata.is_empty(),
+            RunExitResult::Success(_) | RunExitResult::RetryableFailure { .. } => false,
+        }
+    }
+}
