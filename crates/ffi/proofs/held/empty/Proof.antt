@@ -1,13 +1,12 @@
 -- `empty` holds nothing.
-use Rattle.std.proofs.Common.{◌≡◌, List, [], ◌∷◌, refl, lit<, None}
-use mir.Val.{Val, vint, vstruct, of_list}
+use Rattle.std.proofs.Common.{◌≡◌, [], ◌∷◌, refl, lit<, None}
+use mir.Val.{vint, vstruct, of_list}
 use mir.Syntax.{w64}
 use base.Fml.{ftrue}
-use types.Kit.{‵, raw, ◌⊛◌, ◌$◌, ◌∵◌, !, qed, by, move, keep, drop, split, join, fsplit, fjoin, fpack, feq_i, use0, suffices}
+use types.Kit.{‵, raw, ◌⊛◌, ◌$◌, ◌∵◌, !, qed, by, drop, fpack, use0}
 use types.Run.{no_more, and_then, lit, returns, enter}
-use types.ByLocal.{alloc_all, pass_all, free_all, look_at, get, sets}
+use types.ByLocal.{alloc_all, pass_all, free_all, look_at, sets}
 use types.Part.{agg}
-use contract.Running.{tables}
 use contract.Monad.{fact, fact_i}
 use base.Logic.{emp}
 use denote.RawPtr.{null_ptr}

@@ -23,11 +23,9 @@ use denote.RawPtr.{Ptr, block_ptr, null_ptr, ptr_val, in_a_block, tests_null, Te
 use denote.Steps.{nothing, peeks}
 use denote.Triple.Walked.{Stays, stay_dropped, Goes-dropped, walk_of}
 use Rattle.std.specs.Box.Ownership.{box_owns}
-use Rattle.std.specs.Prelude.{MatchOption}
 use Rattle.std.proofs.GlobalToken.{dealloc_token-Testable}
 use Rattle.std.proofs.alloc.Shapes.{after}
 use Rattle.std.proofs.option.Made.{Some-of, none_of}
-use Rattle.std.proofs.ResultValues.{and_tt}
 use Rattle.std.proofs.cell.Inside.{Good}
 use Rattle.std.proofs.raw_atomic.Walks.{proved_at, leaves}
 use Rattle.ffi.specs.Held.{chunk, held}
