@@ -98,8 +98,8 @@ def frames(stream):
 
 async def feed(stream, data):
     """What a connection brings: pieces that are cut anywhere."""
-    for at in range(0, len(data), 7):
-        stream.feed_data(data[at : at + 7])
+    for at in range(0, len(data), 31):
+        stream.feed_data(data[at : at + 31])
         await asyncio.sleep(0)
     stream.feed_eof()
 
