@@ -129,7 +129,10 @@ class _Told(ctypes.Structure):
 def _load():
     """The shared object. Its calls never block, so they keep the interpreter's lock."""
     path = os.environ.get("PALQYTUN_LIBRARY") or pathlib.Path(__file__).resolve().with_name("out") / "libpalqytun.so"
-    library = ctypes.PyDLL(str(path))
+    try:
+        library = ctypes.PyDLL(str(path))
+    except OSError as error:
+        raise ImportError(f"{error}: ./bindings/build makes it") from error
     vm, told, text, size = ctypes.POINTER(_Vm), _Told, ctypes.c_char_p, ctypes.c_size_t
     for name, arguments, result in [
         ("new", [vm], ctypes.c_uint32),
