@@ -1,0 +1,86 @@
+"""Each method of `VM` once, in one attempt, with what it answers: a test of the module."""
+
+import pathlib
+import struct
+
+from handler import CONTENT_TYPE, start
+from palqytun import VM, BadLine, Failure, IdempotencyId, InvocationId, Suspended, VMError, WorkflowId
+
+INPUT = bytes.fromhex((pathlib.Path(__file__).with_name("journal.hex")).read_text().splitlines()[2])
+
+
+def notification(id, result):
+    """The frame of a notification."""
+    return struct.pack(">HQ", 30, len(id + result)) + id + result
+
+
+def text(data):
+    return struct.pack(">Q", len(data)) + data
+
+
+def refused(call, *arguments):
+    """Tells by what a call is refused."""
+    try:
+        return call(*arguments)
+    except (VMError, BadLine, RuntimeError) as error:
+        return f"{type(error).__name__}: {error}"
+
+
+def awaited(vm, handle):
+    return vm.do_await(handle), vm.is_completed(handle), vm.take_notification(handle), vm.is_completed(handle)
+
+
+with VM(CONTENT_TYPE, cancel="none", checks="on", seed=7) as vm:
+    print(vm.version, vm.get_response_head())
+    print(vm.state(), vm.last_command_index(), vm.is_ready_to_execute())
+    vm.notify_input(bytearray(start(1)))
+    vm.notify_input(memoryview(INPUT))
+    print(vm.is_ready_to_execute(), vm.sys_input(), vm.state())
+    print(awaited(vm, vm.sys_state_get("visits", name="n", unstable=True)))
+    print(awaited(vm, vm.sys_state_get_keys(name="n")))
+    odd, every = 'a "key" \\ with\nall é 𝄞', bytes(range(256))
+    vm.sys_state_set(odd, every, name="n", unstable=True)
+    print(vm.take_notification(vm.sys_state_get(odd)) == every)
+    vm.sys_state_clear(odd, name="n")
+    print(vm.take_notification(vm.sys_state_get(odd)))
+    vm.sys_state_clear_all(name="n")
+    print(vm.take_notification(vm.sys_state_get_keys()))
+    print(vm.sys_sleep(1000, name="nap", now=5))
+    options = dict(key="k", idempotency_key="i", scope="s", limit_key="l", headers=[("a", "b"), ("c", "d")], name="n", unstable=True)
+    print(vm.sys_call("Service", "handler", every, **options), vm.sys_send("Service", "handler", b"", at=5, **options))
+    print(vm.sys_awakeable(), vm.create_signal_handle("go"))
+    failure = Failure(409, "no \"more\"", (("k", "v"), ("w", "")))
+    vm.sys_complete_awakeable("prom_1", b"a", unstable=True)
+    vm.sys_complete_signal("inv_1", "go", failure)
+    vm.sys_cancel_invocation("inv_1")
+    print(vm.sys_get_promise("p"), vm.sys_peek_promise("p"), vm.sys_complete_promise("p", failure, unstable=True))
+    print(vm.sys_attach_invocation(InvocationId("inv_1")), vm.sys_get_invocation_output(WorkflowId("w", "k", "s")))
+    print(vm.sys_attach_invocation(IdempotencyId("s", "h", "i", service_key="k", scope="s")))
+    print(vm.do_await(27))
+    vm.notify_input(notification(b"\2" + text(b"go"), b"\2" + struct.pack(">I", 409) + text(b"no") + struct.pack(">Q", 1) + text(b"k") + text(b"v")))
+    vm.notify_input(notification(b"\0" + struct.pack(">I", 7), b"\4" + text(b"inv_9")))
+    vm.notify_input(notification(b"\1" + struct.pack(">I", 17), b"\1" + text(every)))
+    print(awaited(vm, 27), awaited(vm, 23))
+    print(vm.do_await(26), vm.take_notification(26) == every)
+    vm.notify_input_closed()
+    print(vm.line(""), vm.line("# nothing"), vm.line("what"), vm.line("index"))
+    print(refused(vm.call, "what"))
+    vm.sys_write_output(failure)
+    vm.sys_end()
+    print(vm.state(), vm.last_command_index(), len(vm.take_output()) > 500, vm.take_output())
+    print(refused(vm.sys_sleep, 1))
+print(refused(vm.state))
+print(refused(vm.take_output))
+
+print(refused(VM, None))
+print(refused(VM, "text/plain"))
+vm = VM("application/vnd.restate.invocation.v8")
+print(refused(vm.call, "vm -"))
+print(refused(vm.state))
+print(refused(vm.notify_input, b""))
+print(vm.call('vm "application/vnd.restate.invocation.v5"'))
+vm.notify_error(418, "mine", stacktrace="here", behaviour="retry", delay=1500, related="last")
+print(refused(vm.sys_input))
+vm.free()
+vm.free()
+print(issubclass(Suspended, VMError))

@@ -1,0 +1,57 @@
+//! A session as C holds it.
+ghost use Rattle.std.specs.Prelude.{◌≡◌, Option, Some, None};
+ghost use Rattle.std.specs.Option.{MatchOption};
+ghost use Rattle.ffi.specs.declared.session.Session.{Session};
+ghost use Rattle.ffi.specs.contracts.session.Session.{the_row as session_row};
+ghost use Rattle.ffi.specs.Held.{held};
+
+use crate::loose::Loose;
+use crate::session::Session;
+use std::alloc::Global;
+use std::marker::Model;
+
+/// A session as C holds it: none, which is all zeroes, or the pointer to its block. It isn't `Drop`: whoever has one takes the
+/// session out by `show`, so none is forgotten.
+#[repr(C)]
+pub struct Vm {
+    pub(crate) at: *mut u8,
+    pub ghost value: { Option Session },
+}
+
+impl Model for Vm {
+    ghost also_owns = { λ p. held session_row p.at p.value };
+}
+
+/// No session.
+pub(crate) fn empty() -> Vm
+    ensures { result.value ≡ None }
+{
+    Vm {
+        at: std::ptr::null_mut(),
+    }
+}
+
+/// A session's box, as C holds it.
+pub(crate) fn hide(loose: Loose<Session, Global>) -> Vm
+    ensures { result.value ≡ Some loose.value }
+{
+    let Loose { at, alloc: _ } = loose;
+    Vm { at: at as *mut u8 }
+}
+
+/// The session's box, if C holds one.
+pub(crate) fn show(vm: Vm, alloc: Global) -> Option<Loose<Session, Global>>
+    ensures { MatchOption result (vm.value ≡ None) (λ l. vm.value ≡ Some l.value) }
+{
+    let Vm { at } = vm;
+    if at.is_null() {
+        None
+    } else {
+        Some(Loose {
+            at: at as *mut Session,
+            alloc,
+        })
+    }
+}
+
+unsafe impl Send for Vm {}

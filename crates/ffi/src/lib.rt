@@ -1,0 +1,145 @@
+//! A VM for callers of C: a line is performed on it, and answered by a line; bytes go in and come out as they are.
+#![tactic(auto)]
+
+ghost use Rattle.std.specs.Prelude.{◌≡◌, None, Some};
+ghost use Rattle.std.specs.Option.{MatchOption};
+ghost use Rattle.ffi.specs.Sessions.{AnswerRead, InputFed, IsMade, LineSent, OutputTaken};
+ghost use Rattle.ffi.specs.Statuses.{status_of};
+
+mod held;
+mod loose;
+mod session;
+mod status;
+
+pub use held::Vm;
+use held::{empty, hide, show};
+use loose::Loose;
+pub use session::Session;
+pub use status::Status;
+use std::alloc::Global;
+
+/// How a call ended, and a length.
+#[repr(C)]
+#[derive(Drop)]
+pub struct Told {
+    pub status: u32,
+    pub len: usize,
+}
+
+/// What C is told.
+fn tell(status: Status, len: usize) -> Told
+    ensures status { status_of result.status ≡ status }
+    ensures len { result.len ≡ len }
+{
+    Told {
+        status: status.code(),
+        len,
+    }
+}
+
+/// Takes the session out of the hands of C.
+fn take(alloc: Global, vm: &mut Vm) -> Option<Box<Session>>
+    ensures emptied { vm.new.value ≡ None }
+    ensures taken { MatchOption result (vm.old.value ≡ None) (λ session. vm.old.value ≡ Some session.value) }
+{
+    match show(std::mem::replace(vm, empty()), alloc) {
+        Some(loose) => Some(loose.into_box()),
+        None => None,
+    }
+}
+
+/// Puts a session into the hands of C. One that was there is let go.
+fn give(alloc: Global, vm: &mut Vm, session: Box<Session>)
+    ensures { vm.new.value ≡ Some session.value }
+{
+    let former = std::mem::replace(vm, hide(Loose::of(session)));
+    if let Some(loose) = show(former, alloc) {
+        drop(loose.into_box());
+    }
+}
+
+/// Makes an empty session, where memory is found. One that was there is let go.
+#[unsafe(no_mangle)]
+pub extern "C" fn palqytun_new(alloc: Global, vm: &mut Vm) -> u32
+    ensures { IsMade (status_of result) vm.new.value }
+{
+    palqytun_free(alloc, vm);
+    match Box::new(alloc, Session::new(alloc)) {
+        Ok(made) => {
+            give(alloc, vm, made);
+            Status::Done.code()
+        }
+        Err(_) => Status::NoMemory.code(),
+    }
+}
+
+/// Performs a line, and tells how long its answer is, which `palqytun_answer` reads.
+#[unsafe(no_mangle)]
+pub extern "C" fn palqytun_line(alloc: Global, vm: &mut Vm, line: &[u8]) -> Told
+    ensures { LineSent alloc line.now (status_of result.status) result.len vm.old.value vm.new.value }
+{
+    match take(alloc, vm) {
+        Some(mut session) => {
+            let status = session.send(alloc, line);
+            let len = session.answer.as_str().len();
+            give(alloc, vm, session);
+            tell(status, len)
+        }
+        None => tell(Status::NoSession, 0),
+    }
+}
+
+/// Writes the last answer to the front of `out`, where there is room for it, and tells how long it is.
+#[unsafe(no_mangle)]
+pub extern "C" fn palqytun_answer(alloc: Global, vm: &mut Vm, out: &mut [u8]) -> Told
+    ensures kept { vm.new.value ≡ vm.old.value }
+    ensures read { AnswerRead (status_of result.status) result.len out.old out.new vm.old.value }
+{
+    match take(alloc, vm) {
+        Some(session) => {
+            let (status, len) = session.read_answer(out);
+            give(alloc, vm, session);
+            tell(status, len)
+        }
+        None => tell(Status::NoSession, 0),
+    }
+}
+
+/// Feeds the VM bytes of its input.
+#[unsafe(no_mangle)]
+pub extern "C" fn palqytun_feed(alloc: Global, vm: &mut Vm, bytes: &[u8]) -> u32
+    ensures { InputFed bytes.now (status_of result) vm.old.value vm.new.value }
+{
+    match take(alloc, vm) {
+        Some(mut session) => {
+            let status = session.feed(alloc, bytes);
+            give(alloc, vm, session);
+            status.code()
+        }
+        None => Status::NoSession.code(),
+    }
+}
+
+/// Moves all of the VM's output to the front of `out`, where there is room for it, and tells how long it is.
+#[unsafe(no_mangle)]
+pub extern "C" fn palqytun_take_output(alloc: Global, vm: &mut Vm, out: &mut [u8]) -> Told
+    ensures { OutputTaken (status_of result.status) result.len out.old out.new vm.old.value vm.new.value }
+{
+    match take(alloc, vm) {
+        Some(mut session) => {
+            let (status, len) = session.take_output(out);
+            give(alloc, vm, session);
+            tell(status, len)
+        }
+        None => tell(Status::NoSession, 0),
+    }
+}
+
+/// Lets the session go, if there is one.
+#[unsafe(no_mangle)]
+pub extern "C" fn palqytun_free(alloc: Global, vm: &mut Vm)
+    ensures { vm.new.value ≡ None }
+{
+    let session = take(alloc, vm);
+    drop(session);
+}
