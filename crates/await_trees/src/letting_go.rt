@@ -21,7 +21,8 @@ fn last_of(row: Option<Vec<UnresolvedFuture>>) -> Option<(UnresolvedFuture, Vec<
 }
 
 /// The next tree to be taken apart, and the trees that are then left, by the trees that are left now and the children of
-/// the tree that was taken apart. One of two rows goes into the other, in the place of the next tree.
+/// the tree that was taken apart. One of two rows goes into the other, in the place of the next tree; an empty one never does,
+/// so each node is put below another once at most, and letting go takes time in proportion to the nodes.
 pub fn turn(
     row: Option<Vec<UnresolvedFuture>>,
     found: Option<Vec<UnresolvedFuture>>,
@@ -38,6 +39,10 @@ pub fn turn(
     let Some(row) = row else {
         return last_of(Some(children));
     };
+    if row.is_empty() {
+        row.destroy_empty();
+        return last_of(Some(children));
+    }
     let others = UnresolvedFuture::Unknown(Items::from_vec(row));
     let tree = mem::replace(&mut children[0], others);
     Some((tree, children))
