@@ -1,20 +1,4 @@
-//! A row is a line of steps with a semicolon between them, each a word and its argument. A number stands for the completion of
-//! the same number, for 1 to 10, unless the row begins with the ids of the numbers from 1 on.
-//!
-//!     arrive s1 f3      these wait, in this order
-//!     overwrite         from now on a signal's newest delivery counts
-//!     await TREE        a try of the tree
-//!     same              a try of the same tree
-//!     again             a try of the same tree or of what was left of it: each row is played for both
-//!     awake             the try found it awake
-//!     left TREE         the try left this
-//!     handles 3 2       of these leaves, in this order
-//!     send FUTURE       and sends this
-//!     unused N          so many that arrived weren't used; now they are
-//!     map N ID          the number stands for this id
-//!     copy N VALUE      the number's present result
-//!     take N VALUE      it is taken
-//!     text TEXT         the text of the tree, and of its copy
+//! Rows over awaits of trees, one a line, played over the notifications of an attempt.
 use await_trees::UnresolvedFuture;
 use await_tries::{Residue, Resolution, future_of, list_handles, try_future};
 use std::alloc::Global;
@@ -28,7 +12,7 @@ use vm_parts::{AsyncResults, NotificationHandle, SignalDelivery};
 const TEN: &str = "1 2 3 4 5 6 7 8 9 10";
 
 /// What is asked again.
-#[derive(Clone, Copy, Debug)]
+#[derive(Clone, Copy)]
 enum Again {
     Same,
     Rest,
@@ -241,6 +225,24 @@ fn play_row(alloc: Global, row: &str, again: Again) -> Result<(), Fail> {
 }
 
 /// Plays rows, one a line; the first that doesn't hold is the error.
+///
+/// A row is steps with semicolons between them, each a word and its argument. The numbers 1 to 10 stand for the completions of
+/// the same number, unless the row begins with the ids of the numbers from 1 on, as `ids 1 #5 "foo"`.
+///
+///     arrive s1 f3      these wait, in this order
+///     overwrite         from now on a signal's newest delivery counts
+///     await TREE        a try of the tree
+///     same              a try of the same tree
+///     again             a try of the same tree, or of what was left of it: each row is played for both
+///     awake             the try found it awake
+///     left TREE         the try left this
+///     handles 3 2       of these leaves, in this order
+///     send FUTURE       and sends this
+///     unused N          so many that arrived weren't used; now they are
+///     map N ID          the number stands for this id
+///     copy N VALUE      the number's present result
+///     take N VALUE      it is taken
+///     text TEXT         the text of the tree, and of its copy
 pub fn play(alloc: Global, rows: &str) -> Result<(), Fail> {
     for row in rows.lines() {
         play_row(alloc, row, Again::Same)?;
