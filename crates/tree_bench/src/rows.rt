@@ -3,7 +3,7 @@ use await_trees::UnresolvedFuture;
 use await_tries::{Residue, Resolution, future_of, list_handles, try_future};
 use std::alloc::Global;
 use std::test::Fail;
-use tree_lines::notation::{arrival, handle_of, id, tree};
+use tree_lines::notation::{arrival, handle_of, id, number, tree};
 use tree_lines::shown::{
     copy_shown, future_shown, handles_shown, left_shown, result_shown, tree_shown,
 };
@@ -58,19 +58,24 @@ fn arrive(alloc: Global, results: &mut AsyncResults, words: &str) -> Result<(), 
 /// The numbers from 1 on stand for these ids.
 fn mapped(alloc: Global, ids: &str) -> Result<AsyncResults, Fail> {
     let mut results = AsyncResults::new(alloc)?;
-    let mut number = 0u32;
+    let mut last = 0u32;
     for word in ids.split_whitespace() {
-        number = number.wrapping_add(1);
-        results.map_handle(handle_of(number), id(alloc, word)?)?;
+        last = last.wrapping_add(1);
+        results.map_handle(handle_of(last), id(alloc, word)?)?;
     }
     Ok(results)
 }
 
+/// The handle and the word of an argument.
+fn handle_and_word(argument: &str) -> Result<(NotificationHandle, &str), Fail> {
+    let (word, rest) = argument.split_once(" ").ok_or("no second word")?;
+    Ok((NotificationHandle(handle_of(number(word)?)), rest))
+}
+
 /// Maps one more number.
 fn map(alloc: Global, results: &mut AsyncResults, argument: &str) -> Result<(), Fail> {
-    let (number, word) = argument.split_once(" ").ok_or("no id")?;
-    let id = id(alloc, word)?;
-    Ok(results.map_handle(handle_of(number.parse()?), id)?)
+    let (handle, word) = handle_and_word(argument)?;
+    Ok(results.map_handle(handle.0, id(alloc, word)?)?)
 }
 
 fn shown(alloc: Global, results: &AsyncResults, left: &Residue) -> Result<Left, Fail> {
@@ -97,12 +102,6 @@ fn tried(
 /// The texts of a tree and of its copy.
 fn texts_of(alloc: Global, future: &UnresolvedFuture) -> Result<(String, String), Fail> {
     Ok((tree_shown(alloc, future)?, copy_shown(alloc, future)?))
-}
-
-/// The number and the value of an argument.
-fn number_and_value(argument: &str) -> Result<(NotificationHandle, &str), Fail> {
-    let (number, value) = argument.split_once(" ").ok_or("no value")?;
-    Ok((NotificationHandle(handle_of(number.parse()?)), value))
 }
 
 impl<'a> Bench<'a> {
@@ -136,8 +135,7 @@ impl<'a> Bench<'a> {
     }
 
     fn expect_unused(&mut self, wanted: &str) -> Result<(), Fail> {
-        let wanted: u32 = wanted.parse()?;
-        for _ in 0..wanted {
+        for _ in 0..number(wanted)? {
             if !self.results.use_one() {
                 return Err(Fail::new(format_args!("{}: all were used", self.row)));
             }
@@ -149,14 +147,14 @@ impl<'a> Bench<'a> {
     }
 
     fn copy(&self, argument: &str) -> Result<(), Fail> {
-        let (handle, wanted) = number_and_value(argument)?;
+        let (handle, wanted) = handle_and_word(argument)?;
         let found = self.results.present(self.delivery, handle.0);
         let text = result_shown(self.alloc, found)?;
         expect(self.row, text.as_str(), wanted)
     }
 
     fn take(&mut self, argument: &str) -> Result<(), Fail> {
-        let (handle, wanted) = number_and_value(argument)?;
+        let (handle, wanted) = handle_and_word(argument)?;
         let found = self.results.take(self.delivery, handle);
         let text = result_shown(self.alloc, found.as_ref());
         drop(found);

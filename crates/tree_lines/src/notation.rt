@@ -18,6 +18,11 @@ pub fn number_of(handle: u32) -> u32 {
     handle.wrapping_sub(OFFSET)
 }
 
+/// The number of a word.
+pub fn number(word: &str) -> Result<u32, Fail> {
+    Ok(word.parse()?)
+}
+
 fn kind_of(word: &str) -> Option<FutureKind> {
     match word {
         "fc" => Some(FutureKind::FirstCompleted),
@@ -59,12 +64,9 @@ fn end_word(open: &mut Open, word: &mut String) -> Result<(), Fail> {
     if word.is_empty() {
         return Ok(());
     }
-    let number = word.as_str().parse()?;
+    let handle = NotificationHandle(handle_of(number(word.as_str())?));
     word.clear();
-    put(
-        open,
-        UnresolvedFuture::Single(NotificationHandle(handle_of(number))),
-    )
+    put(open, UnresolvedFuture::Single(handle))
 }
 
 /// Opens a node of the kind that was read.
@@ -111,14 +113,14 @@ pub fn tree(alloc: Global, text: &str) -> Result<UnresolvedFuture, Fail> {
 
 /// The id of a word: a completion's number, `#` and a signal's number, or a signal's name in quotes.
 pub fn id(alloc: Global, word: &str) -> Result<NotificationId, Fail> {
-    if let Some(number) = word.strip_prefix("#") {
-        return Ok(NotificationId::SignalId(number.parse()?));
+    if let Some(word) = word.strip_prefix("#") {
+        return Ok(NotificationId::SignalId(number(word)?));
     }
     if let Some(name) = word.strip_prefix("\"") {
         let name = name.strip_suffix("\"").ok_or("a name without end")?;
         return Ok(NotificationId::SignalName(Text::from_str(alloc, name)?));
     }
-    Ok(NotificationId::CompletionId(word.parse()?))
+    Ok(NotificationId::CompletionId(number(word)?))
 }
 
 fn failure(alloc: Global) -> NotificationResult {
