@@ -39,8 +39,8 @@ pub popped : (row rest : List UnresolvedFuture) (tree : UnresolvedFuture) (n : �
 popped row rest tree n e is = let p = row_push rest tree in let q = ap in_row is in inl (omega arith)
 
 -- another tree takes the place of the first
-pub swapped : (row : List UnresolvedFuture) (tree other : UnresolvedFuture) (found left : ℕ) → 0 < length row → get_or row 0 tree ≡ tree → found ≡ in_row row → count other ≡ suc left
-    → Fewer found left (count tree) (in_row (set row 0 other))
+pub swapped : (us : List UnresolvedFuture) (tree other : UnresolvedFuture) (found left : ℕ) → 0 < length us → get_or us 0 tree ≡ tree → found ≡ in_row us → count other ≡ suc left
+    → Fewer found left (count tree) (in_row (set us 0 other))
 swapped [] tree other found left l e f c = absurd (omega arith)
 swapped (u ∷ us) tree other found left l e f c =
     let same : count u ≡ count tree = ap count e in

@@ -1,5 +1,5 @@
 //! A tree is let go by a loop: however deep it is, its nodes are taken off one by one, and it takes no memory.
-ghost use Rattle.std.specs.Prelude.{MatchOption};
+ghost use Rattle.std.specs.Prelude.{◌≡◌, ◌+◌, MatchOption};
 ghost use Rattle.await_trees.specs.Counts.{count, in_row, in_some, Fewer};
 
 use crate::tree::UnresolvedFuture;
@@ -8,7 +8,7 @@ use wire::Items;
 
 /// The last tree of a row, where one is left.
 fn last_of(row: Option<Vec<UnresolvedFuture>>) -> Option<(UnresolvedFuture, Vec<UnresolvedFuture>)>
-    ensures { MatchOption result (Unit {0}) (λ next. Fewer 0 (in_some row) (count next.0) (in_row next.1.items)) }
+    ensures { MatchOption result (in_some row ≡ 0) (λ next. Fewer 0 (in_some row) (count next.0) (in_row next.1.items)) }
 {
     let mut row = row?;
     match row.pop() {
@@ -21,12 +21,13 @@ fn last_of(row: Option<Vec<UnresolvedFuture>>) -> Option<(UnresolvedFuture, Vec<
 }
 
 /// The next tree to be taken apart, and the trees that are then left, by the trees that are left now and the children of
-/// the tree that was taken apart. One of two rows goes into the other, in the place of the next tree.
+/// the tree that was taken apart. One of two rows goes into the other, in the place of the next tree; an empty one never does,
+/// so each node is put below another once at most, and letting go takes time in proportion to the nodes. None where no tree is left.
 pub fn turn(
     row: Option<Vec<UnresolvedFuture>>,
     found: Option<Vec<UnresolvedFuture>>,
 ) -> Option<(UnresolvedFuture, Vec<UnresolvedFuture>)>
-    ensures { MatchOption result (Unit {0}) (λ next. Fewer (in_some found) (in_some row) (count next.0) (in_row next.1.items)) }
+    ensures { MatchOption result (in_some found + in_some row ≡ 0) (λ next. Fewer (in_some found) (in_some row) (count next.0) (in_row next.1.items)) }
 {
     let Some(mut children) = found else {
         return last_of(row);
@@ -38,6 +39,10 @@ pub fn turn(
     let Some(row) = row else {
         return last_of(Some(children));
     };
+    if row.is_empty() {
+        row.destroy_empty();
+        return last_of(Some(children));
+    }
     let others = UnresolvedFuture::Unknown(Items::from_vec(row));
     let tree = mem::replace(&mut children[0], others);
     Some((tree, children))

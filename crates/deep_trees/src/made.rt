@@ -1,0 +1,27 @@
+//! Trees that are as deep as is asked.
+use await_trees::{FutureKind, NotificationHandle, UnresolvedFuture, node_over};
+use std::alloc::{AllocError, Global};
+use wire::Items;
+
+/// How deep.
+pub const DEPTH: usize = 1_000_000;
+
+/// A node of this kind with one child.
+fn around(
+    alloc: Global,
+    kind: FutureKind,
+    tree: UnresolvedFuture,
+) -> Result<UnresolvedFuture, AllocError> {
+    let mut children = Items::new(alloc);
+    children.push(tree)?;
+    Ok(node_over(kind, children))
+}
+
+/// So many nodes of this kind, one around the other, around handle 17.
+pub fn deep(alloc: Global, kind: FutureKind) -> Result<UnresolvedFuture, AllocError> {
+    let mut tree = UnresolvedFuture::Single(NotificationHandle(17));
+    for _ in 0..DEPTH {
+        tree = around(alloc, kind, tree)?;
+    }
+    Ok(tree)
+}

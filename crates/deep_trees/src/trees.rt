@@ -1,0 +1,27 @@
+//! Deep trees alone: made, printed, copied and let go.
+use crate::made::deep;
+use await_trees::{FutureKind, UnresolvedFuture, list_nodes};
+use std::alloc::Global;
+use std::fmt::Write;
+use std::test::Fail;
+
+/// How many nodes the tree has, and how long its text is.
+fn measured(alloc: Global, tree: &UnresolvedFuture) -> Result<(usize, usize), Fail> {
+    let nodes = list_nodes(alloc, tree)?;
+    let mut text = String::new(alloc);
+    write!(text, "{tree:?}")?;
+    Ok((nodes.len(), text.len()))
+}
+
+#[test]
+fn deep_trees_are_made_printed_copied_and_let_go(rt: HostRuntime) -> Result<(), Fail> {
+    let alloc = rt.alloc();
+    let tree = deep(alloc, FutureKind::Unknown)?;
+    let copy = tree.clone()?;
+    drop(tree);
+    let found = measured(alloc, &copy)?;
+    drop(copy);
+    // Each node is `unknown(` and `)`, and the leaf two digits.
+    assert_eq!(rt; found, (1_000_001, 9_000_002));
+    Ok(())
+}
