@@ -18,11 +18,16 @@ fn results(alloc: Global) -> Result<AsyncResults, Fail> {
     Ok(results)
 }
 
-fn complete(results: &mut AsyncResults) -> Result<(), Fail> {
-    Ok(results.enqueue(Notification {
+fn completion() -> Notification {
+    Notification {
         id: NotificationId::CompletionId(1),
         result: NotificationResult::Void,
-    })?)
+    }
+}
+
+fn complete(results: &mut AsyncResults) -> Result<(), Fail> {
+    results.enqueue(completion())?;
+    Ok(())
 }
 
 /// How many nodes are sent, in how many bytes, and how many nodes are read from them.
