@@ -154,7 +154,7 @@ fn future_is_shown_by_its_number(rt: HostRuntime) -> Result<(), Fail> {
     Ok(())
 }
 
-const COMMANDS: [(CommandType, &str); 19] = [
+static COMMANDS: [(CommandType, &str); 19] = [
     (CommandType::Input, "handler input"),
     (CommandType::Output, "handler return"),
     (CommandType::GetState, "get state"),
@@ -178,9 +178,9 @@ const COMMANDS: [(CommandType, &str); 19] = [
 
 #[test]
 fn commands_have_texts(rt: HostRuntime) -> Result<(), Fail> {
-    for (command, text) in COMMANDS {
+    for (command, text) in &COMMANDS {
         let shown = command.to_string(rt.alloc())?;
-        assert_eq!(rt; shown.as_str(), text);
+        assert_eq!(rt; shown.as_str(), *text);
     }
     Ok(())
 }

@@ -15,7 +15,7 @@ use vectors::frames::{
     COMPLETION_1, ERROR_STATE, INPUT_TILL, OUTPUT_EMPTY, OUTPUT_X, SIGNAL_17, SLEEP_TO_1000,
 };
 
-const KEEPER: [Run; 7] = [
+static KEEPER: [Run; 7] = [
     Run {
         entries: &[Entry::Command(INPUT_TILL), Entry::Command(SET_B)],
         answers: &[Told::Input],
@@ -97,7 +97,7 @@ const KEEPER: [Run; 7] = [
     },
 ];
 
-const CHOOSER: [Run; 4] = [
+static CHOOSER: [Run; 4] = [
     Run {
         entries: &[Entry::Command(INPUT_TILL), Entry::Command(COMPLETE_2)],
         answers: &[Told::Input],
@@ -159,8 +159,8 @@ const CHOOSER: [Run; 4] = [
 #[test]
 fn other_calls_of_the_state_are_refused(rt: HostRuntime) -> Result<(), Fail> {
     let keeper = Keeper { alloc: rt.alloc() };
-    for run in KEEPER {
-        assert_recorded(&rt, rt.alloc(), &keeper, &run)?;
+    for run in &KEEPER {
+        assert_recorded(&rt, rt.alloc(), &keeper, run)?;
     }
     Ok(())
 }
@@ -168,8 +168,8 @@ fn other_calls_of_the_state_are_refused(rt: HostRuntime) -> Result<(), Fail> {
 #[test]
 fn other_branches_are_refused(rt: HostRuntime) -> Result<(), Fail> {
     let chooser = Chooser { alloc: rt.alloc() };
-    for run in CHOOSER {
-        assert_recorded(&rt, rt.alloc(), &chooser, &run)?;
+    for run in &CHOOSER {
+        assert_recorded(&rt, rt.alloc(), &chooser, run)?;
     }
     Ok(())
 }
