@@ -144,11 +144,11 @@ impl RetryPolicy {
             RetryPolicy::FixedDelay {
                 on_max_attempts,
                 ..
-            } => *on_max_attempts == OnMaxAttempts::Pause,
-            RetryPolicy::Exponential {
+            }
+            | RetryPolicy::Exponential {
                 on_max_attempts,
                 ..
-            } => *on_max_attempts == OnMaxAttempts::Pause,
+            } => { *on_max_attempts == OnMaxAttempts::Pause }
             RetryPolicy::Infinite | RetryPolicy::None => false,
         }
     }
