@@ -1,7 +1,7 @@
 //! A VM for callers of C: a line is performed on it, and answered by a line; bytes go in and come out as they are.
 #![tactic(auto)]
 
-ghost use Rattle.std.specs.Prelude.{◌≡◌, None, Some};
+ghost use Rattle.std.specs.Prelude.{◌≡◌, ◌≤◌, None, Some};
 ghost use Rattle.std.specs.Option.{MatchOption};
 ghost use Rattle.ffi.specs.Sessions.{AnswerRead, InputFed, IsMade, LineSent, OutputTaken};
 ghost use Rattle.ffi.specs.Statuses.{status_of};
@@ -29,6 +29,7 @@ pub struct Told {
 /// What C is told.
 fn tell(status: Status, len: usize) -> Told
     ensures status { status_of result.status ≡ status }
+    ensures known { result.status ≤ 4 }
     ensures len { result.len ≡ len }
 {
     Told {
@@ -61,7 +62,8 @@ fn give(alloc: Global, vm: &mut Vm, session: Box<Session>)
 /// Makes an empty session, where memory is found. One that was there is let go.
 #[unsafe(no_mangle)]
 pub extern "C" fn palqytun_new(alloc: Global, vm: &mut Vm) -> u32
-    ensures { IsMade (status_of result) vm.new.value }
+    ensures made { IsMade (status_of result) vm.new.value }
+    ensures known { result ≤ 4 }
 {
     palqytun_free(alloc, vm);
     match Box::new(alloc, Session::new(alloc)) {
@@ -76,7 +78,8 @@ pub extern "C" fn palqytun_new(alloc: Global, vm: &mut Vm) -> u32
 /// Performs a line, and tells how long its answer is, which `palqytun_answer` reads.
 #[unsafe(no_mangle)]
 pub extern "C" fn palqytun_line(alloc: Global, vm: &mut Vm, line: &[u8]) -> Told
-    ensures { LineSent alloc line.now (status_of result.status) result.len vm.old.value vm.new.value }
+    ensures sent { LineSent alloc line.now (status_of result.status) result.len vm.old.value vm.new.value }
+    ensures known { result.status ≤ 4 }
 {
     match take(alloc, vm) {
         Some(mut session) => {
@@ -93,6 +96,7 @@ pub extern "C" fn palqytun_line(alloc: Global, vm: &mut Vm, line: &[u8]) -> Told
 #[unsafe(no_mangle)]
 pub extern "C" fn palqytun_answer(alloc: Global, vm: &mut Vm, out: &mut [u8]) -> Told
     ensures kept { vm.new.value ≡ vm.old.value }
+    ensures known { result.status ≤ 4 }
     ensures read { AnswerRead (status_of result.status) result.len out.old out.new vm.old.value }
 {
     match take(alloc, vm) {
@@ -108,7 +112,8 @@ pub extern "C" fn palqytun_answer(alloc: Global, vm: &mut Vm, out: &mut [u8]) ->
 /// Feeds the VM bytes of its input.
 #[unsafe(no_mangle)]
 pub extern "C" fn palqytun_feed(alloc: Global, vm: &mut Vm, bytes: &[u8]) -> u32
-    ensures { InputFed bytes.now (status_of result) vm.old.value vm.new.value }
+    ensures fed { InputFed bytes.now (status_of result) vm.old.value vm.new.value }
+    ensures known { result ≤ 4 }
 {
     match take(alloc, vm) {
         Some(mut session) => {
@@ -123,7 +128,8 @@ pub extern "C" fn palqytun_feed(alloc: Global, vm: &mut Vm, bytes: &[u8]) -> u32
 /// Moves all of the VM's output to the front of `out`, where there is room for it, and tells how long it is.
 #[unsafe(no_mangle)]
 pub extern "C" fn palqytun_take_output(alloc: Global, vm: &mut Vm, out: &mut [u8]) -> Told
-    ensures { OutputTaken (status_of result.status) result.len out.old out.new vm.old.value vm.new.value }
+    ensures taken { OutputTaken (status_of result.status) result.len out.old out.new vm.old.value vm.new.value }
+    ensures known { result.status ≤ 4 }
 {
     match take(alloc, vm) {
         Some(mut session) => {

@@ -1,5 +1,5 @@
 //! How a call from C ends.
-ghost use Rattle.std.specs.Prelude.{◌≡◌};
+ghost use Rattle.std.specs.Prelude.{◌≡◌, ◌≤◌};
 ghost use Rattle.ffi.specs.Statuses.{status_of};
 
 /// How a call from C ended.
@@ -20,7 +20,8 @@ pub enum Status {
 impl Status {
     /// The number that C sees.
     pub fn code(self) -> u32
-        ensures { status_of result ≡ self }
+        ensures status { status_of result ≡ self }
+        ensures known { result ≤ 4 }
     {
         match self {
             Status::Done => 0,
