@@ -2,7 +2,7 @@
 use Rattle.std.proofs.Common.{◌≡◌, ℕ, suc, ◌+◌, ◌<◌, ◌≤◌, List, [], ◌∷◌, ◌++◌, length, drop, slice_index_or, refl, sym, ap, subst, ◌∙◌, append_assoc, arith, codes}
 use Rattle.std.proofs.lemmas.List.{append-nil, drop_all, drop_more}
 use Rattle.vm_world.specs.Rounds.{ReportView}
-use Rattle.round_reports.specs.Printed.{Adds, AddsSome, AreAnswerLines, AreEach, IsRoundText, count_text, error_text}
+use Rattle.round_reports.specs.Printed.{Adds, AddsSome, AreEach, IsRoundText, answer_lines, count_text, error_text}
 
 -- ---- something is added
 
@@ -45,9 +45,10 @@ print_all holds n all i old now le so_far = (
 
 -- ---- a round
 
-pub round_printed : (n : ℕ) (r : ReportView) (old a b c d new answers frames : List ℕ) → a ≡ old ++ count_text (codes "round ") n → AreAnswerLines r.answers answers → b ≡ a ++ answers → c ≡ b ++ frames → d ≡ c ++ error_text r.error
+pub round_printed : (n : ℕ) (r : ReportView) (old a b c d new frames : List ℕ) → a ≡ old ++ count_text (codes "round ") n → b ≡ a ++ answer_lines r.answers → c ≡ b ++ frames → d ≡ c ++ error_text r.error
     → new ≡ d ++ count_text (codes "entries ") r.entries → Adds (IsRoundText n r) old new
-round_printed n r old a b c d new answers frames ea answered eb ec ed en =
+round_printed n r old a b c d new frames ea eb ec ed en =
+    let answers = answer_lines r.answers in
     let x = count_text (codes "round ") n in
     let y = error_text r.error in
     let z = count_text (codes "entries ") r.entries in
@@ -56,6 +57,6 @@ round_printed n r old a b c d new answers frames ea answered eb ec ed en =
     let apart : ((((old ++ x) ++ answers) ++ frames) ++ y) ++ z ≡ old ++ (x ++ (answers ++ (frames ++ (y ++ z)))) =
     append_assoc (((old ++ x) ++ answers) ++ frames) y z ∙ append_assoc ((old ++ x) ++ answers) frames (y ++ z) ∙ append_assoc (old ++ x) answers (frames ++ (y ++ z)) ∙ append_assoc old x (answers ++ (frames ++ (y ++ z))) in (
       x ++ (answers ++ (frames ++ (y ++ z))),
-      record { answers = answers; frames = frames; answered = answered; is = sym (append_assoc ((x ++ answers) ++ frames) y z ∙ append_assoc (x ++ answers) frames (y ++ z) ∙ append_assoc x answers (frames ++ (y ++ z))) },
+      record { frames = frames; is = sym (append_assoc ((x ++ answers) ++ frames) y z ∙ append_assoc (x ++ answers) frames (y ++ z) ∙ append_assoc x answers (frames ++ (y ++ z))) },
       all ∙ apart,
     )

@@ -1,10 +1,12 @@
 -- What is fixed of the text of a report.
 use Rattle.std.specs.Prelude.{◌≡◌, ℕ, suc, List, [], ◌∷◌, ◌++◌, codes, Option, Some, None}
 use Rattle.std.specs.Fmt.{decimal}
+use Rattle.std.specs.List.{flat_map}
 use Rattle.lines.specs.Atoms.{quoted}
 use Rattle.journal_errors.specs.declared.error.Error.{Error}
 use Rattle.vm_parts.specs.declared.steps.Answer.{Answer}
 use Rattle.vm_parts.specs.declared.steps.Answer.TheVariants as answer
+use Rattle.replies.specs.Answers.{answer_text}
 use Rattle.vm_world.specs.Inside.{report_view}
 use Rattle.vm_world.specs.Rounds.{ReportView}
 use Rattle.vm_world.specs.declared.types.Report.{Report}
@@ -41,24 +43,20 @@ answer_word answer.Cancelled = codes "cancelled"
 answer_word (answer.Taken value) = codes "taken"
 answer_word (answer.Completed is) = codes "completed"
 
--- what stands behind that word, where it is fixed
-abbrev pub IsAnswerValue : Answer → List ℕ → Type 0
-IsAnswerValue (answer.Handle handle) text = text ≡ codes " " ++ decimal handle.0
-IsAnswerValue (answer.Call handles) text = text ≡ codes " " ++ decimal handles.invocation_id_notification_handle.0 ++ codes " " ++ decimal handles.call_notification_handle.0
-IsAnswerValue (answer.Send handles) text = text ≡ codes " " ++ decimal handles.invocation_id_notification_handle.0
-IsAnswerValue (answer.Awakeable made) text = text ≡ codes " " ++ decimal made.handle.0 ++ codes " " ++ quoted made.id
-IsAnswerValue answer.Unit text = text ≡ []
-IsAnswerValue answer.Awake text = text ≡ []
-IsAnswerValue answer.Cancelled text = text ≡ []
-IsAnswerValue given text = Unit {0}
+-- what stands behind that word
+abbrev pub answer_value : Answer → List ℕ
+answer_value answer.Unit = []
+answer_value answer.Awake = []
+answer_value answer.Cancelled = []
+answer_value given = codes " " ++ answer_text given
 
 -- the line of an answer
-abbrev pub IsAnswerLine : Answer → List ℕ → Type 0
-IsAnswerLine given line = (value : List ℕ) × IsAnswerValue given value × (line ≡ codes "answer " ++ answer_word given ++ value ++ codes "\n")
+abbrev pub answer_line : Answer → List ℕ
+answer_line given = codes "answer " ++ answer_word given ++ answer_value given ++ codes "\n"
 
 -- a line for each answer
-abbrev pub AreAnswerLines : List Answer → List ℕ → Type 0
-AreAnswerLines answers text = AreEach (λ number. IsAnswerLine) 0 answers text
+abbrev pub answer_lines : List Answer → List ℕ
+answer_lines answers = flat_map answer_line answers
 
 -- ---- rounds
 
@@ -73,10 +71,8 @@ count_text word count = word ++ decimal count ++ codes "\n"
 
 -- what a round tells: its number, its answers, the frames that it sent, its error, and how many entries the journal has
 pub record IsRoundText (number : ℕ) (report : ReportView) (text : List ℕ) : Type 0 where
-  pub answers : List ℕ
   pub frames : List ℕ
-  pub answered : AreAnswerLines report.answers answers
-  pub is : text ≡ count_text (codes "round ") number ++ answers ++ frames ++ error_text report.error ++ count_text (codes "entries ") report.entries
+  pub is : text ≡ count_text (codes "round ") number ++ answer_lines report.answers ++ frames ++ error_text report.error ++ count_text (codes "entries ") report.entries
 
 -- what rounds tell, which are numbered from 1
 abbrev pub AreRoundTexts : List Report → List ℕ → Type 0

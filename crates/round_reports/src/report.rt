@@ -2,7 +2,7 @@
 ghost use Rattle.std.specs.Prelude.{◌≡◌, ◌++◌, IfOk, IfSome, OnOk};
 ghost use Rattle.journal_messages.specs.Message.{frame};
 ghost use Rattle.vm_world.specs.Inside.{report_view};
-ghost use Rattle.round_reports.specs.Printed.{Adds, AddsSome, AreAnswerLines, AreRoundTexts, IsAnswerLine, IsAnswerValue, IsJournalText, IsReport, IsRoundText, answer_word, count_text, error_text, fault_name, fault_text};
+ghost use Rattle.round_reports.specs.Printed.{Adds, AddsSome, AreRoundTexts, IsJournalText, IsReport, IsRoundText, answer_line, answer_lines, answer_value, answer_word, count_text, error_text, fault_name, fault_text};
 
 use bytes::Bytes;
 use frame_lines::entry::{print_frame, print_rest};
@@ -10,7 +10,7 @@ use journal_errors::Error;
 use journal_messages::RawMessage;
 use journal_streams::Decoder;
 use lines::line::Line;
-use scripts::answer::answered;
+use replies::Shown;
 use std::alloc::{AllocError, Global};
 use vm_parts::Answer;
 use vm_world::{Report, RoundFault, World};
@@ -36,14 +36,14 @@ fn answer_word(answer: &Answer) -> &'static str
 
 /// What stands behind that word.
 fn answer_value(alloc: Global, answer: &Answer) -> Result<Line, AllocError>
-    ensures { IfOk result (λ value. IsAnswerValue answer.now value) }
+    ensures { IfOk result (λ value. value ≡ answer_value answer.now) }
 {
     let mut value = Line::new(alloc);
     match answer {
         Answer::Unit | Answer::Awake | Answer::Cancelled => {}
         _ => {
             value.word(" ")?;
-            answered(answer, &mut value)?;
+            answer.show(&mut value)?;
         }
     }
     Ok(value)
@@ -51,7 +51,7 @@ fn answer_value(alloc: Global, answer: &Answer) -> Result<Line, AllocError>
 
 /// The line of an answer.
 fn answer_line(alloc: Global, answer: &Answer) -> Result<Line, AllocError>
-    ensures { IfOk result (λ line. IsAnswerLine answer.now line) }
+    ensures { IfOk result (λ line. line ≡ answer_line answer.now) }
 {
     let value = answer_value(alloc, answer)?;
     let mut line = Line::new(alloc);
@@ -64,7 +64,7 @@ fn answer_line(alloc: Global, answer: &Answer) -> Result<Line, AllocError>
 
 /// A line for each answer.
 fn print_answers(alloc: Global, answers: &[Answer], report: &mut Line) -> Result<(), AllocError>
-    ensures { OnOk result (Adds (AreAnswerLines answers.now) report.old report.new) }
+    ensures { OnOk result (report.new ≡ report.old ++ answer_lines answers.now) }
 {
     for answer in answers {
         let line = answer_line(alloc, answer)?;

@@ -7,7 +7,7 @@ use Rattle.invocation_vm.specs.declared.core_vm.CoreVM.{CoreVM}
 use Rattle.invocation_vm.specs.Making.{Makes}
 use Rattle.invocation_vm.specs.Seen.{seen}
 use Rattle.invocation_vm.specs.Views.{View}
-use Rattle.scripts.specs.declared.reply.Reply.TheVariants as reply
+use Rattle.replies.specs.declared.reply.Reply.TheVariants as reply
 use Rattle.scripts.specs.Performed.{Made}
 
 pub made_as_asked : (alloc : Global) (options : VMOptions) (wanted : Result Version Error) (vm : CoreVM) (named : Version) → Makes alloc options wanted seen (Ok vm) → named ≡ (seen vm).machine.version → Made alloc options wanted (reply.Made named) (Some vm)

@@ -10,12 +10,12 @@ use Rattle.vm_machine.specs.Outcomes.{Outcome, called, flat, Does}
 use Rattle.invocation_vm.specs.declared.core_vm.CoreVM.{CoreVM}
 use Rattle.invocation_vm.specs.Calls.{future_step}
 use Rattle.invocation_vm.specs.Views.{View, Leaves, TakesOutput}
-use Rattle.scripts.specs.declared.reply.Reply.{Reply}
-use Rattle.scripts.specs.declared.reply.Reply.TheVariants as reply
+use Rattle.replies.specs.declared.reply.Reply.{Reply}
+use Rattle.replies.specs.declared.reply.Reply.TheVariants as reply
 use Rattle.requests.specs.declared.request.Request.{Request}
 use Rattle.requests.specs.Lines.{Reads}
 use Rattle.scripts.specs.Performed.{Performed}
-use Rattle.scripts.specs.Printed.{Printed}
+use Rattle.replies.specs.Replies.{reply_text}
 use Rattle.scripts.specs.Transcripts.{Transcribes}
 use Rattle.scripts.specs.Called.{Answers, Awaits, Feeds, Drains, reply_of, reply_or_memory}
 
@@ -31,5 +31,5 @@ feeds raws after given answer old new leaves told = record { given = given; leav
 pub drains : (given : Result (List ℕ) AllocError) (answer : Reply) (old new : View) → TakesOutput given old new → answer ≡ reply_or_memory reply.Output given → Drains answer old new
 drains given answer old new takes told = record { given = given; takes = takes; told = told }
 
-pub transcribes : (alloc : Global) (old new : Option CoreVM) (line answer : List ℕ) (request : Request) (reply : Reply) → Reads line request → Performed alloc request old reply new → Printed reply [] answer → Transcribes alloc old new line answer
+pub transcribes : (alloc : Global) (old new : Option CoreVM) (line answer : List ℕ) (request : Request) (reply : Reply) → Reads line request → Performed alloc request old reply new → answer ≡ reply_text reply → Transcribes alloc old new line answer
 transcribes alloc old new line answer request reply reads performed printed = record { request = request; reply = reply; reads = reads; performed = performed; printed = printed }

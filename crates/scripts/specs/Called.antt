@@ -26,8 +26,8 @@ use Rattle.invocation_vm.specs.Making.{response_head}
 use Rattle.invocation_vm.specs.Views.{View, Calls, CallsFlat, Leaves, TakesOutput, after_closing, after_error, after_input, brought}
 use Rattle.requests.specs.declared.request.Call.{Call}
 use Rattle.requests.specs.declared.request.Call.TheVariants as call
-use Rattle.scripts.specs.declared.reply.Reply.{Reply}
-use Rattle.scripts.specs.declared.reply.Reply.TheVariants as reply
+use Rattle.replies.specs.declared.reply.Reply.{Reply}
+use Rattle.replies.specs.declared.reply.Reply.TheVariants as reply
 
 -- the reply to a call's result: its value, or its error
 abbrev pub reply_of : {A : Type 0} → (A → Reply) → Result A Error → Reply

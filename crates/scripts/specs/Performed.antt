@@ -10,8 +10,8 @@ use Rattle.invocation_vm.specs.Making.{made, version_in}
 use Rattle.invocation_vm.specs.Seen.{seen}
 use Rattle.requests.specs.declared.request.Request.{Request}
 use Rattle.requests.specs.declared.request.Request.TheVariants as request
-use Rattle.scripts.specs.declared.reply.Reply.{Reply}
-use Rattle.scripts.specs.declared.reply.Reply.TheVariants as reply
+use Rattle.replies.specs.declared.reply.Reply.{Reply}
+use Rattle.replies.specs.declared.reply.Reply.TheVariants as reply
 use Rattle.scripts.specs.Called.{Called}
 use Rattle.requests.specs.ContentTypes.{found}
 

@@ -4,18 +4,18 @@ use Rattle.std.proofs.Common.{Global}
 use Rattle.std.specs.Io.KnownBytes.{Appends}
 use Rattle.invocation_vm.specs.declared.core_vm.CoreVM.{CoreVM}
 use Rattle.requests.specs.declared.request.Request.{Request}
-use Rattle.scripts.specs.declared.reply.Reply.{Reply}
+use Rattle.replies.specs.declared.reply.Reply.{Reply}
 use Rattle.requests.specs.Lines.{Reads}
+use Rattle.replies.specs.Replies.{reply_text}
 use Rattle.scripts.specs.Performed.{Performed}
-use Rattle.scripts.specs.Printed.{Printed}
 
--- what the line asks for was done, and its reply is what is printed
+-- what the line asks for was done, and the text of its reply is what is printed
 pub record Transcribes (alloc : Global) (old new : Option CoreVM) (line answer : List ℕ) : Type 0 where
   pub request : Request
   pub reply : Reply
   pub reads : Reads line request
   pub performed : Performed alloc request old reply new
-  pub printed : Printed reply [] answer
+  pub printed : answer ≡ reply_text reply
 
 -- the script's first line, without its end, and what follows it; the last line may have no end
 abbrev pub IsFirstLine : List ℕ → List ℕ → List ℕ → Type 0

@@ -8,15 +8,15 @@ ghost use Rattle.invocation_vm.specs.Making.{version_in};
 ghost use Rattle.invocation_vm.specs.Seen.{seen};
 ghost use Rattle.scripts.specs.Called.{Answers, Called, StepDone, reply_of, reply_or_memory};
 ghost use Rattle.requests.specs.ContentTypes.{found};
-ghost use Rattle.scripts.specs.declared.reply.Reply.TheVariants as reply;
+ghost use Rattle.replies.specs.declared.reply.Reply.TheVariants as reply;
 ghost use Rattle.scripts.specs.Performed.{Made, Performed};
 
-use crate::reply::Reply;
 use bytes::Bytes;
 use invocation_vm::{
     AwaitResponse, AwakeableHandle, CoreVM, Error, Input, NotificationHandle, ResponseHead, VM,
     VMOptions, VMResult, Value,
 };
+use replies::Reply;
 use requests::content_type::ContentType;
 use requests::request::{Call, Request};
 use std::alloc::{AllocError, Global};

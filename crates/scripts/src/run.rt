@@ -4,11 +4,11 @@ ghost use Rattle.invocation_vm.specs.declared.core_vm.CoreVM.{CoreVM};
 ghost use Rattle.scripts.specs.Transcripts.{IsFirstLine, IsRun, IsWritten, Transcribes};
 ghost use Rattle.scripts.specs.declared.exit_status.ExitStatus.TheVariants as status;
 
-use crate::answer::print;
 use crate::exit_status::ExitStatus;
 use crate::perform::perform;
 use invocation_vm::CoreVM;
 use lines::line::Line;
+use replies::Shown;
 use requests::parse::parse;
 use std::alloc::{AllocError, Global};
 use std::io::{self, Read, Write};
@@ -21,7 +21,7 @@ pub fn answer(alloc: Global, vm: &mut Option<CoreVM>, line: &[u8]) -> Result<Lin
     let request = parse(alloc, line)?;
     let reply = perform(alloc, vm, request);
     let mut answer = Line::new(alloc);
-    let printed = print(&reply, &mut answer);
+    let printed = reply.show(&mut answer);
     drop(reply);
     printed?;
     Ok(answer)

@@ -15,5 +15,6 @@ pub mod Took
 pub mod Trees
 pub mod Sums
 pub mod Uses
+pub mod Carried
 pub mod Rows
 pub mod Refusals

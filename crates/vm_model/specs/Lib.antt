@@ -6,5 +6,6 @@ pub mod Deliveries
 pub mod Sums
 pub mod Uses
 pub mod Trees
+pub mod Carried
 pub mod Refusals
 pub mod HonestRounds

@@ -9,11 +9,11 @@ mod numbers;
 mod reads;
 mod told;
 
-pub use awaits::{awaits_wake, results_are_present};
+pub use awaits::{awaits_wake, results_are_present, trees_wake};
 pub use honest::{
     attempts_agree, commands_stand_behind, honest_rounds, one_undisturbed, whole_rounds,
 };
-pub use lists::{handles_stand_for_ids, lists_are_used};
+pub use lists::{completions_come_once, handles_stand_for_ids, lists_are_used};
 pub use numbers::numbers_are_sums;
 pub use reads::{eager_reads_are_so, handed_stays_so};
 pub use told::{

@@ -1,13 +1,15 @@
 //! Laws of what a run used of its journal, and of what its handles stand for.
-ghost use Rattle.std.specs.Prelude.{◌≡◌, ◌⊎◌, ◌+◌, ◌++◌, List, ℕ, Some};
+ghost use Rattle.std.specs.Prelude.{◌≡◌, ◌⊎◌, ◌+◌, ◌++◌, [], List, ℕ, Some};
 ghost use Rattle.journal_attempt.specs.declared.commands.InputCommand.{InputCommand};
 ghost use Rattle.journal_messages.specs.declared.message.RawMessage.{RawMessage};
 ghost use Rattle.journal_values.specs.declared.notification.Notification.{Notification};
 ghost use Rattle.journal_values.specs.declared.notification.NotificationId.{NotificationId};
 ghost use Rattle.vm_parts.specs.Deliveries.{id_at};
 ghost use Rattle.vm_model.specs.Calls.{Setup, Meaning};
+ghost use Rattle.vm_model.specs.Carried.{AreCarried, ComeOnce};
 ghost use Rattle.vm_model.specs.Moves.{Point, after, start};
 ghost use Rattle.vm_model.specs.Sums.{calls_for};
+ghost use Rattle.vm_model.specs.Trees.{HasNoTwo};
 ghost use Rattle.vm_model.specs.Uses.{IsGiven, StandFor, WasTaken, arrivals_in, ids_given, item, needed};
 
 /// Both lists of a journal are used from the front. The recorded commands are those that were used and those that are left; each
@@ -27,4 +29,11 @@ pub fn handles_stand_for_ids()
         → (handle : ℕ) (id : NotificationId) → id_at handle q.derived.handles ≡ Some id → IsGiven (ids_given s.version 0 0 (calls_for m q.answers)) handle id }
     ensures stays { (s : Setup) (m : Meaning) (n : ℕ) (input : InputCommand) (ns : List Notification) (cs : List RawMessage) (q : Point) → after s m n (start s input ns cs) ≡ Some q
         → (k : ℕ) (id : NotificationId) → item k (ids_given s.version 0 0 (calls_for m q.answers)) ≡ Some id → (id_at (17 + k) q.derived.handles ≡ Some id) ⊎ WasTaken m (17 + k) q.answers }
+{}
+
+/// No completion id has two results at any point of a run, where some point uses all recorded commands, and the arrivals have one
+/// result at most for each completion id, and only for ids that the commands carry: an eager read has an id of its own.
+pub fn completions_come_once()
+    ensures { (s : Setup) (m : Meaning) (n k : ℕ) (input : InputCommand) (ns : List Notification) (cs : List RawMessage) (p q : Point) → after s m n (start s input ns cs) ≡ Some p → after s m k (start s input ns cs) ≡ Some q → q.left ≡ []
+        → ComeOnce ns → AreCarried ns cs → HasNoTwo p }
 {}

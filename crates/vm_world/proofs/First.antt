@@ -1,6 +1,7 @@
 -- The journal of a new world.
 use Rattle.std.proofs.Common.{◌≡◌, ℕ, List, [], ◌∷◌, Option, Some, None, refl, sym, ap, subst, arith}
 use Rattle.std.specs.Prelude.{option_map}
+use Rattle.arrivals.specs.Results.{results_of}
 use Rattle.journal_attempt.specs.declared.commands.InputCommand.{InputCommand}
 use Rattle.journal_messages.specs.declared.message.Message.TheVariants as message
 use Rattle.journal_errors.specs.declared.types.MessageType.TheVariants as type
@@ -8,6 +9,7 @@ use Rattle.journal_messages.specs.Message.{encoding}
 use Rattle.journal_messages.specs.Reading.{input_in, message_in}
 use Rattle.journal_messages.specs.Message.{IsWhole}
 use Rattle.journal_streams.proofs.Alone.{read_back}
+use Rattle.journal_values.specs.declared.notification.NotificationId.TheVariants.{CompletionId}
 use Rattle.vm_model.specs.Calls.{Meaning, Setup}
 use Rattle.vm_model.specs.Journal.{stored_form}
 use Rattle.vm_model.specs.Moves.{start}
@@ -27,6 +29,7 @@ first_is i whole = record {
   entries = (ap may_stand (first_frame i whole), tt);
   short = omega arith;
   once = subst (λ o. CompleteOnce (notified_by (read_from note_of o) [])) (sym (first_frame i whole)) tt;
+  carried = λ id none. subst (λ o. results_of (CompletionId id) (notified_by (read_from note_of o) []) ≡ []) (sym (first_frame i whole)) refl;
 }
 
 input_by : (i : InputCommand) (o : Option InputCommand) → option_map message.Input o ≡ Some (message.Input i) → o ≡ Some i

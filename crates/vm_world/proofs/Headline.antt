@@ -47,7 +47,7 @@ pub record Begins (journal : List Entry) : Type 0 where
   pub rest : List RawMessage
   pub commands : commands_in journal ≡ first ∷ rest
 
-input_type : (raw : RawMessage) (input : InputCommand) → input_read_from raw ≡ Some input → (type_number raw.ty == type_number type.InputCommand) ≡ true
+pub input_type : (raw : RawMessage) (input : InputCommand) → input_read_from raw ≡ Some input → (type_number raw.ty == type_number type.InputCommand) ≡ true
 input_type raw input h = by_test (type_number raw.ty == type_number type.InputCommand) h
   where
     by_test : (b : Bool) → (if b then input_in raw.body else None) ≡ Some input → b ≡ true

@@ -10,6 +10,7 @@ use Rattle.journal_values.specs.declared.notification.Notification.{Notification
 use Rattle.journal_messages.specs.Reading.{notification_in}
 use Rattle.invocation_vm.specs.Frames.{frames_of}
 use Rattle.vm_model.specs.Calls.{Meaning}
+use Rattle.vm_model.specs.Carried.{AreCarried}
 use Rattle.vm_model.specs.Histories.{IsPrefix}
 use Rattle.vm_rounds.specs.Journals.{commands_among, is_command, is_notification, notifications_among, notified_by}
 use Rattle.vm_rounds.specs.Record.{Record}
@@ -25,7 +26,7 @@ use Rattle.vm_world.specs.Storing.{Stores}
 use Rattle.vm_world.specs.Worlds.{IsJournal}
 use Rattle.vm_world.proofs.Framing.{command_no_note, entries_join, frames_append, front_grows, in_front, note_no_command, notes_append, notes_are}
 use Rattle.vm_world.proofs.Going.{IsOpen, Stepped, Takes, closes, fed, stepped}
-use Rattle.vm_world.proofs.Once.{has_room, is_new, once_more}
+use Rattle.vm_world.proofs.Once.{carried_more, has_room, is_new, once_more, still_carried}
 
 -- ---- one entry more
 
@@ -72,10 +73,14 @@ pub arrival_keeps : (journal : List (List ℕ)) (x : List ℕ) → arrival_fault
 arrival_keeps journal x e j =
     let new = is_new x journal e in
     let room = has_room x journal e in
+    let one = one_note x new.note new.reads in
+    let same : commands_among (frames_in (journal ++ x ∷ [])) ≡ commands_among (frames_in journal) =
+    ap commands_among (frames_append journal (x ∷ [])) ∙ commands_append (frames_in journal) (frames_in (x ∷ [])) ∙ ap (λ l. commands_among (frames_in journal) ++ l) one.none ∙ append-nil (commands_among (frames_in journal)) in
     record {
-      entries = entries_join journal (x ∷ []) j.entries (one_note x new.note new.reads).stands;
+      entries = entries_join journal (x ∷ []) j.entries one.stands;
       short = omega (arith, j.short, room, length-append journal (x ∷ []));
       once = rw (notes_append journal (x ∷ []), new.reads) (once_more (notes_in journal) new.note j.once new.no_other);
+      carried = rw (notes_append journal (x ∷ []), new.reads, same) (carried_more (notes_in journal) new.note (commands_among (frames_in journal)) j.carried new.carried);
     }
 
 -- ---- stored commands
@@ -199,6 +204,9 @@ module _ (m : Meaning) (start : List ℕ) (first : List (List ℕ)) where
       let C = commands_among s.seen in
       let twice = commands_twice s.seen in
       let none : notes_in (map frame_of C) ≡ [] = notes_are (map frame_of C) ∙ ap notifications_among s.back ∙ twice.1 in
+      let same_notes : notes_in journal ≡ notes_in now.journal = ap notes_in s.stored ∙ notes_append now.journal (map frame_of C) ∙ ap (λ l. notes_in now.journal ++ l) none ∙ append-nil (notes_in now.journal) in
+      let more_commands : commands_among (frames_in journal) ≡ commands_among (frames_in now.journal) ++ commands_among (frames_in (map frame_of C)) =
+      ap (λ l. commands_among (frames_in l)) s.stored ∙ ap commands_among (frames_append now.journal (map frame_of C)) ∙ commands_append (frames_in now.journal) (frames_in (map frame_of C)) in
       record {
         arrived = g.arrived;
         arrivals = g.arrivals;
@@ -216,7 +224,8 @@ module _ (m : Meaning) (start : List ℕ) (first : List (List ℕ)) where
         journal = record {
           entries = subst AreEntries (sym s.stored) (entries_join now.journal (map frame_of C) g.journal.entries s.entries);
           short = s.short g.journal.short;
-          once = subst CompleteOnce (sym (ap notes_in s.stored ∙ notes_append now.journal (map frame_of C) ∙ ap (λ l. notes_in now.journal ++ l) none ∙ append-nil (notes_in now.journal))) g.journal.once;
+          once = subst CompleteOnce (sym same_notes) g.journal.once;
+          carried = subst (λ (x : List Notification × List RawMessage). AreCarried x.0 x.1) (λ i. (sym same_notes i, sym more_commands i)) (still_carried (notes_in now.journal) (commands_among (frames_in now.journal)) (commands_among (frames_in (map frame_of C))) g.journal.carried);
         };
       }
 

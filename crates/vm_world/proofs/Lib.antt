@@ -9,6 +9,7 @@ pub mod Handing
 pub mod Headline
 pub mod Rounding
 pub mod Agreeing
+pub mod Completing
 pub mod Beginning
 pub mod Versions
 pub mod First

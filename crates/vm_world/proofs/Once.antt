@@ -1,18 +1,29 @@
--- No completion comes to have two results.
-use Rattle.std.proofs.Common.{◌≡◌, ◌≢◌, ℕ, Bool, true, false, ◌||◌, List, [], ◌∷◌, ◌++◌, refl, sym, ap, ◌∙◌, arith}
+-- No completion comes to have two results, and each that comes is of an id that a command carries.
+use Rattle.std.proofs.Common.{◌≡◌, ◌≢◌, ◌≤◌, ℕ, Bool, true, false, cond, ◌||◌, List, [], ◌∷◌, ◌++◌, refl, sym, ap, ◌∙◌, subst, arith}
 use Rattle.std.specs.Prelude.{◌==◌, Option, Some, None, length, if◌then◌else◌}
 use Rattle.std.proofs.lemmas.Bool.Decides.{nat_tests}
+use Rattle.arrivals.specs.Ids.{same_id}
+use Rattle.arrivals.specs.Results.{results_of}
+use Rattle.journal_messages.specs.declared.message.Message.{Message}
+use Rattle.journal_messages.specs.declared.message.Message.TheVariants as message
+use Rattle.journal_messages.specs.declared.message.RawMessage.{RawMessage}
+use Rattle.journal_messages.specs.Reading.{message_in}
 use Rattle.journal_values.specs.declared.notification.Notification.{Notification}
 use Rattle.journal_values.specs.declared.notification.NotificationId.{NotificationId}
 use Rattle.journal_values.specs.declared.notification.NotificationId.TheVariants.{CompletionId, SignalId, SignalName}
 use Rattle.journal_values.specs.declared.notification.NotificationResult.{NotificationResult}
+use Rattle.vm_model.specs.Carried.{AreCarried, ComeOnce, carried, is_among, is_carried, read_carries}
+use Rattle.vm_model.specs.Journal.{messages_in, read_before}
+use Rattle.vm_model.proofs.Results.{results_behind, same_is}
+use Rattle.vm_rounds.specs.Journals.{commands_among}
 use Rattle.vm_rounds.specs.Told.{CompleteOnce, HasNoOther, IsAbsent}
 use Rattle.vm_world.specs.declared.completions.Completes.{Completes}
 use Rattle.vm_world.specs.declared.completions.Completes.TheVariants as completes
 use Rattle.vm_world.specs.declared.types.RoundFault.{RoundFault}
 use Rattle.vm_world.specs.declared.types.RoundFault.TheVariants as round_fault
-use Rattle.vm_world.specs.Arrivals.{arrival_fault, completes_among, completion_fault, is_completed, is_invocation_id, is_of, most, note_fault, read_fault, room_fault}
-use Rattle.vm_world.specs.Entries.{note_in, notes_in, said_in}
+use Rattle.vm_world.specs.Arrivals.{arrival_fault, completes_among, completes_by, completion_fault, if_same, is_completed, is_invocation_id, is_of, most, note_fault, read_fault, room_fault}
+use Rattle.vm_world.specs.Entries.{frames_in, note_in, notes_in, said_in}
+use Rattle.vm_world.proofs.Framing.{said_are}
 
 -- ---- one notification more
 
@@ -44,6 +55,71 @@ pub once_more : (ns : List Notification) (n : Notification) → CompleteOnce ns 
 once_more [] n once h = (none_other n.id, tt)
 once_more (m ∷ ns) n once h = (no_other_more m.id ns n once.0 (differs n.id m ns h), once_more ns n once.1 (no_other_behind n.id m ns h))
 
+none_true : (a b : Bool) → (a || b) ≡ false → (a ≡ false) × (b ≡ false)
+none_true true b e = absurd (cc)
+none_true false b e = (refl, e)
+
+-- ---- each completion that came is of an id that a command carries
+
+carried_front : (id : ℕ) (us vs : List RawMessage) → is_carried id (us ++ vs) ≡ false → is_carried id us ≡ false
+carried_front id [] vs e = refl
+carried_front id (u ∷ us) vs e = by_test (read_carries id (message_in u.ty u.body)) e (carried_front id us vs)
+  where
+    by_test : (b : Bool) → (b || is_carried id (us ++ vs)) ≡ false → (is_carried id (us ++ vs) ≡ false → is_carried id us ≡ false) → (b || is_carried id us) ≡ false
+    by_test true h ih = absurd (cc)
+    by_test false h ih = ih h
+
+pub still_carried : (ns : List Notification) (cs more : List RawMessage) → AreCarried ns cs → AreCarried ns (cs ++ more)
+still_carried ns cs more h id none = h id (carried_front id cs more none)
+
+pub carried_more : (ns : List Notification) (n : Notification) (cs : List RawMessage) → AreCarried ns cs → ((id : ℕ) → n.id ≡ CompletionId id → is_carried id cs ≡ true) → AreCarried (ns ++ n ∷ []) cs
+carried_more ns n cs h new id none = results_behind (CompletionId id) ns n ∙ by_test (same_id n.id (CompletionId id)) refl
+  where
+    by_test : (b : Bool) → same_id n.id (CompletionId id) ≡ b → cond b (results_of (CompletionId id) ns ++ n.result ∷ []) (results_of (CompletionId id) ns) ≡ []
+    by_test true e = absurd (let t : true ≡ false = sym (new id (same_is n.id (CompletionId id) e)) ∙ none in cc)
+    by_test false e = h id none
+
+by_one : (b : Bool) (kind : Completes) (before : Option Completes) → (b || false) ≡ false → if_same b kind before ≡ before
+by_one true kind before e = absurd (cc)
+by_one false kind before e = refl
+
+by_two : (a b : Bool) (one other : Completes) (before : Option Completes) → (a || (b || false)) ≡ false → if_same b other (if_same a one before) ≡ before
+by_two true b one other before e = absurd (cc)
+by_two false b one other before e = by_one b other before e
+
+-- a command that doesn't carry the id leaves what completes it
+completes_not : (id : ℕ) (m : Message) (before : Option Completes) → is_among id (carried m) ≡ false → completes_by id m before ≡ before
+completes_not id (message.Sleep c) before e = by_one (c.result_completion_id == id) completes.AnyResult before e
+completes_not id (message.GetLazyState c) before e = by_one (c.result_completion_id == id) completes.AnyResult before e
+completes_not id (message.GetLazyStateKeys c) before e = by_one (c.result_completion_id == id) completes.AnyResult before e
+completes_not id (message.GetPromise c) before e = by_one (c.result_completion_id == id) completes.AnyResult before e
+completes_not id (message.PeekPromise c) before e = by_one (c.result_completion_id == id) completes.AnyResult before e
+completes_not id (message.CompletePromise c) before e = by_one (c.result_completion_id == id) completes.AnyResult before e
+completes_not id (message.AttachInvocation c) before e = by_one (c.result_completion_id == id) completes.AnyResult before e
+completes_not id (message.GetInvocationOutput c) before e = by_one (c.result_completion_id == id) completes.AnyResult before e
+completes_not id (message.Call c) before e = by_two (c.request.invocation_id_notification_idx == id) (c.result_completion_id == id) completes.InvocationId completes.AnyResult before e
+completes_not id (message.OneWayCall c) before e = by_one (c.request.invocation_id_notification_idx == id) completes.InvocationId before e
+completes_not id (message.Run c) before e = by_one (c.result_completion_id == id) completes.Proposal before e
+completes_not id m before e = refl
+
+completes_none : (id : ℕ) (cs : List RawMessage) (before : Option Completes) → is_carried id cs ≡ false → completes_among id (messages_in cs) before ≡ before
+completes_none id [] before e = refl
+completes_none id (c ∷ cs) before e = by_read (message_in c.ty c.body) e
+  where
+    by_read : (o : Option Message) → (read_carries id o || is_carried id cs) ≡ false → completes_among id (read_before o (messages_in cs)) before ≡ before
+    by_read None h = completes_none id cs before h
+    by_read (Some m) h =
+        let x = none_true (is_among id (carried m)) (is_carried id cs) h in
+        ap (completes_among id (messages_in cs)) (completes_not id m before x.0) ∙ completes_none id cs before x.1
+
+-- what a stored command completes, it carries
+completed_carried : (id : ℕ) (journal : List (List ℕ)) → (completes_among id (said_in journal) None ≡ None → ⊥) → is_carried id (commands_among (frames_in journal)) ≡ true
+completed_carried id journal some = by_test (is_carried id (commands_among (frames_in journal))) refl
+  where
+    by_test : (b : Bool) → is_carried id (commands_among (frames_in journal)) ≡ b → b ≡ true
+    by_test true e = refl
+    by_test false e = absurd (some (ap (λ ms. completes_among id ms None) (said_are journal) ∙ completes_none id (commands_among (frames_in journal)) None e))
+
 -- ---- an arrival without a fault
 
 same_number : (i : ℕ) → (i == i) ≡ true
@@ -51,10 +127,6 @@ same_number i = grind (arith, nat_tests)
 
 not_of : (id : ℕ) (other : NotificationId) → is_of id other ≡ false → other ≡ CompletionId id → ⊥
 not_of id other h e = let t : true ≡ false = sym (ap (is_of id) e ∙ same_number id) ∙ h in absurd (cc)
-
-none_true : (a b : Bool) → (a || b) ≡ false → (a ≡ false) × (b ≡ false)
-none_true true b e = absurd (cc)
-none_true false b e = (refl, e)
 
 absent : (id : ℕ) (ns : List Notification) → is_completed id ns ≡ false → IsAbsent (CompletionId id) ns
 absent id [] h = tt
@@ -65,23 +137,54 @@ not_done None done brings room e = absurd (cc)
 not_done (Some kind) true brings room e = absurd (cc)
 not_done (Some kind) false brings room e = refl
 
--- the notification of an arrival without a fault, of which there is no other among those of the journal
+not_nothing : (kind : Option Completes) (done : Bool) (brings : NotificationResult) (room : Option RoundFault) → completion_fault kind done brings room ≡ None → kind ≡ None → ⊥
+not_nothing None done brings room e is = absurd (cc)
+not_nothing (Some kind) done brings room e is = absurd (cc)
+
+-- The notification of an arrival without a fault: there is no other of its completion among those of the journal, and a command
+-- carries its id.
 pub record IsNew (bytes : List ℕ) (journal : List (List ℕ)) : Type 0 where
   pub note : Notification
   pub reads : note_in bytes ≡ Some note
   pub no_other : HasNoOther note.id (notes_in journal)
+  pub carried : (id : ℕ) → note.id ≡ CompletionId id → is_carried id (commands_among (frames_in journal)) ≡ true
 
 note_new : (id : NotificationId) (brings : NotificationResult) (journal : List (List ℕ)) → note_fault id brings journal ≡ None → HasNoOther id (notes_in journal)
 note_new (CompletionId id) brings journal e = absent id (notes_in journal) (not_done (completes_among id (said_in journal) None) (is_completed id (notes_in journal)) brings (room_fault journal) e)
 note_new (SignalId id) brings journal e = tt
 note_new (SignalName name) brings journal e = tt
 
+note_carried : (id : NotificationId) (brings : NotificationResult) (journal : List (List ℕ)) → note_fault id brings journal ≡ None → (i : ℕ) → id ≡ CompletionId i → is_carried i (commands_among (frames_in journal)) ≡ true
+note_carried (CompletionId id) brings journal e i is =
+    let same : id ≡ i = cc in
+    subst (λ j. is_carried j (commands_among (frames_in journal)) ≡ true) same (completed_carried id journal (not_nothing (completes_among id (said_in journal) None) (is_completed id (notes_in journal)) brings (room_fault journal) e))
+note_carried (SignalId id) brings journal e i is = absurd (cc)
+note_carried (SignalName name) brings journal e i is = absurd (cc)
+
 pub is_new : (bytes : List ℕ) (journal : List (List ℕ)) → arrival_fault bytes journal ≡ None → IsNew bytes journal
 is_new bytes journal e = by_note (note_in bytes) refl e
   where
     by_note : (o : Option Notification) → note_in bytes ≡ o → read_fault o journal ≡ None → IsNew bytes journal
     by_note None is e = absurd (cc)
-    by_note (Some n) is e = record { note = n; reads = is; no_other = note_new n.id n.result journal e }
+    by_note (Some n) is e = record { note = n; reads = is; no_other = note_new n.id n.result journal e; carried = note_carried n.id n.result journal e }
+
+-- ---- one result at most
+
+absent_none : (id : ℕ) (ns : List Notification) → IsAbsent (CompletionId id) ns → results_of (CompletionId id) ns ≡ []
+absent_none id [] h = refl
+absent_none id (n ∷ ns) h = by_test (same_id n.id (CompletionId id)) refl
+  where
+    by_test : (b : Bool) → same_id n.id (CompletionId id) ≡ b → cond b (n.result ∷ results_of (CompletionId id) ns) (results_of (CompletionId id) ns) ≡ []
+    by_test true e = absurd (h.0 (same_is n.id (CompletionId id) e))
+    by_test false e = absent_none id ns h.1
+
+pub come_once : (ns : List Notification) → CompleteOnce ns → ComeOnce ns
+come_once [] once id = omega arith
+come_once (n ∷ ns) once id = by_test (same_id n.id (CompletionId id)) refl (come_once ns once.1 id)
+  where
+    by_test : (b : Bool) → same_id n.id (CompletionId id) ≡ b → length (results_of (CompletionId id) ns) ≤ 1 → length (cond b (n.result ∷ results_of (CompletionId id) ns) (results_of (CompletionId id) ns)) ≤ 1
+    by_test true e h = let none = absent_none id ns (subst (λ i. HasNoOther i ns) (same_is n.id (CompletionId id) e) once.0) in rw none (omega arith)
+    by_test false e h = h
 
 -- ---- room
 

@@ -17,6 +17,7 @@ use Rattle.vm_model.specs.Calls.{Meaning, Setup}
 use Rattle.vm_model.specs.Histories.{OneBegins, Told}
 use Rattle.vm_model.specs.Journal.{Entry, commands_in, input_read_from, notifications_in}
 use Rattle.vm_model.specs.Moves.{Point}
+use Rattle.vm_model.specs.Trees.{HasNoTwo}
 use Rattle.journal_attempt.specs.declared.commands.InputCommand.{InputCommand}
 use Rattle.journal_messages.specs.declared.message.RawMessage.{RawMessage}
 use Rattle.vm_rounds.specs.declared.progress.Progress.{Progress}
@@ -244,3 +245,8 @@ TellsAlong s m journal reports =
 abbrev pub Agree : Setup → Meaning → List (List ℕ) → List ReportView → Type 0
 Agree s m journal [] = Unit {0}
 Agree s m journal (r ∷ rs) = TellsAlong s m (entries_of (take r.entries journal)) rs × Agree s m journal rs
+
+-- At no point that a journal tells has a completion id two results: of its eager read, of those that came, of those that wait.
+abbrev pub CompletesOnce : Setup → Meaning → List Entry → Type 0
+CompletesOnce s m journal =
+    (first : RawMessage) (input : InputCommand) (rest : List RawMessage) (p : Point) → commands_in journal ≡ first ∷ rest → input_read_from first ≡ Some input → Told s m input (notifications_in journal) rest p → HasNoTwo p

@@ -6,13 +6,14 @@ use Rattle.journal_messages.specs.declared.message.Message.{Message}
 use Rattle.journal_messages.specs.declared.message.Message.TheVariants as message
 use Rattle.journal_attempt.specs.declared.start.Start.{Start}
 use Rattle.vm_model.specs.Calls.{Setup}
-use Rattle.vm_rounds.specs.Journals.{setup_for}
+use Rattle.vm_model.specs.Carried.{AreCarried}
+use Rattle.vm_rounds.specs.Journals.{commands_among, setup_for}
 use Rattle.vm_rounds.specs.Told.{CompleteOnce}
 use Rattle.vm_world.specs.declared.types.Identity.{Identity}
 use Rattle.vm_world.specs.declared.types.Round.{Round}
 use Rattle.vm_world.specs.declared.types.Setting.{Setting}
 use Rattle.vm_world.specs.Arrivals.{most}
-use Rattle.vm_world.specs.Entries.{AreEntries, notes_in}
+use Rattle.vm_world.specs.Entries.{AreEntries, frames_in, notes_in}
 use Rattle.vm_world.specs.States.{pairs_for}
 
 -- a world: what all its attempts are made with, and the journal, one frame an entry
@@ -20,11 +21,13 @@ pub record WorldView : Type 0 where
   pub setting : Setting
   pub journal : List (List ℕ)
 
--- Each of the bytes is an entry, they are no more than may be, and no completion has two results.
+-- Each of the bytes is an entry, they are no more than may be, no completion has two results, and each is of an id that a command
+-- carries.
 pub record IsJournal (journal : List (List ℕ)) : Type 0 where
   pub entries : AreEntries journal
   pub short : length journal ≤ most
   pub once : CompleteOnce (notes_in journal)
+  pub carried : AreCarried (notes_in journal) (commands_among (frames_in journal))
 
 -- keys and values, the keys as their bytes
 abbrev pub pairs_given : List (String Global × List ℕ) → List (List ℕ × List ℕ)

@@ -5,7 +5,7 @@ ghost use Rattle.vm_model.specs.HonestRounds.{IsOneRun};
 ghost use Rattle.vm_world.specs.Courses.{AreHonest};
 ghost use Rattle.vm_world.specs.Entries.{entries_of};
 ghost use Rattle.vm_world.specs.Inside.{report_view};
-ghost use Rattle.vm_world.specs.Rounds.{Agree, AreWhole, Replays, RoundsDo, RoundsFault};
+ghost use Rattle.vm_world.specs.Rounds.{Agree, AreWhole, CompletesOnce, Replays, RoundsDo, RoundsFault};
 ghost use Rattle.vm_world.specs.States.{base_of};
 ghost use Rattle.vm_world.specs.Worlds.{setup_of};
 
@@ -45,6 +45,9 @@ pub fn run_rounds<H: Handler>(
     // And that is a history of the handler.
     ensures history { IfOk result (λ r. Replays world.setting.options → IsOneRun (setup_of world.setting) (H.meaning handler.now) (Honest (base_of world.setting)) (entries_of world.journal)
         → History (setup_of world.setting) (H.meaning handler.now) (base_of world.setting) (entries_of r.0.journal)) }
+    // At no point that it tells has a completion id two results.
+    ensures once { IfOk result (λ r. Replays world.setting.options → IsOneRun (setup_of world.setting) (H.meaning handler.now) (Honest (base_of world.setting)) (entries_of world.journal)
+        → CompletesOnce (setup_of world.setting) (H.meaning handler.now) (entries_of r.0.journal)) }
     // Where no round is partial, the commands stay those of an undisturbed run: where the rounds stopped leaves no trace.
     ensures undisturbed { IfOk result (λ r. Replays world.setting.options → AreWhole rounds.now → IsOneRun (setup_of world.setting) (H.meaning handler.now) (Whole (base_of world.setting)) (entries_of world.journal)
         → IsOneRun (setup_of world.setting) (H.meaning handler.now) (Whole (base_of world.setting)) (entries_of r.0.journal)) }

@@ -1,6 +1,6 @@
-use Rattle.round_reports.specs.Printed.{IsAnswerLine}
-use Rattle.round_reports.proofs.Printing.{PrintsOn}
+use Rattle.std.proofs.Common.{◌≡◌, ◌++◌, take}
+use Rattle.round_reports.specs.Printed.{answer_lines}
 use Rattle.round_reports.proofs.report.print_answers.Given as goal
 
 abbrev pub invariant-loop-answer : goal.invariant-loop-answer
-invariant-loop-answer l = PrintsOn (λ number. IsAnswerLine) 0 l.answers l.answer-index l.initial.report l.report
+invariant-loop-answer l = l.report ≡ l.initial.report ++ answer_lines (take l.answer-index l.answers)

@@ -4,6 +4,7 @@ use Rattle.vm_world.specs.Rounds.{RoundDoes, RoundFaults, RoundsDo}
 use Rattle.vm_world.specs.Inside.{report_view}
 use Rattle.vm_world.specs.Worlds.{IsJournal, WorldView}
 use Rattle.vm_world.proofs.Agreeing.{rounds_agree}
+use Rattle.vm_world.proofs.Completing.{completes_once}
 use Rattle.vm_world.proofs.Lists.{split_at, whole_at}
 use Rattle.vm_world.proofs.Rounding.{Grows, are_honest, run_begins, rounds_fail, rounds_grow, rounds_then, stays_history, stays_one_run, stays_undisturbed}
 use Rattle.vm_world.proofs.rounds.run_rounds.Given as given
@@ -43,6 +44,9 @@ returns-clause-one_run g c r h = stays_one_run (g.H.Handler.meaning c.args.handl
 
 pub returns-clause-history : goal.returns-clause-history
 returns-clause-history g c r h = stays_history (g.H.Handler.meaning c.args.handler.now) c.args.world.setting c.args.rounds.now c.args.world.journal (map report_view c.loop-round.reports.items) c.loop-round.journal.items (before g c) (all g c) r h
+
+pub returns-clause-once : goal.returns-clause-once
+returns-clause-once g c r h = completes_once _ (g.H.Handler.meaning c.args.handler.now) _ c.loop-round.journal.items (grows g c).journal (returns-clause-history g c r h)
 
 pub returns-clause-undisturbed : goal.returns-clause-undisturbed
 returns-clause-undisturbed g c r whole h = stays_undisturbed (g.H.Handler.meaning c.args.handler.now) c.args.world.setting c.args.rounds.now c.args.world.journal (map report_view c.loop-round.reports.items) c.loop-round.journal.items (before g c) (all g c) r whole h

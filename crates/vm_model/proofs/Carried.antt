@@ -1,0 +1,526 @@
+-- No completion id has two results where each came once, for an id that a used command carries: an eager read has an id of its own.
+use Rattle.std.proofs.Common.{◌≡◌, ◌⊎◌, ◌<◌, ◌≤◌, ℕ, zero, suc, ◌+◌, Bool, true, false, cond, ◌||◌, ◌&&◌, List, [], ◌∷◌, ◌++◌, length, Option, Some, None, refl, sym, ap, ◌∙◌, subst, inl, inr, ⊎_elim, append_assoc, append-nil, length-append, arith}
+use Rattle.std.specs.Prelude.{◌==◌, nat_eq, if◌then◌else◌, Result, Ok, Err}
+use Rattle.std.specs.Cmp.Lexicographic.{pointwise}
+use Rattle.std.specs.Option.{option_eq}
+use Rattle.std.proofs.lemmas.Bool.{eqb-true}
+use Rattle.std.proofs.lemmas.Option.{same_Some}
+use Rattle.arrivals.specs.Results.{results_of}
+use Rattle.await_tries.proofs.LaterArrivals.{results-append}
+use Rattle.journal_attempt.specs.declared.commands.InputCommand.{InputCommand}
+use Rattle.journal_calls.specs.declared.calls.CallRequest.{CallRequest}
+use Rattle.journal_errors.specs.declared.faults.NamedFault.{NamedFault}
+use Rattle.journal_errors.specs.declared.faults.NamedFault.TheVariants as fault
+use Rattle.journal_errors.specs.declared.types.MessageType.{MessageType}
+use Rattle.journal_errors.specs.declared.types.MessageType.TheVariants as type
+use Rattle.journal_errors.specs.Types.{type_number}
+use Rattle.journal_equality.specs.HeaderEqual.{header_equal, request_equal}
+use Rattle.journal_messages.specs.declared.message.Message.{Message}
+use Rattle.journal_messages.specs.declared.message.Message.TheVariants as message
+use Rattle.journal_messages.specs.declared.message.RawMessage.{RawMessage}
+use Rattle.journal_messages.specs.Message.{type_of}
+use Rattle.journal_messages.specs.Reading.{message_in}
+use Rattle.journal_messages.proofs.Reading.{message_is}
+use Rattle.journal_streams.proofs.Numbers.{one_number}
+use Rattle.journal_values.specs.declared.notification.Notification.{Notification}
+use Rattle.journal_values.specs.declared.notification.NotificationId.{NotificationId}
+use Rattle.journal_values.specs.declared.notification.NotificationId.TheVariants.{CompletionId}
+use Rattle.journal_values.specs.declared.notification.NotificationResult.{NotificationResult}
+use Rattle.vm_parts.specs.declared.steps.Answer.{Answer}
+use Rattle.vm_parts.specs.declared.types.NotificationHandle.{NotificationHandle}
+use Rattle.vm_parts.specs.declared.values.Value.{Value}
+use Rattle.vm_parts.specs.Counting.{missing, missing_signals}
+use Rattle.vm_parts.specs.Deliveries.{id_at, present_for, same_id}
+use Rattle.vm_parts.specs.Values.{value_of}
+use Rattle.vm_machine.specs.declared.asks.Ask.{Ask}
+use Rattle.vm_machine.specs.declared.asks.Ask.TheVariants as ask
+use Rattle.vm_machine.specs.declared.asks.Command.{Command}
+use Rattle.vm_machine.specs.declared.reads.StateRead.{StateRead}
+use Rattle.vm_machine.specs.declared.reads.StateRead.TheVariants as reads
+use Rattle.vm_machine.specs.Asks.{ask_of}
+use Rattle.vm_machine.specs.Reads.{eager_form, eager_type, lazy_form, lazy_type, read_as, read_by, recorded_as, result_in}
+use Rattle.vm_machine.specs.Requests.{ids_of, with_ids}
+use Rattle.invocation_vm.specs.Calls.{skips_replay}
+use Rattle.vm_model.specs.Calls.{Derived, Demand, Meaning, Move, Setup, Usage, asked, awakeable_made, awaiting, commanding, is_awake, making_awakeable, numbered, reading, ready_in, result_taken, signal_made, value_taken}
+use Rattle.vm_model.specs.Calls.Demand.{Exactly, Reads}
+use Rattle.vm_model.specs.Calls.Move.{Answers, Needs, Awaits, Ends, Refuses}
+use Rattle.vm_model.specs.Calls.Usage.{Used, Read, Taken}
+use Rattle.vm_model.specs.Carried.{AreCarried, ComeOnce, carried, is_among, is_carried, read_carries}
+use Rattle.vm_model.specs.Deliveries.{deliveries}
+use Rattle.vm_model.specs.Moves.{Point, after, brought, command_used, found, move_at, moved, next, reads_as, start, uses_arrival, uses_command}
+use Rattle.vm_model.specs.Trees.{HasNoTwo}
+use Rattle.vm_model.specs.Uses.{arrivals_in}
+use Rattle.vm_model.proofs.Results.{results_behind}
+use Rattle.vm_model.proofs.Runs.{and_then_some, none_some}
+use Rattle.vm_model.proofs.Uses.{arrivals_used}
+
+-- ---- tests
+
+both : (a b : Bool) → (a && b) ≡ true → (a ≡ true) × (b ≡ true)
+both true b e = (refl, e)
+both false b e = absurd (cc)
+
+neither : (a b : Bool) → a ≡ false → b ≡ false → (a || b) ≡ false
+neither true b x y = absurd (cc)
+neither false b x y = y
+
+one_of : (a b : Bool) → (a || b) ≡ true → (a ≡ true) ⊎ (b ≡ true)
+one_of true b e = inl refl
+one_of false b e = inr e
+
+-- ---- header-equal commands carry the same ids
+
+-- commands of this type carry ids
+pub carries_ids : MessageType → Bool
+carries_ids type.SleepCommand = true
+carries_ids type.GetLazyStateCommand = true
+carries_ids type.GetLazyStateKeysCommand = true
+carries_ids type.CallCommand = true
+carries_ids type.OneWayCallCommand = true
+carries_ids type.GetPromiseCommand = true
+carries_ids type.PeekPromiseCommand = true
+carries_ids type.CompletePromiseCommand = true
+carries_ids type.RunCommand = true
+carries_ids type.AttachInvocationCommand = true
+carries_ids type.GetInvocationOutputCommand = true
+carries_ids ty = false
+
+pub carries_none : (m : Message) → carries_ids (type_of m) ≡ false → carried m ≡ []
+unfolding carries_ids
+carries_none (message.Sleep c) e = absurd (cc)
+carries_none (message.GetLazyState c) e = absurd (cc)
+carries_none (message.GetLazyStateKeys c) e = absurd (cc)
+carries_none (message.Call c) e = absurd (cc)
+carries_none (message.OneWayCall c) e = absurd (cc)
+carries_none (message.GetPromise c) e = absurd (cc)
+carries_none (message.PeekPromise c) e = absurd (cc)
+carries_none (message.CompletePromise c) e = absurd (cc)
+carries_none (message.Run c) e = absurd (cc)
+carries_none (message.AttachInvocation c) e = absurd (cc)
+carries_none (message.GetInvocationOutput c) e = absurd (cc)
+carries_none m e = refl
+
+one_id : (a b : ℕ) → (a == b) ≡ true → a ∷ [] ≡ b ∷ []
+one_id a b e = ap (λ id. id ∷ []) (eqb-true a b e)
+
+same_request : (ignore : Bool) (a b : CallRequest) → request_equal ignore a b ≡ true → a.invocation_id_notification_idx ≡ b.invocation_id_notification_idx
+same_request ignore a b e = eqb-true a.invocation_id_notification_idx b.invocation_id_notification_idx (both _ (a.invocation_id_notification_idx == b.invocation_id_notification_idx) (both _ (pointwise nat_eq a.name b.name) e).0).1
+
+same_carried : (m n : Message) (ignore : Bool) → type_of n ≡ type_of m → header_equal n m ignore ≡ true → carried n ≡ carried m
+unfolding header_equal carries_ids
+same_carried (message.Sleep b) (message.Sleep a) ignore is e = one_id a.result_completion_id b.result_completion_id (both _ _ e).0
+same_carried (message.GetLazyState b) (message.GetLazyState a) ignore is e = one_id a.result_completion_id b.result_completion_id (both _ _ e).1
+same_carried (message.GetLazyStateKeys b) (message.GetLazyStateKeys a) ignore is e = one_id a.result_completion_id b.result_completion_id (both _ _ e).0
+same_carried (message.Call b) (message.Call a) ignore is e =
+    let t = both (request_equal ignore a.request b.request) (a.result_completion_id == b.result_completion_id) e in
+    (λ i. same_request ignore a.request b.request t.0 i ∷ eqb-true a.result_completion_id b.result_completion_id t.1 i ∷ [])
+same_carried (message.OneWayCall b) (message.OneWayCall a) ignore is e = ap (λ id. id ∷ []) (same_request ignore a.request b.request e)
+same_carried (message.GetPromise b) (message.GetPromise a) ignore is e = one_id a.result_completion_id b.result_completion_id (both _ _ e).1
+same_carried (message.PeekPromise b) (message.PeekPromise a) ignore is e = one_id a.result_completion_id b.result_completion_id (both _ _ e).1
+same_carried (message.CompletePromise b) (message.CompletePromise a) ignore is e = one_id a.result_completion_id b.result_completion_id (both _ _ e).1
+same_carried (message.Run b) (message.Run a) ignore is e = one_id a.result_completion_id b.result_completion_id (both _ _ e).1
+same_carried (message.AttachInvocation b) (message.AttachInvocation a) ignore is e = one_id a.result_completion_id b.result_completion_id (both _ _ e).1
+same_carried (message.GetInvocationOutput b) (message.GetInvocationOutput a) ignore is e = one_id a.result_completion_id b.result_completion_id (both _ _ e).1
+same_carried (message.Sleep b) n ignore is e = absurd (cc)
+same_carried (message.GetLazyState b) n ignore is e = absurd (cc)
+same_carried (message.GetLazyStateKeys b) n ignore is e = absurd (cc)
+same_carried (message.Call b) n ignore is e = absurd (cc)
+same_carried (message.OneWayCall b) n ignore is e = absurd (cc)
+same_carried (message.GetPromise b) n ignore is e = absurd (cc)
+same_carried (message.PeekPromise b) n ignore is e = absurd (cc)
+same_carried (message.CompletePromise b) n ignore is e = absurd (cc)
+same_carried (message.Run b) n ignore is e = absurd (cc)
+same_carried (message.AttachInvocation b) n ignore is e = absurd (cc)
+same_carried (message.GetInvocationOutput b) n ignore is e = absurd (cc)
+same_carried m n ignore is e = carries_none n (ap carries_ids is)
+
+-- ---- a command carries the ids that it was given
+
+given_one : (id i : ℕ) → ((id == i) || false) ≡ true → (id ≤ i) × (i < id + 1)
+given_one id i e = ⊎_elim
+    (λ (t : (id == i) ≡ true). let is = eqb-true id i t in (omega (arith, is), omega (arith, is)))
+    (λ (t : false ≡ true). absurd (cc))
+    (one_of (id == i) false e)
+
+given_two : (id i : ℕ) → ((id == i) || ((id + 1 == i) || false)) ≡ true → (id ≤ i) × (i < id + 2)
+given_two id i e = ⊎_elim
+    (λ (t : (id == i) ≡ true). let is = eqb-true id i t in (omega (arith, is), omega (arith, is)))
+    (λ (t : ((id + 1 == i) || false) ≡ true). let h = given_one (id + 1) i t in (omega (arith, h.0), omega (arith, h.1)))
+    (one_of (id == i) ((id + 1 == i) || false) e)
+
+carried_given : (id : ℕ) (m : Message) (i : ℕ) → is_among i (carried (with_ids id m)) ≡ true → (id ≤ i) × (i < id + ids_of m)
+carried_given id (message.Sleep c) i e = given_one id i e
+carried_given id (message.GetLazyState c) i e = given_one id i e
+carried_given id (message.GetLazyStateKeys c) i e = given_one id i e
+carried_given id (message.Call c) i e = given_two id i e
+carried_given id (message.OneWayCall c) i e = given_one id i e
+carried_given id (message.GetPromise c) i e = given_one id i e
+carried_given id (message.PeekPromise c) i e = given_one id i e
+carried_given id (message.CompletePromise c) i e = given_one id i e
+carried_given id (message.Run c) i e = given_one id i e
+carried_given id (message.AttachInvocation c) i e = given_one id i e
+carried_given id (message.GetInvocationOutput c) i e = given_one id i e
+carried_given id m i e = absurd (cc)
+
+-- ---- what was read of a completion id
+
+-- how many eager reads gave the id a result
+reads_at : ℕ → List Usage → ℕ
+reads_at i [] = 0
+reads_at i (Used n ∷ us) = reads_at i us
+reads_at i (Read id result ∷ us) = cond (id == i) (suc (reads_at i us)) (reads_at i us)
+reads_at i (Taken id ∷ us) = reads_at i us
+
+-- what came for a completion id was read or delivered
+came : (i : ℕ) (us : List Usage) → length (deliveries (CompletionId i) us) ≡ reads_at i us + length (results_of (CompletionId i) (arrivals_in us))
+unfolding reads_at
+came i [] = refl
+came i (Used n ∷ us) = rw (results_behind (CompletionId i) (arrivals_in us) n) (by_test (same_id n.id (CompletionId i)) (came i us))
+  where
+    by_test : (b : Bool) → length (deliveries (CompletionId i) us) ≡ reads_at i us + length (results_of (CompletionId i) (arrivals_in us))
+        → length (cond b (deliveries (CompletionId i) us ++ n.result ∷ []) (deliveries (CompletionId i) us)) ≡ reads_at i us + length (cond b (results_of (CompletionId i) (arrivals_in us) ++ n.result ∷ []) (results_of (CompletionId i) (arrivals_in us)))
+    by_test true ih = rw (length-append (deliveries (CompletionId i) us) (n.result ∷ []), length-append (results_of (CompletionId i) (arrivals_in us)) (n.result ∷ [])) (omega (arith, ih))
+    by_test false ih = ih
+came i (Read id result ∷ us) = by_test (id == i) (came i us)
+  where
+    by_test : (b : Bool) → length (deliveries (CompletionId i) us) ≡ reads_at i us + length (results_of (CompletionId i) (arrivals_in us))
+        → length (cond b (deliveries (CompletionId i) us ++ result ∷ []) (deliveries (CompletionId i) us)) ≡ cond b (suc (reads_at i us)) (reads_at i us) + length (results_of (CompletionId i) (arrivals_in us))
+    by_test true ih = rw (length-append (deliveries (CompletionId i) us) (result ∷ [])) (omega (arith, ih))
+    by_test false ih = ih
+came i (Taken id ∷ us) = came i us
+
+-- ---- which of its ids a run has given to what
+
+-- Between two points whose next ids are these: no used command carries the id, and nothing was read for it; or the id was given
+-- between them, and a used command carries it or one result was read for it, not both.
+abbrev Claim : ℕ → ℕ → ℕ → ℕ → ℕ → List RawMessage → Type 0
+Claim i first next old new used =
+    ((new ≡ old) × (is_carried i used ≡ false))
+    ⊎ ((first ≤ i) × (i < next) × ((new ≡ old) ⊎ ((new ≡ suc old) × (is_carried i used ≡ false))))
+
+record Between (i : ℕ) (p q : Point) : Type 0 where
+  used : List RawMessage
+  left : p.left ≡ used ++ q.left
+  ordered : p.derived.counters.completion ≤ q.derived.counters.completion
+  claim : Claim i p.derived.counters.completion q.derived.counters.completion (reads_at i p.derived.usage) (reads_at i q.derived.usage) used
+
+none_carried : (i : ℕ) (us vs : List RawMessage) → is_carried i us ≡ false → is_carried i vs ≡ false → is_carried i (us ++ vs) ≡ false
+none_carried i [] vs x y = y
+none_carried i (u ∷ us) vs x y = by_test (read_carries i (message_in u.ty u.body)) x (none_carried i us vs)
+  where
+    by_test : (b : Bool) → (b || is_carried i us) ≡ false → (is_carried i us ≡ false → is_carried i vs ≡ false → is_carried i (us ++ vs) ≡ false) → (b || is_carried i (us ++ vs)) ≡ false
+    by_test true h ih = absurd (cc)
+    by_test false h ih = ih h y
+
+claims_join : (i a b c old mid new : ℕ) (us vs : List RawMessage) → a ≤ b → b ≤ c → Claim i a b old mid us → Claim i b c mid new vs → Claim i a c old new (us ++ vs)
+claims_join i a b c old mid new us vs x y (inl h) (inl k) = inl (k.0 ∙ h.0, none_carried i us vs h.1 k.1)
+claims_join i a b c old mid new us vs x y (inl h) (inr k) = inr (omega (arith, x, k.0), k.1, within k.2)
+  where
+    within : (new ≡ mid) ⊎ ((new ≡ suc mid) × (is_carried i vs ≡ false)) → (new ≡ old) ⊎ ((new ≡ suc old) × (is_carried i (us ++ vs) ≡ false))
+    within (inl z) = inl (z ∙ h.0)
+    within (inr z) = inr (z.0 ∙ ap suc h.0, none_carried i us vs h.1 z.1)
+claims_join i a b c old mid new us vs x y (inr h) (inl k) = inr (h.0, omega (arith, y, h.1), within h.2)
+  where
+    within : (mid ≡ old) ⊎ ((mid ≡ suc old) × (is_carried i us ≡ false)) → (new ≡ old) ⊎ ((new ≡ suc old) × (is_carried i (us ++ vs) ≡ false))
+    within (inl z) = inl (k.0 ∙ z)
+    within (inr z) = inr (k.0 ∙ z.0, none_carried i us vs z.1 k.1)
+claims_join i a b c old mid new us vs x y (inr h) (inr k) = absurd (omega (arith, h.1, k.0))
+
+-- ---- one call
+
+-- what is needed carries just the ids that are given here
+abbrev IsOwn : ℕ → ℕ → Demand → Type 0
+IsOwn first next (Exactly command ignore) = (m : Message) × (command ≡ with_ids first m) × (next ≡ first + ids_of m)
+IsOwn first next (Reads r id) = (id ≡ first) × (next ≡ first + 1)
+
+-- a call reads nothing by itself
+abbrev ReadsNone : ℕ → Derived → Move → Type 0
+ReadsNone i d (Answers gives e) = (reads_at i e.usage ≡ reads_at i d.usage) × (d.counters.completion ≤ e.counters.completion)
+ReadsNone i d (Needs demand gives e) = (reads_at i e.usage ≡ reads_at i d.usage) × IsOwn d.counters.completion e.counters.completion demand
+ReadsNone i d Awaits = Unit {0}
+ReadsNone i d Ends = Unit {0}
+ReadsNone i d (Refuses name) = Unit {0}
+
+module _ (i : ℕ) where
+  numbered_none : (s : Setup) (c : Command) (o : Option NamedFault) (d : Derived) → ReadsNone i d (numbered s c o d)
+  numbered_none s c (Some name) d = tt
+  numbered_none s c None d = (refl, (c.message, refl, refl))
+
+  commanding_none : (s : Setup) (c : Command) (o : Option NamedFault) (d : Derived) → ReadsNone i d (commanding s c o d)
+  commanding_none s c (Some name) d = tt
+  commanding_none s c None d = numbered_none s c (missing (ids_of c.message) 0 (ids_of c.message) d.counters) d
+
+  reading_none : (r : StateRead) (o : Option NamedFault) (d : Derived) → ReadsNone i d (reading r o d)
+  reading_none r (Some name) d = tt
+  reading_none r None d = (refl, (refl, refl))
+
+  awakeable_none : (s : Setup) (o : Option NamedFault) (d : Derived) → ReadsNone i d (awakeable_made s o d)
+  awakeable_none s (Some name) d = tt
+  awakeable_none s None d = (refl, omega arith)
+
+  making_none : (s : Setup) (b : Bool) (d : Derived) → ReadsNone i d (making_awakeable s b d)
+  making_none s true d = tt
+  making_none s false d = awakeable_none s (missing_signals 1 1 d.counters) d
+
+  signal_none : (name : List ℕ) (o : Option NamedFault) (d : Derived) → ReadsNone i d (signal_made name o d)
+  signal_none name (Some fault) d = tt
+  signal_none name None d = (refl, omega arith)
+
+  awaiting_none : (b : Bool) (d : Derived) → ReadsNone i d (awaiting b d)
+  awaiting_none true d = (refl, omega arith)
+  awaiting_none false d = tt
+
+  value_none : (handle : NotificationHandle) (id : NotificationId) (o : Option Value) (d : Derived) → ReadsNone i d (value_taken handle id o d)
+  unfolding reads_at
+  value_none handle id None d = tt
+  value_none handle id (Some value) d = (refl, omega arith)
+
+  result_none : (handle : NotificationHandle) (id : Option NotificationId) (o : Option NotificationResult) (d : Derived) → ReadsNone i d (result_taken handle id o d)
+  result_none handle (Some id) (Some result) d = value_none handle id (value_of result) d
+  result_none handle (Some id) None d = (refl, omega arith)
+  result_none handle None o d = (refl, omega arith)
+
+  asked_none : (s : Setup) (a : Ask) (d : Derived) → ReadsNone i d (asked s a d)
+  asked_none s (ask.Command c) d = commanding_none s c c.refusal d
+  asked_none s (ask.Read r) d = reading_none r (missing 1 0 1 d.counters) d
+  asked_none s ask.Awakeable d = making_none s (skips_replay s.options.journal_replay) d
+  asked_none s (ask.Signal name) d = signal_none name (missing_signals 0 1 d.counters) d
+  asked_none s (ask.Await future) d = awaiting_none (is_awake s future d) d
+  asked_none s (ask.Take handle) d = result_none handle (id_at handle.0 d.handles) (present_for s.options.signal_delivery (id_at handle.0 d.handles) (ready_in s d)) d
+  asked_none s (ask.Completed handle) d = (refl, omega arith)
+  asked_none s ask.End d = tt
+
+-- ---- a recorded command
+
+-- What a recorded command brings: no result, and it carries the needed one's ids; or it carries none.
+record Exact (command : Message) (o : Option Message) (result : Option NotificationResult) : Type 0 where
+  none : result ≡ None
+  same : (i : ℕ) → read_carries i o ≡ is_among i (carried command)
+
+pub typed : (a b : MessageType) → (type_number a == type_number b) ≡ true → a ≡ b
+typed a b e = one_number a b (eqb-true (type_number a) (type_number b) e)
+
+exact_by : (command : Message) (ignore : Bool) (raw : RawMessage) (o : Option Message) (result : Option NotificationResult) → raw.ty ≡ type_of command → message_in raw.ty raw.body ≡ o → reads_as ignore command o ≡ Ok result → Exact command o result
+exact_by command ignore raw None result is read e = absurd (cc)
+exact_by command ignore raw (Some n) result is read e = by_test (header_equal n command ignore) refl e
+  where
+    by_test : (b : Bool) → header_equal n command ignore ≡ b → (if b then Ok None else Err fault.CommandMismatch) ≡ Ok result → Exact command (Some n) result
+    by_test true t h = record { none = (let x : None ≡ result = cc in sym x); same = λ i. ap (is_among i) (same_carried command n ignore ((message_is raw.ty raw.body n read).1 ∙ is) t) }
+    by_test false t h = absurd (cc)
+
+exact : (command : Message) (ignore : Bool) (raw : RawMessage) (result : Option NotificationResult) → found (Exactly command ignore) raw ≡ Ok result → Exact command (message_in raw.ty raw.body) result
+exact command ignore raw result e = by_test (type_number raw.ty == type_number (type_of command)) refl e
+  where
+    by_test : (b : Bool) → (type_number raw.ty == type_number (type_of command)) ≡ b → (if b then reads_as ignore command (message_in raw.ty raw.body) else Err fault.CommandTypeMismatch) ≡ Ok result → Exact command (message_in raw.ty raw.body) result
+    by_test true t h = exact_by command ignore raw (message_in raw.ty raw.body) result (typed raw.ty (type_of command) t) refl h
+    by_test false t h = absurd (cc)
+
+-- a lazy form brings no result and carries the read's id
+lazy_read : (r : StateRead) (id : ℕ) (n : Message) (result : Option NotificationResult) → header_equal n (lazy_form r id) true ≡ true → result_in n ≡ Ok result → (result ≡ None) × (carried n ≡ id ∷ [])
+unfolding header_equal
+lazy_read (reads.Value key name) id (message.GetLazyState a) result e h = ((let x : None ≡ result = cc in sym x), one_id a.result_completion_id id (both _ _ e).1)
+lazy_read (reads.Keys name) id (message.GetLazyStateKeys a) result e h = ((let x : None ≡ result = cc in sym x), one_id a.result_completion_id id (both _ _ e).0)
+lazy_read (reads.Value key name) id n result e h = absurd (cc)
+lazy_read (reads.Keys name) id n result e h = absurd (cc)
+
+-- an eager form carries none
+eager_read : (r : StateRead) (n : Message) → header_equal n (eager_form r) true ≡ true → carried n ≡ []
+unfolding header_equal
+eager_read (reads.Value key name) (message.GetEagerState a) e = refl
+eager_read (reads.Keys name) (message.GetEagerStateKeys a) e = refl
+eager_read (reads.Value key name) n e = absurd (cc)
+eager_read (reads.Keys name) n e = absurd (cc)
+
+-- what a read's record brings: no result, and it carries the id; or it carries none
+abbrev ReadBrings : ℕ → Option Message → Option NotificationResult → Type 0
+ReadBrings id o result = ((result ≡ None) × ((i : ℕ) → read_carries i o ≡ is_among i (id ∷ []))) ⊎ ((i : ℕ) → read_carries i o ≡ false)
+
+read_form : (form : Message) (n : Message) (result : Option NotificationResult) → read_by form (Some n) ≡ Ok result → (header_equal n form true ≡ true) × (result_in n ≡ Ok result)
+read_form form n result e = by_test (header_equal n form true) e
+  where
+    by_test : (b : Bool) → (if b then result_in n else Err fault.CommandMismatch) ≡ Ok result → (b ≡ true) × (result_in n ≡ Ok result)
+    by_test true h = (refl, h)
+    by_test false h = absurd (cc)
+
+read_brings : (r : StateRead) (id : ℕ) (raw : RawMessage) (result : Option NotificationResult) → recorded_as r id raw ≡ Ok result → ReadBrings id (message_in raw.ty raw.body) result
+read_brings r id raw result e = by_type (type_number raw.ty == type_number (lazy_type r)) (type_number raw.ty == type_number (eager_type r)) (message_in raw.ty raw.body) e
+  where
+    by_type : (lazy eager : Bool) (o : Option Message) → read_as (if lazy then Some (lazy_form r id) else if eager then Some (eager_form r) else None) o ≡ Ok result → ReadBrings id o result
+    by_type true eager None h = absurd (cc)
+    by_type true eager (Some n) h =
+        let t = read_form (lazy_form r id) n result h in
+        let x = lazy_read r id n result t.0 t.1 in
+        inl (x.0, λ i. ap (is_among i) x.1)
+    by_type false true None h = absurd (cc)
+    by_type false true (Some n) h = inr (λ i. ap (is_among i) (eager_read r n (read_form (eager_form r) n result h).0))
+    by_type false false o h = absurd (cc)
+
+-- ---- one move
+
+not_other : (id i : ℕ) (b : Bool) → (id == i) ≡ b → (new old : ℕ) → new ≡ cond b (suc old) old → (us : List RawMessage) → is_carried i us ≡ false → Claim i id (id + 1) old new us
+not_other id i true t new old is us none = let same = eqb-true id i t in inr (omega (arith, same), omega (arith, same), inr (is, none))
+not_other id i false t new old is us none = inl (is, none)
+
+module _ (i : ℕ) (p : Point) (raw : RawMessage) where
+  abbrev id : ℕ
+  id = p.derived.counters.completion
+
+  abbrev old : ℕ
+  old = reads_at i p.derived.usage
+
+  alone : (b : Bool) → read_carries i (message_in raw.ty raw.body) ≡ b → is_carried i (raw ∷ []) ≡ (b || false)
+  alone b e = ap (λ t. t || false) e
+
+  -- what a recorded command and its result claim
+  claimed : (demand : Demand) (result : Option NotificationResult) (e : Derived) → found demand raw ≡ Ok result → reads_at i e.usage ≡ old → IsOwn id e.counters.completion demand → Claim i id e.counters.completion old (reads_at i (brought id result e).usage) (raw ∷ [])
+  unfolding reads_at
+  claimed (Exactly command ignore) result e is none own =
+      let x = exact command ignore raw result is in
+      let quiet : reads_at i (brought id result e).usage ≡ old = ap (λ o. reads_at i (brought id o e).usage) x.none ∙ none in
+      by_test (is_among i (carried command)) refl (x.same i) quiet
+    where
+      by_test : (b : Bool) → is_among i (carried command) ≡ b → read_carries i (message_in raw.ty raw.body) ≡ is_among i (carried command) → reads_at i (brought id result e).usage ≡ old → Claim i id e.counters.completion old (reads_at i (brought id result e).usage) (raw ∷ [])
+      by_test true t same quiet =
+          let h = carried_given id own.0 i (ap (λ c. is_among i (carried c)) (sym own.1) ∙ t) in
+          let n = own.2 in
+          inr (h.0, omega (arith, h.1, n), inl quiet)
+      by_test false t same quiet = inl (quiet, alone false (same ∙ t))
+  claimed (Reads r number) result e is none own = subst (λ n. Claim i id n old (reads_at i (brought id result e).usage) (raw ∷ [])) (sym own.1) (by_form (read_brings r number raw result is))
+    where
+      here : (result ≡ None) → (b : Bool) → (id == i) ≡ b → read_carries i (message_in raw.ty raw.body) ≡ (b || false) → Claim i id (id + 1) old (reads_at i (brought id result e).usage) (raw ∷ [])
+      here no true t same = let at = eqb-true id i t in inr (omega (arith, at), omega (arith, at), inl (ap (λ o. reads_at i (brought id o e).usage) no ∙ none))
+      here no false t same = inl (ap (λ o. reads_at i (brought id o e).usage) no ∙ none, alone false same)
+
+      by_result : (o : Option NotificationResult) → read_carries i (message_in raw.ty raw.body) ≡ false → Claim i id (id + 1) old (reads_at i (brought id o e).usage) (raw ∷ [])
+      by_result None no = inl (none, alone false no)
+      by_result (Some x) no = not_other id i (id == i) refl (cond (id == i) (suc (reads_at i e.usage)) (reads_at i e.usage)) old (ap (λ n. cond (id == i) (suc n) n) none) (raw ∷ []) (alone false no)
+
+      by_form : ReadBrings number (message_in raw.ty raw.body) result → Claim i id (id + 1) old (reads_at i (brought id result e).usage) (raw ∷ [])
+      by_form (inl h) = here h.0 (id == i) refl (h.1 i ∙ ap (λ n. (n == i) || false) own.0)
+      by_form (inr h) = by_result result (h i)
+
+  grows : (demand : Demand) (e : Derived) → IsOwn id e.counters.completion demand → id ≤ e.counters.completion
+  grows (Exactly command ignore) e own = let n = own.2 in omega (arith, n)
+  grows (Reads r number) e own = let n = own.1 in omega (arith, n)
+
+same_counter : (id : ℕ) (result : Option NotificationResult) (d : Derived) → (brought id result d).counters ≡ d.counters
+same_counter id None d = refl
+same_counter id (Some x) d = refl
+
+module _ (i : ℕ) (p q : Point) where
+  command_between : (demand : Demand) (gives : List Answer) (e : Derived) (c : RawMessage) (left : List RawMessage) (o : Result (Option NotificationResult) NamedFault) → found demand c ≡ o → p.left ≡ c ∷ left → reads_at i e.usage ≡ reads_at i p.derived.usage → IsOwn p.derived.counters.completion e.counters.completion demand → command_used o demand gives e left p ≡ Some q → Between i p q
+  command_between demand gives e c left (Err name) is at none own m = none_some m
+  command_between demand gives e c left (Ok result) is at none own m =
+      let same = same_counter p.derived.counters.completion result e in
+      let more = grows i p c demand e own in
+      subst (Between i p) (same_Some _ q m) (record {
+        used = c ∷ [];
+        left = at;
+        ordered = rw same more;
+        claim = rw same (claimed i p c demand result e is none own);
+      })
+
+  uses_between : (demand : Demand) (gives : List Answer) (e : Derived) (left : List RawMessage) → p.left ≡ left → reads_at i e.usage ≡ reads_at i p.derived.usage → IsOwn p.derived.counters.completion e.counters.completion demand → uses_command demand gives e left p ≡ Some q → Between i p q
+  uses_between demand gives e [] at none own m = none_some m
+  uses_between demand gives e (c ∷ left) at none own m = command_between demand gives e c left (found demand c) refl at none own m
+
+  arrival_between : (queue : List Notification) → uses_arrival queue p ≡ Some q → Between i p q
+  unfolding reads_at
+  arrival_between [] m = none_some m
+  arrival_between (n ∷ queue) m = subst (Between i p) (same_Some _ q m) (record { used = []; left = refl; ordered = omega arith; claim = inl (refl, refl) })
+
+  moved_between : (mv : Move) → ReadsNone i p.derived mv → moved mv p ≡ Some q → Between i p q
+  moved_between (Answers gives e) h m = subst (Between i p) (same_Some _ q m) (record { used = []; left = refl; ordered = h.1; claim = inl (h.0, refl) })
+  moved_between (Needs demand gives e) h m = uses_between demand gives e p.left refl h.0 h.1 m
+  moved_between Awaits h m = arrival_between p.queue m
+  moved_between Ends h m = none_some m
+  moved_between (Refuses name) h m = none_some m
+
+-- ---- so many moves
+
+between_here : (i : ℕ) (p : Point) → Between i p p
+between_here i p = record { used = []; left = refl; ordered = omega arith; claim = inl (refl, refl) }
+
+between_join : (i : ℕ) (p r q : Point) → Between i p r → Between i r q → Between i p q
+between_join i p r q a b =
+    let x = a.ordered in
+    let y = b.ordered in
+    record {
+      used = a.used ++ b.used;
+      left = a.left ∙ ap (λ l. a.used ++ l) b.left ∙ sym (append_assoc a.used b.used q.left);
+      ordered = omega (arith, x, y);
+      claim = claims_join i _ _ _ _ _ _ a.used b.used x y a.claim b.claim;
+    }
+
+after_between : (i : ℕ) (s : Setup) (m : Meaning) (n : ℕ) (p q : Point) → after s m n p ≡ Some q → Between i p q
+after_between i s m zero p q e = subst (Between i p) (same_Some _ q e) (between_here i p)
+after_between i s m (suc n) p q e =
+    let x = and_then_some (next s m p) (after s m n) q e in
+    between_join i p x.0 q (moved_between i p x.0 (move_at s m p) (asked_none i s (ask_of s.version (m p.answers)) p.derived) x.1) (after_between i s m n x.0 q x.2)
+
+-- of two points of a run one comes first
+meets : (s : Setup) (m : Meaning) (n k : ℕ) (z p q : Point) → after s m n z ≡ Some p → after s m k z ≡ Some q → ((j : ℕ) × (after s m j p ≡ Some q)) ⊎ ((j : ℕ) × (after s m j q ≡ Some p))
+meets s m zero k z p q e f = inl (k, subst (λ x. after s m k x ≡ Some q) (same_Some z p e) f)
+meets s m (suc n) zero z p q e f = inr (suc n, subst (λ x. after s m (suc n) x ≡ Some p) (same_Some z q f) e)
+meets s m (suc n) (suc k) z p q e f =
+    let x = and_then_some (next s m z) (after s m n) p e in
+    let y = and_then_some (next s m z) (after s m k) q f in
+    meets s m n k y.0 p q (subst (λ r. after s m n r ≡ Some p) (same_Some x.0 y.0 (sym x.1 ∙ y.1)) x.2) y.2
+
+-- ---- the law
+
+nothing_behind : (us vs : List RawMessage) → [] ≡ us ++ vs → vs ≡ []
+nothing_behind [] vs e = sym e
+nothing_behind (u ∷ us) vs e = absurd (cc)
+
+module _ (s : Setup) (m : Meaning) (input : InputCommand) (ns : List Notification) (cs : List RawMessage) where
+  abbrev begun : Point
+  begun = start s input ns cs
+
+  -- all that came for an id
+  total : (n : ℕ) (p : Point) → after s m n begun ≡ Some p → (i : ℕ) → length (deliveries (CompletionId i) p.derived.usage) + length (results_of (CompletionId i) p.queue) ≡ reads_at i p.derived.usage + length (results_of (CompletionId i) ns)
+  total n p e i =
+      let all : length (results_of (CompletionId i) ns) ≡ length (results_of (CompletionId i) (arrivals_in p.derived.usage)) + length (results_of (CompletionId i) p.queue) =
+      ap (λ l. length (results_of (CompletionId i) l)) (arrivals_used s m n input ns cs p e) ∙ ap length (results-append (CompletionId i) (arrivals_in p.derived.usage) p.queue) ∙ length-append (results_of (CompletionId i) (arrivals_in p.derived.usage)) (results_of (CompletionId i) p.queue) in
+      let some = came i p.derived.usage in
+      omega (arith, all, some)
+
+  module _ (once : ComeOnce ns) (carry : AreCarried ns cs) where
+    at_end : (n : ℕ) (p : Point) → after s m n begun ≡ Some p → p.left ≡ [] → HasNoTwo p
+    at_end n p e spent i =
+        let b = after_between i s m n begun p e in
+        let sum = total n p e i in
+        let all : b.used ≡ cs = sym (append-nil b.used) ∙ ap (λ l. b.used ++ l) (sym spent) ∙ sym b.left in
+        by_claim b.claim sum (once i) (λ (none : is_carried i b.used ≡ false). ap length (carry i (ap (is_carried i) (sym all) ∙ none)))
+      where
+        bound : ℕ
+        bound = length (deliveries (CompletionId i) p.derived.usage) + length (results_of (CompletionId i) p.queue)
+
+        by_claim : {used : List RawMessage} {first next : ℕ} → Claim i first next 0 (reads_at i p.derived.usage) used → bound ≡ reads_at i p.derived.usage + length (results_of (CompletionId i) ns) → length (results_of (CompletionId i) ns) ≤ 1 → (is_carried i used ≡ false → length (results_of (CompletionId i) ns) ≡ 0) → bound ≤ 1
+        by_claim (inl c) sum one none = let x = c.0 in omega (arith, x, sum, one)
+        by_claim (inr (a, b, inl c)) sum one none = omega (arith, c, sum, one)
+        by_claim (inr (a, b, inr c)) sum one none = let x = c.0 in let y = none c.1 in omega (arith, x, y, sum)
+
+    -- fewer came before
+    before_end : (n k : ℕ) (p q : Point) → after s m n begun ≡ Some p → after s m k begun ≡ Some q → (i : ℕ) → Between i p q → length (deliveries (CompletionId i) q.derived.usage) + length (results_of (CompletionId i) q.queue) ≤ 1 → length (deliveries (CompletionId i) p.derived.usage) + length (results_of (CompletionId i) p.queue) ≤ 1
+    before_end n k p q e f i b two =
+        let x = total n p e i in
+        let y = total k q f i in
+        let z = fewer (reads_at i p.derived.usage) (reads_at i q.derived.usage) b.claim in
+        omega (arith, x, y, z, two)
+      where
+        fewer : {used : List RawMessage} {first next : ℕ} (old new : ℕ) → Claim i first next old new used → old ≤ new
+        fewer old new (inl c) = let x = c.0 in omega (arith, x)
+        fewer old new (inr (a, b, inl c)) = omega (arith, c)
+        fewer old new (inr (a, b, inr c)) = let x = c.0 in omega (arith, x)
+
+    come_once : (n k : ℕ) (p q : Point) → after s m n begun ≡ Some p → after s m k begun ≡ Some q → q.left ≡ [] → HasNoTwo p
+    come_once n k p q e f spent = ⊎_elim
+        (λ (x : (j : ℕ) × (after s m j p ≡ Some q)). λ i. before_end n k p q e f i (after_between i s m x.0 p q x.1) (at_end k q f spent i))
+        (λ (x : (j : ℕ) × (after s m j q ≡ Some p)). let b = after_between 0 s m x.0 q p x.1 in at_end n p e (nothing_behind b.used p.left (sym spent ∙ b.left)))
+        (meets s m n k begun p q e f)
+
+-- Where some point of a run uses all recorded commands, each completion came once, and its id is one that they carry, no
+-- completion id has two results at any point.
+pub completions_once : (s : Setup) (m : Meaning) (n k : ℕ) (input : InputCommand) (ns : List Notification) (cs : List RawMessage) (p q : Point) → after s m n (start s input ns cs) ≡ Some p → after s m k (start s input ns cs) ≡ Some q → q.left ≡ [] → ComeOnce ns → AreCarried ns cs → HasNoTwo p
+completions_once s m n k input ns cs p q e f spent once carry = come_once s m input ns cs once carry n k p q e f spent

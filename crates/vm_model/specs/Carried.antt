@@ -1,0 +1,47 @@
+-- Which completion ids a journal's commands carry, for whose results notifications come.
+use Rattle.std.specs.Prelude.{◌≡◌, ◌≤◌, ◌==◌, ◌||◌, ℕ, Bool, false, List, [], ◌∷◌, length, Option, Some, None}
+use Rattle.arrivals.specs.Results.{results_of}
+use Rattle.journal_messages.specs.declared.message.Message.{Message}
+use Rattle.journal_messages.specs.declared.message.Message.TheVariants as message
+use Rattle.journal_messages.specs.declared.message.RawMessage.{RawMessage}
+use Rattle.journal_messages.specs.Reading.{message_in}
+use Rattle.journal_values.specs.declared.notification.Notification.{Notification}
+use Rattle.journal_values.specs.declared.notification.NotificationId.TheVariants.{CompletionId}
+
+-- the completion ids that a command carries; an eager read has its result in itself and carries none
+abbrev pub carried : Message → List ℕ
+carried (message.Sleep c) = c.result_completion_id ∷ []
+carried (message.GetLazyState c) = c.result_completion_id ∷ []
+carried (message.GetLazyStateKeys c) = c.result_completion_id ∷ []
+carried (message.Call c) = c.request.invocation_id_notification_idx ∷ c.result_completion_id ∷ []
+carried (message.OneWayCall c) = c.request.invocation_id_notification_idx ∷ []
+carried (message.GetPromise c) = c.result_completion_id ∷ []
+carried (message.PeekPromise c) = c.result_completion_id ∷ []
+carried (message.CompletePromise c) = c.result_completion_id ∷ []
+carried (message.Run c) = c.result_completion_id ∷ []
+carried (message.AttachInvocation c) = c.result_completion_id ∷ []
+carried (message.GetInvocationOutput c) = c.result_completion_id ∷ []
+carried m = []
+
+-- the id is one of these
+abbrev pub is_among : ℕ → List ℕ → Bool
+is_among id [] = false
+is_among id (other ∷ ids) = (other == id) || is_among id ids
+
+-- what was read of a command carries the id
+abbrev pub read_carries : ℕ → Option Message → Bool
+read_carries id None = false
+read_carries id (Some m) = is_among id (carried m)
+
+-- one of the stored commands carries the id
+abbrev pub is_carried : ℕ → List RawMessage → Bool
+is_carried id [] = false
+is_carried id (c ∷ cs) = read_carries id (message_in c.ty c.body) || is_carried id cs
+
+-- each completion id has one result at most
+abbrev pub ComeOnce : List Notification → Type 0
+ComeOnce ns = (id : ℕ) → length (results_of (CompletionId id) ns) ≤ 1
+
+-- results came only for completion ids that the commands carry
+abbrev pub AreCarried : List Notification → List RawMessage → Type 0
+AreCarried ns cs = (id : ℕ) → is_carried id cs ≡ false → results_of (CompletionId id) ns ≡ []
