@@ -2,7 +2,6 @@
 use Rattle.std.proofs.Common.{◌≡◌, ◌⊎◌, ◌<◌, ◌≤◌, ℕ, zero, suc, ◌+◌, Bool, true, false, cond, ◌||◌, ◌&&◌, List, [], ◌∷◌, ◌++◌, length, Option, Some, None, refl, sym, ap, ◌∙◌, subst, inl, inr, ⊎_elim, append_assoc, append-nil, length-append, arith}
 use Rattle.std.specs.Prelude.{◌==◌, nat_eq, if◌then◌else◌, Result, Ok, Err}
 use Rattle.std.specs.Cmp.Lexicographic.{pointwise}
-use Rattle.std.specs.Option.{option_eq}
 use Rattle.std.proofs.lemmas.Bool.{eqb-true}
 use Rattle.std.proofs.lemmas.Option.{same_Some}
 use Rattle.arrivals.specs.Results.{results_of}
@@ -194,9 +193,9 @@ came i (Taken id ∷ us) = came i us
 -- Between two points whose next ids are these: no used command carries the id, and nothing was read for it; or the id was given
 -- between them, and a used command carries it or one result was read for it, not both.
 abbrev Claim : ℕ → ℕ → ℕ → ℕ → ℕ → List RawMessage → Type 0
-Claim i first next old new used =
+Claim i first past old new used =
     ((new ≡ old) × (is_carried i used ≡ false))
-    ⊎ ((first ≤ i) × (i < next) × ((new ≡ old) ⊎ ((new ≡ suc old) × (is_carried i used ≡ false))))
+    ⊎ ((first ≤ i) × (i < past) × ((new ≡ old) ⊎ ((new ≡ suc old) × (is_carried i used ≡ false))))
 
 record Between (i : ℕ) (p q : Point) : Type 0 where
   used : List RawMessage
@@ -230,8 +229,8 @@ claims_join i a b c old mid new us vs x y (inr h) (inr k) = absurd (omega (arith
 
 -- what is needed carries just the ids that are given here
 abbrev IsOwn : ℕ → ℕ → Demand → Type 0
-IsOwn first next (Exactly command ignore) = (m : Message) × (command ≡ with_ids first m) × (next ≡ first + ids_of m)
-IsOwn first next (Reads r id) = (id ≡ first) × (next ≡ first + 1)
+IsOwn first past (Exactly command ignore) = (m : Message) × (command ≡ with_ids first m) × (past ≡ first + ids_of m)
+IsOwn first past (Reads r id) = (id ≡ first) × (past ≡ first + 1)
 
 -- a call reads nothing by itself
 abbrev ReadsNone : ℕ → Derived → Move → Type 0
@@ -388,12 +387,12 @@ module _ (i : ℕ) (p : Point) (raw : RawMessage) where
   claimed (Reads r number) result e is none own = subst (λ n. Claim i id n old (reads_at i (brought id result e).usage) (raw ∷ [])) (sym own.1) (by_form (read_brings r number raw result is))
     where
       here : (result ≡ None) → (b : Bool) → (id == i) ≡ b → read_carries i (message_in raw.ty raw.body) ≡ (b || false) → Claim i id (id + 1) old (reads_at i (brought id result e).usage) (raw ∷ [])
-      here no true t same = let at = eqb-true id i t in inr (omega (arith, at), omega (arith, at), inl (ap (λ o. reads_at i (brought id o e).usage) no ∙ none))
-      here no false t same = inl (ap (λ o. reads_at i (brought id o e).usage) no ∙ none, alone false same)
+      here nothing true t same = let at = eqb-true id i t in inr (omega (arith, at), omega (arith, at), inl (ap (λ o. reads_at i (brought id o e).usage) nothing ∙ none))
+      here nothing false t same = inl (ap (λ o. reads_at i (brought id o e).usage) nothing ∙ none, alone false same)
 
       by_result : (o : Option NotificationResult) → read_carries i (message_in raw.ty raw.body) ≡ false → Claim i id (id + 1) old (reads_at i (brought id o e).usage) (raw ∷ [])
-      by_result None no = inl (none, alone false no)
-      by_result (Some x) no = not_other id i (id == i) refl (cond (id == i) (suc (reads_at i e.usage)) (reads_at i e.usage)) old (ap (λ n. cond (id == i) (suc n) n) none) (raw ∷ []) (alone false no)
+      by_result None free = inl (none, alone false free)
+      by_result (Some x) free = not_other id i (id == i) refl (cond (id == i) (suc (reads_at i e.usage)) (reads_at i e.usage)) old (ap (λ n. cond (id == i) (suc n) n) none) (raw ∷ []) (alone false free)
 
       by_form : ReadBrings number (message_in raw.ty raw.body) result → Claim i id (id + 1) old (reads_at i (brought id result e).usage) (raw ∷ [])
       by_form (inl h) = here h.0 (id == i) refl (h.1 i ∙ ap (λ n. (n == i) || false) own.0)
@@ -403,9 +402,9 @@ module _ (i : ℕ) (p : Point) (raw : RawMessage) where
   grows (Exactly command ignore) e own = let n = own.2 in omega (arith, n)
   grows (Reads r number) e own = let n = own.1 in omega (arith, n)
 
-same_counter : (id : ℕ) (result : Option NotificationResult) (d : Derived) → (brought id result d).counters ≡ d.counters
-same_counter id None d = refl
-same_counter id (Some x) d = refl
+same_counter : (at : ℕ) (result : Option NotificationResult) (d : Derived) → (brought at result d).counters ≡ d.counters
+same_counter at None d = refl
+same_counter at (Some x) d = refl
 
 module _ (i : ℕ) (p q : Point) where
   command_between : (demand : Demand) (gives : List Answer) (e : Derived) (c : RawMessage) (left : List RawMessage) (o : Result (Option NotificationResult) NamedFault) → found demand c ≡ o → p.left ≡ c ∷ left → reads_at i e.usage ≡ reads_at i p.derived.usage → IsOwn p.derived.counters.completion e.counters.completion demand → command_used o demand gives e left p ≡ Some q → Between i p q
@@ -487,32 +486,33 @@ module _ (s : Setup) (m : Meaning) (input : InputCommand) (ns : List Notificatio
 
   module _ (once : ComeOnce ns) (carry : AreCarried ns cs) where
     at_end : (n : ℕ) (p : Point) → after s m n begun ≡ Some p → p.left ≡ [] → HasNoTwo p
+    unfolding reads_at
     at_end n p e spent i =
         let b = after_between i s m n begun p e in
         let sum = total n p e i in
         let all : b.used ≡ cs = sym (append-nil b.used) ∙ ap (λ l. b.used ++ l) (sym spent) ∙ sym b.left in
-        by_claim b.claim sum (once i) (λ (none : is_carried i b.used ≡ false). ap length (carry i (ap (is_carried i) (sym all) ∙ none)))
+        by_claim b.used _ _ b.claim sum (once i) (λ (none : is_carried i b.used ≡ false). ap length (carry i (ap (is_carried i) (sym all) ∙ none)))
       where
         bound : ℕ
         bound = length (deliveries (CompletionId i) p.derived.usage) + length (results_of (CompletionId i) p.queue)
 
-        by_claim : {used : List RawMessage} {first next : ℕ} → Claim i first next 0 (reads_at i p.derived.usage) used → bound ≡ reads_at i p.derived.usage + length (results_of (CompletionId i) ns) → length (results_of (CompletionId i) ns) ≤ 1 → (is_carried i used ≡ false → length (results_of (CompletionId i) ns) ≡ 0) → bound ≤ 1
-        by_claim (inl c) sum one none = let x = c.0 in omega (arith, x, sum, one)
-        by_claim (inr (a, b, inl c)) sum one none = omega (arith, c, sum, one)
-        by_claim (inr (a, b, inr c)) sum one none = let x = c.0 in let y = none c.1 in omega (arith, x, y, sum)
+        by_claim : (used : List RawMessage) (first past : ℕ) → Claim i first past 0 (reads_at i p.derived.usage) used → bound ≡ reads_at i p.derived.usage + length (results_of (CompletionId i) ns) → length (results_of (CompletionId i) ns) ≤ 1 → (is_carried i used ≡ false → length (results_of (CompletionId i) ns) ≡ 0) → bound ≤ 1
+        by_claim used first past (inl c) sum one none = let x = c.0 in omega (arith, x, sum, one)
+        by_claim used first past (inr (a, b, inl c)) sum one none = omega (arith, c, sum, one)
+        by_claim used first past (inr (a, b, inr c)) sum one none = let x = c.0 in let y = none c.1 in omega (arith, x, y, sum)
 
     -- fewer came before
     before_end : (n k : ℕ) (p q : Point) → after s m n begun ≡ Some p → after s m k begun ≡ Some q → (i : ℕ) → Between i p q → length (deliveries (CompletionId i) q.derived.usage) + length (results_of (CompletionId i) q.queue) ≤ 1 → length (deliveries (CompletionId i) p.derived.usage) + length (results_of (CompletionId i) p.queue) ≤ 1
     before_end n k p q e f i b two =
         let x = total n p e i in
         let y = total k q f i in
-        let z = fewer (reads_at i p.derived.usage) (reads_at i q.derived.usage) b.claim in
+        let z = fewer b.used _ _ (reads_at i p.derived.usage) (reads_at i q.derived.usage) b.claim in
         omega (arith, x, y, z, two)
       where
-        fewer : {used : List RawMessage} {first next : ℕ} (old new : ℕ) → Claim i first next old new used → old ≤ new
-        fewer old new (inl c) = let x = c.0 in omega (arith, x)
-        fewer old new (inr (a, b, inl c)) = omega (arith, c)
-        fewer old new (inr (a, b, inr c)) = let x = c.0 in omega (arith, x)
+        fewer : (used : List RawMessage) (first past old new : ℕ) → Claim i first past old new used → old ≤ new
+        fewer used first past old new (inl c) = let x = c.0 in omega (arith, x)
+        fewer used first past old new (inr (a, b, inl c)) = omega (arith, c)
+        fewer used first past old new (inr (a, b, inr c)) = let x = c.0 in omega (arith, x)
 
     come_once : (n k : ℕ) (p q : Point) → after s m n begun ≡ Some p → after s m k begun ≡ Some q → q.left ≡ [] → HasNoTwo p
     come_once n k p q e f spent = ⊎_elim

@@ -1,5 +1,5 @@
 -- An await of a tree in a machine is the model's: the least prefix of the arrivals at a point.
-use Rattle.std.proofs.Common.{◌≡◌, ℕ, ◌+◌, ◌<◌, ◌≤◌, Bool, true, false, cond, List, [], ◌∷◌, ◌++◌, length, take, refl, sym, ap, ◌∙◌, subst, arith, append_assoc, append-nil, length-append}
+use Rattle.std.proofs.Common.{◌≡◌, ℕ, ◌+◌, ◌≤◌, Bool, true, false, cond, List, [], ◌∷◌, ◌++◌, length, take, refl, sym, ap, ◌∙◌, subst, arith, append_assoc, append-nil, length-append}
 use Rattle.arrivals.specs.Results.{results_of}
 use Rattle.await_trees.specs.Outcomes.{awake}
 use Rattle.await_trees.specs.Tree.{Tree}
@@ -11,11 +11,9 @@ use Rattle.await_tries.proofs.LaterArrivals.{first_is_now, once_stays, plainly_l
 use Rattle.journal_values.specs.declared.notification.Notification.{Notification}
 use Rattle.journal_values.specs.declared.notification.NotificationId.{NotificationId}
 use Rattle.journal_values.specs.declared.notification.NotificationId.TheVariants.{CompletionId}
-use Rattle.journal_values.specs.declared.notification.NotificationResult.{NotificationResult}
-use Rattle.vm_parts.specs.declared.options.SignalDelivery.{SignalDelivery}
 use Rattle.vm_parts.specs.declared.options.SignalDelivery.TheVariants.{Queued}
 use Rattle.vm_parts.specs.Arrived.{Arrived}
-use Rattle.vm_parts.specs.Deliveries.{id_at, is_listed, left_among, present_for, same_id, without_all, without_first}
+use Rattle.vm_parts.specs.Deliveries.{id_at, left_among, present_for, same_id, without_all}
 use Rattle.vm_model.specs.Calls.{Derived, Setup, Usage, ready_after, ready_in}
 use Rattle.vm_model.specs.Calls.Usage.{Used, Read, Taken}
 use Rattle.vm_model.specs.Deliveries.{deliveries}

@@ -1,5 +1,5 @@
 -- Awaits of trees, by what follows from the steps and answers so far.
-use Rattle.std.specs.Prelude.{◌≤◌, ◌+◌, ℕ, Bool, List, length}
+use Rattle.std.specs.Prelude.{◌≤◌, ◌+◌, ℕ, Bool, length}
 use Rattle.arrivals.specs.Results.{results_of}
 use Rattle.await_trees.specs.declared.outcome.Outcome.{Outcome}
 use Rattle.await_trees.specs.Outcomes.{awake}
