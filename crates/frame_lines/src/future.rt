@@ -63,10 +63,8 @@ fn print_ends(left: &mut Vec<u64>, line: &mut Line) -> Result<(), AllocError> {
 
 fn node_of(alloc: Global, future: &Begun<'_>) -> Result<FutureNode, Fault> {
     let mut fields = Fields::of_pieces(alloc, future.fields.as_slice())?;
-    let kind = fields.take("kind")?;
-    let waiting_completions = fields.take("completions")?;
-    let waiting_signals = fields.take("signals")?;
-    let waiting_named_signals = fields.take("named")?;
+    let (kind, waiting_completions) = fields.take_two("kind", "completions")?;
+    let (waiting_signals, waiting_named_signals) = fields.take_two("signals", "named")?;
     fields.end()?;
     Ok(FutureNode {
         kind,

@@ -29,6 +29,17 @@ pub trait Value: Drop {
 pub trait TakesValues {
     /// Takes a field out. One that isn't there is at its default, if it has one.
     fn take<T: Value>(&mut self, name: &str) -> Result<T, Fault>;
+
+    /// Takes two fields out, one after another.
+    fn take_two<A: Value, B: Value>(&mut self, a: &str, b: &str) -> Result<(A, B), Fault>;
+
+    /// Takes three fields out, one after another.
+    fn take_three<A: Value, B: Value, C: Value>(
+        &mut self,
+        a: &str,
+        b: &str,
+        c: &str,
+    ) -> Result<(A, B, C), Fault>;
 }
 
 impl TakesValues for Fields<'_> {
@@ -38,6 +49,24 @@ impl TakesValues for Fields<'_> {
             Some(text) => T::parse(alloc, text),
             None => T::left_out(alloc).ok_or(Fault::Malformed),
         }
+    }
+
+    fn take_two<A: Value, B: Value>(&mut self, a: &str, b: &str) -> Result<(A, B), Fault> {
+        let a = self.take(a)?;
+        let b = self.take(b)?;
+        Ok((a, b))
+    }
+
+    fn take_three<A: Value, B: Value, C: Value>(
+        &mut self,
+        a: &str,
+        b: &str,
+        c: &str,
+    ) -> Result<(A, B, C), Fault> {
+        let a = self.take(a)?;
+        let b = self.take(b)?;
+        let c = self.take(c)?;
+        Ok((a, b, c))
     }
 }
 

@@ -58,6 +58,17 @@ pub fn take_optional_text(fields: &mut Fields<'_>, name: &str) -> Result<Option<
     }
 }
 
+/// `[FIRST=T] [SECOND=T]`, among other fields.
+pub fn take_two_optional_texts(
+    fields: &mut Fields<'_>,
+    first: &str,
+    second: &str,
+) -> Result<(Option<Text>, Option<Text>), Fault> {
+    let first = take_optional_text(fields, first)?;
+    let second = take_optional_text(fields, second)?;
+    Ok((first, second))
+}
+
 /// `[name=T]` alone.
 pub fn name_of(alloc: Global, words: &[&[u8]]) -> Result<Option<Text>, Fault> {
     let mut fields = Fields::of_pieces(alloc, words)?;
@@ -141,21 +152,36 @@ fn failure_of<'w, 'a>(
     Ok((failure, rest))
 }
 
+/// `B`, and the words behind it.
+pub fn first_bytes<'w, 'a>(
+    alloc: Global,
+    words: &'w [&'a [u8]],
+) -> Result<(Bytes, &'w [&'a [u8]]), Fault>
+    ensures { IfOk result (λ found. IsAtom (text_at 0 words.now) found.0) }
+{
+    let [bytes, rest @ ..] = words else {
+        return Err(Fault::Malformed);
+    };
+    Ok((shared_of(alloc, *bytes)?, rest))
+}
+
 /// `success B` or `failure N T` and pairs, and the words behind them.
 fn value_of<'w, 'a>(
     alloc: Global,
     words: &'w [&'a [u8]],
 ) -> Result<(NonEmptyValue, &'w [&'a [u8]]), Fault> {
-    match words {
-        [b"success", bytes, rest @ ..] => {
-            Ok((NonEmptyValue::Success(shared_of(alloc, *bytes)?), rest))
-        }
-        [b"failure", failure @ ..] => {
-            let (failure, rest) = failure_of(alloc, failure)?;
-            Ok((NonEmptyValue::Failure(failure), rest))
-        }
-        _ => Err(Fault::Malformed),
+    let [kind, arguments @ ..] = words else {
+        return Err(Fault::Malformed);
+    };
+    if *kind == b"success".as_slice() {
+        let (bytes, rest) = first_bytes(alloc, arguments)?;
+        return Ok((NonEmptyValue::Success(bytes), rest));
     }
+    if *kind == b"failure".as_slice() {
+        let (failure, rest) = failure_of(alloc, arguments)?;
+        return Ok((NonEmptyValue::Failure(failure), rest));
+    }
+    Err(Fault::Malformed)
 }
 
 /// `V [unstable]`.
@@ -208,6 +234,20 @@ pub fn text_alone(alloc: Global, arguments: &[&[u8]]) -> Result<Text, Fault>
         [text] => text_of(alloc, *text),
         _ => Err(Fault::Malformed),
     }
+}
+
+/// `T`, and the words behind it.
+pub fn first_text<'w, 'a>(
+    alloc: Global,
+    words: &'w [&'a [u8]],
+) -> Result<(Text, &'w [&'a [u8]]), Fault>
+    ensures text { IfOk result (λ found. IsAtom (text_at 0 words.now) found.0) }
+    ensures rest { IfOk result (λ found. found.1.now ≡ drop 1 words.now) }
+{
+    let [text, rest @ ..] = words else {
+        return Err(Fault::Malformed);
+    };
+    Ok((text_of(alloc, *text)?, rest))
 }
 
 /// `T T`, and the words behind them.

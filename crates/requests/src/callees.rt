@@ -5,24 +5,37 @@ ghost use Rattle.requests.specs.declared.verb.Verb.TheVariants as verb;
 ghost use Rattle.requests.specs.Verbs.{HasCallee, IsLine, text_at};
 
 use crate::arguments::{
-    pair_of, take_optional_duration, take_optional_text, two_texts, without_unstable,
+    first_bytes, pair_of, take_optional_duration, take_optional_text, take_two_optional_texts,
+    two_texts, without_unstable,
 };
-use crate::atoms::shared_of;
 use crate::request::Call;
 use bytes::Bytes;
 use journal_values::Header;
 use lines::fields::Fields;
 use std::alloc::Global;
+use std::time::Duration;
 use vm_parts::{PayloadOptions, Step, Target};
 use wire::{Fault, Items, Text};
 
-/// What a call is made with.
+/// What is called, and with what.
 #[derive(Debug, Drop)]
 struct Callee {
-    target: Target,
+    service: Text,
+    handler: Text,
     input: Bytes,
+}
+
+/// The options of a call.
+#[derive(Debug, Drop)]
+struct CallOptions {
+    key: Option<Text>,
+    idempotency_key: Option<Text>,
+    scope: Option<Text>,
+    limit_key: Option<Text>,
+    headers: Items<Header>,
     name: Option<Text>,
-    options: PayloadOptions,
+    payload: PayloadOptions,
+    execution_time: Option<Duration>,
 }
 
 /// `[header={T T}]..`, at most so many.
@@ -39,22 +52,104 @@ fn headers_of(fields: &mut Fields<'_>, most: usize) -> Result<Items<Header>, Fau
     Ok(headers)
 }
 
-/// `[key=T] [idem=T] [scope=T] [limit=T] [header={T T}]..`, among other fields.
+/// `[header={T T}].. [name=T]`, at most so many headers, among other fields.
+fn headers_and_name(
+    fields: &mut Fields<'_>,
+    most: usize,
+) -> Result<(Items<Header>, Option<Text>), Fault> {
+    let headers = headers_of(fields, most)?;
+    let name = take_optional_text(fields, "name")?;
+    Ok((headers, name))
+}
+
+/// `[at=D]`, among other fields, where a time may stand.
+fn take_time(fields: &mut Fields<'_>, may_have_time: bool) -> Result<Option<Duration>, Fault> {
+    if may_have_time {
+        take_optional_duration(fields, "at")
+    } else {
+        Ok(None)
+    }
+}
+
+/// `[key=T] [idem=T] [scope=T] [limit=T] [header={T T}].. [name=T]`, at most so many headers, among other fields.
+fn take_options(
+    fields: &mut Fields<'_>,
+    most: usize,
+    payload: PayloadOptions,
+    execution_time: Option<Duration>,
+) -> Result<CallOptions, Fault> {
+    let (key, idempotency_key) = take_two_optional_texts(fields, "key", "idem")?;
+    let (scope, limit_key) = take_two_optional_texts(fields, "scope", "limit")?;
+    let (headers, name) = headers_and_name(fields, most)?;
+    Ok(CallOptions {
+        key,
+        idempotency_key,
+        scope,
+        limit_key,
+        headers,
+        name,
+        payload,
+        execution_time,
+    })
+}
+
+/// The options that the words without `unstable` name, and no others.
+fn options_among(
+    alloc: Global,
+    words: &[&[u8]],
+    payload: PayloadOptions,
+    may_have_time: bool,
+) -> Result<CallOptions, Fault> {
+    let mut fields = Fields::of_pieces(alloc, words)?;
+    let time = take_time(&mut fields, may_have_time)?;
+    let options = take_options(&mut fields, words.len(), payload, time)?;
+    fields.end()?;
+    Ok(options)
+}
+
+/// The options that the words name. Some calls may have a time, `[at=D]`.
+fn options_of(alloc: Global, words: &[&[u8]], may_have_time: bool) -> Result<CallOptions, Fault> {
+    let (others, payload) = without_unstable(alloc, words)?;
+    options_among(alloc, others.as_slice(), payload, may_have_time)
+}
+
+/// `T T B`, and the words behind them.
+fn callee_of<'w, 'a>(
+    alloc: Global,
+    words: &'w [&'a [u8]],
+) -> Result<(Callee, &'w [&'a [u8]]), Fault>
+    ensures { IfOk result (λ found. HasCallee words.now found.0.service found.0.handler found.0.input) }
+{
+    let (service, handler, rest) = two_texts(alloc, words)?;
+    let (input, options) = first_bytes(alloc, rest)?;
+    let callee = Callee {
+        service,
+        handler,
+        input,
+    };
+    Ok((callee, options))
+}
+
+/// The target that a call with these options has, and the call's name and what is said of its payload.
 fn target_with(
     service: Text,
     handler: Text,
-    fields: &mut Fields<'_>,
-    most: usize,
-) -> Result<Target, Fault>
-    ensures service { IfOk result (λ target. target.service ≡ service) }
-    ensures handler { IfOk result (λ target. target.handler ≡ handler) }
+    options: CallOptions,
+) -> (Target, Option<Text>, PayloadOptions)
+    ensures service { result.0.service ≡ service }
+    ensures handler { result.0.handler ≡ handler }
 {
-    let key = take_optional_text(fields, "key")?;
-    let idempotency_key = take_optional_text(fields, "idem")?;
-    let scope = take_optional_text(fields, "scope")?;
-    let limit_key = take_optional_text(fields, "limit")?;
-    let headers = headers_of(fields, most)?;
-    Ok(Target {
+    let CallOptions {
+        key,
+        idempotency_key,
+        scope,
+        limit_key,
+        headers,
+        name,
+        payload,
+        ..
+    } = options;
+    let target = Target {
         service,
         handler,
         key,
@@ -62,66 +157,22 @@ fn target_with(
         scope,
         limit_key,
         headers,
-    })
-}
-
-/// What stands behind service, handler and input, and the fields behind that.
-fn callee_with<'a>(
-    alloc: Global,
-    service: Text,
-    handler: Text,
-    input: Bytes,
-    words: &[&'a [u8]],
-) -> Result<(Callee, Fields<'a>), Fault>
-    ensures service { IfOk result (λ found. found.0.target.service ≡ service) }
-    ensures handler { IfOk result (λ found. found.0.target.handler ≡ handler) }
-    ensures input { IfOk result (λ found. found.0.input ≡ input) }
-{
-    let (others, options) = without_unstable(alloc, words)?;
-    let mut fields = Fields::of_pieces(alloc, others.as_slice())?;
-    let target = target_with(service, handler, &mut fields, others.len())?;
-    let name = take_optional_text(&mut fields, "name")?;
-    let callee = Callee {
-        target,
-        input,
-        name,
-        options,
     };
-    Ok((callee, fields))
+    (target, name, payload)
 }
 
-/// `B`, and the words behind it.
-fn input_of<'w, 'a>(alloc: Global, words: &'w [&'a [u8]]) -> Result<(Bytes, &'w [&'a [u8]]), Fault>
-    ensures { IfOk result (λ found. IsAtom (text_at 0 words.now) found.0) }
-{
-    let [input, options @ ..] = words else {
-        return Err(Fault::Malformed);
-    };
-    Ok((shared_of(alloc, *input)?, options))
-}
-
-/// `T T B [key=T] [idem=T] [scope=T] [limit=T] [header={T T}].. [name=T] [unstable]`, and the fields behind them.
-fn callee_of<'a>(alloc: Global, words: &[&'a [u8]]) -> Result<(Callee, Fields<'a>), Fault>
-    ensures { IfOk result (λ found. HasCallee words.now found.0.target.service found.0.target.handler found.0.input) }
-{
-    let (service, handler, rest) = two_texts(alloc, words)?;
-    let (input, options) = input_of(alloc, rest)?;
-    let found = callee_with(alloc, service, handler, input, options)?;
-    Ok(found)
-}
-
-/// The row `call`.
+/// The row `call`: `T T B [key=T] [idem=T] [scope=T] [limit=T] [header={T T}].. [name=T] [unstable]`.
 pub fn call_line(alloc: Global, arguments: &[&[u8]]) -> Result<Call, Fault>
     ensures { IfOk result (λ call. IsLine verb.Call arguments.now call) }
 {
-    let (callee, fields) = callee_of(alloc, arguments)?;
-    fields.end()?;
+    let (callee, rest) = callee_of(alloc, arguments)?;
+    let options = options_of(alloc, rest, false)?;
     let Callee {
-        target,
+        service,
+        handler,
         input,
-        name,
-        options,
     } = callee;
+    let (target, name, options) = target_with(service, handler, options);
     Ok(Call::Step(Step::Call {
         target,
         input,
@@ -130,19 +181,19 @@ pub fn call_line(alloc: Global, arguments: &[&[u8]]) -> Result<Call, Fault>
     }))
 }
 
-/// The row `send`, which may have a time, `[at=D]`.
+/// The row `send`, which may have a time too, `[at=D]`.
 pub fn send_line(alloc: Global, arguments: &[&[u8]]) -> Result<Call, Fault>
     ensures { IfOk result (λ call. IsLine verb.Send arguments.now call) }
 {
-    let (callee, mut fields) = callee_of(alloc, arguments)?;
-    let execution_time_since_unix_epoch = take_optional_duration(&mut fields, "at")?;
-    fields.end()?;
+    let (callee, rest) = callee_of(alloc, arguments)?;
+    let options = options_of(alloc, rest, true)?;
+    let execution_time_since_unix_epoch = options.execution_time;
     let Callee {
-        target,
+        service,
+        handler,
         input,
-        name,
-        options,
     } = callee;
+    let (target, name, options) = target_with(service, handler, options);
     Ok(Call::Step(Step::Send {
         target,
         input,

@@ -1,8 +1,8 @@
 //! A line of the script, read as a whole: one row a call.
-ghost use Rattle.std.specs.Prelude.{◌≡◌, ◌⊎◌, IfOk, Ok, true, false};
+ghost use Rattle.std.specs.Prelude.{◌≡◌, ◌⊎◌, IfOk, Ok, true, false, codes};
 ghost use Rattle.requests.specs.declared.verb.Verb.TheVariants as verb;
 ghost use Rattle.requests.specs.Lines.{Asks, AsksCall, IsContentType, MakesWith, Reads, begins_with_vm, says_nothing};
-ghost use Rattle.requests.specs.Verbs.{IsLine, IsAsked};
+ghost use Rattle.requests.specs.Verbs.{IsLine, IsAsked, text_at};
 
 use crate::arguments::{
     Extras, alone, bytes_alone, extras_of, handle_alone, name_of, now_of, text_alone, two_texts,
@@ -239,11 +239,35 @@ fn call_of(alloc: Global, words: &[&[u8]]) -> Result<Call, Fault>
 fn content_type_of(alloc: Global, text: &[u8]) -> Result<ContentType, Fault>
     ensures { IfOk result (λ content_type. IsContentType text.now content_type) }
 {
-    match text {
-        b"-" => Ok(ContentType::Absent),
-        b"!" => Ok(ContentType::Unreadable),
-        _ => Ok(ContentType::Named(string_of(alloc, text)?)),
+    if text == b"-".as_slice() {
+        return Ok(ContentType::Absent);
     }
+    if text == b"!".as_slice() {
+        return Ok(ContentType::Unreadable);
+    }
+    Ok(ContentType::Named(string_of(alloc, text)?))
+}
+
+/// The options of a `vm` line.
+fn vm_options_of(alloc: Global, words: &[&[u8]]) -> Result<VMOptions, Fault> {
+    let mut fields = Fields::of_pieces(alloc, words)?;
+    options_of(&mut fields)
+}
+
+/// The content type and the options that the words of a `vm` line name.
+fn make_of_words(alloc: Global, words: &[&[u8]]) -> Result<(ContentType, VMOptions), Fault>
+    ensures name { IfOk result (λ _. text_at 0 words.now ≡ codes "vm") }
+    ensures content_type { IfOk result (λ made. IsContentType (text_at 1 words.now) made.0) }
+{
+    let [name, content_type, options @ ..] = words else {
+        return Err(Fault::Malformed);
+    };
+    if *name != b"vm".as_slice() {
+        return Err(Fault::Malformed);
+    }
+    let options = vm_options_of(alloc, options)?;
+    let content_type = content_type_of(alloc, *content_type)?;
+    Ok((content_type, options))
 }
 
 /// The row `vm`.
@@ -251,13 +275,7 @@ fn make_of(alloc: Global, line: &[u8]) -> Result<(ContentType, VMOptions), Fault
     ensures { IfOk result (λ made. MakesWith line.now made.0) }
 {
     let words = words(alloc, line)?;
-    let [b"vm", content_type, options @ ..] = words.as_slice() else {
-        return Err(Fault::Malformed);
-    };
-    let content_type = content_type_of(alloc, *content_type)?;
-    let mut fields = Fields::of_pieces(alloc, options)?;
-    let options = options_of(&mut fields)?;
-    Ok((content_type, options))
+    make_of_words(alloc, words.as_slice())
 }
 
 /// Any other row that isn't empty.

@@ -26,16 +26,20 @@ pub struct Details {
 fn behavior_of(text: &[u8]) -> Result<ErrorBehavior, Fault>
     ensures { IfOk result (λ behavior. text.now ≡ behavior_name behavior) }
 {
-    match text {
-        b"retry" => Ok(ErrorBehavior::Retry),
-        b"pause" => Ok(ErrorBehavior::Pause),
-        b"fail" => Ok(ErrorBehavior::Fail),
-        _ => Err(Fault::Malformed),
+    if text == b"retry".as_slice() {
+        return Ok(ErrorBehavior::Retry);
     }
+    if text == b"pause".as_slice() {
+        return Ok(ErrorBehavior::Pause);
+    }
+    if text == b"fail".as_slice() {
+        return Ok(ErrorBehavior::Fail);
+    }
+    Err(Fault::Malformed)
 }
 
 /// Each type of command.
-const TYPES: [CommandType; 19] = [
+static TYPES: [CommandType; 19] = [
     CommandType::Input,
     CommandType::Output,
     CommandType::GetState,
@@ -89,9 +93,9 @@ fn name_of_type(ty: CommandType) -> &'static str
 fn command_type_of(text: &[u8]) -> Result<CommandType, Fault>
     ensures { IfOk result (λ ty. text.now ≡ type_name ty) }
 {
-    for ty in TYPES {
-        if text == name_of_type(ty).as_bytes() {
-            return Ok(ty);
+    for ty in &TYPES {
+        if text == name_of_type(*ty).as_bytes() {
+            return Ok(*ty);
         }
     }
     Err(Fault::Malformed)
@@ -99,10 +103,10 @@ fn command_type_of(text: &[u8]) -> Result<CommandType, Fault>
 
 /// A text, or `-` for none.
 fn optional_of(alloc: Global, text: &[u8]) -> Result<Option<Text>, Fault> {
-    match text {
-        b"-" => Ok(None),
-        _ => Ok(Some(text_of(alloc, text)?)),
+    if text == b"-".as_slice() {
+        return Ok(None);
     }
+    Ok(Some(text_of(alloc, text)?))
 }
 
 /// `(TYPE NAME)`.
@@ -204,6 +208,18 @@ fn error_with(code: u16, message: String, details: Details) -> Error
     delayed(stacked(error, stack), delay)
 }
 
+/// The options of the row `error`, and no other.
+fn options_of(
+    alloc: Global,
+    words: &[&[u8]],
+) -> Result<(Details, Option<CommandRelationship>), Fault> {
+    let mut fields = Fields::of_pieces(alloc, words)?;
+    let details = take_details(&mut fields)?;
+    let relationship = take_relationship(&mut fields)?;
+    fields.end()?;
+    Ok((details, relationship))
+}
+
 /// The row `error`.
 pub fn error_of(alloc: Global, arguments: &[&[u8]]) -> Result<Call, Fault>
     ensures { IfOk result (λ call. IsLine verb.Error arguments.now call) }
@@ -213,9 +229,6 @@ pub fn error_of(alloc: Global, arguments: &[&[u8]]) -> Result<Call, Fault>
     };
     let code = u16_of(*code)?;
     let message = string_of(alloc, *message)?;
-    let mut fields = Fields::of_pieces(alloc, others)?;
-    let details = take_details(&mut fields)?;
-    let relationship = take_relationship(&mut fields)?;
-    fields.end()?;
+    let (details, relationship) = options_of(alloc, others)?;
     Ok(Call::Error(error_with(code, message, details), relationship))
 }

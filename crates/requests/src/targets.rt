@@ -1,12 +1,13 @@
 //! The invocation that a line names: by its id, by its workflow, or by an idempotency key.
 
-use crate::arguments::{take_optional_text, text_alone, two_texts};
-use crate::atoms::text_of;
+use crate::arguments::{
+    first_text, take_optional_text, take_two_optional_texts, text_alone, two_texts,
+};
 use journal_calls::{IdempotencyId, WorkflowId};
 use lines::fields::Fields;
 use std::alloc::Global;
 use vm_parts::AttachInvocationTarget;
-use wire::Fault;
+use wire::{Fault, Text};
 
 /// `T T [scope=T]`: name and key.
 fn workflow_of(alloc: Global, words: &[&[u8]]) -> Result<AttachInvocationTarget, Fault> {
@@ -17,18 +18,19 @@ fn workflow_of(alloc: Global, words: &[&[u8]]) -> Result<AttachInvocationTarget,
     Ok(AttachInvocationTarget::WorkflowId(WorkflowId { name, key, scope }))
 }
 
+/// `[skey=T] [scope=T]` alone.
+fn key_and_scope(alloc: Global, words: &[&[u8]]) -> Result<(Option<Text>, Option<Text>), Fault> {
+    let mut fields = Fields::of_pieces(alloc, words)?;
+    let found = take_two_optional_texts(&mut fields, "skey", "scope")?;
+    fields.end()?;
+    Ok(found)
+}
+
 /// `T T T [skey=T] [scope=T]`: service, handler and idempotency key.
 fn call_of(alloc: Global, words: &[&[u8]]) -> Result<AttachInvocationTarget, Fault> {
-    let [service, handler, key, options @ ..] = words else {
-        return Err(Fault::Malformed);
-    };
-    let service_name = text_of(alloc, *service)?;
-    let handler_name = text_of(alloc, *handler)?;
-    let idempotency_key = text_of(alloc, *key)?;
-    let mut fields = Fields::of_pieces(alloc, options)?;
-    let service_key = take_optional_text(&mut fields, "skey")?;
-    let scope = take_optional_text(&mut fields, "scope")?;
-    fields.end()?;
+    let (service_name, handler_name, rest) = two_texts(alloc, words)?;
+    let (idempotency_key, options) = first_text(alloc, rest)?;
+    let (service_key, scope) = key_and_scope(alloc, options)?;
     Ok(AttachInvocationTarget::IdempotencyId(IdempotencyId {
         service_name,
         service_key,
@@ -48,10 +50,14 @@ pub fn target_of(alloc: Global, words: &[&[u8]]) -> Result<AttachInvocationTarge
     let [kind, arguments @ ..] = words else {
         return Err(Fault::Malformed);
     };
-    match *kind {
-        b"id" => id_of(alloc, arguments),
-        b"workflow" => workflow_of(alloc, arguments),
-        b"idem" => call_of(alloc, arguments),
-        _ => Err(Fault::Malformed),
+    if *kind == b"id".as_slice() {
+        return id_of(alloc, arguments);
     }
+    if *kind == b"workflow".as_slice() {
+        return workflow_of(alloc, arguments);
+    }
+    if *kind == b"idem".as_slice() {
+        return call_of(alloc, arguments);
+    }
+    Err(Fault::Malformed)
 }

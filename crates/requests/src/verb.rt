@@ -42,7 +42,7 @@ pub enum Verb {
 }
 
 /// Each verb.
-const VERBS: [Verb; 32] = [
+static VERBS: [Verb; 32] = [
     Verb::Head,
     Verb::Input,
     Verb::Close,
@@ -122,9 +122,9 @@ fn name_of_verb(verb: Verb) -> &'static str
 pub fn verb_of_word(word: &[u8]) -> Result<Verb, Fault>
     ensures { IfOk result (λ verb. word.now ≡ verb_name verb) }
 {
-    for verb in VERBS {
-        if word == name_of_verb(verb).as_bytes() {
-            return Ok(verb);
+    for verb in &VERBS {
+        if word == name_of_verb(*verb).as_bytes() {
+            return Ok(*verb);
         }
     }
     Err(Fault::Malformed)

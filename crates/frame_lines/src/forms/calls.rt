@@ -19,9 +19,11 @@ impl Form for SleepCommand {
     }
 
     fn parse(fields: &mut Fields<'_>) -> Result<SleepCommand, Fault> {
-        let wake_up_time = fields.take("wake_up_time")?;
-        let result_completion_id = fields.take("result_completion_id")?;
-        let name = fields.take("name")?;
+        let (wake_up_time, result_completion_id, name) = fields.take_three(
+            "wake_up_time",
+            "result_completion_id",
+            "name",
+        )?;
         Ok(SleepCommand {
             wake_up_time,
             result_completion_id,
@@ -48,16 +50,21 @@ impl Form for CallRequest {
     }
 
     fn parse(fields: &mut Fields<'_>) -> Result<CallRequest, Fault> {
-        let service_name = fields.take("service_name")?;
-        let handler_name = fields.take("handler_name")?;
-        let key = fields.take("key")?;
-        let idempotency_key = fields.take("idempotency_key")?;
-        let scope = fields.take("scope")?;
-        let limit_key = fields.take("limit_key")?;
-        let headers = fields.take("headers")?;
-        let parameter = fields.take("parameter")?;
-        let invocation_id_notification_idx = fields.take("invocation_id_notification_idx")?;
-        let name = fields.take("name")?;
+        let (service_name, handler_name, key) = fields.take_three(
+            "service_name",
+            "handler_name",
+            "key",
+        )?;
+        let (idempotency_key, scope, limit_key) = fields.take_three(
+            "idempotency_key",
+            "scope",
+            "limit_key",
+        )?;
+        let (headers, parameter) = fields.take_two("headers", "parameter")?;
+        let (invocation_id_notification_idx, name) = fields.take_two(
+            "invocation_id_notification_idx",
+            "name",
+        )?;
         Ok(CallRequest {
             service_name,
             handler_name,
@@ -80,8 +87,7 @@ impl Form for CompleteAwakeableCommand {
     }
 
     fn parse(fields: &mut Fields<'_>) -> Result<CompleteAwakeableCommand, Fault> {
-        let awakeable_id = fields.take("awakeable_id")?;
-        let result = fields.take("result")?;
+        let (awakeable_id, result) = fields.take_two("awakeable_id", "result")?;
         Ok(CompleteAwakeableCommand {
             awakeable_id,
             result,
@@ -97,9 +103,11 @@ impl Form for SendSignalCommand {
     }
 
     fn parse(fields: &mut Fields<'_>) -> Result<SendSignalCommand, Fault> {
-        let target_invocation_id = fields.take("target_invocation_id")?;
-        let signal = fields.take("signal")?;
-        let result = fields.take("result")?;
+        let (target_invocation_id, signal, result) = fields.take_three(
+            "target_invocation_id",
+            "signal",
+            "result",
+        )?;
         Ok(SendSignalCommand {
             target_invocation_id,
             signal,
@@ -115,8 +123,7 @@ impl Form for PromiseCommand {
     }
 
     fn parse(fields: &mut Fields<'_>) -> Result<PromiseCommand, Fault> {
-        let key = fields.take("key")?;
-        let result_completion_id = fields.take("result_completion_id")?;
+        let (key, result_completion_id) = fields.take_two("key", "result_completion_id")?;
         Ok(PromiseCommand {
             key,
             result_completion_id,
@@ -132,9 +139,11 @@ impl Form for CompletePromiseCommand {
     }
 
     fn parse(fields: &mut Fields<'_>) -> Result<CompletePromiseCommand, Fault> {
-        let key = fields.take("key")?;
-        let completion = fields.take("completion")?;
-        let result_completion_id = fields.take("result_completion_id")?;
+        let (key, completion, result_completion_id) = fields.take_three(
+            "key",
+            "completion",
+            "result_completion_id",
+        )?;
         Ok(CompletePromiseCommand {
             key,
             completion,
@@ -150,8 +159,7 @@ impl Form for RunCommand {
     }
 
     fn parse(fields: &mut Fields<'_>) -> Result<RunCommand, Fault> {
-        let name = fields.take("name")?;
-        let result_completion_id = fields.take("result_completion_id")?;
+        let (name, result_completion_id) = fields.take_two("name", "result_completion_id")?;
         Ok(RunCommand {
             name,
             result_completion_id,
@@ -166,8 +174,7 @@ impl Form for InvocationCommand {
     }
 
     fn parse(fields: &mut Fields<'_>) -> Result<InvocationCommand, Fault> {
-        let target = fields.take("target")?;
-        let result_completion_id = fields.take("result_completion_id")?;
+        let (target, result_completion_id) = fields.take_two("target", "result_completion_id")?;
         Ok(InvocationCommand {
             target,
             result_completion_id,

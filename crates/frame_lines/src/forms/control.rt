@@ -27,18 +27,22 @@ impl Form for Start {
     }
 
     fn parse(fields: &mut Fields<'_>) -> Result<Start, Fault> {
-        let id = fields.take("id")?;
-        let debug_id = fields.take("debug_id")?;
-        let key = fields.take("key")?;
-        let known_entries = fields.take("known_entries")?;
-        let state = fields.take("state")?;
-        let partial = fields.take("partial")?;
-        let retry_count = fields.take("retry_count")?;
-        let duration = fields.take("duration")?;
-        let random_seed = fields.take("random_seed")?;
-        let scope = fields.take("scope")?;
-        let limit_key = fields.take("limit_key")?;
-        let idempotency_key = fields.take("idempotency_key")?;
+        let (id, debug_id, key) = fields.take_three("id", "debug_id", "key")?;
+        let (known_entries, state, partial) = fields.take_three(
+            "known_entries",
+            "state",
+            "partial",
+        )?;
+        let (retry_count, duration, random_seed) = fields.take_three(
+            "retry_count",
+            "duration",
+            "random_seed",
+        )?;
+        let (scope, limit_key, idempotency_key) = fields.take_three(
+            "scope",
+            "limit_key",
+            "idempotency_key",
+        )?;
         Ok(Start {
             id,
             debug_id,
@@ -74,8 +78,7 @@ impl Form for AwaitingOn {
     }
 
     fn parse(fields: &mut Fields<'_>) -> Result<AwaitingOn, Fault> {
-        let future = fields.take("future")?;
-        let executing_side_effects = fields.take("executing_side_effects")?;
+        let (future, executing_side_effects) = fields.take_two("future", "executing_side_effects")?;
         Ok(AwaitingOn {
             future,
             executing_side_effects,
@@ -96,14 +99,9 @@ impl Form for ErrorMessage {
     }
 
     fn parse(fields: &mut Fields<'_>) -> Result<ErrorMessage, Fault> {
-        let code = fields.take("code")?;
-        let message = fields.take("message")?;
-        let stacktrace = fields.take("stacktrace")?;
-        let behavior = fields.take("behaviour")?;
-        let index = fields.take("index")?;
-        let ty = fields.take("type")?;
-        let name = fields.take("name")?;
-        let delay = fields.take("delay")?;
+        let (code, message, stacktrace) = fields.take_three("code", "message", "stacktrace")?;
+        let (behavior, index, ty) = fields.take_three("behaviour", "index", "type")?;
+        let (name, delay) = fields.take_two("name", "delay")?;
         Ok(ErrorMessage {
             code,
             message,
@@ -124,8 +122,7 @@ impl Form for ProposeRunCompletion {
     }
 
     fn parse(fields: &mut Fields<'_>) -> Result<ProposeRunCompletion, Fault> {
-        let id = fields.take("id")?;
-        let result = fields.take("result")?;
+        let (id, result) = fields.take_two("id", "result")?;
         Ok(ProposeRunCompletion { id, result })
     }
 }

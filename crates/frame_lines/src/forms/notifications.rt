@@ -15,8 +15,7 @@ impl Form for GetStateEphemeralCommand {
     }
 
     fn parse(fields: &mut Fields<'_>) -> Result<GetStateEphemeralCommand, Fault> {
-        let id = fields.take("id")?;
-        let key = fields.take("key")?;
+        let (id, key) = fields.take_two("id", "key")?;
         Ok(GetStateEphemeralCommand { id, key })
     }
 }
@@ -28,8 +27,7 @@ impl Form for GetStateEphemeralNotification {
     }
 
     fn parse(fields: &mut Fields<'_>) -> Result<GetStateEphemeralNotification, Fault> {
-        let id = fields.take("id")?;
-        let result = fields.take("result")?;
+        let (id, result) = fields.take_two("id", "result")?;
         Ok(GetStateEphemeralNotification { id, result })
     }
 }
@@ -41,8 +39,7 @@ impl Form for Notification {
     }
 
     fn parse(fields: &mut Fields<'_>) -> Result<Notification, Fault> {
-        let id = fields.take("id")?;
-        let result = fields.take("result")?;
+        let (id, result) = fields.take_two("id", "result")?;
         Ok(Notification { id, result })
     }
 }

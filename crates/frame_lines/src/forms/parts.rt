@@ -16,9 +16,7 @@ impl Form for Failure {
     }
 
     fn parse(fields: &mut Fields<'_>) -> Result<Failure, Fault> {
-        let code = fields.take("code")?;
-        let message = fields.take("message")?;
-        let metadata = fields.take("metadata")?;
+        let (code, message, metadata) = fields.take_three("code", "message", "metadata")?;
         Ok(Failure {
             code,
             message,
@@ -35,9 +33,7 @@ impl Form for WorkflowId {
     }
 
     fn parse(fields: &mut Fields<'_>) -> Result<WorkflowId, Fault> {
-        let name = fields.take("name")?;
-        let key = fields.take("key")?;
-        let scope = fields.take("scope")?;
+        let (name, key, scope) = fields.take_three("name", "key", "scope")?;
         Ok(WorkflowId { name, key, scope })
     }
 }
@@ -52,11 +48,12 @@ impl Form for IdempotencyId {
     }
 
     fn parse(fields: &mut Fields<'_>) -> Result<IdempotencyId, Fault> {
-        let service_name = fields.take("service_name")?;
-        let service_key = fields.take("service_key")?;
-        let handler_name = fields.take("handler_name")?;
-        let idempotency_key = fields.take("idempotency_key")?;
-        let scope = fields.take("scope")?;
+        let (service_name, service_key, handler_name) = fields.take_three(
+            "service_name",
+            "service_key",
+            "handler_name",
+        )?;
+        let (idempotency_key, scope) = fields.take_two("idempotency_key", "scope")?;
         Ok(IdempotencyId {
             service_name,
             service_key,

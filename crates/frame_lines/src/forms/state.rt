@@ -18,8 +18,7 @@ impl Form for InputCommand {
     }
 
     fn parse(fields: &mut Fields<'_>) -> Result<InputCommand, Fault> {
-        let headers = fields.take("headers")?;
-        let value = fields.take("value")?;
+        let (headers, value) = fields.take_two("headers", "value")?;
         Ok(InputCommand { headers, value })
     }
 }
@@ -32,9 +31,7 @@ impl Form for GetEagerStateCommand {
     }
 
     fn parse(fields: &mut Fields<'_>) -> Result<GetEagerStateCommand, Fault> {
-        let name = fields.take("name")?;
-        let key = fields.take("key")?;
-        let result = fields.take("result")?;
+        let (name, key, result) = fields.take_three("name", "key", "result")?;
         Ok(GetEagerStateCommand { name, key, result })
     }
 }
@@ -47,9 +44,11 @@ impl Form for GetLazyStateCommand {
     }
 
     fn parse(fields: &mut Fields<'_>) -> Result<GetLazyStateCommand, Fault> {
-        let name = fields.take("name")?;
-        let key = fields.take("key")?;
-        let result_completion_id = fields.take("result_completion_id")?;
+        let (name, key, result_completion_id) = fields.take_three(
+            "name",
+            "key",
+            "result_completion_id",
+        )?;
         Ok(GetLazyStateCommand {
             name,
             key,
@@ -65,8 +64,7 @@ impl Form for GetEagerStateKeysCommand {
     }
 
     fn parse(fields: &mut Fields<'_>) -> Result<GetEagerStateKeysCommand, Fault> {
-        let value = fields.take("value")?;
-        let name = fields.take("name")?;
+        let (value, name) = fields.take_two("value", "name")?;
         Ok(GetEagerStateKeysCommand { value, name })
     }
 }
@@ -78,8 +76,7 @@ impl Form for GetLazyStateKeysCommand {
     }
 
     fn parse(fields: &mut Fields<'_>) -> Result<GetLazyStateKeysCommand, Fault> {
-        let result_completion_id = fields.take("result_completion_id")?;
-        let name = fields.take("name")?;
+        let (result_completion_id, name) = fields.take_two("result_completion_id", "name")?;
         Ok(GetLazyStateKeysCommand {
             result_completion_id,
             name,
@@ -95,9 +92,7 @@ impl Form for SetStateCommand {
     }
 
     fn parse(fields: &mut Fields<'_>) -> Result<SetStateCommand, Fault> {
-        let name = fields.take("name")?;
-        let key = fields.take("key")?;
-        let value = fields.take("value")?;
+        let (name, key, value) = fields.take_three("name", "key", "value")?;
         Ok(SetStateCommand { name, key, value })
     }
 }
@@ -109,8 +104,7 @@ impl Form for ClearStateCommand {
     }
 
     fn parse(fields: &mut Fields<'_>) -> Result<ClearStateCommand, Fault> {
-        let name = fields.take("name")?;
-        let key = fields.take("key")?;
+        let (name, key) = fields.take_two("name", "key")?;
         Ok(ClearStateCommand { name, key })
     }
 }
