@@ -23,7 +23,7 @@ use Rattle.vm_machine.specs.declared.phase.Phase.TheVariants.{WaitingStart, Wait
 use Rattle.vm_machine.specs.Commands.{entered, phase_after, popped, popped_from}
 use Rattle.vm_machine.specs.Inputs.{coverage_of, input_at, input_counted, input_read, input_step}
 use Rattle.vm_machine.specs.Making.{fresh}
-use Rattle.vm_machine.specs.Outcomes.{Does, IsStarved, Outcome, Done, Failed, ◌>>=◌, about_last, called, called_at, failed, ruled, settled}
+use Rattle.vm_machine.specs.Outcomes.{IsStarved, Outcome, Done, Failed, ◌>>=◌, about_last, called, called_at, failed, ruled, settled}
 use Rattle.vm_machine.specs.Phases.{is_closed, is_running}
 use Rattle.invocation_vm.specs.Views.{View}
 use Rattle.vm_model.specs.Calls.{Setup, Meaning, identity_of}
@@ -34,14 +34,14 @@ use Rattle.vm_rounds.specs.declared.progress.Progress.{Progress}
 use Rattle.vm_rounds.specs.declared.progress.Progress.TheVariants as progress
 use Rattle.vm_rounds.specs.declared.progress.Reply.{Reply}
 use Rattle.vm_rounds.specs.declared.progress.Reply.TheVariants as reply
-use Rattle.vm_rounds.specs.Agreement.{Follows, IsRefused}
+use Rattle.vm_rounds.specs.Agreement.{IsRefused}
 use Rattle.vm_rounds.specs.Blames.{Blame, BlamedAt, IfError, IsBlamed, LacksInput, RefusedCall, first_input}
 use Rattle.vm_rounds.specs.Blames.Blame.{Memory, NoInput, Call}
 use Rattle.vm_rounds.specs.Journals.{BeginsOrFails, HasAll, StillWaits, commands_among, machine_fed, missing, notifications_among, setup_for}
 use Rattle.vm_rounds.specs.Record.{Record}
 use Rattle.vm_rounds.specs.Stepping.{Advances, Asks, LacksMemory, Reads, StepAt, StepDoes, StepFrom, StepUnless, step_asked, future_in, progress_of}
 use Rattle.vm_rounds.specs.Stepping as stepping
-use Rattle.vm_rounds.specs.Steps.{IfDone, ReadsBack, performed}
+use Rattle.vm_rounds.specs.Steps.{DoesBy, Performs}
 use Rattle.vm_rounds.specs.Told.{BeforeInput, Begun, Came, Comes, HasCome, IsKeptUnder, IsLive, Premises, Runs, arrivals_of, begun, frames_fed, handed_out}
 use Rattle.vm_rounds.proofs.Advanced.{runs_of}
 use Rattle.vm_rounds.proofs.Beginning.{input_begins}
@@ -198,16 +198,10 @@ module _ (m : Meaning) (version : Version) (options : VMOptions) (r : Record) (k
       }
 
   -- the handler's call was refused
-  call_refused : (e : Error) → performed (step_asked m r) r.vm.machine ≡ Failed e w.machine → RefusedCall m version options r.fed r.answers e
-  call_refused e is =
-      let st = m k.at.answers in
-      let same : step_asked m r ≡ st = asks_next m k.at r.answers r.waiting k.answers k.awaits in
-      let s = setup_for version options k.journal.start in
-      let at : performed st r.vm.machine ≡ Failed e w.machine = ap (λ q. performed q r.vm.machine) (sym same) ∙ is in
-      let readable = ReadsBack st r.vm.machine in
-      refused_call e
-      (subst (Follows s m (handed_out k.journal) k.written k.at r.vm.machine) at
-      (agreeing_follows s m (handed_out k.journal) k.written r.vm.machine k.at (k.agrees live) (subst (λ o. IfDone o readable) (sym at) tt)))
+  call_refused : (e : Error) → Performs (step_asked m r) r.vm.machine (Failed e w.machine) → RefusedCall m version options r.fed r.answers e
+  call_refused e does =
+      let same : step_asked m r ≡ m k.at.answers = asks_next m k.at r.answers r.waiting k.answers k.awaits in
+      refused_call e (agreeing_follows (setup_for version options k.journal.start) m (handed_out k.journal) k.written r.vm.machine k.at (Failed e w.machine) (k.agrees live) (subst (λ q. Performs q r.vm.machine (Failed e w.machine)) same does) (tt {0}))
 
 asks_blamed : (m : Meaning) (version : Version) (options : VMOptions) (old : Record) (result : Result Progress Error) (new : Record) → (Premises options (arrivals_of old.fed) → Runs m version options old.fed old.answers old.waiting old.taken old.vm) → IsLive old.vm.machine → Asks m old result new → IsBlamed m version options new
 asks_blamed m version options old result new runs live (x, w, does, is, made) = subst (IsBlamed m version options) (sym is) (by_reply x (step_leaves (step_asked m old) old.vm.machine live x w.machine does.0.0) does.0.0)
@@ -216,7 +210,7 @@ asks_blamed m version options old result new runs live (x, w, does, is, made) = 
     running : (answers : List Answer) → w.machine.failure ≡ old.vm.machine.failure → is_running w.machine.phase ≡ true → BlamedAt m version options old.over old.fed old.closed answers w.machine
     running answers failure at = alive_blamed m version options old.over old.fed old.closed answers w.machine (failure ∙ live.failure) (λ closed. absurd (let z : false ≡ true = sym (ap is_running closed) ∙ at in cc))
 
-    by_reply : (x : Result Reply Error) → IsLeft old.vm.machine x w.machine → Does (performed (step_asked m old) old.vm.machine) x old.vm.machine w.machine → IsBlamed m version options (stepping.replied old (future_in (step_asked m old)) x w)
+    by_reply : (x : Result Reply Error) → IsLeft old.vm.machine x w.machine → DoesBy (Performs (step_asked m old) old.vm.machine) x old.vm.machine w.machine → IsBlamed m version options (stepping.replied old (future_in (step_asked m old)) x w)
     by_reply (Ok (reply.Answer a)) h d = running (old.answers ++ a ∷ []) h.failure h.left
     by_reply (Ok (reply.Waiting input run)) h d = running old.answers h.failure h.left
     by_reply (Ok reply.Suspended) h d = over_blamed m version options progress.Suspended _ _ _ _
@@ -224,7 +218,7 @@ asks_blamed m version options old result new runs live (x, w, does, is, made) = 
     by_reply (Err e) h d =
         error_blamed m version options old.over old.fed old.closed old.answers w.machine e h.1
         (⊎_elim
-        (λ (y : performed (step_asked m old) old.vm.machine ≡ Failed e w.machine). Call (λ p. call_refused m version options old (runs p) live w e y))
+        (λ (y : Performs (step_asked m old) old.vm.machine (Failed e w.machine)). Call (λ p. call_refused m version options old (runs p) live w e y))
         (λ (y : IsStarved old.vm.machine e w.machine). Memory y.error)
         d)
 

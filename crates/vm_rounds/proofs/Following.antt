@@ -39,9 +39,10 @@ use Rattle.vm_model.specs.Calls.Usage.{Taken}
 use Rattle.vm_model.specs.Calls.Move.{Answers, Ends, Refuses}
 use Rattle.vm_model.specs.Refusals.{IsRefusedFor}
 use Rattle.vm_model.specs.Moves.{Point, longer, move_at, moved, supply}
+use Rattle.vm_rounds.specs.declared.progress.Reply.{Reply}
 use Rattle.vm_rounds.specs.declared.progress.Reply.TheVariants as reply
 use Rattle.vm_rounds.specs.Agreement.{Agrees, Aside, Follows, machine_at}
-use Rattle.vm_rounds.specs.Steps.{IfDone, IsReadable, ReadsBack, mapped, performed, performed_by}
+use Rattle.vm_rounds.specs.Steps.{IfDone, IsReadable, Performs, PerformsBy, ReadsBack, awakeable_made as made_awakeable, carried, completed, ended, mapped, read_made, signalled, taken}
 use Rattle.vm_rounds.proofs.Leading.{Leads, error_written, follows_from, no_move, open_after, state_at}
 use Rattle.journal_messages.specs.Commands.{IsCommand}
 use Rattle.vm_rounds.proofs.Own.{AsksCommand, asks_command, stands_for_itself}
@@ -159,7 +160,7 @@ ends s m given written aside p is (c ∷ left) e =
 
 -- ---- all calls
 
-completes : (s : Setup) (m : Meaning) (given : StateMap) (written : List RawMessage) (aside : Aside) (p : Point) (h : NotificationHandle) → s.identity ≡ identity_of aside.start → move_at s m p ≡ asked s (ask.Completed h) p.derived → Follows s m given written p (machine_at s given written aside p) (performed_by (ask.Completed h) (machine_at s given written aside p))
+completes : (s : Setup) (m : Meaning) (given : StateMap) (written : List RawMessage) (aside : Aside) (p : Point) (h : NotificationHandle) → s.identity ≡ identity_of aside.start → move_at s m p ≡ asked s (ask.Completed h) p.derived → Follows s m given written p (machine_at s given written aside p) (completed h (machine_at s given written aside p))
 unfolding called
 completes s m given written aside p h identity is =
     rw (runs_at p.left) (follows_from s m given written aside p answer.Completed (asked s (ask.Completed h) p.derived) (Done (has_result_in s h p.derived) (machine_at s given written aside p)) identity is (answers s given written aside p answer.Completed (has_result_in s h p.derived) p.derived))
@@ -173,26 +174,46 @@ end_asked : (version : Version) (st : Step) → ask_of version st ≡ ask.End �
 end_asked version step.End is = refl
 end_asked version st is = absurd cc
 
+-- an outcome is this one, by which a call does what its moves lead to
+comes_so : (s : Setup) (m : Meaning) (given : StateMap) (written : List RawMessage) (aside : Aside) (p : Point) (P : Type 0) (o q : Outcome Reply) → o ≡ q → (IfDone q P → Follows s m given written p (machine_at s given written aside p) q) → IfDone o P → Follows s m given written p (machine_at s given written aside p) o
+comes_so s m given written aside p P o q is follows whole = subst (Follows s m given written p (machine_at s given written aside p)) (sym is) (follows (subst (λ x. IfDone x P) is whole))
+
 -- what is asked for, in a machine that agrees with a point
-asked_follows : (s : Setup) (m : Meaning) (given : StateMap) (written : List RawMessage) (aside : Aside) (p : Point) → s.identity ≡ identity_of aside.start → (a : Ask) → ask_of s.version (m p.answers) ≡ a → AsksCommand a → IfDone (performed_by a (machine_at s given written aside p)) (IsReadable a (machine_at s given written aside p)) → Follows s m given written p (machine_at s given written aside p) (performed_by a (machine_at s given written aside p))
-asked_follows s m given written aside p identity (ask.Command c) is command whole =
-    follows_from s m given written aside p (command_answer c.message) _ _ identity (ap (λ a. asked s a p.derived) is) (commands_follow s given written aside p c command c.refusal (event_done _ _ s given written aside p _ whole))
-asked_follows s m given written aside p identity ask.Awakeable is command whole =
-    follows_from s m given written aside p answer.Awakeable _ _ identity (ap (λ a. asked s a p.derived) is) (makes_awakeable s given written aside p identity (skips_replay s.options.journal_replay))
-asked_follows s m given written aside p identity (ask.Read r) is command whole =
-    follows_from s m given written aside p answer.Handle _ _ identity (ap (λ a. asked s a p.derived) is) (reads_follow s given written aside r p (event_done _ _ s given written aside p _ whole))
-asked_follows s m given written aside p identity (ask.Signal name) is command whole =
-    follows_from s m given written aside p answer.Handle _ _ identity (ap (λ a. asked s a p.derived) is) (makes_signal s given written aside p name)
-asked_follows s m given written aside p identity (ask.Await future) is command whole = awaits_follow s m given written aside p future identity (awaits_asked s.version (m p.answers) future is)
-asked_follows s m given written aside p identity (ask.Take h) is command whole =
-    follows_from s m given written aside p answer.Taken _ _ identity (ap (λ a. asked s a p.derived) is) (takes_follow s given written aside p h)
-asked_follows s m given written aside p identity (ask.Completed h) is command whole = completes s m given written aside p h identity (ap (λ a. asked s a p.derived) is)
-asked_follows s m given written aside p identity ask.End is command whole = ends s m given written aside p (end_asked s.version (m p.answers) is) p.left refl
+asked_follows : (s : Setup) (m : Meaning) (given : StateMap) (written : List RawMessage) (aside : Aside) (p : Point) → s.identity ≡ identity_of aside.start → (a : Ask) → ask_of s.version (m p.answers) ≡ a → AsksCommand a → (o : Outcome Reply) → PerformsBy a (machine_at s given written aside p) o → IfDone o (IsReadable a (machine_at s given written aside p)) → Follows s m given written p (machine_at s given written aside p) o
+asked_follows s m given written aside p identity (ask.Command c) is command o does whole =
+    let v = machine_at s given written aside p in
+    comes_so s m given written aside p (IsReadable (ask.Command c) v) o (carried c v) does
+    (λ (here : IfDone (carried c v) (IsReadable (ask.Command c) v)). follows_from s m given written aside p (command_answer c.message) _ _ identity (ap (λ a. asked s a p.derived) is) (commands_follow s given written aside p c command c.refusal (event_done _ _ s given written aside p _ here))) whole
+asked_follows s m given written aside p identity ask.Awakeable is command o does whole =
+    let v = machine_at s given written aside p in
+    comes_so s m given written aside p (IsReadable ask.Awakeable v) o (made_awakeable v) does
+    (λ _. follows_from s m given written aside p answer.Awakeable _ _ identity (ap (λ a. asked s a p.derived) is) (makes_awakeable s given written aside p identity (skips_replay s.options.journal_replay))) whole
+asked_follows s m given written aside p identity (ask.Read r) is command o does whole =
+    let v = machine_at s given written aside p in
+    comes_so s m given written aside p (IsReadable (ask.Read r) v) o (read_made r v) does
+    (λ (here : IfDone (read_made r v) (IsReadable (ask.Read r) v)). follows_from s m given written aside p answer.Handle _ _ identity (ap (λ a. asked s a p.derived) is) (reads_follow s given written aside r p (event_done _ _ s given written aside p _ here))) whole
+asked_follows s m given written aside p identity (ask.Signal name) is command o does whole =
+    let v = machine_at s given written aside p in
+    comes_so s m given written aside p (IsReadable (ask.Signal name) v) o (signalled name v) does
+    (λ _. follows_from s m given written aside p answer.Handle _ _ identity (ap (λ a. asked s a p.derived) is) (makes_signal s given written aside p name)) whole
+asked_follows s m given written aside p identity (ask.Await future) is command o does whole = awaits_follow s m given written aside p future identity (awaits_asked s.version (m p.answers) future is) o does
+asked_follows s m given written aside p identity (ask.Take h) is command o does whole =
+    let v = machine_at s given written aside p in
+    comes_so s m given written aside p (IsReadable (ask.Take h) v) o (taken h v) does
+    (λ _. follows_from s m given written aside p answer.Taken _ _ identity (ap (λ a. asked s a p.derived) is) (takes_follow s given written aside p h)) whole
+asked_follows s m given written aside p identity (ask.Completed h) is command o does whole =
+    let v = machine_at s given written aside p in
+    comes_so s m given written aside p (IsReadable (ask.Completed h) v) o (completed h v) does
+    (λ _. completes s m given written aside p h identity (ap (λ a. asked s a p.derived) is)) whole
+asked_follows s m given written aside p identity ask.End is command o does whole =
+    let v = machine_at s given written aside p in
+    comes_so s m given written aside p (IsReadable ask.End v) o (ended v) does
+    (λ _. ends s m given written aside p (end_asked s.version (m p.answers) is) p.left refl) whole
 
 -- In a machine that agrees with a point, the handler's call does what the moves from there lead to.
-call_follows : (s : Setup) (m : Meaning) (given : StateMap) (written : List RawMessage) (aside : Aside) (p : Point) → s.identity ≡ identity_of aside.start → IfDone (performed (m p.answers) (machine_at s given written aside p)) (ReadsBack (m p.answers) (machine_at s given written aside p)) → Follows s m given written p (machine_at s given written aside p) (performed (m p.answers) (machine_at s given written aside p))
-call_follows s m given written aside p identity whole = asked_follows s m given written aside p identity (ask_of s.version (m p.answers)) refl (asks_command s.version (m p.answers)) whole
+call_follows : (s : Setup) (m : Meaning) (given : StateMap) (written : List RawMessage) (aside : Aside) (p : Point) → s.identity ≡ identity_of aside.start → (o : Outcome Reply) → Performs (m p.answers) (machine_at s given written aside p) o → IfDone o (ReadsBack (m p.answers) (machine_at s given written aside p)) → Follows s m given written p (machine_at s given written aside p) o
+call_follows s m given written aside p identity = asked_follows s m given written aside p identity (ask_of s.version (m p.answers)) refl (asks_command s.version (m p.answers))
 
-pub agreeing_follows : (s : Setup) (m : Meaning) (given : StateMap) (written : List RawMessage) (v : Machine) (p : Point) → Agrees s given written v p → IfDone (performed (m p.answers) v) (ReadsBack (m p.answers) v) → Follows s m given written p v (performed (m p.answers) v)
-agreeing_follows s m given written v p a whole =
-    rw a.machine (call_follows s m given written a.aside p a.identity (subst (λ (x : Machine). IfDone (performed (m p.answers) x) (ReadsBack (m p.answers) x)) a.machine whole))
+pub agreeing_follows : (s : Setup) (m : Meaning) (given : StateMap) (written : List RawMessage) (v : Machine) (p : Point) (o : Outcome Reply) → Agrees s given written v p → Performs (m p.answers) v o → IfDone o (ReadsBack (m p.answers) v) → Follows s m given written p v o
+agreeing_follows s m given written v p o a does whole =
+    rw a.machine (call_follows s m given written a.aside p a.identity o (subst (λ (x : Machine). Performs (m p.answers) x o) a.machine does) (subst (λ (x : Machine). IfDone o (ReadsBack (m p.answers) x)) a.machine whole))

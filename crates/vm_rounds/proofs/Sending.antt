@@ -36,16 +36,16 @@ use Rattle.vm_machine.specs.Asks.{ask_of}
 use Rattle.vm_machine.specs.Awaits.{await_step, future_of, pending, result_taken, suspended, take_step, taken_at, tried, value_taken}
 use Rattle.vm_machine.specs.Commands.{CanBeRead, carried_out, commanded, commanded_unless, compared, counted, entered, ignores_payloads, issued, phase_after, popped, popped_from, prepared, replayed, written, about_next, handed_out}
 use Rattle.vm_machine.specs.Inputs.{end_at, end_step}
-use Rattle.vm_machine.specs.Outcomes.{Does, IsStarved, Outcome, Done, Failed, ◌>>=◌, about_last, called, called_at, failed, refused, ruled, settled}
+use Rattle.vm_machine.specs.Outcomes.{IsStarved, Outcome, Done, Failed, ◌>>=◌, about_last, called, called_at, failed, refused, ruled, settled}
 use Rattle.vm_machine.specs.Phases.{is_closed, is_processing, is_replaying, is_running, state_fault}
 use Rattle.vm_machine.specs.Requests.{ids_of, name_of, shown_type, with_ids}
 use Rattle.vm_machine.specs.Signals.{awakeable_counted, awakeable_step, signal_counted, signal_step}
-use Rattle.invocation_vm.specs.Calls.{future_step, new_awakeable_step, skips_replay}
+use Rattle.invocation_vm.specs.Calls.{new_awakeable_step, skips_replay}
 use Rattle.vm_model.specs.Journal.{stored_form}
 use Rattle.vm_rounds.specs.declared.progress.Reply.{Reply}
 use Rattle.vm_rounds.specs.declared.progress.Reply.TheVariants as reply
 use Rattle.vm_rounds.specs.Journals.{is_command}
-use Rattle.vm_rounds.specs.Steps.{IsReadable, ReadsBack, await_reply, mapped, performed, performed_by}
+use Rattle.vm_rounds.specs.Steps.{DoesBy, MayCome, Performs, PerformsBy, await_reply, mapped}
 use Rattle.vm_rounds.specs.Told.{IsLive}
 
 -- ---- what is left
@@ -280,8 +280,8 @@ awaits handle v = by_test (is_running v.phase) refl
     by_test true e = tries handle v (record v { results = used_for handle v.results }) (refl, refl, refl) refl e
     by_test false e = (refl, refl, refl)
 
-futures : (future : UnresolvedFuture) (v : Machine) → Happens AwaitLeaves v (future_step future v)
-futures (Single handle) v = awaits handle.0 v
+futures : (future : UnresolvedFuture) (v : Machine) (x : Outcome (Result AwaitResponse Error)) → MayCome future v x → Happens AwaitLeaves v x
+futures (Single handle) v x comes = subst (Happens AwaitLeaves v) (sym comes) (awaits handle.0 v)
 
 values : (o : Option Value) (v u : Machine) → Stays v u → u.failure ≡ v.failure → is_running u.phase ≡ true → Happens RunsOn v (value_taken o u)
 values None v u s f runs = s
@@ -330,15 +330,15 @@ await_stands (Ok AnyCompleted) w h = h
 await_stands (Ok (WaitingExternalProgress input run)) w h = h
 await_stands (Err e) w h = h
 
-asked_leaves : (a : Ask) (v : Machine) → IsLive v → CallLeaves StandsBy v (performed_by a v)
-asked_leaves (ask.Command c) v live = mapping RunsOn StandsBy _ (λ h w runs. runs) v (called (commanded c v) v) (calling RunsOn v (commanded c v) live.failure (commands c.refusal c.message c.unstable v))
-asked_leaves ask.Awakeable v live = mapping RunsOn StandsBy _ (λ h w runs. runs) v (called (new_awakeable_step v) v) (calling RunsOn v (new_awakeable_step v) live.failure (new_awakeables (skips_replay v.options.journal_replay) v))
-asked_leaves (ask.Read r) v live = mapping RunsOn StandsBy _ (λ h w runs. runs) v (called (read_step r v) v) (calling RunsOn v (read_step r v) live.failure (state_reads r v))
-asked_leaves (ask.Signal name) v live = mapping RunsOn StandsBy _ (λ h w runs. runs) v (called (signal_step name v) v) (calling RunsOn v (signal_step name v) live.failure (signals name v))
-asked_leaves (ask.Await future) v live = mapping AwaitLeaves StandsBy await_reply await_stands v (called (future_step future v) v) (calling AwaitLeaves v (future_step future v) live.failure (futures future v))
-asked_leaves (ask.Take handle) v live = mapping RunsOn StandsBy _ (λ h w runs. runs) v (called (take_step handle.0 v) v) (calling RunsOn v (take_step handle.0 v) live.failure (takes handle.0 v))
-asked_leaves (ask.Completed handle) v live = record { sends = stays_sends v v (refl, refl, refl); failure = refl; left = live.phase }
-asked_leaves ask.End v live = mapping HasClosed StandsBy _ (λ h w closed. closed) v (called (end_step v) v) (calling HasClosed v (end_step v) live.failure (ends v.phase v refl))
+asked_leaves : (a : Ask) (v : Machine) → IsLive v → (o : Outcome Reply) → PerformsBy a v o → CallLeaves StandsBy v o
+asked_leaves (ask.Command c) v live o does = subst (CallLeaves StandsBy v) (sym does) (mapping RunsOn StandsBy _ (λ h w runs. runs) v (called (commanded c v) v) (calling RunsOn v (commanded c v) live.failure (commands c.refusal c.message c.unstable v)))
+asked_leaves ask.Awakeable v live o does = subst (CallLeaves StandsBy v) (sym does) (mapping RunsOn StandsBy _ (λ h w runs. runs) v (called (new_awakeable_step v) v) (calling RunsOn v (new_awakeable_step v) live.failure (new_awakeables (skips_replay v.options.journal_replay) v)))
+asked_leaves (ask.Read r) v live o does = subst (CallLeaves StandsBy v) (sym does) (mapping RunsOn StandsBy _ (λ h w runs. runs) v (called (read_step r v) v) (calling RunsOn v (read_step r v) live.failure (state_reads r v)))
+asked_leaves (ask.Signal name) v live o does = subst (CallLeaves StandsBy v) (sym does) (mapping RunsOn StandsBy _ (λ h w runs. runs) v (called (signal_step name v) v) (calling RunsOn v (signal_step name v) live.failure (signals name v)))
+asked_leaves (ask.Await future) v live o (x, comes, does) = subst (CallLeaves StandsBy v) (sym does) (mapping AwaitLeaves StandsBy await_reply await_stands v (called x v) (calling AwaitLeaves v x live.failure (futures future v x comes)))
+asked_leaves (ask.Take handle) v live o does = subst (CallLeaves StandsBy v) (sym does) (mapping RunsOn StandsBy _ (λ h w runs. runs) v (called (take_step handle.0 v) v) (calling RunsOn v (take_step handle.0 v) live.failure (takes handle.0 v)))
+asked_leaves (ask.Completed handle) v live o does = subst (CallLeaves StandsBy v) (sym does) (record { sends = stays_sends v v (refl, refl, refl); failure = refl; left = live.phase })
+asked_leaves ask.End v live o does = subst (CallLeaves StandsBy v) (sym does) (mapping HasClosed StandsBy _ (λ h w closed. closed) v (called (end_step v) v) (calling HasClosed v (end_step v) live.failure (ends v.phase v refl)))
 
 -- what a step's call has written, and where it stands
 abbrev pub IsLeft : Machine → Result Reply Error → Machine → Type 0
@@ -348,10 +348,10 @@ IsLeft v (Err e) w = Sends v w × (w.failure ≡ Some e)
 starving : (v : Machine) (e : Error) (w : Machine) → v.failure ≡ None → IsStarved v e w → Sends v w × (w.failure ≡ Some e)
 starving v e w live s = (stays_sends v w (s.output, s.version, s.options), s.failure ∙ ap (λ (f : Option Error). Some (unwrap_or f no_memory)) live ∙ ap (λ x. Some x) (sym s.error))
 
-pub step_leaves : (st : Step) (v : Machine) → IsLive v → (x : Result Reply Error) (w : Machine) → Does (performed st v) x v w → IsLeft v x w
-step_leaves st v live (Ok a) w does = subst (CallLeaves StandsBy v) does (asked_leaves (ask_of v.version st) v live)
+pub step_leaves : (st : Step) (v : Machine) → IsLive v → (x : Result Reply Error) (w : Machine) → DoesBy (Performs st v) x v w → IsLeft v x w
+step_leaves st v live (Ok a) w does = asked_leaves (ask_of v.version st) v live (Done a w) does
 step_leaves st v live (Err e) w does =
     ⊎_elim
-    (λ (x : performed st v ≡ Failed e w). subst (CallLeaves StandsBy v) x (asked_leaves (ask_of v.version st) v live))
+    (λ (x : Performs st v (Failed e w)). asked_leaves (ask_of v.version st) v live (Failed e w) x)
     (λ (x : IsStarved v e w). starving v e w live.failure x)
     does

@@ -32,7 +32,7 @@ use Rattle.vm_machine.specs.Asks.{ask_of}
 use Rattle.journal_messages.specs.Commands.{IsCommand}
 use Rattle.vm_rounds.proofs.Own.{AsksCommand, asks_command, numbered_is, own_is}
 use Rattle.vm_machine.specs.Commands.{phase_after}
-use Rattle.vm_machine.specs.Outcomes.{Does, IsStarved, Outcome, Done, Failed}
+use Rattle.vm_machine.specs.Outcomes.{IsStarved, Outcome, Done, Failed}
 use Rattle.vm_machine.specs.Phases.{is_running}
 use Rattle.vm_machine.specs.Requests.{ids_of}
 use Rattle.invocation_vm.specs.Calls.{skips_replay}
@@ -54,7 +54,7 @@ use Rattle.vm_rounds.specs.Agreement.{Agrees, Answered, Follows, HasEnded, IsRef
 use Rattle.vm_rounds.specs.Journals.{is_command, setup_for}
 use Rattle.vm_rounds.specs.Record.{Record}
 use Rattle.vm_rounds.specs.Stepping.{Asks, IfWaits, step_asked, asked_from, future_in, progress_of, replied, with_vm}
-use Rattle.vm_rounds.specs.Steps.{IfDone, ReadsBack, StepMade, performed}
+use Rattle.vm_rounds.specs.Steps.{DoesBy, IfDone, Performs, ReadsBack, StepMade}
 use Rattle.vm_rounds.specs.Told.{arrivals, IsKept, IsLive, IsAsleep, Sleeps, RefusesReplay, Replays, Runs, StillAwaits, Wrote, commands_of, handed_out}
 use Rattle.vm_rounds.proofs.Following.{agreeing_follows}
 use Rattle.vm_rounds.proofs.Kept.{dead_same, not_live}
@@ -225,21 +225,18 @@ module _ (m : Meaning) (version : Version) (options : VMOptions) (r : Record) (k
   abbrev Following : Outcome Reply → Type 0
   Following = Follows s m (handed_out k.journal) k.written k.at r.vm.machine
 
-  -- the call does what the moves lead to, where it is done as it was answered
-  done_follows : (P : Type 0) (o : Outcome Reply) (a : Reply) → (IfDone o P → Following o) → o ≡ Done a w.machine → P → Following (Done a w.machine)
-  done_follows P o a follows is h = subst Following is (follows (subst (λ q. IfDone q P) (sym is) h))
+  -- whatever the call comes to, it does what the moves lead to
+  abbrev AllFollow : Type 0 → (Outcome Reply → Type 0) → Type 0
+  AllFollow P R = (o : Outcome Reply) → R o → IfDone o P → Following o
 
-  failed_follows : (P : Type 0) (o : Outcome Reply) (e : Error) → (IfDone o P → Following o) → o ≡ Failed e w.machine → Following (Failed e w.machine)
-  failed_follows P o e follows is = subst Following is (follows (subst (λ q. IfDone q P) (sym is) tt))
-
-  replied_keeps : (P : Type 0) (st : Step) → m k.at.answers ≡ st → (x : Result Reply Error) → (o : Outcome Reply) → (IfDone o P → Following o) → Does o x r.vm.machine w.machine → OnOk x P → IsKept m version options (replied r (future_in st) x w)
-  replied_keeps P st is (Ok (reply.Answer a)) o f does h = inr (answered_keeps a (done_follows P o (reply.Answer a) f does h))
-  replied_keeps P st is (Ok (reply.Waiting input run)) o f does h = inr (waits_keeps st is (done_follows P o (reply.Waiting input run) f does h))
-  replied_keeps P st is (Ok reply.Suspended) o f does h = inr (suspended_keeps (done_follows P o reply.Suspended f does h))
-  replied_keeps P st is (Ok reply.Ended) o f does h = inr (ended_keeps (done_follows P o reply.Ended f does h))
-  replied_keeps P st is (Err e) o f does h =
+  replied_keeps : (P : Type 0) (st : Step) → m k.at.answers ≡ st → (x : Result Reply Error) → (R : Outcome Reply → Type 0) → AllFollow P R → DoesBy R x r.vm.machine w.machine → OnOk x P → IsKept m version options (replied r (future_in st) x w)
+  replied_keeps P st is (Ok (reply.Answer a)) R f does h = inr (answered_keeps a (f (Done (reply.Answer a) w.machine) does h))
+  replied_keeps P st is (Ok (reply.Waiting input run)) R f does h = inr (waits_keeps st is (f (Done (reply.Waiting input run) w.machine) does h))
+  replied_keeps P st is (Ok reply.Suspended) R f does h = inr (suspended_keeps (f (Done reply.Suspended w.machine) does h))
+  replied_keeps P st is (Ok reply.Ended) R f does h = inr (ended_keeps (f (Done reply.Ended w.machine) does h))
+  replied_keeps P st is (Err e) R f does h =
       ⊎_elim
-      (λ (x : o ≡ Failed e w.machine). refused_keeps e (failed_follows P o e f x))
+      (λ (x : R (Failed e w.machine)). refused_keeps e (f (Failed e w.machine) x (tt {0})))
       (λ (x : IsStarved r.vm.machine e w.machine). dead_same (Runs m version options) (runs_last m version options) version options r w (inr k) (quiet_same r.vm.machine w.machine x.output) (rw x.failure refl))
       does
 
@@ -267,16 +264,16 @@ module _ (m : Meaning) (version : Version) (options : VMOptions) (r : Record) (k
         },
       )
 
-  replied_waits : (P : Type 0) (x : Result Reply Error) → (o : Outcome Reply) → (IfDone o P → Following o) → Does o x r.vm.machine w.machine → OnOk x P → IfWaits (progress_of x) (Sleeps m version options r.fed r.answers r.taken w)
-  replied_waits P (Ok (reply.Answer a)) o f does h = tt
-  replied_waits P (Ok (reply.Waiting input run)) o f does h =
-      let g : StillAgrees s m (handed_out k.journal) k.written k.at r.vm.machine w.machine = done_follows P o (reply.Waiting input run) f does h in
+  replied_waits : (P : Type 0) (x : Result Reply Error) → (R : Outcome Reply → Type 0) → AllFollow P R → DoesBy R x r.vm.machine w.machine → OnOk x P → IfWaits (progress_of x) (Sleeps m version options r.fed r.answers r.taken w)
+  replied_waits P (Ok (reply.Answer a)) R f does h = tt
+  replied_waits P (Ok (reply.Waiting input run)) R f does h =
+      let g : StillAgrees s m (handed_out k.journal) k.written k.at r.vm.machine w.machine = f (Done (reply.Waiting input run) w.machine) does h in
       waits_so g.at g.waits [] refl (g.output ∙ sym (append-nil r.vm.machine.output))
-  replied_waits P (Ok reply.Suspended) o f does h =
-      let g : IsSuspended s m (handed_out k.journal) k.at r.vm.machine w.machine = done_follows P o reply.Suspended f does h in
+  replied_waits P (Ok reply.Suspended) R f does h =
+      let g : IsSuspended s m (handed_out k.journal) k.at r.vm.machine w.machine = f (Done reply.Suspended w.machine) does h in
       waits_so g.at g.waits (message.Suspension (suspended_on g.waits.future g.at.derived) ∷ []) refl g.output
-  replied_waits P (Ok reply.Ended) o f does h = tt
-  replied_waits P (Err e) o f does h = tt
+  replied_waits P (Ok reply.Ended) R f does h = tt
+  replied_waits P (Err e) R f does h = tt
 
   -- ---- what is replayed
 
@@ -315,23 +312,23 @@ module _ (m : Meaning) (version : Version) (options : VMOptions) (r : Record) (k
         failure = g.failure;
       }
 
-  replied_replays : (P : Type 0) (future : Option UnresolvedFuture) (c : RawMessage) (further : List RawMessage) → k.at.left ≡ c ∷ further → (x : Result Reply Error) → (o : Outcome Reply) → (IfDone o P → Following o) → Does o x r.vm.machine w.machine → OnOk x P → Replays m version options r (progress_of x) (replied r future x w)
-  replied_replays P future c further some (Ok (reply.Answer a)) o f does h = nothing_made (λ none. let z : [] ≡ c ∷ further = sym none ∙ some in cc) a (done_follows P o (reply.Answer a) f does h)
-  replied_replays P future c further some (Ok (reply.Waiting input run)) o f does h =
-      let g : StillAgrees s m (handed_out k.journal) k.written k.at r.vm.machine w.machine = done_follows P o (reply.Waiting input run) f does h in
+  replied_replays : (P : Type 0) (future : Option UnresolvedFuture) (c : RawMessage) (further : List RawMessage) → k.at.left ≡ c ∷ further → (x : Result Reply Error) → (R : Outcome Reply → Type 0) → AllFollow P R → DoesBy R x r.vm.machine w.machine → OnOk x P → Replays m version options r (progress_of x) (replied r future x w)
+  replied_replays P future c further some (Ok (reply.Answer a)) R f does h = nothing_made (λ none. let z : [] ≡ c ∷ further = sym none ∙ some in cc) a (f (Done (reply.Answer a) w.machine) does h)
+  replied_replays P future c further some (Ok (reply.Waiting input run)) R f does h =
+      let g : StillAgrees s m (handed_out k.journal) k.written k.at r.vm.machine w.machine = f (Done (reply.Waiting input run) w.machine) does h in
       let z : [] ≡ c ∷ further = sym g.waits.none_recorded ∙ some in
       cc
-  replied_replays P future c further some (Ok reply.Suspended) o f does h =
-      let g : IsSuspended s m (handed_out k.journal) k.at r.vm.machine w.machine = done_follows P o reply.Suspended f does h in
+  replied_replays P future c further some (Ok reply.Suspended) R f does h =
+      let g : IsSuspended s m (handed_out k.journal) k.at r.vm.machine w.machine = f (Done reply.Suspended w.machine) does h in
       let z : [] ≡ c ∷ further = sym g.waits.none_recorded ∙ some in
       cc
-  replied_replays P future c further some (Ok reply.Ended) o f does h =
-      let g : HasEnded m k.at r.vm.machine w.machine = done_follows P o reply.Ended f does h in
+  replied_replays P future c further some (Ok reply.Ended) R f does h =
+      let g : HasEnded m k.at r.vm.machine w.machine = f (Done reply.Ended w.machine) does h in
       let z : [] ≡ c ∷ further = sym g.no_command ∙ some in
       cc
-  replied_replays P future c further some (Err e) o f does h =
+  replied_replays P future c further some (Err e) R f does h =
       ⊎_elim
-      (λ (x : o ≡ Failed e w.machine). inr (inr (refuses_there e c further some (failed_follows P o e f x))))
+      (λ (x : R (Failed e w.machine)). inr (inr (refuses_there e c further some (f (Failed e w.machine) x (tt {0})))))
       (λ (x : IsStarved r.vm.machine e w.machine). inr (inl x))
       does
 
@@ -344,7 +341,7 @@ asks_keep m version options old result new k live (x, w, does, is, progress) =
     let made : StepMade st x old.vm w = subst (λ q. StepMade q x old.vm w) same does in
     subst (IsKept m version options) (sym is)
     (subst (λ q. IsKept m version options (replied old (future_in q) x w)) (sym same)
-    (replied_keeps m version options old k live w made.0.1 (ReadsBack st old.vm.machine) st refl x (performed st old.vm.machine) (agreeing_follows s m (handed_out k.journal) k.written old.vm.machine k.at (k.agrees live)) made.0.0 made.1))
+    (replied_keeps m version options old k live w made.0.1 (ReadsBack st old.vm.machine) st refl x (Performs st old.vm.machine) (λ o. agreeing_follows s m (handed_out k.journal) k.written old.vm.machine k.at o (k.agrees live)) made.0.0 made.1))
 
 -- what a step that waits leaves of the record
 settled_waits : (m : Meaning) (version : Version) (options : VMOptions) (old : Record) (future : Option UnresolvedFuture) (w : View) (x : Result Reply Error) → IfWaits (progress_of x) (Sleeps m version options old.fed old.answers old.taken w)
@@ -363,8 +360,8 @@ module _ (m : Meaning) (version : Version) (options : VMOptions) (old : Record) 
   is_next : step_asked m old ≡ m k.at.answers
   is_next = asks_next m k.at old.answers old.waiting k.answers k.awaits
 
-  follows_here : (w : View) → IfDone (performed (m k.at.answers) old.vm.machine) (ReadsBack (m k.at.answers) old.vm.machine) → Follows made_here m (handed_out k.journal) k.written k.at old.vm.machine (performed (m k.at.answers) old.vm.machine)
-  follows_here w = agreeing_follows made_here m (handed_out k.journal) k.written old.vm.machine k.at (k.agrees live)
+  follows_here : (o : Outcome Reply) → Performs (m k.at.answers) old.vm.machine o → IfDone o (ReadsBack (m k.at.answers) old.vm.machine) → Follows made_here m (handed_out k.journal) k.written k.at old.vm.machine o
+  follows_here o = agreeing_follows made_here m (handed_out k.journal) k.written old.vm.machine k.at o (k.agrees live)
 
   -- a step waits only where nothing wakes
   pub asks_wait : Asks m old result new → IfWaits result (Sleeps m version options new.fed new.answers new.taken new.vm)
@@ -373,7 +370,7 @@ module _ (m : Meaning) (version : Version) (options : VMOptions) (old : Record) 
       subst (λ z. IfWaits z (Sleeps m version options new.fed new.answers new.taken new.vm)) (sym progress)
       (subst (λ (n : Record). IfWaits (progress_of x) (Sleeps m version options n.fed n.answers n.taken n.vm)) (sym is)
       (settled_waits m version options old (future_in (step_asked m old)) w x
-      (replied_waits m version options old k live w made.0.1 (ReadsBack (m k.at.answers) old.vm.machine) x (performed (m k.at.answers) old.vm.machine) (follows_here w) made.0.0 made.1)))
+      (replied_waits m version options old k live w made.0.1 (ReadsBack (m k.at.answers) old.vm.machine) x (Performs (m k.at.answers) old.vm.machine) follows_here made.0.0 made.1)))
 
   -- recorded commands are left at the point
   some_left : old.vm.machine.phase ≡ Replaying → (left : List RawMessage) → k.at.left ≡ left → (c : RawMessage) × (further : List RawMessage) × (k.at.left ≡ c ∷ further)
@@ -389,4 +386,4 @@ module _ (m : Meaning) (version : Version) (options : VMOptions) (old : Record) 
       let some = some_left replaying k.at.left refl in
       subst (λ z. Replays m version options old z new) (sym progress)
       (subst (Replays m version options old (progress_of x)) (sym is)
-      (replied_replays m version options old k live w made.0.1 (ReadsBack (m k.at.answers) old.vm.machine) (future_in (step_asked m old)) some.0 some.1 some.2 x (performed (m k.at.answers) old.vm.machine) (follows_here w) made.0.0 made.1))
+      (replied_replays m version options old k live w made.0.1 (ReadsBack (m k.at.answers) old.vm.machine) (future_in (step_asked m old)) some.0 some.1 some.2 x (Performs (m k.at.answers) old.vm.machine) follows_here made.0.0 made.1))

@@ -16,7 +16,7 @@ use Rattle.vm_parts.specs.Deliveries.{has_result_for, id_at, used_for, used_unti
 use Rattle.vm_machine.specs.declared.machine.Machine.{Machine}
 use Rattle.vm_machine.specs.Awaits.{await_step, future_of, pending, suspended, tried}
 use Rattle.vm_machine.specs.Commands.{phase_after}
-use Rattle.vm_machine.specs.Outcomes.{Done, called, refused, ruled}
+use Rattle.vm_machine.specs.Outcomes.{Outcome, Done, called, refused, ruled}
 use Rattle.vm_machine.specs.Phases.{state_fault}
 use Rattle.vm_model.specs.Calls.{Setup, Meaning, Move, Usage, awaiting, call_of, identity_of, is_awake, ready_in}
 use Rattle.vm_model.specs.Calls.Move.{Answers, Awaits}
@@ -27,7 +27,8 @@ use Rattle.vm_model.specs.Histories.{Made, Handed}
 use Rattle.vm_model.specs.Refusals.{IsRefusedFor}
 use Rattle.vm_model.proofs.Runs.{longer_nothing, made_add}
 use Rattle.vm_rounds.specs.Agreement.{Answered, Aside, Follows, MovesOn, Waits, machine_at}
-use Rattle.vm_rounds.specs.Steps.{await_reply, awaited, mapped}
+use Rattle.vm_rounds.specs.declared.progress.Reply.{Reply}
+use Rattle.vm_rounds.specs.Steps.{Awaited, await_reply, mapped}
 use Rattle.vm_rounds.proofs.Leading.{error_written, state_at}
 use Rattle.vm_rounds.proofs.Requesting.{runs_at}
 
@@ -158,8 +159,8 @@ tried_follows s m given written aside p h is r identity =
     r.ends
 
 -- an await does what its moves lead to
-pub awaits_follow : (s : Setup) (m : Meaning) (given : StateMap) (written : List RawMessage) (aside : Aside) (p : Point) (future : UnresolvedFuture) → s.identity ≡ identity_of aside.start → m p.answers ≡ step.Await future → Follows s m given written p (machine_at s given written aside p) (awaited future (machine_at s given written aside p))
-awaits_follow s m given written aside p (Single h) identity is =
+pub awaits_follow : (s : Setup) (m : Meaning) (given : StateMap) (written : List RawMessage) (aside : Aside) (p : Point) (future : UnresolvedFuture) → s.identity ≡ identity_of aside.start → m p.answers ≡ step.Await future → (o : Outcome Reply) → Awaited future (machine_at s given written aside p) o → Follows s m given written p (machine_at s given written aside p) o
+awaits_follow s m given written aside p (Single h) identity is o (x, comes, does) =
     let r = runs_until s m given p h is p.derived.usage p.queue in
     let v = machine_at s given written aside p in
-    subst (λ o. Follows s m given written p v (mapped await_reply (called o v))) (sym (tries s m given written aside p h r)) (tried_follows s m given written aside p h is r identity)
+    subst (Follows s m given written p v) (sym (does ∙ ap (λ y. mapped await_reply (called y v)) (comes ∙ tries s m given written aside p h r))) (tried_follows s m given written aside p h is r identity)

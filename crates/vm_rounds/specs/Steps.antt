@@ -1,5 +1,5 @@
 -- The call that a step of a handler is, and what its answer is to the handler: one row a kind of what steps ask for.
-use Rattle.std.specs.Prelude.{◌≡◌, ℕ, List, Result, Ok, Err, OnOk}
+use Rattle.std.specs.Prelude.{◌≡◌, ◌⊎◌, ℕ, List, Result, Ok, Err, OnOk}
 use Rattle.journal_errors.specs.declared.error.Error.{Error}
 use Rattle.vm_parts.specs.declared.steps.Answer.TheVariants as answer
 use Rattle.vm_parts.specs.declared.steps.Step.{Step}
@@ -12,11 +12,10 @@ use Rattle.vm_machine.specs.declared.asks.Ask.{Ask}
 use Rattle.vm_machine.specs.declared.asks.Ask.TheVariants as ask
 use Rattle.vm_machine.specs.declared.asks.Command.{Command}
 use Rattle.vm_machine.specs.Asks.{ask_of, command_answer}
-use Rattle.vm_machine.specs.Requests.{ids_of}
 use Rattle.vm_machine.specs.Awaits.{is_completed, take_step}
 use Rattle.vm_machine.specs.Commands.{CanBeRead, commanded}
 use Rattle.vm_machine.specs.Inputs.{end_step}
-use Rattle.vm_machine.specs.Outcomes.{Outcome, Done, Failed, called, Does}
+use Rattle.vm_machine.specs.Outcomes.{Outcome, Done, Failed, IsStarved, called}
 use Rattle.vm_machine.specs.declared.reads.StateRead.{StateRead}
 use Rattle.vm_machine.specs.Reads.{ReadCanBeRead, read_step}
 use Rattle.vm_machine.specs.Signals.{signal_step}
@@ -57,9 +56,13 @@ await_reply (Ok AnyCompleted) = reply.Answer answer.Awake
 await_reply (Ok (WaitingExternalProgress input run)) = reply.Waiting input run
 await_reply (Err e) = reply.Suspended
 
--- an await of a future
-abbrev pub awaited : UnresolvedFuture → Machine → Outcome Reply
-awaited future v = mapped await_reply (called (future_step future v) v)
+-- what an await of a future may come to
+abbrev pub MayCome : UnresolvedFuture → Machine → Outcome (Result AwaitResponse Error) → Type 0
+MayCome future v x = x ≡ future_step future v
+
+-- an await of a future: what it comes to, as a reply
+abbrev pub Awaited : UnresolvedFuture → Machine → Outcome Reply → Type 0
+Awaited future v o = (x : Outcome (Result AwaitResponse Error)) × MayCome future v x × (o ≡ mapped await_reply (called x v))
 
 -- a take: the answer is the result, if there is one
 abbrev pub taken : NotificationHandle → Machine → Outcome Reply
@@ -69,20 +72,28 @@ taken handle v = mapped (λ value. reply.Answer (answer.Taken value)) (called (t
 abbrev pub ended : Machine → Outcome Reply
 ended v = mapped (λ _. reply.Ended) (called (end_step v) v)
 
--- what the call does that is asked for
-abbrev pub performed_by : Ask → Machine → Outcome Reply
-performed_by (ask.Command c) v = carried c v
-performed_by ask.Awakeable v = awakeable_made v
-performed_by (ask.Read r) v = read_made r v
-performed_by (ask.Signal name) v = signalled name v
-performed_by (ask.Await future) v = awaited future v
-performed_by (ask.Take handle) v = taken handle v
-performed_by (ask.Completed handle) v = Done (reply.Answer (answer.Completed (is_completed handle.0 v))) v
-performed_by ask.End v = ended v
+-- whether a handle is completed: that is answered at once
+abbrev pub completed : NotificationHandle → Machine → Outcome Reply
+completed handle v = Done (reply.Answer (answer.Completed (is_completed handle.0 v))) v
 
--- what the call of a step does
-abbrev pub performed : Step → Machine → Outcome Reply
-performed s v = performed_by (ask_of v.version s) v
+-- it comes to what the call does, and to nothing else
+abbrev pub ComesTo : (Machine → Outcome Reply) → Machine → Outcome Reply → Type 0
+ComesTo call v o = o ≡ call v
+
+-- what the call may come to that is asked for
+abbrev pub PerformsBy : Ask → Machine → Outcome Reply → Type 0
+PerformsBy (ask.Command c) = ComesTo (carried c)
+PerformsBy ask.Awakeable = ComesTo awakeable_made
+PerformsBy (ask.Read r) = ComesTo (read_made r)
+PerformsBy (ask.Signal name) = ComesTo (signalled name)
+PerformsBy (ask.Await future) = Awaited future
+PerformsBy (ask.Take handle) = ComesTo (taken handle)
+PerformsBy (ask.Completed handle) = ComesTo (completed handle)
+PerformsBy ask.End = ComesTo ended
+
+-- what the call of a step may come to
+abbrev pub Performs : Step → Machine → Outcome Reply → Type 0
+Performs s v = PerformsBy (ask_of v.version s) v
 
 -- where a command is written, it can be read back
 abbrev pub IsReadable : Ask → Machine → Type 0
@@ -99,10 +110,15 @@ abbrev pub IfDone : {A : Type 0} → Outcome A → Type 0 → Type 0
 IfDone (Done a w) P = P
 IfDone (Failed e w) P = Unit {0}
 
+-- A call does one of the outcomes that it may come to, or finds no memory.
+abbrev pub DoesBy : {A : Type 0} → (Outcome A → Type 0) → Result A Error → Machine → Machine → Type 0
+DoesBy R (Ok a) old new = R (Done a new)
+DoesBy R (Err e) old new = R (Failed e new) ⊎ IsStarved old e new
+
 -- a call was made
-abbrev pub Asked : (Machine → Outcome Reply) → Result Reply Error → View → View → Type 0
-Asked step r old new = Does (step old.machine) r old.machine new.machine × (new.undecoded ≡ old.undecoded)
+abbrev pub Asked : (Machine → Outcome Reply → Type 0) → Result Reply Error → View → View → Type 0
+Asked R r old new = DoesBy (R old.machine) r old.machine new.machine × (new.undecoded ≡ old.undecoded)
 
 -- a step was made: its call, and where that was answered, the command that it wrote can be read back
 abbrev pub StepMade : Step → Result Reply Error → View → View → Type 0
-StepMade s r old new = Asked (performed s) r old new × OnOk r (ReadsBack s old.machine)
+StepMade s r old new = Asked (Performs s) r old new × OnOk r (ReadsBack s old.machine)

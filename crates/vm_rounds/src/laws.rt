@@ -6,6 +6,7 @@ ghost use Rattle.vm_machine.specs.declared.machine.Machine.{Machine};
 ghost use Rattle.vm_machine.specs.declared.phase.Phase.TheVariants.{Replaying};
 ghost use Rattle.vm_machine.specs.Inputs.{input_step};
 ghost use Rattle.vm_machine.specs.Making.{fresh};
+ghost use Rattle.vm_machine.specs.Outcomes.{Outcome};
 ghost use Rattle.invocation_vm.specs.Making.{made};
 ghost use Rattle.std.proofs.Common.{Global};
 ghost use Rattle.journal_errors.specs.declared.version.Version.{Version};
@@ -21,9 +22,10 @@ ghost use Rattle.vm_rounds.specs.Agreement.{Agrees, Aside, Follows};
 ghost use Rattle.vm_rounds.specs.Blames.{Blame, FailsAt, IsHonest, IsOwnError};
 ghost use Rattle.vm_rounds.specs.Honest.{FeedsHonestly};
 ghost use Rattle.vm_rounds.specs.Journals.{BeginsOrFails, Started, as_entries, machine_fed, notifications_among, setup_for};
-ghost use Rattle.vm_rounds.specs.Steps.{performed, IfDone, ReadsBack};
+ghost use Rattle.vm_rounds.specs.Steps.{IfDone, Performs, ReadsBack};
 ghost use Rattle.vm_rounds.specs.Told.{AnswersAreTold, HasCome, IsKeptUnder, Premises, RefusesReplay, arrivals_of};
 ghost use Rattle.vm_rounds.specs.declared.progress.Progress.{Progress};
+ghost use Rattle.vm_rounds.specs.declared.progress.Reply.{Reply};
 ghost use Rattle.std.specs.Prelude.{Result};
 ghost use Rattle.journal_errors.specs.declared.error.Error.{Error};
 ghost use Rattle.std.specs.declared.alloc.AllocError.{AllocError};
@@ -41,7 +43,7 @@ ghost use Rattle.vm_parts.specs.declared.types.UnresolvedFuture.{UnresolvedFutur
 /// ends, where no recorded command is left; or the call is refused, where no move leads on. (That a command which was written can
 /// be read back is in the contract of each call.)
 pub fn calls_follow()
-    ensures { (s : Setup) (m : Meaning) (given : StateMap) (written : List RawMessage) (v : Machine) (p : Point) → Agrees s given written v p → IfDone (performed (m p.answers) v) (ReadsBack (m p.answers) v) → Follows s m given written p v (performed (m p.answers) v) }
+    ensures { (s : Setup) (m : Meaning) (given : StateMap) (written : List RawMessage) (v : Machine) (p : Point) (o : Outcome Reply) → Agrees s given written v p → Performs (m p.answers) v o → IfDone o (ReadsBack (m p.answers) v) → Follows s m given written p v o }
 {}
 
 /// Frames that come to a machine that agrees with a point are arrivals: the machine then agrees with that point and these

@@ -3,7 +3,7 @@ ghost use Rattle.std.specs.Prelude.{◌≡◌, OnOk};
 ghost use Rattle.vm_machine.specs.Commands.{CanBeRead};
 ghost use Rattle.vm_machine.specs.Reads.{ReadCanBeRead};
 ghost use Rattle.invocation_vm.specs.Seen.{seen};
-ghost use Rattle.vm_rounds.specs.Steps.{ended, awaited, await_reply, awakeable_made, carried, read_made, signalled, taken, Asked, StepMade};
+ghost use Rattle.vm_rounds.specs.Steps.{Asked, Awaited, ComesTo, StepMade, await_reply, awakeable_made, carried, ended, read_made, signalled, taken};
 
 use crate::progress::Reply;
 use invocation_vm::{AwaitResponse, CoreVM, NotificationHandle, UnresolvedFuture, VM, VMResult};
@@ -14,7 +14,7 @@ use wire::Text;
 
 #[tactic(auto, using(crate::proofs::Replies::replies, crate::proofs::Replies::replies_sent, vm_machine::proofs::Answering::handles_fit))]
 fn carry(vm: &mut CoreVM, command: Command) -> VMResult<Reply>
-    ensures does { Asked (carried command) result (seen vm.old) (seen vm.new) }
+    ensures does { Asked (ComesTo (carried command)) result (seen vm.old) (seen vm.new) }
     ensures sent { OnOk result (CanBeRead command.message (seen vm.old).machine) }
 {
     let kind = command.answer_kind();
@@ -26,7 +26,7 @@ fn carry(vm: &mut CoreVM, command: Command) -> VMResult<Reply>
 
 #[tactic(auto, using(crate::proofs::Replies::replies))]
 fn awakeable(vm: &mut CoreVM) -> VMResult<Reply>
-    ensures { Asked awakeable_made result (seen vm.old) (seen vm.new) }
+    ensures { Asked (ComesTo awakeable_made) result (seen vm.old) (seen vm.new) }
 {
     match vm.sys_awakeable() {
         Ok(awakeable) => Ok(Reply::Answer(Answer::Awakeable(awakeable))),
@@ -36,7 +36,7 @@ fn awakeable(vm: &mut CoreVM) -> VMResult<Reply>
 
 #[tactic(auto, using(crate::proofs::Replies::replies, crate::proofs::Replies::reads_sent))]
 fn read_state(vm: &mut CoreVM, read: StateRead) -> VMResult<Reply>
-    ensures does { Asked (read_made read) result (seen vm.old) (seen vm.new) }
+    ensures does { Asked (ComesTo (read_made read)) result (seen vm.old) (seen vm.new) }
     ensures sent { OnOk result (ReadCanBeRead read (seen vm.old).machine) }
 {
     match vm.read(read) {
@@ -47,7 +47,7 @@ fn read_state(vm: &mut CoreVM, read: StateRead) -> VMResult<Reply>
 
 #[tactic(auto, using(crate::proofs::Replies::replies))]
 fn signal(vm: &mut CoreVM, name: Text) -> VMResult<Reply>
-    ensures { Asked (signalled name) result (seen vm.old) (seen vm.new) }
+    ensures { Asked (ComesTo (signalled name)) result (seen vm.old) (seen vm.new) }
 {
     match vm.create_signal_handle(name.into_string()) {
         Ok(handle) => Ok(Reply::Answer(Answer::Handle(handle))),
@@ -57,7 +57,7 @@ fn signal(vm: &mut CoreVM, name: Text) -> VMResult<Reply>
 
 #[tactic(auto, using(crate::proofs::Replies::replies))]
 fn take(vm: &mut CoreVM, handle: NotificationHandle) -> VMResult<Reply>
-    ensures { Asked (taken handle) result (seen vm.old) (seen vm.new) }
+    ensures { Asked (ComesTo (taken handle)) result (seen vm.old) (seen vm.new) }
 {
     match vm.take_notification(handle) {
         Ok(value) => Ok(Reply::Answer(Answer::Taken(value))),
@@ -67,7 +67,7 @@ fn take(vm: &mut CoreVM, handle: NotificationHandle) -> VMResult<Reply>
 
 #[tactic(auto, using(crate::proofs::Replies::replies))]
 fn end(vm: &mut CoreVM) -> VMResult<Reply>
-    ensures { Asked ended result (seen vm.old) (seen vm.new) }
+    ensures { Asked (ComesTo ended) result (seen vm.old) (seen vm.new) }
 {
     match vm.sys_end() {
         Ok(()) => Ok(Reply::Ended),
@@ -93,9 +93,9 @@ fn reply_of(response: VMResult<AwaitResponse>) -> Reply
     }
 }
 
-#[tactic(auto, using(crate::proofs::Replies::replies))]
+#[tactic(auto, using(crate::proofs::Replies::awaits_reply))]
 fn wait(vm: &mut CoreVM, future: UnresolvedFuture) -> VMResult<Reply>
-    ensures { Asked (awaited future) result (seen vm.old) (seen vm.new) }
+    ensures { Asked (Awaited future) result (seen vm.old) (seen vm.new) }
 {
     match vm.try_await(future) {
         Ok(response) => Ok(reply_of(response)),

@@ -7,6 +7,8 @@ use Rattle.std.specs.declared.alloc.AllocError.{AllocError}
 use Rattle.journal_errors.specs.declared.error.Error.{Error}
 use Rattle.journal_errors.specs.declared.faults.NamedFault.TheVariants as fault
 use Rattle.journal_messages.specs.Message.{encoding}
+use Rattle.vm_parts.specs.declared.steps.Step.{Step}
+use Rattle.vm_parts.specs.declared.types.AwaitResponse.{AwaitResponse}
 use Rattle.vm_parts.specs.declared.types.AwakeableHandle.{AwakeableHandle}
 use Rattle.vm_parts.specs.declared.types.UnresolvedFuture.{UnresolvedFuture}
 use Rattle.vm_parts.specs.declared.types.UnresolvedFuture.TheVariants.{Single}
@@ -22,7 +24,7 @@ use Rattle.vm_machine.specs.Inputs.{close_step, input_step}
 use Rattle.vm_machine.specs.Outcomes.{Does, Done, Failed, Outcome, called, refused}
 use Rattle.vm_machine.specs.Signals.{awakeable_step}
 use Rattle.vm_machine.proofs.Endings.{GoesOn, asks_go_on, await_writes, awakeable_writes, called_writes, close_writes, commanded_event, end_writes, input_writes, read_writes, same, signal_writes, take_writes, writes_nothing}
-use Rattle.invocation_vm.specs.Calls.{future_step, skips_replay}
+use Rattle.invocation_vm.specs.Calls.{skips_replay}
 use Rattle.invocation_vm.specs.Views.{View, after_closing, after_input, left_by}
 use Rattle.invocation_vm.proofs.Feeds.{among_output}
 use Rattle.vm_model.specs.Calls.{Meaning}
@@ -32,7 +34,7 @@ use Rattle.vm_rounds.specs.declared.progress.Reply.{Reply}
 use Rattle.vm_rounds.specs.declared.progress.Reply.TheVariants as reply
 use Rattle.vm_rounds.specs.Record.{Record, bytes_written}
 use Rattle.vm_rounds.specs.Stepping.{Advances, Asks, CloseDoes, Closes, FeedDoes, Feeds, Reads, StepAt, StepDoes, StepFrom, StepUnless, future_in, kept_at, replied, step_asked, with_vm}
-use Rattle.vm_rounds.specs.Steps.{mapped, performed, performed_by}
+use Rattle.vm_rounds.specs.Steps.{DoesBy, MayCome, Performs, PerformsBy, await_reply, mapped}
 use Rattle.vm_rounds.proofs.Quiet.{input_quiet}
 
 -- ---- one event of the machine
@@ -45,19 +47,19 @@ new_awakeable_writes : (b : Bool) (v : Machine) → EventWrites v (called (if b 
 new_awakeable_writes true v = called_writes v (refused {A = AwakeableHandle} fault.UnsupportedFeature v) (λ live. same v)
 new_awakeable_writes false v = awakeable_writes v
 
-await_event : (future : UnresolvedFuture) (v : Machine) → EventWrites v (called (future_step future v) v)
-await_event (Single handle) v = await_writes handle.0 v
+await_event : (future : UnresolvedFuture) (v : Machine) (x : Outcome (Result AwaitResponse Error)) → MayCome future v x → EventWrites v (called x v)
+await_event (Single handle) v x comes = subst (λ y. EventWrites v (called y v)) (sym comes) (await_writes handle.0 v)
 
 -- what is asked for writes behind the output
-asked_writes : (a : Ask) → GoesOn a → (v : Machine) → EventWrites v (performed_by a v)
-asked_writes (ask.Command c) goes v = mapped_writes _ v (called (commanded c v) v) (called_writes v (commanded c v) (commanded_event c v goes))
-asked_writes ask.Awakeable goes v = mapped_writes _ v _ (new_awakeable_writes (skips_replay v.options.journal_replay) v)
-asked_writes (ask.Read r) goes v = mapped_writes _ v _ (read_writes r v)
-asked_writes (ask.Signal name) goes v = mapped_writes _ v _ (signal_writes name v)
-asked_writes (ask.Await future) goes v = mapped_writes _ v _ (await_event future v)
-asked_writes (ask.Take handle) goes v = mapped_writes _ v _ (take_writes handle.0 v)
-asked_writes (ask.Completed handle) goes v = writes_nothing v v (same v)
-asked_writes ask.End goes v = mapped_writes _ v _ (end_writes v)
+asked_writes : (a : Ask) → GoesOn a → (v : Machine) (o : Outcome Reply) → PerformsBy a v o → EventWrites v o
+asked_writes (ask.Command c) goes v o does = subst (EventWrites v) (sym does) (mapped_writes _ v (called (commanded c v) v) (called_writes v (commanded c v) (commanded_event c v goes)))
+asked_writes ask.Awakeable goes v o does = subst (EventWrites v) (sym does) (mapped_writes _ v _ (new_awakeable_writes (skips_replay v.options.journal_replay) v))
+asked_writes (ask.Read r) goes v o does = subst (EventWrites v) (sym does) (mapped_writes _ v _ (read_writes r v))
+asked_writes (ask.Signal name) goes v o does = subst (EventWrites v) (sym does) (mapped_writes _ v _ (signal_writes name v))
+asked_writes (ask.Await future) goes v o (x, comes, does) = subst (EventWrites v) (sym does) (mapped_writes await_reply v (called x v) (await_event future v x comes))
+asked_writes (ask.Take handle) goes v o does = subst (EventWrites v) (sym does) (mapped_writes _ v _ (take_writes handle.0 v))
+asked_writes (ask.Completed handle) goes v o does = subst (EventWrites v) (sym does) (writes_nothing v v (same v))
+asked_writes ask.End goes v o does = subst (EventWrites v) (sym does) (mapped_writes _ v _ (end_writes v))
 
 -- one output begins the other
 abbrev Extends : Machine → Machine → Type 0
@@ -70,6 +72,15 @@ does_extend : {A : Type 0} (o : Outcome A) (r : Result A Error) (v w : Machine) 
 does_extend o (Ok a) v w h d = let x : Writes v w = subst (EventWrites v) d h in (map encoding x.messages, x.output)
 does_extend o (Err e) v w h (inl d) = let x : Writes v w = subst (EventWrites v) d h in (map encoding x.messages, x.output)
 does_extend o (Err e) v w h (inr d) = extends_same v w d.output
+
+-- the call of a step writes behind the output
+step_extends : (st : Step) (v : Machine) (x : Result Reply Error) (w : Machine) → DoesBy (Performs st v) x v w → Extends v w
+step_extends st v x w = by_reply x (asked_writes (ask_of v.version st) (asks_go_on v.version st) v)
+  where
+    by_reply : (x : Result Reply Error) → ((o : Outcome Reply) → Performs st v o → EventWrites v o) → DoesBy (Performs st v) x v w → Extends v w
+    by_reply (Ok a) writes d = let x : Writes v w = writes (Done a w) d in (map encoding x.messages, x.output)
+    by_reply (Err e) writes (inl d) = let x : Writes v w = writes (Failed e w) d in (map encoding x.messages, x.output)
+    by_reply (Err e) writes (inr d) = extends_same v w d.output
 
 -- ---- one call of an attempt
 
@@ -101,7 +112,7 @@ asks_wrote m r result new (answer, w, made, is, told) =
     let st = step_asked m r in
     let f = replied_vm r (future_in st) answer w in
     let v = r.vm.machine in
-    wrote_vm r new w (ap (λ x. x.taken) is ∙ f.0) (ap (λ x. x.vm) is ∙ f.1) (does_extend (performed st v) answer v w.machine (asked_writes (ask_of v.version st) (asks_go_on v.version st) v) made.0.0)
+    wrote_vm r new w (ap (λ x. x.taken) is ∙ f.0) (ap (λ x. x.vm) is ∙ f.1) (step_extends st v answer w.machine made.0.0)
 
 advances_wrote : (m : Meaning) (r : Record) (result : Result Progress Error) (new : Record) → Advances m r result new → Wrote r new
 advances_wrote m r result new (inl h) = (ap (λ x. x.taken) h.1, extends_same r.vm.machine new.vm.machine (ap (λ x. x.vm.machine.output) h.1))
