@@ -163,9 +163,29 @@ fn perform_call(vm: &mut CoreVM, call: Call) -> Reply
     }
 }
 
-/// Makes a new VM in the place of the last.
+/// Puts a VM, or none, in the place of the last, which is let go.
+fn replace(vm: &mut Option<CoreVM>, new: Option<CoreVM>)
+    ensures { vm.new ≡ new }
+{
+    *vm = new;
+}
+
+/// Makes a new VM, and says which or why not.
 #[tactic(auto, using(crate::proofs::Making::made_as_asked))]
-fn make(
+fn make(alloc: Global, content_type: ContentType, options: VMOptions) -> (Reply, Option<CoreVM>)
+    ensures { Made alloc options (version_in (found content_type (codes "content-type"))) result.0 result.1 }
+{
+    match CoreVM::new(alloc, content_type, options) {
+        Ok(new) => {
+            let version = new.version();
+            (Reply::Made(version), Some(new))
+        }
+        Err(error) => (Reply::Refused(error), None),
+    }
+}
+
+/// Puts a new VM in the place of the last, which is let go first.
+fn make_anew(
     alloc: Global,
     vm: &mut Option<CoreVM>,
     content_type: ContentType,
@@ -173,15 +193,10 @@ fn make(
 ) -> Reply
     ensures { Made alloc options (version_in (found content_type (codes "content-type"))) result vm.new }
 {
-    *vm = None;
-    match CoreVM::new(alloc, content_type, options) {
-        Ok(new) => {
-            let version = new.version();
-            *vm = Some(new);
-            Reply::Made(version)
-        }
-        Err(error) => Reply::Refused(error),
-    }
+    replace(vm, None);
+    let (reply, made) = make(alloc, content_type, options);
+    replace(vm, made);
+    reply
 }
 
 /// Does what a line asks for.
@@ -192,10 +207,10 @@ pub fn perform(alloc: Global, vm: &mut Option<CoreVM>, request: Request) -> Repl
         Request::Nothing => Reply::Nothing,
         Request::Bad => Reply::Bad,
         Request::BadMake => {
-            *vm = None;
+            replace(vm, None);
             Reply::Bad
         }
-        Request::Make(content_type, options) => make(alloc, vm, content_type, options),
+        Request::Make(content_type, options) => make_anew(alloc, vm, content_type, options),
         Request::Call(call) => match vm {
             Some(vm) => perform_call(vm, call),
             None => {

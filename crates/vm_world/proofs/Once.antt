@@ -104,13 +104,13 @@ completes_not id m before e = refl
 
 completes_none : (id : ℕ) (cs : List RawMessage) (before : Option Completes) → is_carried id cs ≡ false → completes_among id (messages_in cs) before ≡ before
 completes_none id [] before e = refl
-completes_none id (c ∷ cs) before e = by_read (message_in c.ty c.body) e
+completes_none id (c ∷ cs) before e = by_read (message_in c.ty c.body) e (completes_none id cs before)
   where
-    by_read : (o : Option Message) → (read_carries id o || is_carried id cs) ≡ false → completes_among id (read_before o (messages_in cs)) before ≡ before
-    by_read None h = completes_none id cs before h
-    by_read (Some m) h =
+    by_read : (o : Option Message) → (read_carries id o || is_carried id cs) ≡ false → (is_carried id cs ≡ false → completes_among id (messages_in cs) before ≡ before) → completes_among id (read_before o (messages_in cs)) before ≡ before
+    by_read None h ih = ih h
+    by_read (Some m) h ih =
         let x = none_true (is_among id (carried m)) (is_carried id cs) h in
-        ap (completes_among id (messages_in cs)) (completes_not id m before x.0) ∙ completes_none id cs before x.1
+        ap (completes_among id (messages_in cs)) (completes_not id m before x.0) ∙ ih x.1
 
 -- what a stored command completes, it carries
 completed_carried : (id : ℕ) (journal : List (List ℕ)) → (completes_among id (said_in journal) None ≡ None → ⊥) → is_carried id (commands_among (frames_in journal)) ≡ true
@@ -172,11 +172,11 @@ is_new bytes journal e = by_note (note_in bytes) refl e
 
 absent_none : (id : ℕ) (ns : List Notification) → IsAbsent (CompletionId id) ns → results_of (CompletionId id) ns ≡ []
 absent_none id [] h = refl
-absent_none id (n ∷ ns) h = by_test (same_id n.id (CompletionId id)) refl
+absent_none id (n ∷ ns) h = by_test (same_id n.id (CompletionId id)) refl (absent_none id ns h.1)
   where
-    by_test : (b : Bool) → same_id n.id (CompletionId id) ≡ b → cond b (n.result ∷ results_of (CompletionId id) ns) (results_of (CompletionId id) ns) ≡ []
-    by_test true e = absurd (h.0 (same_is n.id (CompletionId id) e))
-    by_test false e = absent_none id ns h.1
+    by_test : (b : Bool) → same_id n.id (CompletionId id) ≡ b → results_of (CompletionId id) ns ≡ [] → cond b (n.result ∷ results_of (CompletionId id) ns) (results_of (CompletionId id) ns) ≡ []
+    by_test true e ih = absurd (h.0 (same_is n.id (CompletionId id) e))
+    by_test false e ih = ih
 
 pub come_once : (ns : List Notification) → CompleteOnce ns → ComeOnce ns
 come_once [] once id = omega arith
