@@ -1,21 +1,21 @@
 -- At no point that a world's journal tells has a completion id two results.
-use Rattle.std.proofs.Common.{◌≡◌, ℕ, Bool, true, false, ◌||◌, List, [], ◌∷◌, Option, Some, None, refl, sym, ap, ◌∙◌, subst}
-use Rattle.std.specs.Prelude.{◌==◌}
+use Rattle.std.proofs.Common.{◌≡◌, ℕ, false, ◌||◌, List, [], ◌∷◌, Option, Some, None, refl, sym, ap, ◌∙◌, subst}
 use Rattle.std.proofs.lemmas.Option.{same_Some}
 use Rattle.journal_attempt.specs.declared.commands.InputCommand.{InputCommand}
 use Rattle.journal_messages.specs.declared.message.Message.{Message}
+use Rattle.journal_messages.specs.declared.message.Message.TheVariants as message
 use Rattle.journal_messages.specs.declared.message.RawMessage.{RawMessage}
 use Rattle.journal_errors.specs.declared.types.MessageType.TheVariants as type
+use Rattle.journal_messages.specs.Message.{type_of}
 use Rattle.journal_messages.specs.Reading.{message_in}
 use Rattle.journal_messages.proofs.Reading.{message_is}
 use Rattle.journal_values.specs.declared.notification.Notification.{Notification}
 use Rattle.vm_parts.specs.declared.context.StateMap.{StateMap}
 use Rattle.vm_model.specs.Calls.{Meaning, Setup}
-use Rattle.vm_model.specs.Carried.{AreCarried, ComeOnce, is_among, is_carried, read_carries}
-use Rattle.vm_model.specs.Journal.{commands_in, input_read_from, notifications_in}
+use Rattle.vm_model.specs.Carried.{AreCarried, ComeOnce, carried, is_among, is_carried, read_carries}
+use Rattle.vm_model.specs.Journal.{input_read_from, notifications_in}
 use Rattle.vm_model.specs.Histories.{History, Told}
-use Rattle.vm_model.proofs.Carried.{carries_ids, carries_none, completions_once, typed}
-use Rattle.vm_rounds.specs.Journals.{commands_among}
+use Rattle.vm_model.proofs.Carried.{completions_once, typed}
 use Rattle.vm_rounds.proofs.Replayed.{commands_same, head_same, notes_same, tail_same}
 use Rattle.vm_world.specs.Entries.{entries_of, frames_in, notes_in}
 use Rattle.vm_world.specs.Rounds.{CompletesOnce}
@@ -25,13 +25,26 @@ use Rattle.vm_world.proofs.Headline.{input_type}
 use Rattle.vm_world.proofs.Once.{come_once}
 
 -- an input carries no id
+input_none : (m : Message) → type_of m ≡ type.InputCommand → carried m ≡ []
+input_none (message.Sleep c) e = absurd (cc)
+input_none (message.GetLazyState c) e = absurd (cc)
+input_none (message.GetLazyStateKeys c) e = absurd (cc)
+input_none (message.Call c) e = absurd (cc)
+input_none (message.OneWayCall c) e = absurd (cc)
+input_none (message.GetPromise c) e = absurd (cc)
+input_none (message.PeekPromise c) e = absurd (cc)
+input_none (message.CompletePromise c) e = absurd (cc)
+input_none (message.Run c) e = absurd (cc)
+input_none (message.AttachInvocation c) e = absurd (cc)
+input_none (message.GetInvocationOutput c) e = absurd (cc)
+input_none m e = refl
+
 input_carries : (raw : RawMessage) (input : InputCommand) → input_read_from raw ≡ Some input → (id : ℕ) → read_carries id (message_in raw.ty raw.body) ≡ false
-unfolding carries_ids
 input_carries raw input reads id = by_read (message_in raw.ty raw.body) refl
   where
     by_read : (o : Option Message) → message_in raw.ty raw.body ≡ o → read_carries id o ≡ false
     by_read None is = refl
-    by_read (Some m) is = ap (is_among id) (carries_none m (ap carries_ids ((message_is raw.ty raw.body m is).1 ∙ typed raw.ty type.InputCommand (input_type raw input reads))))
+    by_read (Some m) is = ap (is_among id) (input_none m ((message_is raw.ty raw.body m is).1 ∙ typed raw.ty type.InputCommand (input_type raw input reads)))
 
 -- behind the input the commands carry the same ids
 carried_behind : (ns : List Notification) (raw : RawMessage) (input : InputCommand) (rest : List RawMessage) → input_read_from raw ≡ Some input → AreCarried ns (raw ∷ rest) → AreCarried ns rest
