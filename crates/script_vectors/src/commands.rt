@@ -4,7 +4,7 @@ use crate::table::{Rows, assert_each_line, assert_each_row};
 use std::test::Fail;
 
 /// The states in which each of these calls is refused. It counts as a command there, unless the VM has failed.
-const REFUSALS: [Rows; 6] = [
+static REFUSALS: [Rows; 6] = [
     // Before Start.
     Rows {
         options: "",
@@ -147,7 +147,7 @@ failed => err 571 "KNOWN_ENTRIES_IS_ZERO"
 ];
 
 /// The handler reads its input where it may not.
-const INPUT_REFUSALS: [Rows; 7] = [
+static INPUT_REFUSALS: [Rows; 7] = [
     // Before Start.
     Rows {
         options: "",
@@ -493,16 +493,16 @@ output                              => frames Error
 
 #[test]
 fn commands_are_refused(rt: HostRuntime) -> Result<(), Fail> {
-    for rows in REFUSALS {
-        assert_each_line(&rt, rt.alloc(), VERSIONS, rows)?;
+    for rows in &REFUSALS {
+        assert_each_line(&rt, rt.alloc(), VERSIONS, *rows)?;
     }
     Ok(())
 }
 
 #[test]
 fn input_is_refused(rt: HostRuntime) -> Result<(), Fail> {
-    for rows in INPUT_REFUSALS {
-        assert_each_line(&rt, rt.alloc(), VERSIONS, rows)?;
+    for rows in &INPUT_REFUSALS {
+        assert_each_line(&rt, rt.alloc(), VERSIONS, *rows)?;
     }
     Ok(())
 }

@@ -4,7 +4,7 @@ use crate::table::{Rows, assert_each_line, assert_each_row};
 use std::test::Fail;
 
 /// The states in which the calls without a command are refused.
-const REFUSALS: [Rows; 6] = [
+static REFUSALS: [Rows; 6] = [
     // Before Start.
     Rows {
         options: "",
@@ -198,7 +198,7 @@ output                     => frames Sleep
 };
 
 /// An error that is reported fails the VM.
-const REPORTED: [Rows; 6] = [
+static REPORTED: [Rows; 6] = [
     // Before Start.
     Rows {
         options: "",
@@ -289,7 +289,7 @@ failed => err 571 "KNOWN_ENTRIES_IS_ZERO"
 ];
 
 /// Before V6 a failure with metadata is refused, whatever the state.
-const METADATA: [Rows; 6] = [
+static METADATA: [Rows; 6] = [
     // Before Start.
     Rows {
         options: "",
@@ -414,7 +414,7 @@ output => ok 0x
 };
 
 /// A sleep to one millisecond more than a u64 has is refused, whatever the state.
-const TOO_LONG: [Rows; 6] = [
+static TOO_LONG: [Rows; 6] = [
     // Before Start.
     Rows {
         options: "",
@@ -506,7 +506,7 @@ failed => err 571 "KNOWN_ENTRIES_IS_ZERO"
 ];
 
 /// Without replay no awakeable is made, whatever the state.
-const WITHOUT_REPLAY: [Rows; 6] = [
+static WITHOUT_REPLAY: [Rows; 6] = [
     // Before Start.
     Rows {
         options: "replay=off",
@@ -613,8 +613,8 @@ failed => err 573 "UNSUPPORTED_FEATURE"
 
 #[test]
 fn calls_are_refused(rt: HostRuntime) -> Result<(), Fail> {
-    for rows in REFUSALS {
-        assert_each_line(&rt, rt.alloc(), VERSIONS, rows)?;
+    for rows in &REFUSALS {
+        assert_each_line(&rt, rt.alloc(), VERSIONS, *rows)?;
     }
     Ok(())
 }
@@ -626,16 +626,16 @@ fn calls_are_done(rt: HostRuntime) -> Result<(), Fail> {
 
 #[test]
 fn reported_error_fails_in_each_state(rt: HostRuntime) -> Result<(), Fail> {
-    for rows in REPORTED {
-        assert_each_line(&rt, rt.alloc(), VERSIONS, rows)?;
+    for rows in &REPORTED {
+        assert_each_line(&rt, rt.alloc(), VERSIONS, *rows)?;
     }
     Ok(())
 }
 
 #[test]
 fn metadata_is_refused_before_v6(rt: HostRuntime) -> Result<(), Fail> {
-    for rows in METADATA {
-        assert_each_line(&rt, rt.alloc(), &[5], rows)?;
+    for rows in &METADATA {
+        assert_each_line(&rt, rt.alloc(), &[5], *rows)?;
     }
     Ok(())
 }
@@ -647,16 +647,16 @@ fn metadata_is_sent_from_v6(rt: HostRuntime) -> Result<(), Fail> {
 
 #[test]
 fn sleep_out_of_bounds_is_refused_before_the_state(rt: HostRuntime) -> Result<(), Fail> {
-    for rows in TOO_LONG {
-        assert_each_line(&rt, rt.alloc(), VERSIONS, rows)?;
+    for rows in &TOO_LONG {
+        assert_each_line(&rt, rt.alloc(), VERSIONS, *rows)?;
     }
     Ok(())
 }
 
 #[test]
 fn awakeable_is_refused_without_replay(rt: HostRuntime) -> Result<(), Fail> {
-    for rows in WITHOUT_REPLAY {
-        assert_each_line(&rt, rt.alloc(), VERSIONS, rows)?;
+    for rows in &WITHOUT_REPLAY {
+        assert_each_line(&rt, rt.alloc(), VERSIONS, *rows)?;
     }
     Ok(())
 }

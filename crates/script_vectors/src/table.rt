@@ -84,7 +84,7 @@ fn assert_answer(
 }
 
 /// The calls that a failed VM answers with its error.
-const CALLS: [&str; 7] = [
+static CALLS: [&str; 7] = [
     "ready",
     "sys_input",
     "sleep \"\" 1000",
@@ -100,8 +100,8 @@ fn assert_failed(
     vm: &mut Option<CoreVM>,
     wanted: &str,
 ) -> Result<(), Fail> {
-    for call in CALLS {
-        assert_answer(rt, alloc, vm, call, wanted)?;
+    for call in &CALLS {
+        assert_answer(rt, alloc, vm, *call, wanted)?;
     }
     assert_answer(rt, alloc, vm, "completed 17", "ok false")?;
     assert_answer(rt, alloc, vm, "state", "ok Closed")?;
