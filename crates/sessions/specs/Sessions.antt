@@ -7,9 +7,9 @@ use Rattle.invocation_vm.specs.declared.core_vm.CoreVM.{CoreVM}
 use Rattle.invocation_vm.specs.Seen.{seen}
 use Rattle.invocation_vm.specs.Views.{StarvesAmong, TakesOutput, after_input, brought}
 use Rattle.scripts.specs.Transcripts.{Transcribes}
-use Rattle.ffi.specs.declared.session.Session.{Session}
-use Rattle.ffi.specs.declared.status.Status.{Status}
-use Rattle.ffi.specs.declared.status.Status.TheVariants as status
+use Rattle.sessions.specs.declared.session.Session.{Session}
+use Rattle.sessions.specs.declared.status.Status.{Status}
+use Rattle.sessions.specs.declared.status.Status.TheVariants as status
 
 -- no VM, and no answer
 abbrev pub IsEmpty : Session → Type 0

@@ -1,21 +1,13 @@
-//! A VM for callers of C: a line is performed on it, and answered by a line; bytes go in and come out as they are.
-#![tactic(auto)]
-
+//! What each call from C does: a line is performed on a session's VM, and answered by a line; bytes go in and come out as they are.
 ghost use Rattle.std.specs.Prelude.{◌≡◌, ◌≤◌, None, Some};
 ghost use Rattle.std.specs.Option.{MatchOption};
-ghost use Rattle.ffi.specs.Sessions.{AnswerRead, InputFed, IsMade, LineSent, OutputTaken};
-ghost use Rattle.ffi.specs.Statuses.{status_of};
+ghost use Rattle.sessions.specs.Sessions.{AnswerRead, InputFed, IsMade, LineSent, OutputTaken};
+ghost use Rattle.sessions.specs.Statuses.{status_of};
 
-mod held;
-mod loose;
-mod session;
-mod status;
-
-pub use held::Vm;
-use held::{empty, hide, show};
-use loose::Loose;
-pub use session::Session;
-pub use status::Status;
+use crate::held::{Vm, empty, hide, show};
+use crate::loose::Loose;
+use crate::session::Session;
+use crate::status::Status;
 use std::alloc::Global;
 
 /// How a call ended, and a length.
@@ -60,12 +52,11 @@ fn give(alloc: Global, vm: &mut Vm, session: Box<Session>)
 }
 
 /// Makes an empty session, where memory is found. One that was there is let go.
-#[unsafe(no_mangle)]
-pub extern "C" fn palqytun_new(alloc: Global, vm: &mut Vm) -> u32
+pub fn open(alloc: Global, vm: &mut Vm) -> u32
     ensures made { IsMade (status_of result) vm.new.value }
     ensures known { result ≤ 4 }
 {
-    palqytun_free(alloc, vm);
+    close(alloc, vm);
     match Box::new(alloc, Session::new(alloc)) {
         Ok(made) => {
             give(alloc, vm, made);
@@ -75,9 +66,8 @@ pub extern "C" fn palqytun_new(alloc: Global, vm: &mut Vm) -> u32
     }
 }
 
-/// Performs a line, and tells how long its answer is, which `palqytun_answer` reads.
-#[unsafe(no_mangle)]
-pub extern "C" fn palqytun_line(alloc: Global, vm: &mut Vm, line: &[u8]) -> Told
+/// Performs a line, and tells how long its answer is, which `read_answer` reads.
+pub fn perform_line(alloc: Global, vm: &mut Vm, line: &[u8]) -> Told
     ensures sent { LineSent alloc line.now (status_of result.status) result.len vm.old.value vm.new.value }
     ensures known { result.status ≤ 4 }
 {
@@ -93,8 +83,7 @@ pub extern "C" fn palqytun_line(alloc: Global, vm: &mut Vm, line: &[u8]) -> Told
 }
 
 /// Writes the last answer to the front of `out`, where there is room for it, and tells how long it is.
-#[unsafe(no_mangle)]
-pub extern "C" fn palqytun_answer(alloc: Global, vm: &mut Vm, out: &mut [u8]) -> Told
+pub fn read_answer(alloc: Global, vm: &mut Vm, out: &mut [u8]) -> Told
     ensures kept { vm.new.value ≡ vm.old.value }
     ensures known { result.status ≤ 4 }
     ensures read { AnswerRead (status_of result.status) result.len out.old out.new vm.old.value }
@@ -110,8 +99,7 @@ pub extern "C" fn palqytun_answer(alloc: Global, vm: &mut Vm, out: &mut [u8]) ->
 }
 
 /// Feeds the VM bytes of its input.
-#[unsafe(no_mangle)]
-pub extern "C" fn palqytun_feed(alloc: Global, vm: &mut Vm, bytes: &[u8]) -> u32
+pub fn feed(alloc: Global, vm: &mut Vm, bytes: &[u8]) -> u32
     ensures fed { InputFed bytes.now (status_of result) vm.old.value vm.new.value }
     ensures known { result ≤ 4 }
 {
@@ -126,8 +114,7 @@ pub extern "C" fn palqytun_feed(alloc: Global, vm: &mut Vm, bytes: &[u8]) -> u32
 }
 
 /// Moves all of the VM's output to the front of `out`, where there is room for it, and tells how long it is.
-#[unsafe(no_mangle)]
-pub extern "C" fn palqytun_take_output(alloc: Global, vm: &mut Vm, out: &mut [u8]) -> Told
+pub fn take_output(alloc: Global, vm: &mut Vm, out: &mut [u8]) -> Told
     ensures taken { OutputTaken (status_of result.status) result.len out.old out.new vm.old.value vm.new.value }
     ensures known { result.status ≤ 4 }
 {
@@ -142,8 +129,7 @@ pub extern "C" fn palqytun_take_output(alloc: Global, vm: &mut Vm, out: &mut [u8
 }
 
 /// Lets the session go, if there is one.
-#[unsafe(no_mangle)]
-pub extern "C" fn palqytun_free(alloc: Global, vm: &mut Vm)
+pub fn close(alloc: Global, vm: &mut Vm)
     ensures { vm.new.value ≡ None }
 {
     let session = take(alloc, vm);

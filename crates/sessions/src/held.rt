@@ -1,9 +1,9 @@
 //! A session as C holds it.
 ghost use Rattle.std.specs.Prelude.{◌≡◌, Option, Some, None};
 ghost use Rattle.std.specs.Option.{MatchOption};
-ghost use Rattle.ffi.specs.declared.session.Session.{Session};
-ghost use Rattle.ffi.specs.contracts.session.Session.{the_row as session_row};
-ghost use Rattle.ffi.specs.Held.{held};
+ghost use Rattle.sessions.specs.declared.session.Session.{Session};
+ghost use Rattle.sessions.specs.contracts.session.Session.{the_row as session_row};
+ghost use Rattle.sessions.specs.Held.{held};
 
 use crate::loose::Loose;
 use crate::session::Session;

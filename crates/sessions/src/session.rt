@@ -1,6 +1,6 @@
 //! One VM, and its last answer.
 ghost use Rattle.std.specs.Prelude.{◌≡◌, Some};
-ghost use Rattle.ffi.specs.Sessions.{AnswerRead, Drained, Fed, IsEmpty, LineDone};
+ghost use Rattle.sessions.specs.Sessions.{AnswerRead, Drained, Fed, IsEmpty, LineDone};
 
 use crate::status::Status;
 use bytes::Bytes;

@@ -1,6 +1,6 @@
 //! How a call from C ends.
 ghost use Rattle.std.specs.Prelude.{◌≡◌, ◌≤◌};
-ghost use Rattle.ffi.specs.Statuses.{status_of};
+ghost use Rattle.sessions.specs.Statuses.{status_of};
 
 /// How a call from C ended.
 #[derive(Clone, Copy, Debug, PartialEq, Eq)]

@@ -13,10 +13,10 @@ use denote.RawPtr.{null_ptr}
 use denote.Steps.{nothing}
 use denote.Triple.Walked.{Stays, walk_of}
 use Rattle.std.proofs.raw_atomic.Walks.{proved, leaves}
-use Rattle.ffi.proofs.Values.{vm_in}
-use Rattle.ffi.specs.contracts.held.empty as f
-use Rattle.ffi.proofs.held.empty.Statement.{statement}
-use Rattle.ffi.proofs.held.empty.Code as code
+use Rattle.sessions.proofs.Values.{vm_in}
+use Rattle.sessions.specs.contracts.held.empty as f
+use Rattle.sessions.proofs.held.empty.Statement.{statement}
+use Rattle.sessions.proofs.held.empty.Code as code
 
 abbrev stayed : Stays f.ended.signature.params f.ended.kept
 stayed = tt

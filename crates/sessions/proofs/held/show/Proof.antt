@@ -28,14 +28,14 @@ use Rattle.std.proofs.alloc.Shapes.{after}
 use Rattle.std.proofs.option.Made.{Some-of, none_of}
 use Rattle.std.proofs.cell.Inside.{Good}
 use Rattle.std.proofs.raw_atomic.Walks.{proved_at, leaves}
-use Rattle.ffi.specs.Held.{chunk, held}
-use Rattle.ffi.specs.contracts.held.Vm as vm
-use Rattle.ffi.specs.declared.session.Session.{Session}
-use Rattle.ffi.specs.contracts.session.Session.{the_row as session_row}
-use Rattle.ffi.proofs.Values.{both, heap_val, heap_row, heap_Tells, loose_row, held_in, vm_out}
-use Rattle.ffi.specs.contracts.held.show as f
-use Rattle.ffi.proofs.held.show.Statement.{statement}
-use Rattle.ffi.proofs.held.show.Code as code
+use Rattle.sessions.specs.Held.{chunk, held}
+use Rattle.sessions.specs.contracts.held.Vm as vm
+use Rattle.sessions.specs.declared.session.Session.{Session}
+use Rattle.sessions.specs.contracts.session.Session.{the_row as session_row}
+use Rattle.sessions.proofs.Values.{both, heap_val, heap_row, heap_Tells, loose_row, held_in, vm_out}
+use Rattle.sessions.specs.contracts.held.show as f
+use Rattle.sessions.proofs.held.show.Statement.{statement}
+use Rattle.sessions.proofs.held.show.Code as code
 
 abbrev stayed : Stays f.ended.signature.params f.ended.kept
 stayed = (stay_dropped (plain (λ _. vm.the_row)) yes, (stay_dropped (plain (λ _. heap_row)) yes, tt))

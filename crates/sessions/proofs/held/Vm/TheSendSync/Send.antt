@@ -7,11 +7,11 @@ use denote.Param.Send.{IsSend, part_keyless, recorded_send}
 use denote.RawPtr.{Ptr, block_ptr, null_ptr}
 use mir.Raw.{raw as bare}
 use Rattle.std.proofs.Crossing.{frees}
-use Rattle.ffi.specs.Held.{held}
-use Rattle.ffi.specs.contracts.held.Vm.{the_row}
-use Rattle.ffi.specs.declared.session.Session.{Session}
-use Rattle.ffi.specs.contracts.session.Session.{the_row as session_row, the_field, the_type}
-use Rattle.ffi.proofs.session.Session.TheSendSync as session
+use Rattle.sessions.specs.Held.{held}
+use Rattle.sessions.specs.contracts.held.Vm.{the_row}
+use Rattle.sessions.specs.declared.session.Session.{Session}
+use Rattle.sessions.specs.contracts.session.Session.{the_row as session_row, the_field, the_type}
+use Rattle.sessions.proofs.session.Session.TheSendSync as session
 
 session_send : IsSend session_row
 session_send = recorded_send the_field.row _ _ the_type.to_one session.the_field_send

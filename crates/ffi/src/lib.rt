@@ -1,0 +1,63 @@
+//! A VM for callers of C: the functions that C calls. What each does stands in `sessions`.
+#![tactic(auto)]
+
+ghost use Rattle.std.specs.Prelude.{◌≡◌, ◌≤◌, None};
+ghost use Rattle.sessions.specs.Sessions.{AnswerRead, InputFed, IsMade, LineSent, OutputTaken};
+ghost use Rattle.sessions.specs.Statuses.{status_of};
+
+use sessions::{Told, Vm, calls};
+use std::alloc::Global;
+
+/// Makes an empty session, where memory is found. One that was there is let go.
+#[unsafe(no_mangle)]
+pub extern "C" fn palqytun_new(alloc: Global, vm: &mut Vm) -> u32
+    ensures made { IsMade (status_of result) vm.new.value }
+    ensures known { result ≤ 4 }
+{
+    calls::open(alloc, vm)
+}
+
+/// Performs a line, and tells how long its answer is, which `palqytun_answer` reads.
+#[unsafe(no_mangle)]
+pub extern "C" fn palqytun_line(alloc: Global, vm: &mut Vm, line: &[u8]) -> Told
+    ensures sent { LineSent alloc line.now (status_of result.status) result.len vm.old.value vm.new.value }
+    ensures known { result.status ≤ 4 }
+{
+    calls::perform_line(alloc, vm, line)
+}
+
+/// Writes the last answer to the front of `out`, where there is room for it, and tells how long it is.
+#[unsafe(no_mangle)]
+pub extern "C" fn palqytun_answer(alloc: Global, vm: &mut Vm, out: &mut [u8]) -> Told
+    ensures kept { vm.new.value ≡ vm.old.value }
+    ensures known { result.status ≤ 4 }
+    ensures read { AnswerRead (status_of result.status) result.len out.old out.new vm.old.value }
+{
+    calls::read_answer(alloc, vm, out)
+}
+
+/// Feeds the VM bytes of its input.
+#[unsafe(no_mangle)]
+pub extern "C" fn palqytun_feed(alloc: Global, vm: &mut Vm, bytes: &[u8]) -> u32
+    ensures fed { InputFed bytes.now (status_of result) vm.old.value vm.new.value }
+    ensures known { result ≤ 4 }
+{
+    calls::feed(alloc, vm, bytes)
+}
+
+/// Moves all of the VM's output to the front of `out`, where there is room for it, and tells how long it is.
+#[unsafe(no_mangle)]
+pub extern "C" fn palqytun_take_output(alloc: Global, vm: &mut Vm, out: &mut [u8]) -> Told
+    ensures taken { OutputTaken (status_of result.status) result.len out.old out.new vm.old.value vm.new.value }
+    ensures known { result.status ≤ 4 }
+{
+    calls::take_output(alloc, vm, out)
+}
+
+/// Lets the session go, if there is one.
+#[unsafe(no_mangle)]
+pub extern "C" fn palqytun_free(alloc: Global, vm: &mut Vm)
+    ensures { vm.new.value ≡ None }
+{
+    calls::close(alloc, vm)
+}
