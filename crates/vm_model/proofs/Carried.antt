@@ -70,7 +70,7 @@ one_of false b e = inr e
 -- ---- header-equal commands carry the same ids
 
 -- commands of this type carry ids
-pub carries_ids : MessageType → Bool
+carries_ids : MessageType → Bool
 carries_ids type.SleepCommand = true
 carries_ids type.GetLazyStateCommand = true
 carries_ids type.GetLazyStateKeysCommand = true
@@ -84,7 +84,7 @@ carries_ids type.AttachInvocationCommand = true
 carries_ids type.GetInvocationOutputCommand = true
 carries_ids ty = false
 
-pub carries_none : (m : Message) → carries_ids (type_of m) ≡ false → carried m ≡ []
+carries_none : (m : Message) → carries_ids (type_of m) ≡ false → carried m ≡ []
 unfolding carries_ids
 carries_none (message.Sleep c) e = absurd (cc)
 carries_none (message.GetLazyState c) e = absurd (cc)
@@ -98,6 +98,11 @@ carries_none (message.Run c) e = absurd (cc)
 carries_none (message.AttachInvocation c) e = absurd (cc)
 carries_none (message.GetInvocationOutput c) e = absurd (cc)
 carries_none m e = refl
+
+-- an input carries none
+pub input_carries : (m : Message) → type_of m ≡ type.InputCommand → carried m ≡ []
+unfolding carries_ids
+input_carries m e = carries_none m (ap carries_ids e)
 
 one_id : (a b : ℕ) → (a == b) ≡ true → a ∷ [] ≡ b ∷ []
 one_id a b e = ap (λ id. id ∷ []) (eqb-true a b e)

@@ -1,5 +1,6 @@
 -- Which completion ids a journal's commands carry, for whose results notifications come.
-use Rattle.std.specs.Prelude.{◌≡◌, ◌≤◌, ◌==◌, ◌||◌, ℕ, Bool, false, List, [], ◌∷◌, length, Option, Some, None}
+use Rattle.std.specs.Prelude.{◌≡◌, ◌≤◌, ◌==◌, ℕ, Bool, false, List, [], ◌∷◌, length, Option, Some, None}
+use Rattle.std.specs.List.{list_any}
 use Rattle.arrivals.specs.Results.{results_of}
 use Rattle.journal_messages.specs.declared.message.Message.{Message}
 use Rattle.journal_messages.specs.declared.message.Message.TheVariants as message
@@ -25,8 +26,7 @@ carried m = []
 
 -- the id is one of these
 abbrev pub is_among : ℕ → List ℕ → Bool
-is_among id [] = false
-is_among id (other ∷ ids) = (other == id) || is_among id ids
+is_among id ids = list_any (λ other. other == id) ids
 
 -- what was read of a command carries the id
 abbrev pub read_carries : ℕ → Option Message → Bool
@@ -35,8 +35,7 @@ read_carries id (Some m) = is_among id (carried m)
 
 -- one of the stored commands carries the id
 abbrev pub is_carried : ℕ → List RawMessage → Bool
-is_carried id [] = false
-is_carried id (c ∷ cs) = read_carries id (message_in c.ty c.body) || is_carried id cs
+is_carried id cs = list_any (λ c. read_carries id (message_in c.ty c.body)) cs
 
 -- each completion id has one result at most
 abbrev pub ComeOnce : List Notification → Type 0

@@ -15,7 +15,7 @@ use Rattle.vm_model.specs.Calls.{Meaning, Setup}
 use Rattle.vm_model.specs.Carried.{AreCarried, ComeOnce, carried, is_among, is_carried, read_carries}
 use Rattle.vm_model.specs.Journal.{input_read_from, notifications_in}
 use Rattle.vm_model.specs.Histories.{History, Told}
-use Rattle.vm_model.proofs.Carried.{completions_once, typed}
+use Rattle.vm_model.proofs.Carried.{completions_once, input_carries, typed}
 use Rattle.vm_rounds.proofs.Replayed.{commands_same, head_same, notes_same, tail_same}
 use Rattle.vm_world.specs.Entries.{entries_of, frames_in, notes_in}
 use Rattle.vm_world.specs.Rounds.{CompletesOnce}
@@ -24,31 +24,17 @@ use Rattle.vm_world.proofs.Framing.{notes_are}
 use Rattle.vm_world.proofs.Headline.{input_type}
 use Rattle.vm_world.proofs.Once.{come_once}
 
--- an input carries no id
-input_none : (m : Message) → type_of m ≡ type.InputCommand → carried m ≡ []
-input_none (message.Sleep c) e = absurd (cc)
-input_none (message.GetLazyState c) e = absurd (cc)
-input_none (message.GetLazyStateKeys c) e = absurd (cc)
-input_none (message.Call c) e = absurd (cc)
-input_none (message.OneWayCall c) e = absurd (cc)
-input_none (message.GetPromise c) e = absurd (cc)
-input_none (message.PeekPromise c) e = absurd (cc)
-input_none (message.CompletePromise c) e = absurd (cc)
-input_none (message.Run c) e = absurd (cc)
-input_none (message.AttachInvocation c) e = absurd (cc)
-input_none (message.GetInvocationOutput c) e = absurd (cc)
-input_none m e = refl
-
-input_carries : (raw : RawMessage) (input : InputCommand) → input_read_from raw ≡ Some input → (id : ℕ) → read_carries id (message_in raw.ty raw.body) ≡ false
-input_carries raw input reads id = by_read (message_in raw.ty raw.body) refl
+-- a stored input carries no id
+stored_input : (raw : RawMessage) (input : InputCommand) → input_read_from raw ≡ Some input → (id : ℕ) → read_carries id (message_in raw.ty raw.body) ≡ false
+stored_input raw input reads id = by_read (message_in raw.ty raw.body) refl
   where
     by_read : (o : Option Message) → message_in raw.ty raw.body ≡ o → read_carries id o ≡ false
     by_read None is = refl
-    by_read (Some m) is = ap (is_among id) (input_none m ((message_is raw.ty raw.body m is).1 ∙ typed raw.ty type.InputCommand (input_type raw input reads)))
+    by_read (Some m) is = ap (is_among id) (input_carries m ((message_is raw.ty raw.body m is).1 ∙ typed raw.ty type.InputCommand (input_type raw input reads)))
 
 -- behind the input the commands carry the same ids
 carried_behind : (ns : List Notification) (raw : RawMessage) (input : InputCommand) (rest : List RawMessage) → input_read_from raw ≡ Some input → AreCarried ns (raw ∷ rest) → AreCarried ns rest
-carried_behind ns raw input rest reads h id none = h id (ap (λ b. b || is_carried id rest) (input_carries raw input reads id) ∙ none)
+carried_behind ns raw input rest reads h id none = h id (ap (λ b. b || is_carried id rest) (stored_input raw input reads id) ∙ none)
 
 pub completes_once : (s : Setup) (m : Meaning) (base : StateMap) (journal : List (List ℕ)) → IsJournal journal → History s m base (entries_of journal) → CompletesOnce s m (entries_of journal)
 completes_once s m base journal j h first input rest p begins reads told =
