@@ -1,18 +1,16 @@
 -- At no point that a world's journal tells has a completion id two results.
-use Rattle.std.proofs.Common.{◌≡◌, ℕ, false, ◌||◌, List, [], ◌∷◌, Option, Some, None, refl, sym, ap, ◌∙◌, subst}
+use Rattle.std.proofs.Common.{◌≡◌, ℕ, false, ◌||◌, List, ◌∷◌, Option, Some, None, refl, sym, ap, ◌∙◌, subst}
 use Rattle.std.proofs.lemmas.Option.{same_Some}
 use Rattle.journal_attempt.specs.declared.commands.InputCommand.{InputCommand}
 use Rattle.journal_messages.specs.declared.message.Message.{Message}
-use Rattle.journal_messages.specs.declared.message.Message.TheVariants as message
 use Rattle.journal_messages.specs.declared.message.RawMessage.{RawMessage}
 use Rattle.journal_errors.specs.declared.types.MessageType.TheVariants as type
-use Rattle.journal_messages.specs.Message.{type_of}
 use Rattle.journal_messages.specs.Reading.{message_in}
 use Rattle.journal_messages.proofs.Reading.{message_is}
 use Rattle.journal_values.specs.declared.notification.Notification.{Notification}
 use Rattle.vm_parts.specs.declared.context.StateMap.{StateMap}
 use Rattle.vm_model.specs.Calls.{Meaning, Setup}
-use Rattle.vm_model.specs.Carried.{AreCarried, ComeOnce, carried, is_among, is_carried, read_carries}
+use Rattle.vm_model.specs.Carried.{AreCarried, ComeOnce, is_among, is_carried, read_carries}
 use Rattle.vm_model.specs.Journal.{input_read_from, notifications_in}
 use Rattle.vm_model.specs.Histories.{History, Told}
 use Rattle.vm_model.proofs.Carried.{completions_once, input_carries, typed}
