@@ -4,9 +4,10 @@ ghost use Rattle.await_trees.specs.Copies.{future_node, future_at};
 ghost use Rattle.await_trees.specs.Preorder.{preorder};
 ghost use Rattle.await_trees.specs.Tree.{Tree};
 
+use crate::handle::NotificationHandle;
 use crate::listing::list_nodes;
 use crate::nodes::{Label, Node};
-use crate::tree::{NotificationHandle, UnresolvedFuture};
+use crate::tree::UnresolvedFuture;
 use journal_attempt::FutureKind;
 use std::alloc::{AllocError, Global};
 use wire::Items;

@@ -3,6 +3,7 @@
 #![tactic(auto)]
 
 pub mod copying;
+pub mod handle;
 pub mod laws;
 pub mod letting_go;
 pub mod listing;
@@ -12,8 +13,9 @@ pub mod showing;
 pub mod tree;
 
 pub use copying::node_over;
+pub use handle::{CANCEL_NOTIFICATION_HANDLE, NotificationHandle};
 pub use journal_attempt::FutureKind;
 pub use listing::list_nodes;
 pub use nodes::{Label, Node};
 pub use outcome::Outcome;
-pub use tree::{NotificationHandle, UnresolvedFuture};
+pub use tree::UnresolvedFuture;

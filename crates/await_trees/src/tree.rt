@@ -2,15 +2,12 @@
 ghost use Rattle.std.specs.Prelude.{◌≡◌};
 
 use crate::copying::copy_of;
+use crate::handle::NotificationHandle;
 use crate::letting_go::turn;
 use crate::showing::show;
 use std::alloc::AllocError;
 use std::fmt;
 use wire::Items;
-
-/// What a call that is answered later hands out; counted from 17. Handle 1 is the cancel signal's.
-#[derive(Clone, Copy, Debug, PartialEq, Eq, PartialOrd, Ord, Hash)]
-pub struct NotificationHandle(pub u32);
 
 /// What a handler awaits.
 pub enum UnresolvedFuture {

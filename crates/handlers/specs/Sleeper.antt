@@ -4,7 +4,7 @@ use Rattle.std.specs.Prelude.{◌==◌, if◌then◌else◌, List, [], length, s
 use Rattle.vm_parts.specs.declared.steps.Answer.{Answer}
 use Rattle.vm_parts.specs.declared.steps.Step.{Step}
 use Rattle.vm_parts.specs.declared.steps.Step.TheVariants as step
-use Rattle.vm_parts.specs.declared.types.UnresolvedFuture.TheVariants.{Single}
+use Rattle.await_trees.specs.declared.tree.UnresolvedFuture.TheVariants.{Single}
 use Rattle.vm_parts.specs.declared.values.NonEmptyValue.TheVariants.{Success}
 use Rattle.handlers.specs.Answers.{handle_of, is_cancelled, cancelled_output, stable}
 

@@ -5,7 +5,7 @@ use Rattle.std.proofs.lemmas.Bool.{false≢true}
 use Rattle.journal_errors.specs.declared.error.Error.{Error}
 use Rattle.journal_errors.specs.Errors.{no_memory}
 use Rattle.vm_parts.specs.declared.context.Counters.{Counters}
-use Rattle.vm_parts.specs.declared.types.NotificationHandle.{NotificationHandle}
+use Rattle.await_trees.specs.declared.handle.NotificationHandle.{NotificationHandle}
 use Rattle.vm_machine.specs.declared.fault.Fault.{Fault}
 use Rattle.vm_machine.specs.declared.fault.Fault.TheVariants as fault
 use Rattle.vm_machine.specs.declared.machine.Machine.{Machine}
@@ -15,7 +15,7 @@ use Rattle.vm_machine.specs.Phases.{is_closed}
 use Rattle.vm_machine.specs.Requests.{ids_of}
 use Rattle.vm_machine.specs.Commands.{CanBeRead, Fits, answered_by}
 use Rattle.invocation_vm.specs.Calls.{result_by}
-use Rattle.vm_machine.specs.Outcomes.{Outcome, Done, Failed, Gives, Does, Lives, Settles, settled, called, called_at, IsStarved, Lasting, lasting, starved, ruled, failed, flat, flattened}
+use Rattle.vm_machine.specs.Outcomes.{CalledAt, CalledBy, Does, DoesBy, Done, Failed, FlatBy, Gives, GivesBy, IsStarved, Lasting, Lives, Outcome, Settles, called, called_at, failed, flattened, lasting, ruled, settled, starved}
 
 -- a machine that hasn't failed, and finds no memory
 pub starves : (old mid new : Machine) → old.failure ≡ None → lasting mid ≡ lasting old → new ≡ starved old.counters mid → IsStarved old no_memory new
@@ -74,15 +74,44 @@ pub does_failed : {A : Type 0} (o : Outcome A) (e : Error) (old : Machine) → L
 unfolding called
 does_failed o e old l = first_error old.failure o e old refl l
 
+-- ---- a call whose event may come to several outcomes
+
+settles_one : {A : Type 0} (R : Outcome A → Type 0) (given : Result A Fault) (r : Result A Error) (old mid new : Machine) → old.failure ≡ None → GivesBy R given old mid → Settles old.counters given r mid new → DoesBy (CalledAt None R old) r old new
+settles_one R (Ok a) r old mid new live g s = rw (s.0, s.1) (Done a mid, g, refl)
+settles_one R (Err fault.Memory) r old mid new live g s = rw s.0 (inr (starves old mid new live g s.1))
+settles_one {A = A} R (Err (fault.Refused e)) r old mid new live g s =
+    elim s as (λ _. DoesBy (CalledAt None R old) r old new) [
+      | inl h ↦ rw (h.0, h.1) (inl (Failed e mid, g.0, refl))
+      | inr h ↦ rw h.0 (inr (starves old mid new live g.1 h.1))
+    ]
+
+one_at : {A : Type 0} (f : Option Error) (R : Outcome A → Type 0) (given : Result A Fault) (r : Result A Error) (old mid new : Machine) → old.failure ≡ f → Lives f (Ok tt) → GivesBy R given old mid → Settles old.counters given r mid new → DoesBy (CalledAt f R old) r old new
+one_at None R given r old mid new is l g s = settles_one R given r old mid new is g s
+one_at (Some e) R given r old mid new is l g s = elim l as (λ _. DoesBy (CalledAt (Some e) R old) r old new) [ inl x ↦ cc | inr x ↦ cc ]
+
+pub does_one : {A : Type 0} (R : Outcome A → Type 0) (given : Result A Fault) (r : Result A Error) (old mid new : Machine) → Lives old.failure (Ok tt) → GivesBy R given old mid → Settles old.counters given r mid new → DoesBy (CalledBy R old) r old new
+does_one R given r old mid new l g s = one_at old.failure R given r old mid new refl l g s
+
+none_at : {A : Type 0} (f : Option Error) (R : Outcome A → Type 0) (e : Error) (old : Machine) → old.failure ≡ f → Lives f (Err e) → DoesBy (CalledAt f R old) (Err e) old old
+none_at None R e old is l = absurd (err_is_ok e l)
+none_at {A = A} (Some d) R e old is l =
+    elim l as (λ _. DoesBy (CalledAt {A = A} (Some d) R old) (Err e) old old) [
+      | inl h ↦ inl (cc)
+      | inr h ↦ inr (stays_starved e d old (cc) is)
+    ]
+
+pub does_none : {A : Type 0} (R : Outcome A → Type 0) (e : Error) (old : Machine) → Lives old.failure (Err e) → DoesBy (CalledBy R old) (Err e) old old
+does_none R e old l = none_at old.failure R e old refl l
+
 -- a call whose answer may be an error
-pub flattens : {A : Type 0} (o : Outcome (Result A Error)) (r : Result (Result A Error) Error) (old new : Machine) → Does o r old new → Does (flat o) (flattened r) old new
-flattens o (Ok (Ok a)) old new h = rw h refl
-flattens o (Ok (Err e)) old new h = inl (rw h refl)
-flattens {A = A} o (Err e) old new h = elim h as (λ _. Does {A = A} (flat o) (Err e) old new) [ inl x ↦ inl (rw x refl) | inr x ↦ inr x ]
+flattens : {A : Type 0} (R : Outcome (Result A Error) → Type 0) (r : Result (Result A Error) Error) (old new : Machine) → DoesBy R r old new → DoesBy (FlatBy R) (flattened r) old new
+flattens R (Ok (Ok a)) old new h = (Done (Ok a) new, h, refl)
+flattens R (Ok (Err e)) old new h = inl (Done (Err e) new, h, refl)
+flattens {A = A} R (Err e) old new h = elim h as (λ _. DoesBy (FlatBy {A = A} R) (Err e) old new) [ inl x ↦ inl (Failed e new, x, refl) | inr x ↦ inr x ]
 
 -- a call whose answer may be an error, from the call that keeps it as an answer
-pub flattens_call : {A : Type 0} (o : Outcome (Result A Error)) (r : Result (Result A Error) Error) (s : Result A Error) (old new : Machine) → Does (called o old) r old new → s ≡ flattened r → Does (flat (called o old)) s old new
-flattens_call {A = A} o r s old new d e = subst (λ (x : Result A Error). Does (flat (called o old)) x old new) (sym e) (flattens (called o old) r old new d)
+pub flattens_call : {A : Type 0} (R : Outcome (Result A Error) → Type 0) (r : Result (Result A Error) Error) (s : Result A Error) (old new : Machine) → DoesBy R r old new → s ≡ flattened r → DoesBy (FlatBy R) s old new
+flattens_call {A = A} R r s old new d e = subst (λ (x : Result A Error). DoesBy (FlatBy R) x old new) (sym e) (flattens R r old new d)
 
 -- where a call is answered, its event was
 pub settles_sent : {A : Type 0} (m : Message) (v : Machine) (given : Result A Fault) (r : Result A Error) (before : Counters) (mid new : Machine) → Settles before given r mid new → OnOk given (CanBeRead m v) → OnOk r (CanBeRead m v)

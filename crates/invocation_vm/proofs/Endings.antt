@@ -16,28 +16,29 @@ use Rattle.vm_parts.specs.declared.command_type.CommandRelationship.{CommandRela
 use Rattle.vm_parts.specs.declared.options.VMOptions.{VMOptions}
 use Rattle.vm_parts.specs.declared.types.AwaitResponse.{AwaitResponse}
 use Rattle.vm_parts.specs.declared.types.AwakeableHandle.{AwakeableHandle}
-use Rattle.vm_parts.specs.declared.types.NotificationHandle.{NotificationHandle}
-use Rattle.vm_parts.specs.declared.types.UnresolvedFuture.{UnresolvedFuture}
-use Rattle.vm_parts.specs.declared.types.UnresolvedFuture.TheVariants.{Single}
+use Rattle.await_trees.specs.declared.handle.NotificationHandle.{NotificationHandle}
+use Rattle.await_trees.specs.declared.tree.UnresolvedFuture.{UnresolvedFuture}
+use Rattle.await_trees.specs.Tree.{Tree, tree_of}
 use Rattle.vm_parts.specs.declared.values.Input.{Input}
 use Rattle.vm_parts.specs.declared.values.Value.{Value}
 use Rattle.vm_machine.specs.declared.machine.Machine.{Machine}
 use Rattle.vm_machine.specs.declared.asks.Command.{Command}
+use Rattle.vm_machine.specs.Awaits.{Awaits}
 use Rattle.vm_machine.specs.Commands.{answered_by, commanded}
 use Rattle.vm_machine.specs.Endings.{EndsIf, EndsOnce, EventWrites, Writes, is_over, is_terminal}
-use Rattle.vm_machine.specs.Awaits.{take_step}
+use Rattle.vm_machine.specs.Takes.{take_step}
 use Rattle.vm_machine.specs.Inputs.{close_step, end_step, input_step, malformed_step, message_step}
 use Rattle.vm_machine.specs.Signals.{awakeable_step, signal_step}
-use Rattle.vm_machine.specs.Outcomes.{Does, IsStarved, Outcome, Done, Failed, called, flat, refused}
+use Rattle.vm_machine.specs.Outcomes.{CalledBy, Does, DoesBy, Done, Failed, FlatBy, IsStarved, Outcome, called, flat, refused}
 use Rattle.vm_machine.specs.Reports.{report_step}
-use Rattle.vm_machine.proofs.Endings.{answered, await_writes, awakeable_writes, signal_writes, read_writes, called_writes, close_writes, end_writes, input_writes, commanded_event, malformed_writes, message_writes, nothing_behind, report_writes, same, take_writes, writes_nothing}
+use Rattle.vm_machine.proofs.Endings.{answered, awaited_writes, awakeable_writes, signal_writes, read_writes, called_writes, close_writes, end_writes, input_writes, commanded_event, malformed_writes, message_writes, nothing_behind, report_writes, same, take_writes, writes_nothing}
 use Rattle.vm_machine.specs.declared.reads.StateRead.{StateRead}
 use Rattle.vm_machine.specs.Reads.{read_step}
-use Rattle.invocation_vm.specs.Calls.{CallsCommand, CallsFor, CallsRead, future_step, new_awakeable_step, skips_replay}
+use Rattle.invocation_vm.specs.Calls.{CallsCommand, CallsFlatAwait, CallsFor, CallsRead, new_awakeable_step, skips_replay}
 use Rattle.invocation_vm.specs.Endings.{EndsOnceAfter, StaysSo}
 use Rattle.invocation_vm.specs.Frames.{Tail, Rest, Garbage, frames_of}
 use Rattle.invocation_vm.specs.Making.{made}
-use Rattle.invocation_vm.specs.Views.{View, Calls, CallsFlat, Leaves, TakesOutput, after_closing, after_error, after_input, all_received, brought, consumed, has_failed, left_by, left_over, received, spoiled}
+use Rattle.invocation_vm.specs.Views.{View, Calls, Leaves, TakesOutput, after_closing, after_error, after_input, all_received, brought, consumed, has_failed, left_by, left_over, received, spoiled}
 use Rattle.invocation_vm.proofs.Feeds.{among_failed, among_output}
 
 -- ---- one after another
@@ -96,6 +97,10 @@ starved_writes e v w s = quiet_writes v w s.output (ap is_some s.failure)
 does_writes : {A : Type 0} (o : Outcome A) (r : Result A Error) (v w : Machine) → EventWrites v o → Does o r v w → Writes v w
 does_writes o (Ok a) v w h d = subst (EventWrites v) d h
 does_writes o (Err e) v w h d = elim d as (λ _. Writes v w) [ inl x ↦ subst (EventWrites v) x h | inr x ↦ starved_writes e v w x ]
+
+does_by_writes : {A : Type 0} (R : Outcome A → Type 0) (r : Result A Error) (v w : Machine) → ((o : Outcome A) → R o → EventWrites v o) → DoesBy R r v w → Writes v w
+does_by_writes R (Ok a) v w h d = h (Done a w) d
+does_by_writes R (Err e) v w h d = elim d as (λ _. Writes v w) [ inl x ↦ h (Failed e w) x | inr x ↦ starved_writes e v w x ]
 
 left_writes : {A : Type 0} (o : Outcome A) (v : Machine) → EventWrites v o → Writes v (left_by o)
 left_writes (Done a w) v h = h
@@ -158,11 +163,11 @@ end_stays r old new c = calls_stay end_step r old new (end_writes old.machine) c
 pub take_stays : (handle : ℕ) (r : Result (Option Value) Error) (old new : View) → Calls (take_step handle) r old new → StaysSo old new
 take_stays handle r old new c = calls_stay (take_step handle) r old new (take_writes handle old.machine) c
 
-await_at : (future : UnresolvedFuture) (v : Machine) → EventWrites v (flat (called (future_step future v) v))
-await_at (Single handle) v = flat_writes (called (future_step (Single handle) v) v) v (await_writes handle.0 v)
+await_at : (t : Tree) (v : Machine) (o : Outcome AwaitResponse) → FlatBy (CalledBy (Awaits t v) v) o → EventWrites v o
+await_at t v o (answered, called, is) = subst (EventWrites v) (sym is) (flat_writes answered v (awaited_writes t v answered called))
 
-pub await_stays : (future : UnresolvedFuture) (r : Result AwaitResponse Error) (old new : View) → CallsFlat (future_step future) r old new → StaysSo old new
-await_stays future r old new c = stays old new (does_writes (flat (called (future_step future old.machine) old.machine)) r old.machine new.machine (await_at future old.machine) c.0)
+pub await_stays : (future : UnresolvedFuture) (r : Result AwaitResponse Error) (old new : View) → CallsFlatAwait future r old new → StaysSo old new
+await_stays future r old new c = stays old new (does_by_writes (FlatBy (CalledBy (Awaits (tree_of future) old.machine) old.machine)) r old.machine new.machine (await_at (tree_of future) old.machine) c.0)
 
 -- ---- what comes in
 

@@ -7,7 +7,11 @@ use Rattle.journal_errors.specs.declared.error.Error.{Error}
 use Rattle.journal_messages.specs.declared.message.RawMessage.{RawMessage}
 use Rattle.journal_errors.specs.declared.faults.NamedFault.{NamedFault}
 use Rattle.journal_errors.specs.declared.faults.NamedFault.TheVariants as fault
-use Rattle.vm_parts.specs.declared.types.NotificationHandle.{NotificationHandle}
+use Rattle.await_trees.specs.declared.handle.NotificationHandle.{NotificationHandle}
+use Rattle.await_trees.specs.declared.tree.UnresolvedFuture.{UnresolvedFuture}
+use Rattle.await_trees.specs.Tree.{tree_of}
+use Rattle.vm_machine.specs.Awaits.{Awaits}
+use Rattle.vm_parts.specs.declared.types.AwaitResponse.{AwaitResponse}
 use Rattle.journal_messages.specs.declared.message.Message.{Message}
 use Rattle.journal_messages.specs.declared.message.Message.TheVariants as message
 use Rattle.vm_parts.specs.Counting.{missing}
@@ -15,14 +19,14 @@ use Rattle.vm_machine.specs.declared.machine.Machine.{Machine}
 use Rattle.vm_machine.specs.declared.phase.Phase.{Phase}
 use Rattle.vm_machine.specs.declared.phase.Phase.TheVariants.{Processing}
 use Rattle.vm_machine.specs.Commands.{carried_out, commanded, commanded_unless, counted, entered, ignores_payloads, issued, prepared, replayed, written}
-use Rattle.vm_machine.specs.Outcomes.{Outcome, Done, Failed, ◌>>=◌, Does, IsStarved, about_last, called, called_at, flat}
+use Rattle.vm_machine.specs.Outcomes.{Outcome, Done, Failed, ◌>>=◌, CalledAt, CalledBy, Does, DoesBy, FlatBy, IsStarved, about_last, called, called_at, flat}
 use Rattle.vm_machine.specs.Phases.{is_processing, is_running, state_fault}
 use Rattle.vm_machine.specs.Requests.{shown_type, with_ids}
 use Rattle.vm_machine.proofs.Replaying.{answers_first}
 use Rattle.vm_machine.specs.Asks.{sleep_command}
-use Rattle.invocation_vm.specs.Calls.{CallsCommand}
+use Rattle.invocation_vm.specs.Calls.{CallsCommand, CallsFlatAwait}
 use Rattle.invocation_vm.specs.Sleeps.{MaySleep, sleeping}
-use Rattle.invocation_vm.specs.Views.{View, AnswersFirst, Calls, CallsFlat, Leaves}
+use Rattle.invocation_vm.specs.Views.{View, AnswersFirst, Calls, Leaves}
 
 -- ---- a sleep
 
@@ -109,6 +113,23 @@ first_fed raws after (Err x) e old new is l = absurd (let z : Some e ≡ None = 
 pub first_answered : {A : Type 0} (step : Machine → Outcome A) (r : Result A Error) (e : Error) (old new : View) → old.machine.failure ≡ Some e → Calls step r old new → AnswersFirst e r old new
 first_answered step r e old new f c = first_at (called (step old.machine) old.machine) r e old new f (answers_first (step old.machine) e old.machine f) c.0 c.1
 
-pub first_awaited : {A : Type 0} (step : Machine → Outcome (Result A Error)) (r : Result A Error) (e : Error) (old new : View) → old.machine.failure ≡ Some e → CallsFlat step r old new → AnswersFirst e r old new
-first_awaited {A = A} step r e old new f c =
-    first_at (flat (called (step old.machine) old.machine)) r e old new f (ap (λ (o : Outcome (Result A Error)). flat o) (answers_first (step old.machine) e old.machine f)) c.0 c.1
+-- what a failed machine comes to
+awaited_at : {A : Type 0} (f : Option Error) (R : Outcome A → Type 0) (e : Error) (v : Machine) (o : Outcome A) → f ≡ Some e → CalledAt f R v o → o ≡ Failed e v
+awaited_at None R e v o is h = absurd (let z : None ≡ Some e = is in cc)
+awaited_at (Some d) R e v o is h = h ∙ ap (λ x. Failed x v) (let z : Some d ≡ Some e = is in cc)
+
+flat_first : {A : Type 0} (R : Outcome (Result A Error) → Type 0) (e : Error) (v : Machine) (o : Outcome A) → v.failure ≡ Some e → FlatBy (CalledBy R v) o → o ≡ Failed e v
+flat_first {A = A} R e v o is (answered, called, flattened) = flattened ∙ ap (λ (x : Outcome (Result A Error)). flat x) (awaited_at v.failure R e v answered is called)
+
+first_by : {A : Type 0} (R : Outcome A → Type 0) (r : Result A Error) (e : Error) (old new : View) → old.machine.failure ≡ Some e → ((o : Outcome A) → R o → o ≡ Failed e old.machine) → DoesBy R r old.machine new.machine → new.undecoded ≡ old.undecoded → AnswersFirst e r old new
+first_by R (Ok a) e old new is h d u = first_at (Done a new.machine) (Ok a) e old new is (h (Done a new.machine) d) refl u
+first_by {A = A} R (Err x) e old new is h d u =
+    elim d as (λ _. AnswersFirst {A = A} e (Err x) old new) [
+      | inl f ↦ first_at {A = A} (Failed x new.machine) (Err x) e old new is (h (Failed x new.machine) f) (inl refl) u
+      | inr s ↦ (inr (ap (λ y. Err y) s.error), viewed old new old.machine (s.stays e is) u)
+    ]
+
+pub first_awaited : (future : UnresolvedFuture) (r : Result AwaitResponse Error) (e : Error) (old new : View) → old.machine.failure ≡ Some e → CallsFlatAwait future r old new → AnswersFirst e r old new
+first_awaited future r e old new is c =
+    let R = Awaits (tree_of future) old.machine in
+    first_by (FlatBy (CalledBy R old.machine)) r e old new is (λ o. flat_first R e old.machine o is) c.0 c.1

@@ -8,18 +8,18 @@ use Rattle.vm_parts.specs.declared.options.JournalReplay.{JournalReplay}
 use Rattle.vm_parts.specs.declared.options.JournalReplay.TheVariants.{Enabled, Disabled}
 use Rattle.vm_parts.specs.declared.types.AwaitResponse.{AwaitResponse}
 use Rattle.vm_parts.specs.declared.types.AwakeableHandle.{AwakeableHandle}
-use Rattle.vm_parts.specs.declared.types.NotificationHandle.{NotificationHandle}
-use Rattle.vm_parts.specs.declared.types.UnresolvedFuture.{UnresolvedFuture}
-use Rattle.vm_parts.specs.declared.types.UnresolvedFuture.TheVariants.{Single}
+use Rattle.await_trees.specs.declared.handle.NotificationHandle.{NotificationHandle}
+use Rattle.await_trees.specs.declared.tree.UnresolvedFuture.{UnresolvedFuture}
 use Rattle.vm_machine.specs.declared.asks.Command.{Command}
 use Rattle.vm_machine.specs.declared.machine.Machine.{Machine}
-use Rattle.vm_machine.specs.Awaits.{await_step}
+use Rattle.vm_machine.specs.Awaits.{Awaits}
 use Rattle.vm_machine.specs.Commands.{CanBeRead, Fits, answered_by, commanded}
 use Rattle.vm_machine.specs.Outcomes.{Outcome, refused}
 use Rattle.vm_machine.specs.declared.reads.StateRead.{StateRead}
 use Rattle.vm_machine.specs.Reads.{ReadCanBeRead, read_step}
 use Rattle.vm_machine.specs.Signals.{awakeable_step}
-use Rattle.invocation_vm.specs.Views.{View, Calls}
+use Rattle.await_trees.specs.Tree.{tree_of}
+use Rattle.invocation_vm.specs.Views.{View, Calls, CallsBy, CallsFlatBy}
 
 -- A call that has a command: it is answered by its first handle; what it wrote can be read back, and its handles fit.
 abbrev pub CallsCommand : Command → Result NotificationHandle Error → View → View → Type 0
@@ -56,6 +56,10 @@ abbrev pub name_or_empty : Option (String Global) → List ℕ
 name_or_empty None = []
 name_or_empty (Some name) = string_bytes name
 
--- an await of a future
-abbrev pub future_step : UnresolvedFuture → Machine → Outcome (Result AwaitResponse Error)
-future_step (Single handle) v = await_step handle.0 v
+-- An await of a future, where an error by which the VM doesn't fail is an answer.
+abbrev pub CallsAwait : UnresolvedFuture → Result (Result AwaitResponse Error) Error → View → View → Type 0
+CallsAwait future r old new = CallsBy (Awaits (tree_of future)) r old new
+
+-- An await of a future.
+abbrev pub CallsFlatAwait : UnresolvedFuture → Result AwaitResponse Error → View → View → Type 0
+CallsFlatAwait future r old new = CallsFlatBy (Awaits (tree_of future)) r old new

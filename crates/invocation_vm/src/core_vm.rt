@@ -5,7 +5,7 @@ ghost use Rattle.vm_parts.specs.Outboxes.{WholeFrames, WholeStream, len_of};
 ghost use Rattle.vm_machine.specs.Asks.{ask_of, call_handles, send_handle};
 ghost use Rattle.vm_machine.specs.Requests.{ids_of};
 ghost use Rattle.vm_machine.specs.Outcomes.{Lives};
-ghost use Rattle.invocation_vm.specs.Calls.{CallsCommand, CallsFor, CallsRead, CallsUnit, future_step};
+ghost use Rattle.invocation_vm.specs.Calls.{CallsAwait, CallsCommand, CallsFor, CallsRead, CallsUnit};
 ghost use Rattle.invocation_vm.specs.Seen.{seen};
 ghost use Rattle.invocation_vm.specs.Views.{Calls};
 
@@ -45,7 +45,7 @@ impl fmt::Debug for CoreVM {
     }
 }
 
-#[tactic(auto, using(crate::proofs::Calls::does_called, crate::proofs::Calls::does_failed, crate::proofs::Calls::settles_fits, crate::proofs::Calls::settles_sent, crate::proofs::Calls::called_by, crate::proofs::Calls::sent_by, crate::proofs::Calls::fits_both))]
+#[tactic(auto, using(crate::proofs::Calls::does_called, crate::proofs::Calls::does_failed, crate::proofs::Calls::does_one, crate::proofs::Calls::does_none, crate::proofs::Calls::settles_fits, crate::proofs::Calls::settles_sent, crate::proofs::Calls::called_by, crate::proofs::Calls::sent_by, crate::proofs::Calls::fits_both))]
 impl CoreVM {
     /// The version of the journal protocol that the VM was made for.
     pub fn version(&self) -> Version
@@ -128,17 +128,24 @@ impl CoreVM {
         id_handle(self.command(command))
     }
 
-    /// As `do_await`, where an error by which the VM doesn't fail is an answer.
-    pub fn try_await(&mut self, future: UnresolvedFuture) -> VMResult<VMResult<AwaitResponse>>
-        ensures { Calls (future_step future) result (seen self.old) (seen self.new) }
+    fn await_tree(&mut self, future: &UnresolvedFuture) -> VMResult<VMResult<AwaitResponse>>
+        ensures { CallsAwait future.now result (seen self.old) (seen self.new) }
     {
         if let Err(error) = self.machine.live() {
             return Err(error);
         }
-        let UnresolvedFuture::Single(handle) = future;
         let before = self.machine.counters;
-        let given = self.machine.await_one(handle);
+        let given = self.machine.await_tree(future);
         self.machine.settle(before, given)
+    }
+
+    /// As `do_await`, where an error by which the VM doesn't fail is an answer.
+    pub fn try_await(&mut self, future: UnresolvedFuture) -> VMResult<VMResult<AwaitResponse>>
+        ensures { CallsAwait future result (seen self.old) (seen self.new) }
+    {
+        let given = self.await_tree(&future);
+        drop(future);
+        given
     }
 
     /// The bytes that wait to be sent, which stay there: whole frames.

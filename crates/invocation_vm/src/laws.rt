@@ -10,25 +10,25 @@ ghost use Rattle.vm_parts.specs.declared.options.VMOptions.{VMOptions};
 ghost use Rattle.vm_parts.specs.declared.types.AwaitResponse.{AwaitResponse};
 ghost use Rattle.vm_parts.specs.declared.types.AwakeableHandle.{AwakeableHandle};
 ghost use Rattle.vm_parts.specs.declared.types.CallHandle.{CallHandle};
-ghost use Rattle.vm_parts.specs.declared.types.NotificationHandle.{NotificationHandle};
+ghost use Rattle.await_trees.specs.declared.handle.NotificationHandle.{NotificationHandle};
 ghost use Rattle.vm_parts.specs.declared.types.SendHandle.{SendHandle};
-ghost use Rattle.vm_parts.specs.declared.types.UnresolvedFuture.{UnresolvedFuture};
+ghost use Rattle.await_trees.specs.declared.tree.UnresolvedFuture.{UnresolvedFuture};
 ghost use Rattle.vm_parts.specs.declared.values.Input.{Input};
 ghost use Rattle.vm_parts.specs.declared.values.Value.{Value};
 ghost use Rattle.vm_machine.specs.declared.machine.Machine.{Machine};
 ghost use Rattle.vm_machine.specs.declared.asks.Command.{Command};
 ghost use Rattle.vm_machine.specs.Asks.{call_handles, send_handle, sleep_command};
-ghost use Rattle.vm_machine.specs.Awaits.{take_step};
+ghost use Rattle.vm_machine.specs.Takes.{take_step};
 ghost use Rattle.vm_machine.specs.Endings.{is_terminal};
 ghost use Rattle.vm_machine.specs.Inputs.{end_step, input_step};
 ghost use Rattle.vm_machine.specs.Outcomes.{IsStarved, Outcome};
 ghost use Rattle.vm_machine.specs.Signals.{signal_step};
 ghost use Rattle.vm_machine.specs.declared.reads.StateRead.{StateRead};
-ghost use Rattle.invocation_vm.specs.Calls.{CallsCommand, CallsFor, CallsRead, CallsUnit, future_step, new_awakeable_step};
+ghost use Rattle.invocation_vm.specs.Calls.{CallsCommand, CallsFlatAwait, CallsFor, CallsRead, CallsUnit, new_awakeable_step};
 ghost use Rattle.invocation_vm.specs.Endings.{EndsOnceAfter, StaysSo};
 ghost use Rattle.invocation_vm.specs.Making.{made};
 ghost use Rattle.invocation_vm.specs.Sleeps.{MaySleep, sleeping};
-ghost use Rattle.invocation_vm.specs.Views.{View, AnswersFirst, Calls, CallsFlat, Leaves, TakesOutput, after_closing, after_error, after_input, brought};
+ghost use Rattle.invocation_vm.specs.Views.{View, AnswersFirst, Calls, Leaves, TakesOutput, after_closing, after_error, after_input, brought};
 
 /// Over any list of calls, all output together has at most one Suspension, Error or End, and nothing behind it: that
 /// is so of a new VM, and each call of `VM`, by the clause that it ensures, leaves it so.
@@ -39,7 +39,7 @@ pub fn all_output_ends_once()
     ensures bytes { (bytes : List ℕ) (r : Result Unit AllocError) (old new : View) → Leaves (brought old bytes) (after_input old bytes) r old new → StaysSo old new }
     ensures closings { (r : Result Unit AllocError) (old new : View) → Leaves [] (after_closing old) r old new → StaysSo old new }
     ensures errors { (e : Error) (relationship : Option CommandRelationship) (r : Result Unit AllocError) (old new : View) → Leaves [] (after_error old e relationship) r old new → StaysSo old new }
-    ensures awaits { (future : UnresolvedFuture) (r : Result AwaitResponse Error) (old new : View) → CallsFlat (future_step future) r old new → StaysSo old new }
+    ensures awaits { (future : UnresolvedFuture) (r : Result AwaitResponse Error) (old new : View) → CallsFlatAwait future r old new → StaysSo old new }
     ensures takes { (handle : ℕ) (r : Result (Option Value) Error) (old new : View) → Calls (take_step handle) r old new → StaysSo old new }
     ensures inputs { (r : Result Input Error) (old new : View) → Calls input_step r old new → StaysSo old new }
     ensures commands { (c : Command) (r : Result NotificationHandle Error) (old new : View) → is_terminal c.message ≡ false → CallsCommand c r old new → StaysSo old new }
@@ -63,6 +63,6 @@ pub fn sleep_is_written()
 /// fed, closed or told of an error, it finds memory, since it takes none.
 pub fn first_error_is_answered<A>()
     ensures calls { (step : Machine → Outcome A) (r : Result A Error) (e : Error) (old new : View) → old.machine.failure ≡ Some e → Calls step r old new → AnswersFirst e r old new }
-    ensures awaits { (step : Machine → Outcome (Result A Error)) (r : Result A Error) (e : Error) (old new : View) → old.machine.failure ≡ Some e → CallsFlat step r old new → AnswersFirst e r old new }
+    ensures awaits { (future : UnresolvedFuture) (r : Result AwaitResponse Error) (e : Error) (old new : View) → old.machine.failure ≡ Some e → CallsFlatAwait future r old new → AnswersFirst e r old new }
     ensures quiet { (raws : List RawMessage) (after : View) (r : Result Unit AllocError) (e : Error) (old new : View) → old.machine.failure ≡ Some e → Leaves raws after r old new → r ≡ Ok tt }
 {}

@@ -2,15 +2,16 @@
 ghost use Rattle.std.specs.Prelude.{◌≡◌, ◌/◌, [], IfOk, OnErr, None, Ok, true, string_bytes, codes};
 ghost use Rattle.std.specs.Duration.{as_nanos};
 ghost use Rattle.vm_machine.specs.Asks.{attach_invocation_command, call_command, call_handles, cancel_invocation_command, clear_all_state_command, clear_state_command, complete_awakeable_command, complete_promise_command, complete_signal_command, get_invocation_output_command, get_promise_command, millis_of, output_command, peek_promise_command, send_command, send_handle, set_state_command, sleep_command};
-ghost use Rattle.vm_machine.specs.Awaits.{IsReadyAt, is_completed, last_index, state_of, take_step};
+ghost use Rattle.vm_machine.specs.Takes.{is_completed, take_step};
+ghost use Rattle.vm_machine.specs.Queries.{IsReadyAt, last_index, state_of};
 ghost use Rattle.vm_machine.specs.Inputs.{end_step, input_step};
 ghost use Rattle.vm_machine.specs.declared.phase.Phase.TheVariants.{Closed};
 ghost use Rattle.vm_machine.specs.Phases.{is_waiting};
 ghost use Rattle.vm_machine.specs.Signals.{signal_step};
 ghost use Rattle.vm_machine.specs.declared.reads.StateRead.TheVariants as reads;
-ghost use Rattle.invocation_vm.specs.Calls.{CallsCommand, CallsFor, CallsRead, CallsUnit, future_step, name_or_empty, new_awakeable_step};
+ghost use Rattle.invocation_vm.specs.Calls.{CallsCommand, CallsFlatAwait, CallsFor, CallsRead, CallsUnit, name_or_empty, new_awakeable_step};
 ghost use Rattle.invocation_vm.specs.Making.{Makes, response_head, version_in};
-ghost use Rattle.invocation_vm.specs.Views.{View, Calls, CallsFlat, Leaves, TakesOutput, after_closing, after_error, after_input, brought};
+ghost use Rattle.invocation_vm.specs.Views.{View, Calls, Leaves, TakesOutput, after_closing, after_error, after_input, brought};
 
 use bytes::Bytes;
 use journal_errors::{Error, HeaderMap};
@@ -73,7 +74,7 @@ pub trait VM: Sized {
     /// fails; with open input the caller is to wait; with closed input the invocation is suspended, the VM is closed
     /// and answers the error 599.
     fn do_await(&mut self, future: UnresolvedFuture) -> VMResult<AwaitResponse>
-        ensures { CallsFlat (future_step future) result (view self.old) (view self.new) };
+        ensures { CallsFlatAwait future result (view self.old) (view self.new) };
 
     /// Takes the result that a handle has; the handle then stands for nothing more, but for the cancel handle.
     fn take_notification(&mut self, handle: NotificationHandle) -> VMResult<Option<Value>>

@@ -2,7 +2,7 @@
 ghost use Rattle.std.specs.Prelude.{◌≡◌, ◌⊎◌, IfOk, Ok, true, false, codes};
 ghost use Rattle.requests.specs.declared.verb.Verb.TheVariants as verb;
 ghost use Rattle.requests.specs.Lines.{Asks, AsksCall, IsContentType, MakesWith, Reads, begins_with_vm, says_nothing};
-ghost use Rattle.requests.specs.Verbs.{IsLine, IsAsked, text_at};
+ghost use Rattle.requests.specs.Verbs.{IsAwaited, IsLine, IsAsked, text_at};
 
 use crate::arguments::{
     Extras, alone, bytes_alone, extras_of, handle_alone, name_of, now_of, text_alone, two_texts,
@@ -177,11 +177,20 @@ fn write_output_of(alloc: Global, arguments: &[&[u8]]) -> Result<Call, Fault>
     Ok(Call::Step(Step::WriteOutput(value, options)))
 }
 
+/// What is awaited: `H` alone.
+#[tactic(auto, using(crate::proofs::Awaited::is_awaited))]
+fn awaited(arguments: &[&[u8]]) -> Result<UnresolvedFuture, Fault>
+    ensures { IfOk result (λ future. IsAwaited arguments.now future) }
+{
+    let handle = handle_alone(arguments)?;
+    Ok(UnresolvedFuture::Single(handle))
+}
+
 fn await_of(arguments: &[&[u8]]) -> Result<Call, Fault>
     ensures { IfOk result (λ call. IsLine verb.Await arguments.now call) }
 {
-    let handle = handle_alone(arguments)?;
-    Ok(Call::Step(Step::Await(UnresolvedFuture::Single(handle))))
+    let future = awaited(arguments)?;
+    Ok(Call::Step(Step::Await(future)))
 }
 
 /// The call of this name, with the arguments behind it.

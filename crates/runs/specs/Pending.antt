@@ -4,7 +4,7 @@ use Rattle.std.specs.List.{list_any}
 use Rattle.vm_parts.specs.declared.run_state.PendingRun.{PendingRun}
 use Rattle.vm_parts.specs.declared.run_state.RunExecution.{RunExecution}
 use Rattle.vm_parts.specs.declared.run_state.RunExecution.TheVariants.{Waiting, Executing}
-use Rattle.vm_parts.specs.declared.types.NotificationHandle.{NotificationHandle}
+use Rattle.await_trees.specs.declared.handle.NotificationHandle.{NotificationHandle}
 
 -- a run that was just called
 abbrev pub to_execute : NotificationHandle → ℕ → ℕ → List ℕ → PendingRun

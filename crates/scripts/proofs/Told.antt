@@ -4,11 +4,12 @@ use Rattle.std.specs.declared.alloc.AllocError.{AllocError}
 use Rattle.journal_errors.specs.declared.error.Error.{Error}
 use Rattle.journal_messages.specs.declared.message.RawMessage.{RawMessage}
 use Rattle.vm_parts.specs.declared.types.AwaitResponse.{AwaitResponse}
-use Rattle.vm_parts.specs.declared.types.UnresolvedFuture.{UnresolvedFuture}
+use Rattle.await_trees.specs.declared.tree.UnresolvedFuture.{UnresolvedFuture}
 use Rattle.vm_machine.specs.declared.machine.Machine.{Machine}
-use Rattle.vm_machine.specs.Outcomes.{Outcome, called, flat, Does}
+use Rattle.await_trees.specs.Tree.{tree_of}
+use Rattle.vm_machine.specs.Awaits.{Awaits}
+use Rattle.vm_machine.specs.Outcomes.{CalledBy, Does, DoesBy, FlatBy, Outcome, called}
 use Rattle.invocation_vm.specs.declared.core_vm.CoreVM.{CoreVM}
-use Rattle.invocation_vm.specs.Calls.{future_step}
 use Rattle.invocation_vm.specs.Views.{View, Leaves, TakesOutput}
 use Rattle.replies.specs.declared.reply.Reply.{Reply}
 use Rattle.replies.specs.declared.reply.Reply.TheVariants as reply
@@ -17,12 +18,13 @@ use Rattle.requests.specs.Lines.{Reads}
 use Rattle.scripts.specs.Performed.{Performed}
 use Rattle.replies.specs.Replies.{reply_text}
 use Rattle.scripts.specs.Transcripts.{Transcribes}
-use Rattle.scripts.specs.Called.{Answers, Awaits, Feeds, Drains, reply_of, reply_or_memory}
+use Rattle.scripts.specs.Called as tells
+use Rattle.scripts.specs.Called.{Answers, Feeds, Drains, reply_of, reply_or_memory}
 
 pub answers : {A : Type 0} (f : A → Reply) (step : Machine → Outcome A) (given : Result A Error) (answer : Reply) (old new : View) → Does (called (step old.machine) old.machine) given old.machine new.machine → new.undecoded ≡ old.undecoded → answer ≡ reply_of f given → Answers f step answer old new
 answers f step given answer old new does undecoded told = record { given = given; calls = (does, undecoded); told = told }
 
-pub awaits : (future : UnresolvedFuture) (given : Result AwaitResponse Error) (answer : Reply) (old new : View) → Does (flat (called (future_step future old.machine) old.machine)) given old.machine new.machine → new.undecoded ≡ old.undecoded → answer ≡ reply_of reply.Awaited given → Awaits future answer old new
+pub awaits : (future : UnresolvedFuture) (given : Result AwaitResponse Error) (answer : Reply) (old new : View) → DoesBy (FlatBy (CalledBy (Awaits (tree_of future) old.machine) old.machine)) given old.machine new.machine → new.undecoded ≡ old.undecoded → answer ≡ reply_of reply.Awaited given → tells.Awaits future answer old new
 awaits future given answer old new does undecoded told = record { given = given; calls = (does, undecoded); told = told }
 
 pub feeds : (raws : List RawMessage) (after : View) (given : Result Unit AllocError) (answer : Reply) (old new : View) → Leaves raws after given old new → answer ≡ reply_or_memory (λ _. reply.Done) given → Feeds raws after answer old new

@@ -8,22 +8,23 @@ use Rattle.journal_errors.specs.Errors.{no_memory}
 use Rattle.vm_parts.specs.declared.steps.Answer.TheVariants as answer
 use Rattle.vm_parts.specs.declared.steps.Step.{Step}
 use Rattle.vm_parts.specs.declared.types.AwaitResponse.{AwaitResponse}
-use Rattle.vm_parts.specs.declared.types.UnresolvedFuture.{UnresolvedFuture}
+use Rattle.await_trees.specs.declared.tree.UnresolvedFuture.{UnresolvedFuture}
 use Rattle.vm_parts.specs.declared.values.ResponseHead.{ResponseHead}
 use Rattle.vm_machine.specs.declared.asks.Ask.{Ask}
 use Rattle.vm_machine.specs.declared.asks.Ask.TheVariants as ask
 use Rattle.vm_machine.specs.declared.machine.Machine.{Machine}
 use Rattle.vm_machine.specs.Asks.{ask_of, command_answer}
-use Rattle.vm_machine.specs.Awaits.{IsReadyAt, is_completed, last_index, state_of, take_step}
+use Rattle.vm_machine.specs.Takes.{is_completed, take_step}
+use Rattle.vm_machine.specs.Queries.{IsReadyAt, last_index, state_of}
 use Rattle.vm_machine.specs.Commands.{commanded}
 use Rattle.vm_machine.specs.Inputs.{end_step, input_step}
 use Rattle.vm_machine.specs.Outcomes.{Outcome}
 use Rattle.vm_machine.specs.Requests.{ids_of}
 use Rattle.vm_machine.specs.Reads.{read_step}
 use Rattle.vm_machine.specs.Signals.{signal_step}
-use Rattle.invocation_vm.specs.Calls.{future_step, new_awakeable_step}
+use Rattle.invocation_vm.specs.Calls.{CallsFlatAwait, new_awakeable_step}
 use Rattle.invocation_vm.specs.Making.{response_head}
-use Rattle.invocation_vm.specs.Views.{View, Calls, CallsFlat, Leaves, TakesOutput, after_closing, after_error, after_input, brought}
+use Rattle.invocation_vm.specs.Views.{View, Calls, Leaves, TakesOutput, after_closing, after_error, after_input, brought}
 use Rattle.requests.specs.declared.request.Call.{Call}
 use Rattle.requests.specs.declared.request.Call.TheVariants as call
 use Rattle.replies.specs.declared.reply.Reply.{Reply}
@@ -48,7 +49,7 @@ pub record Answers {A : Type 0} (f : A → Reply) (step : Machine → Outcome A)
 -- an await: the reply tells its result
 pub record Awaits (future : UnresolvedFuture) (answer : Reply) (old new : View) : Type 0 where
   pub given : Result AwaitResponse Error
-  pub calls : CallsFlat (future_step future) given old new
+  pub calls : CallsFlatAwait future given old new
   pub told : answer ≡ reply_of reply.Awaited given
 
 -- what comes in: nothing is told but want of memory

@@ -2,7 +2,7 @@
 use Rattle.std.proofs.Common.{◌≡◌, ℕ, zero, suc, ◌+◌, ◌<◌, ◌^◌, refl, arith}
 use Rattle.journal_messages.specs.declared.message.Message.{Message}
 use Rattle.journal_messages.specs.declared.message.Message.TheVariants as message
-use Rattle.vm_parts.specs.declared.types.NotificationHandle.{NotificationHandle}
+use Rattle.await_trees.specs.declared.handle.NotificationHandle.{NotificationHandle}
 use Rattle.vm_machine.specs.declared.asks.AnswerKind.{AnswerKind}
 use Rattle.vm_machine.specs.declared.asks.AnswerKind.TheVariants as kind
 use Rattle.vm_machine.specs.Asks.{HandlesFit, answer_kind, kind_by_ids}

@@ -27,9 +27,9 @@ use Rattle.journal_errors.specs.Types.{type_number}
 use Rattle.vm_parts.specs.declared.command_type.CommandRelationship.{CommandRelationship}
 use Rattle.vm_parts.specs.declared.types.AwaitResponse.{AwaitResponse}
 use Rattle.vm_parts.specs.declared.types.AwaitResponse.TheVariants.{AnyCompleted, WaitingExternalProgress}
-use Rattle.vm_parts.specs.declared.types.NotificationHandle.{NotificationHandle}
+use Rattle.await_trees.specs.declared.handle.NotificationHandle.{NotificationHandle}
 use Rattle.vm_parts.specs.declared.values.Value.{Value}
-use Rattle.vm_parts.specs.Deliveries.{id_at, has_result_for, present_for, taken_by, used_for}
+use Rattle.vm_parts.specs.Deliveries.{id_at, present_for, taken_by}
 use Rattle.vm_parts.specs.Values.{value_of}
 use Rattle.vm_parts.specs.Counting.{missing, missing_signals}
 use Rattle.vm_machine.specs.declared.machine.Machine.{Machine}
@@ -42,7 +42,7 @@ use Rattle.vm_machine.specs.declared.asks.Ask.{Ask}
 use Rattle.vm_machine.specs.declared.asks.Ask.TheVariants as ask
 use Rattle.vm_machine.specs.declared.asks.Command.{Command}
 use Rattle.vm_machine.specs.Asks.{ask_of}
-use Rattle.vm_machine.specs.Awaits.{await_step, future_of, pending, result_taken, suspended, take_step, taken_at, tried, value_taken}
+use Rattle.vm_machine.specs.Takes.{result_taken, take_step, taken_at, value_taken}
 use Rattle.vm_machine.specs.Inputs.{close_step, closed_at, counted_entry, end_at, end_step, ended, enqueued, entries_in, entry_step, input_at, input_counted, input_read, input_step, malformed_step, message_step, notification_step, queued, start_step, started, started_with}
 use Rattle.vm_machine.specs.Reports.{is_retry, related_to, report_step}
 use Rattle.journal_values.specs.declared.notification.NotificationResult.{NotificationResult}
@@ -56,10 +56,11 @@ use Rattle.vm_machine.specs.Reads.{eager_type, keys_form, lazy_type, name_read, 
 use Rattle.vm_machine.specs.Signals.{awakeable_counted, awakeable_step, signal_counted, signal_step}
 use Rattle.vm_machine.specs.Commands.{entered, written, ignores_payloads, phase_after, popped, popped_from, compared, replayed, carried_out, prepared, counted, issued, commanded, commanded_unless, about_next, handed_out}
 use Rattle.vm_machine.specs.Endings.{EndsOnce, EventWrites, Writes, is_over, is_terminal}
-use Rattle.vm_machine.specs.Outcomes.{Outcome, Done, Failed, ◌>>=◌, about_last, called, called_at, failed, refused, ruled}
+use Rattle.vm_machine.specs.Outcomes.{Outcome, Done, Failed, ◌>>=◌, CalledBy, about_last, called, called_at, failed, refused, ruled}
 use Rattle.vm_machine.specs.Phases.{is_closed, is_from_v7, is_processing, is_replaying, is_running, state_fault}
 use Rattle.vm_machine.specs.Requests.{ids_of, name_of, shown_type, with_ids}
-use Rattle.vm_machine.specs.TreeAwaits.{Awaits, AwaitsAt, Ends, StaysPending, with_used}
+use Rattle.vm_machine.proofs.Calling.{called_from}
+use Rattle.vm_machine.specs.Awaits.{Awaits, AwaitsAt, Ends, StaysPending, suspended, with_used}
 
 -- ---- nothing is written
 
@@ -387,36 +388,23 @@ pending_so future v u true b s goes = s
 pending_so future v u false true s goes = suspended_so v u future s goes
 pending_so future v u false false s goes = writes_nothing v u s
 
-tried_so : (handle : ℕ) (v u : Machine) (b : Bool) → Same v u → is_over v ≡ false
-    → Event {A = Result AwaitResponse Error} v (if b then Done (Ok AnyCompleted) u else pending handle u)
-tried_so handle v u true s goes = writes_nothing v u s
-tried_so handle v u false s goes = pending_so (future_of (id_at handle u.results.handles)) v u (is_replaying u.phase) u.input_closed s goes
-
-await_so : (handle : ℕ) (v : Machine) (b : Bool) → is_running v.phase ≡ b → v.failure ≡ None
-    → Event v (if b then tried handle (record v { results = used_for handle v.results }) else refused (state_fault v.phase) v)
-await_so handle v true e live =
-    let u = record v { results = used_for handle v.results } in
-    tried_so handle v u (has_result_for (id_at handle u.results.handles) u.results.ready) (record { output = refl; closed = refl; failure = refl }) (goes_on v live e)
-await_so handle v false e live = same v
-
-await_event : (handle : ℕ) (v : Machine) → v.failure ≡ None → Event v (await_step handle v)
-unfolding await_step
-await_event handle v live = await_so handle v (is_running v.phase) refl live
-
-pub await_writes : (handle : ℕ) (v : Machine) → EventWrites v (called (await_step handle v) v)
-await_writes handle v = called_writes v (await_step handle v) (await_event handle v)
-
-tree_so : (t : Tree) (v : Machine) (o : Outcome (Result AwaitResponse Error)) (b : Bool) → is_running v.phase ≡ b → v.failure ≡ None → AwaitsAt b t v o → Event v o
-tree_so t v o true e live comes = ⊎_elim
+await_so : (t : Tree) (v : Machine) (o : Outcome (Result AwaitResponse Error)) (b : Bool) → is_running v.phase ≡ b → v.failure ≡ None → AwaitsAt b t v o → Event v o
+await_so t v o true e live comes = ⊎_elim
     (λ (x : Ends t v o). subst (Event v) (sym x.2) (writes_nothing v (with_used x.0 v) (record { output = refl; closed = refl; failure = refl })))
     (λ (x : StaysPending t v o).
     let u = with_used (length v.results.queued) v in
     subst (Event v) (sym x.2) (pending_so (sent (ids v.results) x.0) v u (is_replaying u.phase) u.input_closed (record { output = refl; closed = refl; failure = refl }) (goes_on v live e)))
     comes
-tree_so t v o false e live comes = subst (Event v) (sym comes) (same v)
+await_so t v o false e live comes = subst (Event v) (sym comes) (same v)
 
-pub tree_writes : (t : Tree) (v : Machine) (o : Outcome (Result AwaitResponse Error)) → Awaits t v o → EventWrites v (called o v)
-tree_writes t v o comes = called_writes v o (λ live. tree_so t v o (is_running v.phase) refl live comes)
+pub await_writes : (t : Tree) (v : Machine) (o : Outcome (Result AwaitResponse Error)) → Awaits t v o → EventWrites v (called o v)
+await_writes t v o comes = called_writes v o (λ live. await_so t v o (is_running v.phase) refl live comes)
+
+-- the same of the call
+pub awaited_writes : (t : Tree) (v : Machine) (o : Outcome (Result AwaitResponse Error)) → CalledBy (Awaits t v) v o → EventWrites v o
+awaited_writes t v o h =
+    let from = called_from (Awaits t v) v o h in
+    subst (EventWrites v) (sym from.2) (called_writes v from.0 (λ live. await_so t v from.0 (is_running v.phase) refl live (from.1 live)))
 
 value_so : (value : Option Value) (v u : Machine) → Same v u → Quiet v (value_taken value u)
 value_so None v u s = s

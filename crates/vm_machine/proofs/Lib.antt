@@ -1,4 +1,5 @@
 pub mod Answering
+pub mod Calling
 pub mod Carried
 pub mod Endings
 pub mod Preparing

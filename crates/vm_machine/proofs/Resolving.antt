@@ -11,7 +11,7 @@ use Rattle.vm_machine.specs.declared.fault.Fault.TheVariants as fault
 use Rattle.vm_machine.specs.declared.machine.Machine.{Machine}
 use Rattle.vm_machine.specs.Outcomes.{Outcome, Done, Failed, Gives, GivesBy, lasting}
 use Rattle.vm_machine.specs.Phases.{is_running}
-use Rattle.vm_machine.specs.TreeAwaits.{Awaits, AwaitsAt, pending_on, with_used}
+use Rattle.vm_machine.specs.Awaits.{Awaits, AwaitsAt, pending_on, with_used}
 
 module _ (t left : Tree) (v u : Machine) (runs : is_running v.phase ≡ true) (p : LeftPending v.options.signal_delivery v.results t left) (is : u ≡ with_used (length v.results.queued) v) where
   comes : (o : Outcome (Result AwaitResponse Error)) → pending_on (sent (ids u.results) left) u ≡ o → Awaits t v o

@@ -17,7 +17,7 @@ use Rattle.vm_parts.specs.declared.async_results.Mapping.{Mapping}
 use Rattle.vm_parts.specs.declared.context.Counters.{Counters}
 use Rattle.vm_parts.specs.declared.options.NonDeterministicChecksOption.{NonDeterministicChecksOption}
 use Rattle.vm_parts.specs.declared.options.NonDeterministicChecksOption.TheVariants as checks
-use Rattle.vm_parts.specs.declared.types.NotificationHandle.{NotificationHandle}
+use Rattle.await_trees.specs.declared.handle.NotificationHandle.{NotificationHandle}
 use Rattle.vm_parts.specs.Counting.{next_index, missing}
 use Rattle.vm_machine.specs.declared.asks.Command.{Command}
 use Rattle.vm_machine.specs.declared.fault.Fault.{Fault}

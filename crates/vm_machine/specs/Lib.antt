@@ -7,9 +7,10 @@ pub mod Making
 pub mod Numbers
 pub mod Outcomes
 pub mod Phases
+pub mod Queries
 pub mod Reads
 pub mod Replays
 pub mod Reports
 pub mod Requests
 pub mod Signals
-pub mod TreeAwaits
+pub mod Takes

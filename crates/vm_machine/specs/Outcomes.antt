@@ -128,6 +128,20 @@ abbrev pub Does : {A : Type 0} → Outcome A → Result A Error → Machine → 
 Does o (Ok a) old new = o ≡ Done a new
 Does o (Err e) old new = (o ≡ Failed e new) ⊎ IsStarved old e new
 
+-- a call whose event may come to several outcomes, by whether the machine has failed before
+abbrev pub CalledAt : {A : Type 0} → Option Error → (Outcome A → Type 0) → Machine → Outcome A → Type 0
+CalledAt {A} None R v o = (event : Outcome A) × R event × (o ≡ settled event)
+CalledAt (Some e) R v o = o ≡ Failed e v
+
+-- The same of a call whose event may come to several outcomes.
+abbrev pub CalledBy : {A : Type 0} → (Outcome A → Type 0) → Machine → Outcome A → Type 0
+CalledBy R v o = CalledAt v.failure R v o
+
+-- A call does one of the outcomes that it may come to, or finds no memory.
+abbrev pub DoesBy : {A : Type 0} → (Outcome A → Type 0) → Result A Error → Machine → Machine → Type 0
+DoesBy R (Ok a) old new = R (Done a new)
+DoesBy R (Err e) old new = R (Failed e new) ⊎ IsStarved old e new
+
 -- whether a machine may act: a failed one answers its first error
 abbrev pub Lives : Option Error → Result Unit Error → Type 0
 Lives None r = r ≡ Ok tt
@@ -145,6 +159,10 @@ abbrev pub flat : {A : Type 0} → Outcome (Result A Error) → Outcome A
 flat (Done (Ok a) v) = Done a v
 flat (Done (Err e) v) = Failed e v
 flat (Failed e v) = Failed e v
+
+-- the same of a call that may come to several outcomes
+abbrev pub FlatBy : {A : Type 0} → (Outcome (Result A Error) → Type 0) → Outcome A → Type 0
+FlatBy {A} R o = (answered : Outcome (Result A Error)) × R answered × (o ≡ flat answered)
 
 -- an answer that is an error, as an error
 abbrev pub flattened : {A : Type 0} → Result (Result A Error) Error → Result A Error

@@ -19,7 +19,7 @@ use Rattle.journal_errors.specs.Types.{type_number}
 use Rattle.vm_parts.specs.declared.context.Known.{Known}
 use Rattle.vm_parts.specs.declared.context.Known.TheVariants.{Unknown, Empty, Value}
 use Rattle.vm_parts.specs.declared.context.StateMap.{StateMap}
-use Rattle.vm_parts.specs.declared.types.NotificationHandle.{NotificationHandle}
+use Rattle.await_trees.specs.declared.handle.NotificationHandle.{NotificationHandle}
 use Rattle.vm_parts.specs.Counting.{missing}
 use Rattle.vm_parts.specs.Deliveries.{with_eager}
 use Rattle.vm_parts.specs.States.{known, known_keys}

@@ -1,60 +1,41 @@
-//! Awaits and takes of one handle.
-ghost use Rattle.std.specs.Prelude.{◌≡◌, ◌∷◌, ◌++◌, [], IfOk, OnOk, OnErr};
+//! Awaits of trees: notifications are used until the tree is awake; else the machine waits for what is left of it.
+ghost use Rattle.std.specs.Prelude.{◌≡◌, ◌∷◌, ◌++◌, [], OnOk, OnErr};
+ghost use Rattle.await_trees.specs.Tree.{tree_of};
+ghost use Rattle.await_trees.specs.Wires.{sent};
+ghost use Rattle.await_tries.specs.Left.{tree_left};
+ghost use Rattle.await_tries.specs.Message.{ids};
 ghost use Rattle.journal_messages.specs.Message.{encoding};
 ghost use Rattle.journal_messages.specs.declared.message.Message.TheVariants as message;
-ghost use Rattle.vm_machine.specs.Outcomes.{Gives};
-ghost use Rattle.vm_machine.specs.Awaits.{future_of, pending, await_step, take_step, is_completed, value_taken};
+ghost use Rattle.vm_machine.specs.Outcomes.{Gives, GivesBy};
+ghost use Rattle.vm_machine.specs.Awaits.{Awaits, pending_on};
 
 use crate::fault::{Fault, refuse};
 use crate::machine::Machine;
 use crate::phase::Phase;
-use journal_attempt::{Future, FutureKind, Suspension};
+use await_trees::UnresolvedFuture;
+use await_tries::{Residue, Resolution, future_of, try_future};
+use journal_attempt::Suspension;
 use journal_errors::{Error, NamedFault};
 use journal_messages::Message;
-use journal_values::NotificationId;
-use std::alloc::{AllocError, Global};
-use vm_parts::values::read_result;
-use vm_parts::{AwaitResponse, NotificationHandle, Value};
-use wire::Items;
-
-/// What a suspension on one handle waits for.
-fn future_of(alloc: Global, id: Option<NotificationId>) -> Result<Future, AllocError>
-    ensures { IfOk result (λ future. future ≡ future_of id) }
-{
-    let mut waiting_completions = Items::new(alloc);
-    let mut waiting_signals = Items::new(alloc);
-    let mut waiting_named_signals = Items::new(alloc);
-    match id {
-        None => {}
-        Some(NotificationId::CompletionId(id)) => waiting_completions.push(id)?,
-        Some(NotificationId::SignalId(id)) => waiting_signals.push(id)?,
-        Some(NotificationId::SignalName(name)) => waiting_named_signals.push(name)?,
-    }
-    Future::waiting(
-        alloc,
-        FutureKind::FirstCompleted,
-        waiting_completions,
-        waiting_signals,
-        waiting_named_signals,
-    )
-}
+use std::alloc::AllocError;
+use vm_parts::AwaitResponse;
 
 impl Machine {
-    /// Writes a suspension on one handle.
-    fn suspend(&mut self, id: Option<NotificationId>) -> Result<(), AllocError>
-        ensures ok { OnOk result (self.new ≡ record self.old { output = self.old.output ++ encoding (message.Suspension (record { future = future_of id })) ∷ [] }) }
+    /// Writes a suspension on what is left of a tree.
+    fn suspend_on(&mut self, left: &Residue) -> Result<(), AllocError>
+        ensures ok { OnOk result (self.new ≡ record self.old { output = self.old.output ++ encoding (message.Suspension (record { future = sent (ids self.old.results) (tree_left left.now) })) ∷ [] }) }
         ensures err { OnErr result (self.new ≡ self.old) }
     {
-        let future = future_of(self.alloc, id)?;
+        let future = future_of(self.alloc, &self.results, left)?;
         let message = Message::Suspension(Suspension { future });
         let written = self.output.write(self.alloc, &message);
         drop(message);
         written
     }
 
-    /// An await that stays pending.
-    fn pend(&mut self, handle: NotificationHandle) -> Result<Result<AwaitResponse, Error>, Fault>
-        ensures { Gives (pending handle.0 self.old) result self.old self.new }
+    /// An await that stays pending on what is left of a tree.
+    fn pend_on(&mut self, left: &Residue) -> Result<Result<AwaitResponse, Error>, Fault>
+        ensures { Gives (pending_on (sent (ids self.old.results) (tree_left left.now)) self.old) result self.old self.new }
     {
         if self.phase.is_replaying() {
             return Err(refuse(NamedFault::UncompletedDoProgressDuringReplay));
@@ -65,53 +46,26 @@ impl Machine {
                 waiting_run_proposal: false,
             }));
         }
-        let id = self.results.id_of(handle.0)?;
-        self.suspend(id)?;
+        self.suspend_on(left)?;
         self.output_ended = true;
         self.phase = Phase::Closed;
         Ok(Err(Error::named(NamedFault::Suspended, None)))
     }
 
-    /// The handler awaits one handle. The inner error is an answer by which the machine doesn't fail.
-    #[tactic(auto, unfolding(crate::specs::Awaits::await_step))]
-    pub fn await_one(
+    /// The handler awaits a tree. The inner error is an answer by which the machine doesn't fail.
+    pub fn await_tree(
         &mut self,
-        handle: NotificationHandle,
+        future: &UnresolvedFuture,
     ) -> Result<Result<AwaitResponse, Error>, Fault>
-        ensures { Gives (await_step handle.0 self.old) result self.old self.new }
+        ensures { GivesBy (Awaits (tree_of future.now) self.old) result self.old self.new }
     {
         if !self.phase.is_running() {
             return Err(refuse(self.phase.fault()));
         }
-        if self.results.use_for(handle.0) {
-            return Ok(Ok(AwaitResponse::AnyCompleted));
+        let delivery = self.options.signal_delivery;
+        match try_future(self.alloc, &mut self.results, delivery, future)? {
+            Resolution::AnyCompleted => Ok(Ok(AwaitResponse::AnyCompleted)),
+            Resolution::Pending(left) => self.pend_on(&left),
         }
-        self.pend(handle)
-    }
-
-    /// The handler takes the present result of a handle.
-    #[tactic(auto, unfolding(crate::specs::Awaits::take_step))]
-    pub fn take(&mut self, handle: NotificationHandle) -> Result<Option<Value>, Fault>
-        ensures { Gives (take_step handle.0 self.old) result self.old self.new }
-    {
-        if !self.phase.is_running() {
-            return Err(refuse(self.phase.fault()));
-        }
-        let Some(found) = self.results.take(self.options.signal_delivery, handle) else {
-            return Ok(None);
-        };
-        match read_result(self.alloc, found)? {
-            Some(value) => Ok(Some(value)),
-            None => Err(refuse(NamedFault::StateKeyIsNotUtf8)),
-        }
-    }
-
-    pub fn is_completed(&self, handle: NotificationHandle) -> bool
-        ensures { result ≡ is_completed handle.0 self.now }
-    {
-        if self.failure.is_some() || !self.phase.is_running() {
-            return false;
-        }
-        self.results.is_completed(handle.0)
     }
 }

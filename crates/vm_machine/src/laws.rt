@@ -1,7 +1,7 @@
 //! Laws of the calls, in replay as in Processing.
 ghost use Rattle.std.specs.Prelude.{◌≡◌, ℕ, Bool, true, false, List, [], ◌∷◌, Option, Some, None, Result};
 ghost use Rattle.vm_parts.specs.declared.types.AwakeableHandle.{AwakeableHandle};
-ghost use Rattle.vm_parts.specs.declared.types.NotificationHandle.{NotificationHandle};
+ghost use Rattle.await_trees.specs.declared.handle.NotificationHandle.{NotificationHandle};
 ghost use Rattle.vm_machine.specs.declared.machine.Machine.{Machine};
 ghost use Rattle.vm_machine.specs.declared.phase.Phase.TheVariants.{Replaying};
 ghost use Rattle.journal_errors.specs.declared.error.Error.{Error};
@@ -15,7 +15,7 @@ ghost use Rattle.vm_parts.specs.declared.steps.Step.{Step};
 ghost use Rattle.vm_machine.specs.declared.asks.Ask.TheVariants as ask;
 ghost use Rattle.vm_machine.specs.declared.asks.Command.{Command};
 ghost use Rattle.vm_machine.specs.Asks.{ask_of};
-ghost use Rattle.vm_machine.specs.Awaits.{await_step, take_step};
+ghost use Rattle.vm_machine.specs.Takes.{take_step};
 ghost use Rattle.vm_machine.specs.Commands.{issued};
 ghost use Rattle.vm_machine.specs.Endings.{EventWrites, Writes, is_over, is_terminal};
 ghost use Rattle.vm_machine.specs.Inputs.{close_step, end_step, input_step, malformed_step, message_step};
@@ -27,7 +27,7 @@ ghost use Rattle.vm_machine.specs.Requests.{changed, ids_of, with_ids};
 ghost use Rattle.vm_machine.specs.Signals.{awakeable_step, signal_step};
 ghost use Rattle.vm_machine.specs.declared.reads.StateRead.{StateRead};
 ghost use Rattle.vm_machine.specs.Reads.{read_step};
-ghost use Rattle.vm_machine.specs.TreeAwaits.{Awaits};
+ghost use Rattle.vm_machine.specs.Awaits.{Awaits};
 ghost use Rattle.await_trees.specs.Tree.{Tree};
 ghost use Rattle.vm_parts.specs.declared.types.AwaitResponse.{AwaitResponse};
 
@@ -56,8 +56,7 @@ pub fn output_ends_once()
     ensures awakeables { (v : Machine) → EventWrites v (called (awakeable_step v) v) }
     ensures signals { (name : List ℕ) (v : Machine) → EventWrites v (called (signal_step name v) v) }
     ensures reads { (r : StateRead) (v : Machine) → EventWrites v (called (read_step r v) v) }
-    ensures awaits { (handle : ℕ) (v : Machine) → EventWrites v (called (await_step handle v) v) }
-    ensures trees { (t : Tree) (v : Machine) (o : Outcome (Result AwaitResponse Error)) → Awaits t v o → EventWrites v (called o v) }
+    ensures awaits { (t : Tree) (v : Machine) (o : Outcome (Result AwaitResponse Error)) → Awaits t v o → EventWrites v (called o v) }
     ensures takes { (handle : ℕ) (v : Machine) → EventWrites v (called (take_step handle v) v) }
     ensures inputs { (v : Machine) → EventWrites v (called (input_step v) v) }
     ensures ends { (v : Machine) → EventWrites v (called (end_step v) v) }

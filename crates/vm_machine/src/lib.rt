@@ -16,7 +16,7 @@ pub mod report;
 pub mod request;
 pub mod settle;
 pub mod signals;
-pub mod tree_awaits;
+pub mod takes;
 
 pub use asks::{Ask, Command};
 pub use fault::Fault;

@@ -1,6 +1,6 @@
 //! What can be asked of a machine at any time.
 ghost use Rattle.std.specs.Prelude.{◌≡◌};
-ghost use Rattle.vm_machine.specs.Awaits.{IsReadyAt, state_of, last_index};
+ghost use Rattle.vm_machine.specs.Queries.{IsReadyAt, state_of, last_index};
 
 use crate::machine::Machine;
 use crate::phase::Phase;

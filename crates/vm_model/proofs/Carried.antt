@@ -26,7 +26,7 @@ use Rattle.journal_values.specs.declared.notification.NotificationId.{Notificati
 use Rattle.journal_values.specs.declared.notification.NotificationId.TheVariants.{CompletionId}
 use Rattle.journal_values.specs.declared.notification.NotificationResult.{NotificationResult}
 use Rattle.vm_parts.specs.declared.steps.Answer.{Answer}
-use Rattle.vm_parts.specs.declared.types.NotificationHandle.{NotificationHandle}
+use Rattle.await_trees.specs.declared.handle.NotificationHandle.{NotificationHandle}
 use Rattle.vm_parts.specs.declared.values.Value.{Value}
 use Rattle.vm_parts.specs.Counting.{missing, missing_signals}
 use Rattle.vm_parts.specs.Deliveries.{id_at, present_for, same_id}
@@ -45,9 +45,8 @@ use Rattle.vm_model.specs.Calls.Demand.{Exactly, Reads}
 use Rattle.vm_model.specs.Calls.Move.{Answers, Needs, Awaits, Ends, Refuses}
 use Rattle.vm_model.specs.Calls.Usage.{Used, Read, Taken}
 use Rattle.vm_model.specs.Carried.{AreCarried, ComeOnce, carried, is_among, is_carried, read_carries}
-use Rattle.vm_model.specs.Deliveries.{deliveries}
+use Rattle.vm_model.specs.Deliveries.{HasNoTwo, deliveries}
 use Rattle.vm_model.specs.Moves.{Point, after, brought, command_used, found, move_at, moved, next, reads_as, start, uses_arrival, uses_command}
-use Rattle.vm_model.specs.Trees.{HasNoTwo}
 use Rattle.vm_model.specs.Uses.{arrivals_in}
 use Rattle.vm_model.proofs.Results.{results_behind}
 use Rattle.vm_model.proofs.Runs.{and_then_some, none_some}

@@ -7,6 +7,7 @@ pub mod Eager
 pub mod Attempts
 pub mod Lasting
 pub mod Honesty
+pub mod Once
 pub mod Order
 pub mod Compared
 pub mod Waking

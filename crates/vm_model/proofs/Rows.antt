@@ -1,5 +1,6 @@
 -- Runs of two handlers, computed.
-use Rattle.std.proofs.Common.{◌≡◌, ℕ, false, List, [], ◌∷◌, Option, Some, None, refl}
+use Rattle.std.proofs.Common.{◌≡◌, ℕ, suc, true, false, List, [], ◌∷◌, ◌++◌, Option, Some, None, refl, ap, ◌∙◌}
+use Rattle.std.specs.Prelude.{◌||◌}
 use Rattle.std.specs.Prelude.{codes, option_map}
 use Rattle.std.specs.Str.{chars, is_utf8}
 use Rattle.journal_attempt.specs.declared.commands.InputCommand.{InputCommand}
@@ -22,16 +23,20 @@ use Rattle.journal_values.specs.Parts.{read_value}
 use Rattle.vm_parts.specs.declared.steps.Answer.{Answer}
 use Rattle.vm_parts.specs.declared.steps.Answer.TheVariants as answer
 use Rattle.vm_parts.specs.declared.steps.Step.TheVariants as step
-use Rattle.vm_parts.specs.declared.types.NotificationHandle.{NotificationHandle}
-use Rattle.vm_parts.specs.declared.types.UnresolvedFuture.TheVariants.{Single}
+use Rattle.await_trees.specs.declared.handle.NotificationHandle.{NotificationHandle}
+use Rattle.await_trees.specs.declared.tree.UnresolvedFuture.TheVariants.{Single}
 use Rattle.vm_parts.specs.declared.values.NonEmptyValue.TheVariants.{Success, Failure}
 use Rattle.vm_parts.specs.declared.values.Value.TheVariants as value
 use Rattle.vm_parts.specs.Options.{default_options}
 use Rattle.vm_parts.specs.CommandTypes.{message_type}
 use Rattle.wire.specs.Format.{bytes, list, option, read_byte, read_bytes, read_flag, read_items, read_list, read_option, read_pair, read_text, read_u16, read_u32, read_u64, u16s, u32s, u64s}
-use Rattle.vm_model.specs.Calls.{Setup, Meaning}
+use Rattle.await_trees.specs.Outcomes.{awake, is_done}
+use Rattle.await_trees.proofs.TreeOf.{tree_of-Single}
+use Rattle.vm_model.specs.Calls.{Derived, Setup, Meaning, is_awake, leaf_in}
+use Rattle.vm_model.specs.Histories.{IsAwaiting}
+use Rattle.vm_model.proofs.Waking.{waits_next, wakes_next}
 use Rattle.vm_model.specs.Journal.{stored_form}
-use Rattle.vm_model.specs.Moves.{after, start, told_input}
+use Rattle.vm_model.specs.Moves.{Point, after, and_then, arrival_used, next, start, told_input, uses_arrival}
 
 setup : Setup
 setup = record { version = V7; options = default_options; identity = record { id = codes "abc"; debug_id = codes "abc"; key = []; random_seed = 0; scope = None; limit_key = None; idempotency_key = None } }
@@ -60,16 +65,41 @@ told = answer.Input (told_input setup.identity input)
 told_by : Meaning → ℕ → List Notification → List RawMessage → Option (List Answer × List RawMessage)
 told_by m n ns cs = option_map (λ p. (p.answers, p.left)) (after setup m n (start setup input ns cs))
 
+-- the point that is there
+point_in : Option Point → Point
+point_in None = start setup input [] []
+point_in (Some p) = p
+
+-- a handle that is awaited wakes by its own result
+wakes_by : (h : NotificationHandle) (d : Derived) → is_awake setup (Single h) d ≡ is_done (leaf_in setup d h.0) || false
+wakes_by h d = ap (awake (leaf_in setup d)) (tree_of-Single h)
+
+-- An await of a handle whose result is the next arrival: that is used, and the await is answered.
+abbrev awoken : Notification → List Notification → Point → Point
+awoken n queue p = record p { answers = p.answers ++ answer.Awake ∷ []; derived = arrival_used n p.derived; queue = queue }
+
+awaits_one : (m : Meaning) (h : NotificationHandle) (p : Point) (n : Notification) (queue : List Notification) (more : ℕ) → IsAwaiting m p (Single h) → p.queue ≡ n ∷ queue → is_done (leaf_in setup p.derived h.0) ≡ false → is_done (leaf_in setup (arrival_used n p.derived) h.0) ≡ true
+    → after setup m (suc (suc more)) p ≡ after setup m more (awoken n queue p)
+awaits_one m h p n queue more is e before then =
+    let there : Point = record p { derived = arrival_used n p.derived; queue = queue } in
+    let uses : next setup m p ≡ Some there = waits_next setup m (Single h) p is (wakes_by h p.derived ∙ ap (λ b. b || false) before) ∙ ap (λ q. uses_arrival q p) e in
+    let wakes : next setup m there ≡ Some (awoken n queue p) = wakes_next setup m (Single h) there is (wakes_by h there.derived ∙ ap (λ b. b || false) then) in
+    ap (λ o. and_then o (after setup m (suc more))) uses ∙ ap (λ o. and_then o (after setup m more)) wakes
+
 slept : RawMessage
 slept = stored_form (message.Sleep (record { wake_up_time = 1000; result_completion_id = 1; name = [] }))
 
 done : RawMessage
 done = stored_form (message.Output (record { result = given.Value [] }))
 
+-- the point behind the sleep
+asleep : Point
+asleep = point_in (after setup sleeper 1 (start setup input (void 1 ∷ []) (slept ∷ done ∷ [])))
+
 -- the calls behind the input go through both recorded commands and the arrival
 told_two : told_by sleeper 5 (void 1 ∷ []) (slept ∷ done ∷ []) ≡ Some (told ∷ answer.Handle (handle 17) ∷ answer.Awake ∷ answer.Taken (Some value.Void) ∷ answer.Unit ∷ [], [])
-unfolding told_by slept done setup sleeper void told handle is_utf8 chars header_equal message_in body_as sleep output read_value bytes read_byte read_bytes read_text read_pair read_u16 read_u32 read_u64 u16s u32s u64s
-told_two = refl
+unfolding told_by point_in asleep slept done setup sleeper void told handle is_utf8 chars header_equal message_in body_as sleep output read_value bytes read_byte read_bytes read_text read_pair read_u16 read_u32 read_u64 u16s u32s u64s
+told_two = ap (option_map (λ p. (p.answers, p.left))) (awaits_one sleeper (handle 17) asleep (void 1) [] 2 refl refl refl refl)
 
 cleared : RawMessage
 cleared = stored_form (message.ClearState (record { name = []; key = codes "k" }))
@@ -91,16 +121,20 @@ chooser _ = step.End
 sent : NotificationResult → Notification
 sent r = record { id = SignalId 17; result = r }
 
+-- the point behind the awakeable
+waiting : NotificationResult → List RawMessage → Point
+waiting r cs = point_in (after setup chooser 1 (start setup input (sent r ∷ []) cs))
+
 completed : option_map (λ a. a.1) (told_by chooser 5 (sent (came.Value (codes "x")) ∷ []) (cleared ∷ [])) ≡ Some []
-unfolding told_by setup chooser sent cleared is_utf8 chars header_equal message_in body_as clear_state bytes read_byte read_bytes read_text read_pair read_u16 read_u32 read_u64 u16s u32s u64s lib.Utf8.encode
-completed = refl
+unfolding told_by point_in waiting setup chooser sent cleared is_utf8 chars header_equal message_in body_as clear_state bytes read_byte read_bytes read_text read_pair read_u16 read_u32 read_u64 u16s u32s u64s lib.Utf8.encode
+completed = ap (λ o. option_map (λ (a : List Answer × List RawMessage). a.1) (option_map (λ (p : Point). (p.answers, p.left)) o)) (awaits_one chooser (record { 0 = 17 }) (waiting (came.Value (codes "x")) (cleared ∷ [])) (sent (came.Value (codes "x"))) [] 2 refl refl refl refl)
 
 refused : RawMessage
 refused = stored_form (message.Output (record { result = given.Failure (record { code = 409; message = codes "no"; metadata = [] }) }))
 
 failed : option_map (λ a. a.1) (told_by chooser 5 (sent (came.Failure (record { code = 65945; message = codes "no"; metadata = [] })) ∷ []) (refused ∷ [])) ≡ Some []
-unfolding told_by setup chooser sent refused is_utf8 chars header_equal message_in body_as output failure list option read_value read_items read_list bytes read_byte read_bytes read_text read_pair read_u16 read_u32 read_u64 u16s u32s u64s lib.Utf8.encode
-failed = refl
+unfolding told_by point_in waiting setup chooser sent refused is_utf8 chars header_equal message_in body_as output failure list option read_value read_items read_list bytes read_byte read_bytes read_text read_pair read_u16 read_u32 read_u64 u16s u32s u64s lib.Utf8.encode
+failed = ap (λ o. option_map (λ (a : List Answer × List RawMessage). a.1) (option_map (λ (p : Point). (p.answers, p.left)) o)) (awaits_one chooser (record { 0 = 17 }) (waiting (came.Failure (record { code = 65945; message = codes "no"; metadata = [] })) (refused ∷ [])) (sent (came.Failure (record { code = 65945; message = codes "no"; metadata = [] }))) [] 2 refl refl refl refl)
 
 -- it reads a key, takes the result at once and ends
 reader : Meaning

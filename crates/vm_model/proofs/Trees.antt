@@ -1,9 +1,9 @@
 -- An await of a tree in a machine is the model's: the least prefix of the arrivals at a point.
-use Rattle.std.proofs.Common.{◌≡◌, ℕ, ◌+◌, ◌≤◌, Bool, true, false, cond, List, [], ◌∷◌, ◌++◌, length, take, refl, sym, ap, ◌∙◌, subst, arith, append_assoc, append-nil, length-append}
+use Rattle.std.proofs.Common.{◌≡◌, ℕ, ◌+◌, ◌≤◌, Bool, true, false, cond, List, [], ◌∷◌, ◌++◌, drop, length, take, refl, sym, ap, ◌∙◌, subst, arith, append_assoc, append-nil, length-append}
 use Rattle.arrivals.specs.Results.{results_of}
 use Rattle.await_trees.specs.Outcomes.{awake}
 use Rattle.await_trees.specs.Tree.{Tree}
-use Rattle.await_tries.specs.Await.{LeastAwake, NeverAwake}
+use Rattle.await_tries.specs.Await.{LeastAwake, NeverAwake, outcomes}
 use Rattle.await_tries.specs.Later.{EachOnce, Stays}
 use Rattle.await_tries.specs.Leaves.{leaf_outcome, result_outcome}
 use Rattle.await_tries.specs.Used.{used}
@@ -14,12 +14,11 @@ use Rattle.journal_values.specs.declared.notification.NotificationId.TheVariants
 use Rattle.vm_parts.specs.declared.options.SignalDelivery.TheVariants.{Queued}
 use Rattle.vm_parts.specs.Arrived.{Arrived}
 use Rattle.vm_parts.specs.Deliveries.{id_at, left_among, present_for, same_id, without_all}
-use Rattle.vm_model.specs.Calls.{Derived, Setup, Usage, ready_after, ready_in}
+use Rattle.vm_model.specs.Calls.{Derived, Setup, Usage, leaf_in, ready_after, ready_in, tree_wakes}
 use Rattle.vm_model.specs.Calls.Usage.{Used, Read, Taken}
-use Rattle.vm_model.specs.Deliveries.{deliveries}
+use Rattle.vm_model.specs.Deliveries.{HasNoTwo, arrived_at, deliveries}
 use Rattle.vm_model.specs.Histories.{IsLeast, arrivals_used}
 use Rattle.vm_model.specs.Moves.{Point, arrival_used}
-use Rattle.vm_model.specs.Trees.{HasNoTwo, arrived_at, leaf_in, tree_wakes}
 use Rattle.vm_model.proofs.Results.{all_gone, all_kept, left_kept, none_read, results_behind, same_is}
 
 -- ---- no completion id has two results
@@ -80,6 +79,18 @@ handles_more : (ns : List Notification) (d : Derived) → (arrivals_used ns d).h
 handles_more [] d = refl
 handles_more (n ∷ ns) d = handles_more ns (arrival_used n d)
 
+pub counters_more : (ns : List Notification) (d : Derived) → (arrivals_used ns d).counters ≡ d.counters
+counters_more [] d = refl
+counters_more (n ∷ ns) d = counters_more ns (arrival_used n d)
+
+-- a machine finds as much as the point at which as many arrivals are used
+pub used_at : (s : Setup) (p : Point) (n : ℕ) → used (arrived_at s p) n ≡ arrived_at s (record p { derived = arrivals_used (take n p.queue) p.derived; queue = drop n p.queue })
+used_at s p n = λ i. record { queued = drop n p.queue; ready = sym (ready_more s (take n p.queue) p.derived) i; handles = sym (handles_more (take n p.queue) p.derived) i }
+
+pub all_used : (ns : List Notification) → drop (length ns) ns ≡ []
+all_used [] = refl
+all_used (n ∷ ns) = all_used ns
+
 -- a leaf comes to the same in the model
 leaf_more : (s : Setup) (p : Point) (n : ℕ) → leaf_outcome s.options.signal_delivery (used (arrived_at s p) n) ≡ leaf_in s (arrivals_used (take n p.queue) p.derived)
 leaf_more s p n = λ i h. result_outcome (present_for s.options.signal_delivery (id_at h (sym (handles_more (take n p.queue) p.derived) i)) (sym (ready_more s (take n p.queue) p.derived) i))
@@ -108,3 +119,7 @@ module _ (s : Setup) (t : Tree) (p : Point) (queued : s.options.signal_delivery 
       sym (ap (λ at. awake at t) (leaf_more s p n))
       ∙ sym (ap (λ at. awake at t) (λ i h. first_is_now s.options.signal_delivery arrived [] stays_so n h there i))
       ∙ never n there
+
+  -- where all arrivals are used, the leaves have come to what they are at the point
+  pub left_at : outcomes s.options.signal_delivery (arrived_at s p) (length p.queue) ≡ leaf_in s (arrivals_used (take (length p.queue) p.queue) p.derived)
+  left_at = (λ i h. first_is_now s.options.signal_delivery arrived [] stays_so (length p.queue) h (omega arith) i) ∙ leaf_more s p (length p.queue)

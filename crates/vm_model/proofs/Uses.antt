@@ -24,7 +24,7 @@ use Rattle.vm_parts.specs.declared.steps.Answer.{Answer}
 use Rattle.vm_parts.specs.declared.steps.Answer.TheVariants as answer
 use Rattle.vm_parts.specs.declared.steps.Step.{Step}
 use Rattle.vm_parts.specs.declared.steps.Step.TheVariants as step
-use Rattle.vm_parts.specs.declared.types.NotificationHandle.{NotificationHandle}
+use Rattle.await_trees.specs.declared.handle.NotificationHandle.{NotificationHandle}
 use Rattle.vm_parts.specs.declared.values.Value.{Value}
 use Rattle.vm_parts.specs.Counting.{missing, missing_signals}
 use Rattle.vm_parts.specs.Deliveries.{id_at, present_for, unmapped}

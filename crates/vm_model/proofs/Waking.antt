@@ -4,7 +4,7 @@ use Rattle.std.proofs.lemmas.Option.{same_Some}
 use Rattle.journal_values.specs.declared.notification.Notification.{Notification}
 use Rattle.vm_parts.specs.declared.steps.Answer.{Answer}
 use Rattle.vm_parts.specs.declared.steps.Answer.TheVariants as answer
-use Rattle.vm_parts.specs.declared.types.UnresolvedFuture.{UnresolvedFuture}
+use Rattle.await_trees.specs.declared.tree.UnresolvedFuture.{UnresolvedFuture}
 use Rattle.vm_model.specs.Calls.{Setup, Meaning, Derived, awaiting, call_of, is_awake}
 use Rattle.vm_model.specs.Moves.{Point, after, and_then, arrival_used, move_at, moved, next, uses_arrival}
 use Rattle.vm_model.specs.Histories.{IsAwaiting, IsLeast, arrivals_used}
@@ -30,7 +30,7 @@ least_next test d x xs j t h = record { there = omega (arith, h.there); holds = 
     below (suc i) l = h.least i (omega arith)
 
 -- where an await's future is not awake, the next arrival is used
-waits_next : (s : Setup) (m : Meaning) (future : UnresolvedFuture) (p : Point) → IsAwaiting m p future → is_awake s future p.derived ≡ false → next s m p ≡ uses_arrival p.queue p
+pub waits_next : (s : Setup) (m : Meaning) (future : UnresolvedFuture) (p : Point) → IsAwaiting m p future → is_awake s future p.derived ≡ false → next s m p ≡ uses_arrival p.queue p
 waits_next s m future p at t = ap (λ mv. moved mv p) (move_awaits s m p future at ∙ ap (λ b. awaiting b p.derived) t)
 
 step_least : (s : Setup) (m : Meaning) (future : UnresolvedFuture) (p q : Point) (a : Answer) (more : List Answer) (n : ℕ) (r : Point) → IsAwaiting m p future → is_awake s future p.derived ≡ false → (queue : List Notification) → p.queue ≡ queue → uses_arrival queue p ≡ Some r → after s m n r ≡ Some q → q.answers ≡ p.answers ++ a ∷ more → ((p' : Point) → IsAwaiting m p' future → after s m n p' ≡ Some q → q.answers ≡ p'.answers ++ a ∷ more → (j : ℕ) × IsLeast (is_awake s future) p'.derived p'.queue j) → (j : ℕ) × IsLeast (is_awake s future) p.derived p.queue j
@@ -79,7 +79,7 @@ await_runs s m future (suc j) p (x ∷ xs) is at h =
 -- ---- an await that no arrival wakes
 
 -- an await that is awake is answered
-wakes_next : (s : Setup) (m : Meaning) (future : UnresolvedFuture) (p : Point) → IsAwaiting m p future → is_awake s future p.derived ≡ true → next s m p ≡ Some (record p { answers = p.answers ++ answer.Awake ∷ [] })
+pub wakes_next : (s : Setup) (m : Meaning) (future : UnresolvedFuture) (p : Point) → IsAwaiting m p future → is_awake s future p.derived ≡ true → next s m p ≡ Some (record p { answers = p.answers ++ answer.Awake ∷ [] })
 wakes_next s m future p at t = ap (λ mv. moved mv p) (move_awaits s m p future at ∙ ap (λ b. awaiting b p.derived) t)
 
 -- a point from which moves lead on without an answer isn't awake

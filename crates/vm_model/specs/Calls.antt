@@ -16,9 +16,12 @@ use Rattle.vm_parts.specs.declared.options.VMOptions.{VMOptions}
 use Rattle.vm_parts.specs.declared.steps.Answer.{Answer}
 use Rattle.vm_parts.specs.declared.steps.Answer.TheVariants as answer
 use Rattle.vm_parts.specs.declared.steps.Step.{Step}
-use Rattle.vm_parts.specs.declared.types.NotificationHandle.{NotificationHandle}
-use Rattle.vm_parts.specs.declared.types.UnresolvedFuture.{UnresolvedFuture}
-use Rattle.vm_parts.specs.declared.types.UnresolvedFuture.TheVariants.{Single}
+use Rattle.await_trees.specs.declared.handle.NotificationHandle.{NotificationHandle}
+use Rattle.await_trees.specs.declared.tree.UnresolvedFuture.{UnresolvedFuture}
+use Rattle.await_trees.specs.declared.outcome.Outcome.{Outcome}
+use Rattle.await_trees.specs.Outcomes.{awake}
+use Rattle.await_trees.specs.Tree.{Tree, tree_of}
+use Rattle.await_tries.specs.Leaves.{result_outcome}
 use Rattle.vm_parts.specs.declared.values.Value.{Value}
 use Rattle.vm_parts.specs.Arrived.{Ready}
 use Rattle.vm_parts.specs.Counting.{missing, missing_signals, next_index}
@@ -87,9 +90,17 @@ ready_in s d = ready_after s.options.signal_delivery d.usage
 abbrev pub has_result_in : Setup → NotificationHandle → Derived → Bool
 has_result_in s handle d = has_result_for (id_at handle.0 d.handles) (ready_in s d)
 
+-- what a leaf has come to: by the present result of its handle's id
+abbrev pub leaf_in : Setup → Derived → ℕ → Outcome
+leaf_in s d h = result_outcome (present_for s.options.signal_delivery (id_at h d.handles) (ready_in s d))
+
+-- whether a tree wakes
+abbrev pub tree_wakes : Setup → Tree → Derived → Bool
+tree_wakes s t d = awake (leaf_in s d) t
+
 -- whether a future wakes
 abbrev pub is_awake : Setup → UnresolvedFuture → Derived → Bool
-is_awake s (Single handle) d = has_result_in s handle d
+is_awake s future d = tree_wakes s (tree_of future) d
 
 -- ---- what a step asks for
 

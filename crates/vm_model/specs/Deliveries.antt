@@ -1,15 +1,17 @@
--- What came for an id and how often its results were taken, by the arrivals that awaits have used.
-use Rattle.std.specs.Prelude.{◌≡◌, ◌⊎◌, ℕ, zero, suc, true, cond, is_some, List, [], ◌∷◌, ◌++◌, drop, Option, Some, None}
+-- What came for an id and how often its results were taken, by the arrivals that awaits have used, and those that wait.
+use Rattle.std.specs.Prelude.{◌≡◌, ◌⊎◌, ◌≤◌, ◌+◌, ℕ, zero, suc, length, true, cond, is_some, List, [], ◌∷◌, ◌++◌, drop, Option, Some, None}
+use Rattle.arrivals.specs.Results.{results_of}
 use Rattle.journal_values.specs.declared.notification.NotificationId.{NotificationId}
 use Rattle.journal_values.specs.declared.notification.NotificationId.TheVariants.{CompletionId}
 use Rattle.journal_values.specs.declared.notification.NotificationResult.{NotificationResult}
 use Rattle.vm_parts.specs.declared.options.SignalDelivery.{SignalDelivery}
 use Rattle.vm_parts.specs.declared.steps.Answer.TheVariants as answer
-use Rattle.vm_parts.specs.declared.types.NotificationHandle.{NotificationHandle}
+use Rattle.await_trees.specs.declared.handle.NotificationHandle.{NotificationHandle}
 use Rattle.vm_parts.specs.declared.values.Value.{Value}
+use Rattle.vm_parts.specs.Arrived.{Arrived}
 use Rattle.vm_parts.specs.Deliveries.{first, id_at, is_listed, newest, present, same_id}
 use Rattle.vm_parts.specs.Values.{value_of}
-use Rattle.vm_model.specs.Calls.{Setup, Usage, ready_after}
+use Rattle.vm_model.specs.Calls.{Setup, Usage, ready_after, ready_in}
 use Rattle.vm_model.specs.Calls.Usage.{Used, Read, Taken}
 use Rattle.vm_model.specs.Moves.{Point}
 
@@ -53,3 +55,11 @@ TakeIsAnswered s handle p q =
     ((q.answers ≡ p.answers ++ answer.Taken None ∷ []) × ((id : NotificationId) → id_at handle.0 p.derived.handles ≡ Some id → next_taken s.options.signal_delivery id p.derived.usage ≡ None))
     ⊎ ((id : NotificationId) × (result : NotificationResult) × (value : Value) × (id_at handle.0 p.derived.handles ≡ Some id) × (next_taken s.options.signal_delivery id p.derived.usage ≡ Some result) × (value_of result ≡ Some value)
     × (q.answers ≡ p.answers ++ answer.Taken (Some value) ∷ []) × (q.derived.usage ≡ Taken id ∷ p.derived.usage))
+
+-- the notifications of a point, as an await finds them
+abbrev pub arrived_at : Setup → Point → Arrived
+arrived_at s p = record { queued = p.queue; ready = ready_in s p.derived; handles = p.derived.handles }
+
+-- No completion id has two results: of what an eager read gave, of the arrivals that awaits have used, and of those that wait.
+abbrev pub HasNoTwo : Point → Type 0
+HasNoTwo p = (i : ℕ) → length (deliveries (CompletionId i) p.derived.usage) + length (results_of (CompletionId i) p.queue) ≤ 1

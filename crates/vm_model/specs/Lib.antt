@@ -5,7 +5,6 @@ pub mod Histories
 pub mod Deliveries
 pub mod Sums
 pub mod Uses
-pub mod Trees
 pub mod Carried
 pub mod Refusals
 pub mod HonestRounds

@@ -8,17 +8,16 @@ ghost use Rattle.journal_values.specs.declared.notification.NotificationId.TheVa
 ghost use Rattle.vm_parts.specs.declared.options.SignalDelivery.{SignalDelivery};
 ghost use Rattle.vm_parts.specs.declared.steps.Answer.{Answer};
 ghost use Rattle.vm_parts.specs.declared.steps.Step.TheVariants as step;
-ghost use Rattle.vm_parts.specs.declared.types.NotificationHandle.{NotificationHandle};
-ghost use Rattle.vm_parts.specs.declared.types.UnresolvedFuture.{UnresolvedFuture};
+ghost use Rattle.await_trees.specs.declared.handle.NotificationHandle.{NotificationHandle};
+ghost use Rattle.await_trees.specs.declared.tree.UnresolvedFuture.{UnresolvedFuture};
 ghost use Rattle.vm_parts.specs.Deliveries.{newest, present};
-ghost use Rattle.vm_model.specs.Calls.{Setup, Meaning, Usage, is_awake, ready_after};
+ghost use Rattle.vm_model.specs.Calls.{Setup, Meaning, Usage, is_awake, ready_after, tree_wakes};
 ghost use Rattle.vm_model.specs.Moves.{Point, after, next, start};
 ghost use Rattle.vm_model.specs.Histories.{IsAwaiting, IsLeast, arrivals_used};
 ghost use Rattle.await_trees.specs.Tree.{Tree};
 ghost use Rattle.await_tries.specs.Await.{LeastAwake, NeverAwake};
 ghost use Rattle.vm_parts.specs.declared.options.SignalDelivery.TheVariants.{Queued};
-ghost use Rattle.vm_model.specs.Trees.{HasNoTwo, arrived_at, tree_wakes};
-ghost use Rattle.vm_model.specs.Deliveries.{EachTookAResult, TakeIsAnswered, deliveries, next_taken, takes};
+ghost use Rattle.vm_model.specs.Deliveries.{EachTookAResult, HasNoTwo, TakeIsAnswered, arrived_at, deliveries, next_taken, takes};
 
 /// An await that was answered had a least prefix of the arrivals by which its future is awake, and the run uses just
 /// those. Where all arrivals are used and the future isn't awake, no number of them wakes it: it is awake at no point of the

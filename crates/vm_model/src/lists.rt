@@ -9,7 +9,7 @@ ghost use Rattle.vm_model.specs.Calls.{Setup, Meaning};
 ghost use Rattle.vm_model.specs.Carried.{AreCarried, ComeOnce};
 ghost use Rattle.vm_model.specs.Moves.{Point, after, start};
 ghost use Rattle.vm_model.specs.Sums.{calls_for};
-ghost use Rattle.vm_model.specs.Trees.{HasNoTwo};
+ghost use Rattle.vm_model.specs.Deliveries.{HasNoTwo};
 ghost use Rattle.vm_model.specs.Uses.{IsGiven, StandFor, WasTaken, arrivals_in, ids_given, item, needed};
 
 /// Both lists of a journal are used from the front. The recorded commands are those that were used and those that are left; each

@@ -1,11 +1,11 @@
--- Notifications that are used one by one, and takes that find nothing.
+-- Takes that find nothing.
 use Rattle.std.proofs.Common.{◌≡◌, ℕ, Bool, true, false, cond, List, [], ◌∷◌, Option, Some, None, refl, sym, ap, ◌∙◌}
 use Rattle.journal_values.specs.declared.notification.Notification.{Notification}
 use Rattle.journal_values.specs.declared.notification.NotificationId.{NotificationId}
 use Rattle.journal_values.specs.declared.notification.NotificationResult.{NotificationResult}
 use Rattle.vm_parts.specs.Arrived.{Arrived, Ready}
 use Rattle.std.specs.Option.{option_or}
-use Rattle.vm_parts.specs.Deliveries.{same_id, results_of, first, newest, newest_after, without_first, without_all, has_result_for, left_among, left_ready, present, present_among, used_for, used_until, with_used, id_at, is_listed, Taken}
+use Rattle.vm_parts.specs.Deliveries.{same_id, results_of, first, newest, newest_after, without_first, without_all, left_among, left_ready, present, present_among, id_at, is_listed, Taken}
 use Rattle.vm_parts.specs.declared.options.SignalDelivery.{SignalDelivery}
 
 -- ---- an id without a result
@@ -32,18 +32,6 @@ none_newest_at id n ns false k h e = ap (λ t. n ∷ t) (h e)
 pub none_newest : (id : NotificationId) (ns : List Notification) → newest (results_of id ns) ≡ None → without_all id ns ≡ ns
 none_newest id [] e = refl
 none_newest id (n ∷ ns) e = none_newest_at id n ns (same_id n.id id) refl (none_newest id ns) e
-
--- ---- notifications that are used one by one
-
-used_ready : (wanted : Option NotificationId) (ready : Ready) (queued : List Notification) → has_result_for wanted ready ≡ true → used_until wanted ready queued ≡ (ready, queued)
-used_ready wanted ready [] e = refl
-used_ready wanted ready (n ∷ ns) e = rw e refl
-
--- a handle with a result needs no more
-pub none_needed : (handle : ℕ) (v : Arrived) → has_result_for (id_at handle v.handles) v.ready ≡ true → used_for handle v ≡ v
-none_needed handle v e = ap (λ used. with_used used v) (used_ready (id_at handle v.handles) v.ready v.queued e)
-
--- ---- an id without a result
 
 none_left_at : (b : Bool) (id : NotificationId) (ns : List Notification) → cond b (first (results_of id ns)) (newest (results_of id ns)) ≡ None → cond b (without_first id ns) (without_all id ns) ≡ ns
 none_left_at true id ns e = none_first id ns e

@@ -79,19 +79,6 @@ next_used v =
     let came = one_used (record { queued = v.queued; delivered = v.ready.delivered }) in
     record v { queued = came.queued; ready = record v.ready { delivered = came.delivered } }
 
--- notifications are used one by one until the id has a result among those that are ready
-abbrev pub used_until : Option NotificationId → Ready → List Notification → Ready × List Notification
-used_until id ready [] = (ready, [])
-used_until id ready (n ∷ ns) = cond (has_result_for id ready) (ready, n ∷ ns) (used_until id (with_delivered n ready) ns)
-
--- so many are used
-abbrev pub with_used : Ready × List Notification → Arrived → Arrived
-with_used used v = record v { ready = used.0; queued = used.1 }
-
--- notifications are used until the handle has a result
-abbrev pub used_for : ℕ → Arrived → Arrived
-used_for handle v = with_used (used_until (id_at handle v.handles) v.ready v.queued) v
-
 -- a take: the present result leaves, and the handle with it, but for the cancel handle
 abbrev pub taken_from : SignalDelivery → ℕ → NotificationId → Arrived → Arrived
 taken_from delivery handle id v =

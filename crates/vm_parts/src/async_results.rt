@@ -3,12 +3,12 @@
 ghost use Rattle.std.specs.Prelude.{◌≡◌, ◌∷◌, ◌++◌, [], OnOk, OnErr, IfOk};
 ghost use Rattle.std.specs.Option.{option_copied};
 ghost use Rattle.arrivals.specs.Came.{is_queued};
-ghost use Rattle.vm_parts.specs.Deliveries.{id_at, no_results, is_listed, left_among, present_among, present_for, has_result_for, next_used, used_for, with_eager, Taken};
+ghost use Rattle.vm_parts.specs.Deliveries.{id_at, no_results, is_listed, left_among, present_among, present_for, has_result_for, next_used, with_eager, Taken};
 
 use crate::handles::Handles;
 use crate::options::SignalDelivery;
-use crate::types::NotificationHandle;
 use arrivals::{Arrivals, EagerResults};
+use await_trees::NotificationHandle;
 use journal_values::{Notification, NotificationId, NotificationResult};
 use std::alloc::{AllocError, Global};
 use std::marker::Model;
@@ -187,19 +187,6 @@ impl AsyncResults {
         ensures used { self.new ≡ next_used self.old }
     {
         self.arrivals.use_one()
-    }
-
-    /// Uses notifications in order of arrival until the handle has a ready result, or none is left.
-    pub fn use_for(&mut self, handle: u32) -> bool
-        ensures used { self.new ≡ used_for handle self.old }
-        ensures answer { result ≡ has_result_for (id_at handle self.new.handles) self.new.ready }
-    {
-        'arrivals: while !self.is_completed(handle) {
-            if !self.use_one() {
-                return false;
-            }
-        }
-        true
     }
 
     /// Takes the present result of a handle; the handle is then forgotten, but for the cancel handle.

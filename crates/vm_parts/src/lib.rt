@@ -17,6 +17,7 @@ pub mod types;
 pub mod values;
 
 pub use async_results::{AsyncResults, Mapping};
+pub use await_trees::{CANCEL_NOTIFICATION_HANDLE, NotificationHandle, UnresolvedFuture};
 pub use command_type::{CommandRelationship, CommandType};
 pub use context::{Counters, Known, LastCommand, StartInfo, StateCoverage, StateMap};
 pub use entries::Entries;
@@ -31,8 +32,7 @@ pub use queue::Queue;
 pub use run_state::{KeptProposal, PendingRun, RunExecution, TrackedCall};
 pub use steps::{Answer, Step};
 pub use types::{
-    AwaitResponse, AwakeableHandle, CANCEL_NOTIFICATION_HANDLE, CallHandle, EphemeralCompletionId,
-    NotificationHandle, SendHandle, State, UnresolvedFuture,
+    AwaitResponse, AwakeableHandle, CallHandle, EphemeralCompletionId, SendHandle, State,
 };
 pub use values::{Input, NonEmptyValue, ResponseHead, Target, TerminalFailure, Value};
 

@@ -1,8 +1,9 @@
 //! What a handler asks for next, and what it was answered.
 
 use crate::options::PayloadOptions;
-use crate::types::{AwakeableHandle, CallHandle, NotificationHandle, SendHandle, UnresolvedFuture};
+use crate::types::{AwakeableHandle, CallHandle, SendHandle};
 use crate::values::{Input, NonEmptyValue, Target, Value};
+use await_trees::{NotificationHandle, UnresolvedFuture};
 use bytes::Bytes;
 use journal_calls::InvocationTarget;
 use std::time::Duration;

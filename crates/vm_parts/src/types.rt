@@ -1,33 +1,9 @@
-//! The small public types of calls and their answers: handles, ids, states and futures.
+//! The small public types of calls and their answers: ids, groups of handles and states.
 ghost use Rattle.std.specs.Prelude.{◌≡◌, IsTrue, ◌↔◌};
 ghost use Rattle.vm_parts.specs.declared.types.State.TheVariants as state;
 
-use std::alloc::AllocError;
-use std::fmt;
+use await_trees::NotificationHandle;
 use wire::Text;
-
-/// What a call that is answered later hands out; counted from 17. Handle 1 is the cancel signal's.
-#[derive(Clone, Copy, Debug, PartialEq, Eq, PartialOrd, Ord, Hash)]
-pub struct NotificationHandle(pub u32);
-
-/// The handle of the built-in cancel signal.
-pub const CANCEL_NOTIFICATION_HANDLE: NotificationHandle = NotificationHandle(1);
-
-impl From<u32> for NotificationHandle {
-    ghost from_gives = { λ number handle. handle.0 ≡ number };
-
-    fn from(number: u32) -> NotificationHandle {
-        NotificationHandle(number)
-    }
-}
-
-impl From<NotificationHandle> for u32 {
-    ghost from_gives = { λ handle number. number ≡ handle.0 };
-
-    fn from(handle: NotificationHandle) -> u32 {
-        handle.0
-    }
-}
 
 /// Names an ephemeral command; counted from 1.
 #[derive(Clone, Copy, Debug, PartialEq, Eq, PartialOrd, Ord, Hash)]
@@ -113,42 +89,5 @@ impl State {
         ensures { IsTrue result ↔ (self.now ≡ state.Closed) }
     {
         matches!(self, State::Closed)
-    }
-}
-
-/// What a handler awaits.
-#[derive(Drop)]
-pub enum UnresolvedFuture {
-    Single(NotificationHandle),
-}
-
-impl From<NotificationHandle> for UnresolvedFuture {
-    ghost use Rattle.vm_parts.specs.declared.types.UnresolvedFuture.TheVariants.{Single};
-
-    ghost from_gives = { λ handle future. future ≡ Single handle };
-
-    fn from(handle: NotificationHandle) -> UnresolvedFuture {
-        UnresolvedFuture::Single(handle)
-    }
-}
-
-impl Clone for UnresolvedFuture {
-    ghost is_clone = { λ future copy. copy ≡ future };
-
-    fn clone(&self) -> Result<UnresolvedFuture, AllocError> {
-        match self {
-            UnresolvedFuture::Single(handle) => Ok(UnresolvedFuture::Single(*handle)),
-        }
-    }
-}
-
-impl fmt::Debug for UnresolvedFuture {
-    fn fmt<W: fmt::Write>(&self, f: &mut fmt::Formatter<W>) -> fmt::Result {
-        match self {
-            UnresolvedFuture::Single(handle) => {
-                let number = handle.0;
-                write!(f, "{number}")
-            }
-        }
     }
 }

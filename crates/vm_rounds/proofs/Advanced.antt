@@ -17,7 +17,7 @@ use Rattle.vm_parts.specs.declared.context.StateMap.{StateMap}
 use Rattle.vm_parts.specs.declared.options.VMOptions.{VMOptions}
 use Rattle.vm_parts.specs.declared.steps.Answer.{Answer}
 use Rattle.vm_parts.specs.declared.steps.Answer.TheVariants as answer
-use Rattle.vm_parts.specs.declared.types.UnresolvedFuture.{UnresolvedFuture}
+use Rattle.await_trees.specs.declared.tree.UnresolvedFuture.{UnresolvedFuture}
 use Rattle.vm_parts.specs.declared.values.Input.{Input}
 use Rattle.vm_parts.specs.Counting.{missing as lacking}
 use Rattle.vm_machine.specs.declared.machine.Machine.{Machine}
@@ -44,7 +44,7 @@ use Rattle.vm_rounds.specs.Journals.{BeginsOrFails, HasAll, StillWaits, commands
 use Rattle.vm_rounds.specs.Record.{Record}
 use Rattle.vm_rounds.specs.Stepping.{Advances, Asks, IfWaits, IsReplaying, LacksMemory, Reads, StepAt, StepDoes, StepFrom, StepUnless, fresh_record}
 use Rattle.vm_parts.specs.Outboxes.{WholeFrames}
-use Rattle.vm_rounds.specs.Told.{AnswersAreTold, NothingWakes, Sleeps, ToldBy, BeforeInput, Begun, Comes, IsKept, IsLive, IsAsleep, Quiet, Replays, Runs, StillAwaits, Wrote, arrivals, bytes_fed, frames_fed, handed_out}
+use Rattle.vm_rounds.specs.Told.{AnswersAreTold, BeforeInput, Begun, Comes, IsAsleep, IsKept, IsLive, NothingWakes, Premises, Quiet, Replays, Runs, Sleeps, StillAwaits, ToldBy, Wrote, arrivals, bytes_fed, frames_fed, handed_out}
 use Rattle.vm_rounds.proofs.Beginning.{input_begins}
 use Rattle.vm_rounds.proofs.Kept.{KeptBy, Lasts, Reading, dead_same}
 use Rattle.vm_rounds.proofs.Lasting.{runs_last}
@@ -204,11 +204,12 @@ runs_answered m version options fed answers before taken v k none =
     let z : [] ≡ answer.Input (told_input s.identity k.journal.input) ∷ a.0 = sym none ∙ sym k.answers ∙ a.1 in
     cc
 
--- What is told of a handler that runs is kept by each step, where reading the input gives it, and each call keeps it.
-module _ (R : Reading) (l : Lasts R) (m : Meaning) (version : Version) (options : VMOptions)
+-- What is told of a handler that runs is kept by each step, where reading the input gives it, and each call keeps it, by what is asked of
+-- what was fed.
+module _ (R : Reading) (P : List Fed → Type 0) (l : Lasts R) (m : Meaning) (version : Version) (options : VMOptions)
     (reads : (fed : List Fed) (answers : List Answer) (waiting : Option UnresolvedFuture) (taken : List (List ℕ)) (v : View) → Begins m version options fed answers waiting taken v → R fed answers waiting taken v)
     (answered : (fed : List Fed) (answers : List Answer) (waiting : Option UnresolvedFuture) (taken : List (List ℕ)) (v : View) → R fed answers waiting taken v → answers ≢ [])
-    (asks : (old : Record) (result : Result Progress Error) (new : Record) → R old.fed old.answers old.waiting old.taken old.vm → IsLive old.vm.machine → Asks m old result new → KeptBy R version options new) where
+    (asks : (old : Record) (result : Result Progress Error) (new : Record) → P old.fed → R old.fed old.answers old.waiting old.taken old.vm → IsLive old.vm.machine → Asks m old result new → KeptBy R version options new) where
   abbrev Kept : Record → Type 0
   Kept = KeptBy R version options
 
@@ -224,8 +225,8 @@ module _ (R : Reading) (l : Lasts R) (m : Meaning) (version : Version) (options 
       (λ (x : IsStarved old.vm.machine e w.machine). dead_same R l version options old w (inl b) (quiet_same old.vm.machine w.machine x.output) (rw x.failure refl))
       does.0)
 
-  advances_keep : (old : Record) (result : Result Progress Error) (new : Record) → Kept old → IsLive old.vm.machine → Advances m old result new → Kept new
-  advances_keep old result new k live =
+  advances_keep : (old : Record) (result : Result Progress Error) (new : Record) → P old.fed → Kept old → IsLive old.vm.machine → Advances m old result new → Kept new
+  advances_keep old result new under k live =
       ⊎_elim
       (λ (x : LacksMemory old result new). subst Kept (sym x.1) k)
       (λ (o : ((old.answers ≡ []) × Reads old result new) ⊎ ((old.answers ≢ []) × Asks m old result new)).
@@ -238,32 +239,32 @@ module _ (R : Reading) (l : Lasts R) (m : Meaning) (version : Version) (options 
       (λ (x : (old.answers ≢ []) × Asks m old result new).
       ⊎_elim
       (λ (b : BeforeInput version options old.fed old.answers old.waiting old.taken old.vm). absurd (x.0 b.answers))
-      (λ (b : R old.fed old.answers old.waiting old.taken old.vm). asks old result new b live x.1)
+      (λ (b : R old.fed old.answers old.waiting old.taken old.vm). asks old result new under b live x.1)
       k)
       o)
 
-  step_at : (old : Record) (result : Result Progress Error) (new : Record) → Kept old → old.vm.machine.failure ≡ None → (ph : Phase) → old.vm.machine.phase ≡ ph → StepAt ph m old result new → Kept new
-  step_at old result new k live WaitingStart at d = subst Kept (sym d.1) k
-  step_at old result new k live WaitingReplayEntries at d = subst Kept (sym d.1) k
-  step_at old result new k live Closed at d = subst Kept (sym d.1) k
-  step_at old result new k live Replaying at d = advances_keep old result new k (record { failure = live; phase = ap is_running at }) d
-  step_at old result new k live Processing at d = advances_keep old result new k (record { failure = live; phase = ap is_running at }) d
+  step_at : (old : Record) (result : Result Progress Error) (new : Record) → P old.fed → Kept old → old.vm.machine.failure ≡ None → (ph : Phase) → old.vm.machine.phase ≡ ph → StepAt ph m old result new → Kept new
+  step_at old result new under k live WaitingStart at d = subst Kept (sym d.1) k
+  step_at old result new under k live WaitingReplayEntries at d = subst Kept (sym d.1) k
+  step_at old result new under k live Closed at d = subst Kept (sym d.1) k
+  step_at old result new under k live Replaying at d = advances_keep old result new under k (record { failure = live; phase = ap is_running at }) d
+  step_at old result new under k live Processing at d = advances_keep old result new under k (record { failure = live; phase = ap is_running at }) d
 
-  step_unless : (old : Record) (result : Result Progress Error) (new : Record) → Kept old → (f : Option Error) → old.vm.machine.failure ≡ f → (over : Option Progress) → StepUnless f over m old result new → Kept new
-  step_unless old result new k (Some e) is over d = subst Kept (sym d.1) k
-  step_unless old result new k None is (Some made) d = subst Kept (sym d.1) k
-  step_unless old result new k None is None d = step_at old result new k is old.vm.machine.phase refl d
+  step_unless : (old : Record) (result : Result Progress Error) (new : Record) → P old.fed → Kept old → (f : Option Error) → old.vm.machine.failure ≡ f → (over : Option Progress) → StepUnless f over m old result new → Kept new
+  step_unless old result new under k (Some e) is over d = subst Kept (sym d.1) k
+  step_unless old result new under k None is (Some made) d = subst Kept (sym d.1) k
+  step_unless old result new under k None is None d = step_at old result new under k is old.vm.machine.phase refl d
 
-  pub steps_keep : (old : Record) (result : Result Progress Error) (new : Record) → Kept old → StepDoes m old result new → Kept new
-  steps_keep old result new k does = by_test old.starved does
+  pub steps_keep : (old : Record) (result : Result Progress Error) (new : Record) → P old.fed → Kept old → StepDoes m old result new → Kept new
+  steps_keep old result new under k does = by_test old.starved does
     where
       by_test : (b : Bool) → StepFrom b m old result new → Kept new
       by_test true d = subst Kept (sym d.1) k
-      by_test false d = step_unless old result new k old.vm.machine.failure refl old.over d
+      by_test false d = step_unless old result new under k old.vm.machine.failure refl old.over d
 
 -- the run of a handler is kept by each step
-pub step_keeps : (m : Meaning) (version : Version) (options : VMOptions) (old : Record) (result : Result Progress Error) (new : Record) → IsKept m version options old → StepDoes m old result new → IsKept m version options new
-step_keeps m version options = steps_keep (Runs m version options) (runs_last m version options) m version options (λ fed answers waiting taken v k. k.0) (runs_answered m version options) (asks_keep m version options)
+pub step_keeps : (m : Meaning) (version : Version) (options : VMOptions) (old : Record) (result : Result Progress Error) (new : Record) → Premises m version options old.fed → IsKept m version options old → StepDoes m old result new → IsKept m version options new
+step_keeps m version options = steps_keep (Runs m version options) (Premises m version options) (runs_last m version options) m version options (λ fed answers waiting taken v k. k.0) (runs_answered m version options) (asks_keep m version options)
 
 -- ---- a step that waits
 
@@ -282,35 +283,35 @@ runs_of m version options r k some =
     (λ (b : Runs m version options r.fed r.answers r.waiting r.taken r.vm). b)
     k
 
-advances_wait : (m : Meaning) (version : Version) (options : VMOptions) (old : Record) (result : Result Progress Error) (new : Record) → IsKept m version options old → IsLive old.vm.machine → Advances m old result new → IfWaits result (Sleeps m version options new.fed new.answers new.taken new.vm)
-advances_wait m version options old result new k live =
+advances_wait : (m : Meaning) (version : Version) (options : VMOptions) (old : Record) (result : Result Progress Error) (new : Record) → Premises m version options old.fed → IsKept m version options old → IsLive old.vm.machine → Advances m old result new → IfWaits result (Sleeps m version options new.fed new.answers new.taken new.vm)
+advances_wait m version options old result new under k live =
     let P = Sleeps m version options new.fed new.answers new.taken new.vm in
     ⊎_elim
     (λ (x : LacksMemory old result new). error_waits P result _ x.0)
     (λ (o : ((old.answers ≡ []) × Reads old result new) ⊎ ((old.answers ≢ []) × Asks m old result new)).
     ⊎_elim
     (λ (x : (old.answers ≡ []) × Reads old result new). reads_wait P old result new x.1)
-    (λ (x : (old.answers ≢ []) × Asks m old result new). asks_wait m version options old result new (runs_of m version options old k x.0) live x.1)
+    (λ (x : (old.answers ≢ []) × Asks m old result new). asks_wait m version options old result new under (runs_of m version options old k x.0) live x.1)
     o)
 
-wait_at : (m : Meaning) (version : Version) (options : VMOptions) (old : Record) (result : Result Progress Error) (new : Record) → IsKept m version options old → old.vm.machine.failure ≡ None → (ph : Phase) → old.vm.machine.phase ≡ ph → StepAt ph m old result new → IfWaits result (Sleeps m version options new.fed new.answers new.taken new.vm)
-wait_at m version options old result new k live WaitingStart at d = subst (λ z. IfWaits z (Sleeps m version options new.fed new.answers new.taken new.vm)) (sym d.0) tt
-wait_at m version options old result new k live WaitingReplayEntries at d = subst (λ z. IfWaits z (Sleeps m version options new.fed new.answers new.taken new.vm)) (sym d.0) tt
-wait_at m version options old result new k live Closed at d = error_waits _ result _ d.0
-wait_at m version options old result new k live Replaying at d = advances_wait m version options old result new k (record { failure = live; phase = ap is_running at }) d
-wait_at m version options old result new k live Processing at d = advances_wait m version options old result new k (record { failure = live; phase = ap is_running at }) d
+wait_at : (m : Meaning) (version : Version) (options : VMOptions) (old : Record) (result : Result Progress Error) (new : Record) → Premises m version options old.fed → IsKept m version options old → old.vm.machine.failure ≡ None → (ph : Phase) → old.vm.machine.phase ≡ ph → StepAt ph m old result new → IfWaits result (Sleeps m version options new.fed new.answers new.taken new.vm)
+wait_at m version options old result new under k live WaitingStart at d = subst (λ z. IfWaits z (Sleeps m version options new.fed new.answers new.taken new.vm)) (sym d.0) tt
+wait_at m version options old result new under k live WaitingReplayEntries at d = subst (λ z. IfWaits z (Sleeps m version options new.fed new.answers new.taken new.vm)) (sym d.0) tt
+wait_at m version options old result new under k live Closed at d = error_waits _ result _ d.0
+wait_at m version options old result new under k live Replaying at d = advances_wait m version options old result new under k (record { failure = live; phase = ap is_running at }) d
+wait_at m version options old result new under k live Processing at d = advances_wait m version options old result new under k (record { failure = live; phase = ap is_running at }) d
 
-wait_unless : (m : Meaning) (version : Version) (options : VMOptions) (old : Record) (result : Result Progress Error) (new : Record) → IsKept m version options old → (f : Option Error) → old.vm.machine.failure ≡ f → StepUnless f None m old result new → IfWaits result (Sleeps m version options new.fed new.answers new.taken new.vm)
-wait_unless m version options old result new k (Some e) is d = ⊎_elim (λ (x : result ≡ Err e). error_waits _ result e x) (λ (x : result ≡ Err no_memory). error_waits _ result no_memory x) d.0
-wait_unless m version options old result new k None is d = wait_at m version options old result new k is old.vm.machine.phase refl d
+wait_unless : (m : Meaning) (version : Version) (options : VMOptions) (old : Record) (result : Result Progress Error) (new : Record) → Premises m version options old.fed → IsKept m version options old → (f : Option Error) → old.vm.machine.failure ≡ f → StepUnless f None m old result new → IfWaits result (Sleeps m version options new.fed new.answers new.taken new.vm)
+wait_unless m version options old result new under k (Some e) is d = ⊎_elim (λ (x : result ≡ Err e). error_waits _ result e x) (λ (x : result ≡ Err no_memory). error_waits _ result no_memory x) d.0
+wait_unless m version options old result new under k None is d = wait_at m version options old result new under k is old.vm.machine.phase refl d
 
 -- a step waits only where nothing wakes
-pub step_waits : (m : Meaning) (version : Version) (options : VMOptions) (old : Record) (result : Result Progress Error) (new : Record) → IsKept m version options old → old.over ≡ None → StepDoes m old result new → IfWaits result (Sleeps m version options new.fed new.answers new.taken new.vm)
-step_waits m version options old result new k going does = by_test old.starved does
+pub step_waits : (m : Meaning) (version : Version) (options : VMOptions) (old : Record) (result : Result Progress Error) (new : Record) → Premises m version options old.fed → IsKept m version options old → old.over ≡ None → StepDoes m old result new → IfWaits result (Sleeps m version options new.fed new.answers new.taken new.vm)
+step_waits m version options old result new under k going does = by_test old.starved does
   where
     by_test : (b : Bool) → StepFrom b m old result new → IfWaits result (Sleeps m version options new.fed new.answers new.taken new.vm)
     by_test true d = error_waits _ result no_memory d.0
-    by_test false d = wait_unless m version options old result new k old.vm.machine.failure refl (subst (λ over. StepUnless old.vm.machine.failure over m old result new) going d)
+    by_test false d = wait_unless m version options old result new under k old.vm.machine.failure refl (subst (λ over. StepUnless old.vm.machine.failure over m old result new) going d)
 
 -- ---- a step while recorded commands are left
 
@@ -324,14 +325,14 @@ replays_advance m old result new is d =
     (subst (λ f. StepUnless f None m old result new) is.failure
     (subst (λ over. StepUnless old.vm.machine.failure over m old result new) is.over (subst (λ b. StepFrom b m old result new) is.starved d)))
 
-pub step_replays : (m : Meaning) (version : Version) (options : VMOptions) (old : Record) (result : Result Progress Error) (new : Record) → IsKept m version options old → IsReplaying old → StepDoes m old result new → Replays m version options old result new
-step_replays m version options old result new k is does =
+pub step_replays : (m : Meaning) (version : Version) (options : VMOptions) (old : Record) (result : Result Progress Error) (new : Record) → Premises m version options old.fed → IsKept m version options old → IsReplaying old → StepDoes m old result new → Replays m version options old result new
+step_replays m version options old result new under k is does =
     ⊎_elim
     (λ (x : LacksMemory old result new). lacks_replay m version options old result new x)
     (λ (o : ((old.answers ≡ []) × Reads old result new) ⊎ ((old.answers ≢ []) × Asks m old result new)).
     ⊎_elim
     (λ (x : (old.answers ≡ []) × Reads old result new). absurd (is.runs x.0))
-    (λ (x : (old.answers ≢ []) × Asks m old result new). asks_replay m version options old result new (runs_of m version options old k x.0) (record { failure = is.failure; phase = ap is_running is.phase }) is.phase x.1)
+    (λ (x : (old.answers ≢ []) × Asks m old result new). asks_replay m version options old result new under (runs_of m version options old k x.0) (record { failure = is.failure; phase = ap is_running is.phase }) is.phase x.1)
     o)
     (replays_advance m old result new is does)
 

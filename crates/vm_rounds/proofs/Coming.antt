@@ -7,7 +7,7 @@ use Rattle.journal_messages.specs.declared.message.RawMessage.{RawMessage}
 use Rattle.journal_errors.specs.declared.version.Version.{Version}
 use Rattle.vm_parts.specs.declared.options.VMOptions.{VMOptions}
 use Rattle.vm_parts.specs.declared.steps.Answer.{Answer}
-use Rattle.vm_parts.specs.declared.types.UnresolvedFuture.{UnresolvedFuture}
+use Rattle.await_trees.specs.declared.tree.UnresolvedFuture.{UnresolvedFuture}
 use Rattle.vm_machine.specs.declared.phase.Phase.TheVariants.{Closed}
 use Rattle.vm_machine.specs.Phases.{is_running}
 use Rattle.invocation_vm.specs.Frames.{Rest}
@@ -78,7 +78,7 @@ pub made_comes : (alloc : Global) (version : Version) (options : VMOptions) → 
 made_comes alloc version options = inl (made_new alloc version options)
 
 pub step_comes : (m : Meaning) (version : Version) (options : VMOptions) (old : Record) (result : Result Progress Error) (new : Record) → HasCome version options old → StepDoes m old result new → HasCome version options new
-step_comes m version options = steps_keep (CameBy version options) (came_last version options) m version options (came_begins m version options) (λ fed answers waiting taken v k. k.answered) (asks_come m version options)
+step_comes m version options old result new = steps_keep (CameBy version options) (λ fed. Unit {0}) (came_last version options) m version options (came_begins m version options) (λ fed answers waiting taken v k. k.answered) (λ before given after u. asks_come m version options before given after) old result new tt
 
 pub feed_comes : (version : Version) (options : VMOptions) (piece : List ℕ) (old : Record) (result : Result Unit AllocError) (new : Record) → HasCome version options old → FeedDoes old.starved piece old result new → HasCome version options new
 feed_comes version options = feed_keeps (CameBy version options) (came_last version options) version options

@@ -23,7 +23,7 @@ use Rattle.vm_machine.specs.declared.phase.Phase.TheVariants.{WaitingStart, Wait
 use Rattle.vm_machine.specs.Commands.{entered, phase_after, popped, popped_from}
 use Rattle.vm_machine.specs.Inputs.{coverage_of, input_at, input_counted, input_read, input_step}
 use Rattle.vm_machine.specs.Making.{fresh}
-use Rattle.vm_machine.specs.Outcomes.{IsStarved, Outcome, Done, Failed, ◌>>=◌, about_last, called, called_at, failed, ruled, settled}
+use Rattle.vm_machine.specs.Outcomes.{DoesBy, IsStarved, Outcome, Done, Failed, ◌>>=◌, about_last, called, called_at, failed, ruled, settled}
 use Rattle.vm_machine.specs.Phases.{is_closed, is_running}
 use Rattle.invocation_vm.specs.Views.{View}
 use Rattle.vm_model.specs.Calls.{Setup, Meaning, identity_of}
@@ -41,8 +41,8 @@ use Rattle.vm_rounds.specs.Journals.{BeginsOrFails, HasAll, StillWaits, commands
 use Rattle.vm_rounds.specs.Record.{Record}
 use Rattle.vm_rounds.specs.Stepping.{Advances, Asks, LacksMemory, Reads, StepAt, StepDoes, StepFrom, StepUnless, step_asked, future_in, progress_of}
 use Rattle.vm_rounds.specs.Stepping as stepping
-use Rattle.vm_rounds.specs.Steps.{DoesBy, Performs}
-use Rattle.vm_rounds.specs.Told.{BeforeInput, Begun, Came, Comes, HasCome, IsKeptUnder, IsLive, Premises, Runs, arrivals_of, begun, frames_fed, handed_out}
+use Rattle.vm_rounds.specs.Steps.{Performs}
+use Rattle.vm_rounds.specs.Told.{BeforeInput, Begun, Came, Comes, HasCome, IsKeptUnder, IsLive, Premises, Runs, begun, frames_fed, handed_out}
 use Rattle.vm_rounds.proofs.Advanced.{runs_of}
 use Rattle.vm_rounds.proofs.Beginning.{input_begins}
 use Rattle.vm_rounds.proofs.Blamed.{alive_blamed, over_blamed}
@@ -180,7 +180,7 @@ reads_blamed m version options old (Err e) new b live (w, does, is) =
 
 -- ---- the handler's call
 
-module _ (m : Meaning) (version : Version) (options : VMOptions) (r : Record) (k : Runs m version options r.fed r.answers r.waiting r.taken r.vm) (live : IsLive r.vm.machine) (w : View) where
+module _ (m : Meaning) (version : Version) (options : VMOptions) (r : Record) (under : Premises m version options r.fed) (k : Runs m version options r.fed r.answers r.waiting r.taken r.vm) (live : IsLive r.vm.machine) (w : View) where
   refused_call : (e : Error) → IsRefused (setup_for version options k.journal.start) m (handed_out k.journal) k.at r.vm.machine e w.machine → RefusedCall m version options r.fed r.answers e
   refused_call e g =
       let a = k.agrees live in
@@ -201,9 +201,9 @@ module _ (m : Meaning) (version : Version) (options : VMOptions) (r : Record) (k
   call_refused : (e : Error) → Performs (step_asked m r) r.vm.machine (Failed e w.machine) → RefusedCall m version options r.fed r.answers e
   call_refused e does =
       let same : step_asked m r ≡ m k.at.answers = asks_next m k.at r.answers r.waiting k.answers k.awaits in
-      refused_call e (agreeing_follows (setup_for version options k.journal.start) m (handed_out k.journal) k.written r.vm.machine k.at (Failed e w.machine) (k.agrees live) (subst (λ q. Performs q r.vm.machine (Failed e w.machine)) same does) (tt {0}))
+      refused_call e (agreeing_follows (setup_for version options k.journal.start) m (handed_out k.journal) k.written r.vm.machine k.at (Failed e w.machine) under.queues (under.once k.journal k.moves k.written k.at k.run) (k.agrees live) (subst (λ q. Performs q r.vm.machine (Failed e w.machine)) same does) (tt {0}))
 
-asks_blamed : (m : Meaning) (version : Version) (options : VMOptions) (old : Record) (result : Result Progress Error) (new : Record) → (Premises options (arrivals_of old.fed) → Runs m version options old.fed old.answers old.waiting old.taken old.vm) → IsLive old.vm.machine → Asks m old result new → IsBlamed m version options new
+asks_blamed : (m : Meaning) (version : Version) (options : VMOptions) (old : Record) (result : Result Progress Error) (new : Record) → (Premises m version options old.fed → Runs m version options old.fed old.answers old.waiting old.taken old.vm) → IsLive old.vm.machine → Asks m old result new → IsBlamed m version options new
 asks_blamed m version options old result new runs live (x, w, does, is, made) = subst (IsBlamed m version options) (sym is) (by_reply x (step_leaves (step_asked m old) old.vm.machine live x w.machine does.0.0) does.0.0)
   where
     -- a VM whose handler runs
@@ -218,7 +218,7 @@ asks_blamed m version options old result new runs live (x, w, does, is, made) = 
     by_reply (Err e) h d =
         error_blamed m version options old.over old.fed old.closed old.answers w.machine e h.1
         (⊎_elim
-        (λ (y : Performs (step_asked m old) old.vm.machine (Failed e w.machine)). Call (λ p. call_refused m version options old (runs p) live w e y))
+        (λ (y : Performs (step_asked m old) old.vm.machine (Failed e w.machine)). Call (λ p. call_refused m version options old p (runs p) live w e y))
         (λ (y : IsStarved old.vm.machine e w.machine). Memory y.error)
         d)
 

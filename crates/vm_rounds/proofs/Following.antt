@@ -12,7 +12,7 @@ use Rattle.vm_parts.specs.declared.steps.Answer.{Answer}
 use Rattle.vm_parts.specs.declared.steps.Answer.TheVariants as answer
 use Rattle.vm_parts.specs.declared.steps.Step.{Step}
 use Rattle.vm_parts.specs.declared.steps.Step.TheVariants as step
-use Rattle.vm_parts.specs.declared.types.NotificationHandle.{NotificationHandle}
+use Rattle.await_trees.specs.declared.handle.NotificationHandle.{NotificationHandle}
 use Rattle.vm_parts.specs.declared.values.Value.{Value}
 use Rattle.vm_parts.specs.Counting.{missing_signals}
 use Rattle.vm_parts.specs.Deliveries.{id_at, present_for, taken_by, unmapped}
@@ -20,14 +20,14 @@ use Rattle.journal_values.specs.declared.notification.NotificationId.TheVariants
 use Rattle.vm_parts.specs.Values.{value_of}
 use Rattle.vm_machine.specs.declared.machine.Machine.{Machine}
 use Rattle.journal_errors.specs.declared.version.Version.{Version}
-use Rattle.vm_parts.specs.declared.types.UnresolvedFuture.{UnresolvedFuture}
+use Rattle.await_trees.specs.declared.tree.UnresolvedFuture.{UnresolvedFuture}
 use Rattle.vm_machine.specs.declared.asks.Ask.{Ask}
 use Rattle.vm_machine.specs.declared.asks.Ask.TheVariants as ask
 use Rattle.vm_machine.specs.declared.asks.Command.{Command}
 use Rattle.vm_machine.specs.Asks.{ask_of, command_answer}
 use Rattle.vm_machine.specs.Requests.{ids_of}
-use Rattle.vm_machine.specs.Awaits.{take_step}
-use Rattle.vm_machine.specs.Awaits as awaits
+use Rattle.vm_machine.specs.Takes.{take_step}
+use Rattle.vm_machine.specs.Takes as takes
 use Rattle.vm_machine.specs.Commands.{CanBeRead, commanded_unless, phase_after}
 use Rattle.vm_machine.specs.Inputs.{end_at}
 use Rattle.vm_machine.specs.Outcomes.{Outcome, Done, Failed, called, refused, ruled}
@@ -38,6 +38,8 @@ use Rattle.vm_model.specs.Calls.{Setup, Meaning, Derived, Move, asked, awakeable
 use Rattle.vm_model.specs.Calls.Usage.{Taken}
 use Rattle.vm_model.specs.Calls.Move.{Answers, Ends, Refuses}
 use Rattle.vm_model.specs.Refusals.{IsRefusedFor}
+use Rattle.vm_model.specs.Deliveries.{HasNoTwo}
+use Rattle.vm_parts.specs.declared.options.SignalDelivery.TheVariants.{Queued}
 use Rattle.vm_model.specs.Moves.{Point, longer, move_at, moved, supply}
 use Rattle.vm_rounds.specs.declared.progress.Reply.{Reply}
 use Rattle.vm_rounds.specs.declared.progress.Reply.TheVariants as reply
@@ -69,12 +71,12 @@ refuses_here s given written aside p gives name = refuses s given written aside 
 -- ---- takes
 
 takes_value : (s : Setup) (given : StateMap) (written : List RawMessage) (aside : Aside) (p : Point) (h : NotificationHandle) (id : NotificationId) (result : NotificationResult) (o : Option Value)
-    → LeadsOn s given written aside p answer.Taken (value_taken h id o p.derived) (awaits.value_taken o (record (machine_at s given written aside p) { results = taken_by s.options.signal_delivery h.0 (Some id) (Some result) (machine_at s given written aside p).results }))
+    → LeadsOn s given written aside p answer.Taken (value_taken h id o p.derived) (takes.value_taken o (record (machine_at s given written aside p) { results = taken_by s.options.signal_delivery h.0 (Some id) (Some result) (machine_at s given written aside p).results }))
 takes_value s given written aside p h id result None = refuses s given written aside p answer.Taken fault.StateKeyIsNotUtf8 (record (machine_at s given written aside p) { results = taken_by s.options.signal_delivery h.0 (Some id) (Some result) (machine_at s given written aside p).results }) refl refl refl refl
 takes_value s given written aside p h id result (Some value) = answers s given written aside p answer.Taken (Some value) (record p.derived { handles = cond (h.0 == 1) p.derived.handles (unmapped h.0 p.derived.handles); usage = Taken id ∷ p.derived.usage })
 
 takes_result : (s : Setup) (given : StateMap) (written : List RawMessage) (aside : Aside) (p : Point) (h : NotificationHandle) (id : Option NotificationId) (o : Option NotificationResult) → (id ≡ None → o ≡ None)
-    → LeadsOn s given written aside p answer.Taken (result_taken h id o p.derived) (awaits.result_taken o (record (machine_at s given written aside p) { results = taken_by s.options.signal_delivery h.0 id o (machine_at s given written aside p).results }))
+    → LeadsOn s given written aside p answer.Taken (result_taken h id o p.derived) (takes.result_taken o (record (machine_at s given written aside p) { results = taken_by s.options.signal_delivery h.0 id o (machine_at s given written aside p).results }))
 takes_result s given written aside p h (Some id) (Some result) none = takes_value s given written aside p h id result (value_of result)
 takes_result s given written aside p h (Some id) None none = answers s given written aside p answer.Taken None p.derived
 takes_result s given written aside p h None None none = answers s given written aside p answer.Taken None p.derived
@@ -179,41 +181,41 @@ comes_so : (s : Setup) (m : Meaning) (given : StateMap) (written : List RawMessa
 comes_so s m given written aside p P o q is follows whole = subst (Follows s m given written p (machine_at s given written aside p)) (sym is) (follows (subst (λ x. IfDone x P) is whole))
 
 -- what is asked for, in a machine that agrees with a point
-asked_follows : (s : Setup) (m : Meaning) (given : StateMap) (written : List RawMessage) (aside : Aside) (p : Point) → s.identity ≡ identity_of aside.start → (a : Ask) → ask_of s.version (m p.answers) ≡ a → AsksCommand a → (o : Outcome Reply) → PerformsBy a (machine_at s given written aside p) o → IfDone o (IsReadable a (machine_at s given written aside p)) → Follows s m given written p (machine_at s given written aside p) o
-asked_follows s m given written aside p identity (ask.Command c) is command o does whole =
+asked_follows : (s : Setup) (m : Meaning) (given : StateMap) (written : List RawMessage) (aside : Aside) (p : Point) → s.identity ≡ identity_of aside.start → s.options.signal_delivery ≡ Queued → HasNoTwo p → (a : Ask) → ask_of s.version (m p.answers) ≡ a → AsksCommand a → (o : Outcome Reply) → PerformsBy a (machine_at s given written aside p) o → IfDone o (IsReadable a (machine_at s given written aside p)) → Follows s m given written p (machine_at s given written aside p) o
+asked_follows s m given written aside p identity queued two (ask.Command c) is command o does whole =
     let v = machine_at s given written aside p in
     comes_so s m given written aside p (IsReadable (ask.Command c) v) o (carried c v) does
     (λ (here : IfDone (carried c v) (IsReadable (ask.Command c) v)). follows_from s m given written aside p (command_answer c.message) _ _ identity (ap (λ a. asked s a p.derived) is) (commands_follow s given written aside p c command c.refusal (event_done _ _ s given written aside p _ here))) whole
-asked_follows s m given written aside p identity ask.Awakeable is command o does whole =
+asked_follows s m given written aside p identity queued two ask.Awakeable is command o does whole =
     let v = machine_at s given written aside p in
     comes_so s m given written aside p (IsReadable ask.Awakeable v) o (made_awakeable v) does
     (λ _. follows_from s m given written aside p answer.Awakeable _ _ identity (ap (λ a. asked s a p.derived) is) (makes_awakeable s given written aside p identity (skips_replay s.options.journal_replay))) whole
-asked_follows s m given written aside p identity (ask.Read r) is command o does whole =
+asked_follows s m given written aside p identity queued two (ask.Read r) is command o does whole =
     let v = machine_at s given written aside p in
     comes_so s m given written aside p (IsReadable (ask.Read r) v) o (read_made r v) does
     (λ (here : IfDone (read_made r v) (IsReadable (ask.Read r) v)). follows_from s m given written aside p answer.Handle _ _ identity (ap (λ a. asked s a p.derived) is) (reads_follow s given written aside r p (event_done _ _ s given written aside p _ here))) whole
-asked_follows s m given written aside p identity (ask.Signal name) is command o does whole =
+asked_follows s m given written aside p identity queued two (ask.Signal name) is command o does whole =
     let v = machine_at s given written aside p in
     comes_so s m given written aside p (IsReadable (ask.Signal name) v) o (signalled name v) does
     (λ _. follows_from s m given written aside p answer.Handle _ _ identity (ap (λ a. asked s a p.derived) is) (makes_signal s given written aside p name)) whole
-asked_follows s m given written aside p identity (ask.Await future) is command o does whole = awaits_follow s m given written aside p future identity (awaits_asked s.version (m p.answers) future is) o does
-asked_follows s m given written aside p identity (ask.Take h) is command o does whole =
+asked_follows s m given written aside p identity queued two (ask.Await future) is command o does whole = awaits_follow s m given written aside p future identity (awaits_asked s.version (m p.answers) future is) queued two o does
+asked_follows s m given written aside p identity queued two (ask.Take h) is command o does whole =
     let v = machine_at s given written aside p in
     comes_so s m given written aside p (IsReadable (ask.Take h) v) o (taken h v) does
     (λ _. follows_from s m given written aside p answer.Taken _ _ identity (ap (λ a. asked s a p.derived) is) (takes_follow s given written aside p h)) whole
-asked_follows s m given written aside p identity (ask.Completed h) is command o does whole =
+asked_follows s m given written aside p identity queued two (ask.Completed h) is command o does whole =
     let v = machine_at s given written aside p in
     comes_so s m given written aside p (IsReadable (ask.Completed h) v) o (completed h v) does
     (λ _. completes s m given written aside p h identity (ap (λ a. asked s a p.derived) is)) whole
-asked_follows s m given written aside p identity ask.End is command o does whole =
+asked_follows s m given written aside p identity queued two ask.End is command o does whole =
     let v = machine_at s given written aside p in
     comes_so s m given written aside p (IsReadable ask.End v) o (ended v) does
     (λ _. ends s m given written aside p (end_asked s.version (m p.answers) is) p.left refl) whole
 
 -- In a machine that agrees with a point, the handler's call does what the moves from there lead to.
-call_follows : (s : Setup) (m : Meaning) (given : StateMap) (written : List RawMessage) (aside : Aside) (p : Point) → s.identity ≡ identity_of aside.start → (o : Outcome Reply) → Performs (m p.answers) (machine_at s given written aside p) o → IfDone o (ReadsBack (m p.answers) (machine_at s given written aside p)) → Follows s m given written p (machine_at s given written aside p) o
-call_follows s m given written aside p identity = asked_follows s m given written aside p identity (ask_of s.version (m p.answers)) refl (asks_command s.version (m p.answers))
+call_follows : (s : Setup) (m : Meaning) (given : StateMap) (written : List RawMessage) (aside : Aside) (p : Point) → s.identity ≡ identity_of aside.start → s.options.signal_delivery ≡ Queued → HasNoTwo p → (o : Outcome Reply) → Performs (m p.answers) (machine_at s given written aside p) o → IfDone o (ReadsBack (m p.answers) (machine_at s given written aside p)) → Follows s m given written p (machine_at s given written aside p) o
+call_follows s m given written aside p identity queued two = asked_follows s m given written aside p identity queued two (ask_of s.version (m p.answers)) refl (asks_command s.version (m p.answers))
 
-pub agreeing_follows : (s : Setup) (m : Meaning) (given : StateMap) (written : List RawMessage) (v : Machine) (p : Point) (o : Outcome Reply) → Agrees s given written v p → Performs (m p.answers) v o → IfDone o (ReadsBack (m p.answers) v) → Follows s m given written p v o
-agreeing_follows s m given written v p o a does whole =
-    rw a.machine (call_follows s m given written a.aside p a.identity o (subst (λ (x : Machine). Performs (m p.answers) x o) a.machine does) (subst (λ (x : Machine). IfDone o (ReadsBack (m p.answers) x)) a.machine whole))
+pub agreeing_follows : (s : Setup) (m : Meaning) (given : StateMap) (written : List RawMessage) (v : Machine) (p : Point) (o : Outcome Reply) → s.options.signal_delivery ≡ Queued → HasNoTwo p → Agrees s given written v p → Performs (m p.answers) v o → IfDone o (ReadsBack (m p.answers) v) → Follows s m given written p v o
+agreeing_follows s m given written v p o queued two a does whole =
+    rw a.machine (call_follows s m given written a.aside p a.identity queued two o (subst (λ (x : Machine). Performs (m p.answers) x o) a.machine does) (subst (λ (x : Machine). IfDone o (ReadsBack (m p.answers) x)) a.machine whole))

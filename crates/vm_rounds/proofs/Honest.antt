@@ -1,6 +1,6 @@
 -- What an honest runtime feeds has its place, frame by frame, and its journal is the history.
 use Rattle.vm_parts.specs.declared.context.StateMap.{StateMap}
-use Rattle.std.proofs.Common.{◌≡◌, ◌≢◌, ℕ, suc, ◌+◌, ◌<◌, ◌≤◌, ◌^◌, Bool, true, false, cond, length, List, [], ◌∷◌, ◌++◌, map, Some, None, refl, sym, ap, ◌∙◌, subst, append_assoc, arith}
+use Rattle.std.proofs.Common.{◌≡◌, ◌≢◌, ℕ, suc, ◌+◌, ◌<◌, ◌≤◌, ◌^◌, Bool, true, false, cond, length, List, [], ◌∷◌, ◌++◌, map, Some, None, Option, refl, sym, ap, ◌∙◌, subst, append_assoc, arith}
 use Rattle.std.specs.Prelude.{◌==◌, ◌&&◌, if◌then◌else◌, nat_le, nat_lt}
 use Rattle.std.specs.List.{AllByRecursion, flat_map}
 use Rattle.std.proofs.lemmas.Bool.Decides.{nat_tests}
@@ -24,16 +24,20 @@ use Rattle.vm_machine.specs.declared.phase.Phase.TheVariants.{WaitingStart, Wait
 use Rattle.invocation_vm.specs.Frames.{Tail, Rest, Garbage, frames_from, frames_of, joined}
 use Rattle.invocation_vm.proofs.Cuts.{frames_of-append, frames_of-next}
 use Rattle.vm_model.specs.Calls.{Meaning}
-use Rattle.vm_model.specs.Histories.{History, behind}
-use Rattle.vm_model.specs.Journal.{Entry, Recorded, Notified, commands_in, notifications_in, stored_form}
+use Rattle.vm_machine.specs.Inputs.{coverage_of, entries_in}
+use Rattle.vm_model.specs.Histories.{Handed, History, Made}
+use Rattle.vm_model.specs.Moves.{later, start as first_point}
+use Rattle.vm_model.proofs.Runs.{made_later}
+use Rattle.journal_attempt.specs.declared.commands.InputCommand.{InputCommand}
+use Rattle.vm_model.specs.Journal.{Entry, Recorded, Notified, commands_in, input_read_from, notifications_in, stored_form}
 use Rattle.vm_rounds.specs.declared.progress.Fed.{Fed}
 use Rattle.vm_rounds.specs.Blames.{Began, IsHonest, Place, fault_by, frame_fault, notification_fault, refused_start, start_fault}
 use Rattle.vm_rounds.specs.Honest.{FeedsHonestly, IsEntry, entry_frame, frame_bytes, notification_frame}
 use Rattle.vm_rounds.specs.Journals.{as_entries, is_notification, notifications_among, notified_by, recorded_by, setup_for, told_by}
-use Rattle.vm_rounds.specs.Told.{CompleteOnce, bytes_fed, frames_fed}
+use Rattle.vm_rounds.specs.Told.{NoneHasTwo, arrivals, begun, bytes_fed, frames_fed, handed_out}
 use Rattle.vm_rounds.proofs.Pieces.{notifications_append}
-use Rattle.vm_rounds.proofs.Replayed.{head_same, notes_same, tail_same}
-use Rattle.vm_rounds.proofs.Under.{once_before}
+use Rattle.vm_rounds.proofs.Replayed.{commands_same, head_same, notes_same, tail_same}
+use Rattle.vm_rounds.proofs.Under.{fewer_waiting}
 use Rattle.vm_rounds.proofs.Written.{Fits, frames_spelled}
 
 -- ---- frames of bytes
@@ -232,19 +236,41 @@ module _ (m : Meaning) (version : Version) (options : VMOptions) (fed : List Fed
       let read : as_entries entries ≡ h.journal = ap as_entries front ∙ journal_read h.journal h.journal_is_whole in
       (h.base, subst (λ (x : Start × List Entry). History (setup_for version options x.0) m h.base x.1) (λ i. (sym same i, sym read i)) h.history)
 
-  -- the arrivals are a beginning of all notifications
-  arrive : (F G : List RawMessage) → F ++ G ≡ S ∷ (J ++ N) → CompleteOnce (notifications_among (behind F))
-  arrive [] G is = tt
-  arrive (f ∷ F) G is =
-      let notes : notifications_among F ++ notifications_among G ≡ notifications_in h.journal ++ h.more =
-      sym (notifications_append F G) ∙ ap notifications_among (tail_same f S (F ++ G) (J ++ N) is) ∙ notifications_append J N
+  abbrev given : StateMap
+  given = record { entries = h.state; coverage = coverage_of h.start.partial }
+
+  abbrev all_notes : List Notification
+  all_notes = notifications_in h.journal ++ h.more
+
+  -- what was fed is a beginning of the history and of all notifications, so that the handler's run over it is a beginning too
+  none_two : NoneHasTwo m version options fed
+  none_two j n made p run =
+      let all : j.first_frame ∷ (j.entries ++ (j.others ++ begins.others)) ≡ S ∷ (J ++ N) = sym (ap (λ l. j.first_frame ∷ l) (append_assoc j.entries j.others begins.others)) ∙ ap (λ l. l ++ begins.others) (sym j.frames) ∙ begins.all in
+      let tail = tail_same j.first_frame S (j.entries ++ (j.others ++ begins.others)) (J ++ N) all in
+      let same : j.start ≡ h.start = same_start j.first_frame j.start (head_same j.first_frame S (j.entries ++ (j.others ++ begins.others)) (J ++ N) all) j.reads_start in
+      let long : length j.entries ≡ length J = j.count ∙ ap (λ (x : Start). x.known_entries) same ∙ h.known ∙ sym (length_entries h.journal) in
+      let read : as_entries j.entries ≡ h.journal = ap as_entries (same_front j.entries (j.others ++ begins.others) J N tail long) ∙ journal_read h.journal h.journal_is_whole in
+      let commands : j.first ∷ j.rest ≡ h.history.first ∷ h.history.rest = sym j.commands ∙ sym (commands_same j.entries) ∙ ap commands_in read ∙ h.history.begins in
+      let first = head_same j.first h.history.first j.rest h.history.rest commands in
+      let rest = tail_same j.first h.history.first j.rest h.history.rest commands in
+      let input : j.input ≡ h.history.input = same_Some j.input h.history.input (sym j.reads_input ∙ ap input_read_from first ∙ h.history.reads) in
+      let more = notifications_among begins.others in
+      let notes : arrivals j ++ more ≡ all_notes =
+      sym (notifications_append (j.entries ++ j.others) begins.others) ∙ ap notifications_among (append_assoc j.entries j.others begins.others ∙ tail) ∙ notifications_append J N
       ∙ (λ i. (sym (notes_same J) ∙ ap notifications_in (journal_read h.journal h.journal_is_whole)) i ++ notes_read h.more h.more_is_whole i)
       in
-      once_before (notifications_among F) (notifications_among G) (subst CompleteOnce (sym notes) h.premises.once)
+      let state : j.state ≡ h.state = same_Some j.state h.state (sym j.reads_state ∙ ap (λ (x : Start). entries_in x.state) same ∙ h.reads_state) in
+      let later_run = made_later (setup_for version options j.start) m (Handed (handed_out j)) more n (begun version options j) made p run in
+      let there =
+      subst
+      (λ (x : Start × List (List ℕ × Option (List ℕ)) × InputCommand × List Notification × List RawMessage). Made (setup_for version options x.0) m (Handed (record { entries = x.1; coverage = coverage_of x.0.partial })) n (first_point (setup_for version options x.0) x.2 x.3 x.4) made (later more p))
+      (λ i. (same i, state i, input i, notes i, rest i)) later_run
+      in
+      fewer_waiting p more (h.once n made (later more p) there)
 
   pub honestly_fed : IsHonest m version options fed
   honestly_fed = record {
-    premises = record { replays = h.premises.replays; queues = h.premises.queues; once = arrive (frames_fed fed) begins.others begins.all };
+    premises = record { replays = h.replays; queues = h.queues; once = none_two };
     frames = λ before raw rest phase k is p. placed before raw (rest ++ begins.others) (sym begins.all ∙ ap (λ l. l ++ begins.others) is ∙ append_assoc before (raw ∷ rest) begins.others) phase k p;
     whole = begins.clean;
     history = known_are;

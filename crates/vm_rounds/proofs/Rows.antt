@@ -1,11 +1,12 @@
 -- An honest attempt of the handler that sleeps: what it is fed, so that the premise is seen to be met.
-use Rattle.vm_parts.specs.declared.context.StateCoverage.TheVariants.{Partial}
+use Rattle.vm_parts.specs.declared.context.StateCoverage.TheVariants.{Complete, Partial}
 use Rattle.vm_parts.specs.declared.context.StateMap.{StateMap}
-use Rattle.std.proofs.Common.{◌≡◌, ℕ, false, List, [], ◌∷◌, ◌++◌, Option, Some, None, refl, ◌∙◌, append-nil, lit<}
-use Rattle.std.specs.Prelude.{codes}
+use Rattle.std.proofs.Common.{◌≡◌, ◌≤◌, ℕ, Bool, true, false, cond, length, List, [], ◌∷◌, ◌++◌, Option, Some, None, refl, sym, subst, ◌∙◌, append-nil, lit<, arith}
+use Rattle.std.specs.Prelude.{◌==◌, ◌||◌, codes}
 use Rattle.std.specs.List.{flat_map}
 use Rattle.journal_attempt.specs.declared.commands.InputCommand.{InputCommand}
 use Rattle.journal_messages.specs.declared.message.Message.{Message}
+use Rattle.journal_messages.specs.declared.message.RawMessage.{RawMessage}
 use Rattle.journal_messages.specs.declared.message.Message.TheVariants as message
 use Rattle.journal_values.specs.declared.notification.Notification.{Notification}
 use Rattle.journal_values.specs.declared.notification.NotificationId.TheVariants.{CompletionId}
@@ -25,7 +26,12 @@ use Rattle.journal_messages.specs.Reading.{body_as, input_in, message_in}
 use Rattle.std.specs.Str.{chars, is_utf8}
 use Rattle.wire.proofs.Read.{all_read}
 use Rattle.vm_model.specs.Calls.{Meaning, Setup}
-use Rattle.vm_model.specs.Histories.{History}
+use Rattle.vm_parts.specs.Deliveries.{same_id}
+use Rattle.vm_model.specs.Carried.{AreCarried, ComeOnce}
+use Rattle.vm_model.specs.Deliveries.{HasNoTwo}
+use Rattle.vm_model.specs.Histories.{Handed, History, Made}
+use Rattle.vm_model.proofs.Once.{run_once}
+use Rattle.vm_rounds.proofs.Replayed.{tail_same}
 use Rattle.vm_model.specs.Journal.{Entry, Recorded, Notified, input_read_from, stored_form}
 use Rattle.vm_model.specs.Moves.{Point, after, start as began}
 use Rattle.vm_rounds.specs.Blames.{IsHonest}
@@ -105,6 +111,32 @@ is_history = record {
 abbrev stream : List ℕ
 stream = flat_map frame_bytes (honest_frames first journal [])
 
+-- the one completion comes once, and is the sleep's
+comes_once : ComeOnce (void ∷ [])
+comes_once id = by_test (same_id (CompletionId 1) (CompletionId id))
+  where
+    by_test : (b : Bool) → length (cond b (came.Void ∷ []) []) ≤ 1
+    by_test true = omega arith
+    by_test false = omega arith
+
+is_carried_once : AreCarried (void ∷ []) (stored_form slept ∷ [])
+unfolding message_in body_as sleep read_value bytes read_byte read_bytes read_text read_pair read_u16 read_u32 read_u64 u16s u32s u64s is_utf8 chars
+is_carried_once id = by_test (1 == id)
+  where
+    by_test : (b : Bool) → ((b || false) || false) ≡ false → cond b (came.Void ∷ []) [] ≡ []
+    by_test true none = absurd (cc)
+    by_test false none = refl
+
+-- the state is handed out whole, and has no keys
+abbrev all_state : StateMap
+all_state = record { entries = []; coverage = Complete }
+
+none_two : (h : History setup sleeper no_state journal) (n : ℕ) (made : List RawMessage) (p : Point) → Made setup sleeper (Handed all_state) n (began setup h.input (void ∷ []) h.rest) made p → HasNoTwo p
+none_two h =
+    let rest : stored_form slept ∷ [] ≡ h.rest = tail_same (stored_form (message.Input input)) h.first (stored_form slept ∷ []) h.rest h.begins in
+    run_once setup sleeper all_state h.input (void ∷ []) h.rest h.told.0 h.at h.told.1 h.uses_all comes_once 0 [] (began setup h.input (void ∷ []) h.rest) (refl, refl)
+    (subst (AreCarried (void ∷ [])) (rest ∙ sym (append-nil h.rest)) is_carried_once)
+
 -- an attempt that is fed all of it in one piece is an honest one
 feeds : FeedsHonestly sleeper V7 default_options (record { piece = stream; answers = 0; output = 0 } ∷ [])
 feeds = record {
@@ -121,7 +153,9 @@ feeds = record {
   more_is_whole = tt;
   base = no_state;
   history = is_history;
-  premises = record { replays = refl; queues = refl; once = (tt, tt) };
+  replays = refl;
+  queues = refl;
+  once = none_two is_history;
 }
 
 is_honest : IsHonest sleeper V7 default_options (record { piece = stream; answers = 0; output = 0 } ∷ [])

@@ -1,7 +1,7 @@
 -- What a call of a step writes and leaves, whatever came before it: frames of messages, and a VM that runs, is closed or has failed.
 use Rattle.vm_machine.specs.declared.reads.StateRead.{StateRead}
 use Rattle.vm_machine.specs.Reads.{eager_type, lazy_type, name_read, own_form, own_result, read_back, read_counted, read_numbered, read_popped, read_step, read_written, recorded_as, recorded_type, result_in, with_result}
-use Rattle.std.proofs.Common.{◌≡◌, ℕ, Bool, true, false, cond, List, [], ◌∷◌, ◌++◌, map, Option, Some, None, Result, Ok, Err, refl, sym, ap, ◌∙◌, subst, ⊎_elim, append-nil}
+use Rattle.std.proofs.Common.{◌≡◌, inl, inr, length, ℕ, Bool, true, false, cond, List, [], ◌∷◌, ◌++◌, map, Option, Some, None, Result, Ok, Err, refl, sym, ap, ◌∙◌, subst, ⊎_elim, append-nil}
 use Rattle.std.specs.Prelude.{◌==◌, if◌then◌else◌, unwrap_or, OnOk}
 use Rattle.std.specs.List.{AllByRecursion}
 use Rattle.journal_errors.specs.declared.error.Error.{Error}
@@ -19,13 +19,15 @@ use Rattle.journal_errors.specs.Types.{type_number}
 use Rattle.vm_parts.specs.declared.types.AwaitResponse.{AwaitResponse}
 use Rattle.vm_parts.specs.declared.types.AwaitResponse.TheVariants.{AnyCompleted, WaitingExternalProgress}
 use Rattle.vm_parts.specs.declared.types.AwakeableHandle.{AwakeableHandle}
-use Rattle.vm_parts.specs.declared.types.NotificationHandle.{NotificationHandle}
-use Rattle.vm_parts.specs.declared.types.UnresolvedFuture.{UnresolvedFuture}
-use Rattle.vm_parts.specs.declared.types.UnresolvedFuture.TheVariants.{Single}
+use Rattle.await_trees.specs.declared.handle.NotificationHandle.{NotificationHandle}
+use Rattle.await_trees.specs.Tree.{Tree, tree_of}
+use Rattle.await_trees.specs.Wires.{sent}
+use Rattle.await_tries.specs.Message.{ids}
+use Rattle.journal_attempt.specs.declared.future.Future.{Future}
 use Rattle.vm_parts.specs.declared.values.Value.{Value}
 use Rattle.vm_parts.specs.declared.steps.Step.{Step}
 use Rattle.vm_parts.specs.Counting.{missing, missing_signals}
-use Rattle.vm_parts.specs.Deliveries.{has_result_for, id_at, present_for, taken_by, used_for}
+use Rattle.vm_parts.specs.Deliveries.{id_at, present_for, taken_by}
 use Rattle.vm_parts.specs.Values.{value_of}
 use Rattle.vm_machine.specs.declared.asks.Ask.{Ask}
 use Rattle.vm_machine.specs.declared.asks.Ask.TheVariants as ask
@@ -33,10 +35,12 @@ use Rattle.vm_machine.specs.declared.machine.Machine.{Machine}
 use Rattle.vm_machine.specs.declared.phase.Phase.{Phase}
 use Rattle.vm_machine.specs.declared.phase.Phase.TheVariants.{WaitingStart, WaitingReplayEntries, Replaying, Processing, Closed}
 use Rattle.vm_machine.specs.Asks.{ask_of}
-use Rattle.vm_machine.specs.Awaits.{await_step, future_of, pending, result_taken, suspended, take_step, taken_at, tried, value_taken}
+use Rattle.vm_machine.specs.Awaits.{Awaits, AwaitsAt, pending_on, suspended, with_used}
+use Rattle.vm_machine.specs.Takes.{result_taken, take_step, taken_at, value_taken}
 use Rattle.vm_machine.specs.Commands.{CanBeRead, carried_out, commanded, commanded_unless, compared, counted, entered, ignores_payloads, issued, phase_after, popped, popped_from, prepared, replayed, written, about_next, handed_out}
 use Rattle.vm_machine.specs.Inputs.{end_at, end_step}
-use Rattle.vm_machine.specs.Outcomes.{IsStarved, Outcome, Done, Failed, ◌>>=◌, about_last, called, called_at, failed, refused, ruled, settled}
+use Rattle.vm_machine.specs.Outcomes.{DoesBy, IsStarved, Outcome, Done, Failed, ◌>>=◌, about_last, called, called_at, failed, refused, ruled, settled}
+use Rattle.vm_machine.proofs.Calling.{called_from}
 use Rattle.vm_machine.specs.Phases.{is_closed, is_processing, is_replaying, is_running, state_fault}
 use Rattle.vm_machine.specs.Requests.{ids_of, name_of, shown_type, with_ids}
 use Rattle.vm_machine.specs.Signals.{awakeable_counted, awakeable_step, signal_counted, signal_step}
@@ -45,7 +49,7 @@ use Rattle.vm_model.specs.Journal.{stored_form}
 use Rattle.vm_rounds.specs.declared.progress.Reply.{Reply}
 use Rattle.vm_rounds.specs.declared.progress.Reply.TheVariants as reply
 use Rattle.vm_rounds.specs.Journals.{is_command}
-use Rattle.vm_rounds.specs.Steps.{DoesBy, MayCome, Performs, PerformsBy, await_reply, mapped}
+use Rattle.vm_rounds.specs.Steps.{Performs, PerformsBy, await_reply, mapped}
 use Rattle.vm_rounds.specs.Told.{IsLive}
 
 -- ---- what is left
@@ -244,44 +248,36 @@ abbrev AwaitLeaves : Result AwaitResponse Error → Machine → Type 0
 AwaitLeaves (Ok response) w = is_running w.phase ≡ true
 AwaitLeaves (Err e) w = w.phase ≡ Closed
 
-module _ (handle : ℕ) (v u : Machine) (same : Stays v u) (failure : u.failure ≡ v.failure) (runs : is_running u.phase ≡ true) where
-  suspends : Leaves AwaitLeaves v (Err (named_error fault.Suspended None)) (suspended (future_of (id_at handle u.results.handles)) u)
+module _ (future : Future) (v u : Machine) (same : Stays v u) (failure : u.failure ≡ v.failure) (runs : is_running u.phase ≡ true) where
+  suspends : Leaves AwaitLeaves v (Err (named_error fault.Suspended None)) (suspended future u)
   suspends =
-      let m = message.Suspension (record { future = future_of (id_at handle u.results.handles) }) in
+      let m = message.Suspension (record { future = future }) in
       record {
         sends = record { messages = m ∷ []; output = ap (λ l. l ++ encoding m ∷ []) same.0; version = same.1; options = same.2 };
         failure = failure;
         left = refl;
       }
 
-  pends : Happens AwaitLeaves v (pending handle u)
+  pends : Happens AwaitLeaves v (pending_on future u)
   pends = by_tests (is_replaying u.phase) u.input_closed
     where
       by_tests : (a b : Bool)
           → Happens AwaitLeaves v (if a then refused fault.UncompletedDoProgressDuringReplay u
-          else if b then Done (Err (named_error fault.Suspended None)) (suspended (future_of (id_at handle u.results.handles)) u)
+          else if b then Done (Err (named_error fault.Suspended None)) (suspended future u)
           else Done (Ok (WaitingExternalProgress true false)) u)
       by_tests true b = same
       by_tests false true = suspends
       by_tests false false = record { sends = stays_sends v u same; failure = failure; left = runs }
 
-  tries : Happens AwaitLeaves v (tried handle u)
-  tries = by_test (has_result_for (id_at handle u.results.handles) u.results.ready)
-    where
-      by_test : (b : Bool) → Happens AwaitLeaves v (if b then Done (Ok AnyCompleted) u else pending handle u)
-      by_test true = record { sends = stays_sends v u same; failure = failure; left = runs }
-      by_test false = pends
-
-awaits : (handle : ℕ) (v : Machine) → Happens AwaitLeaves v (await_step handle v)
-unfolding await_step
-awaits handle v = by_test (is_running v.phase) refl
+awaits : (t : Tree) (v : Machine) (x : Outcome (Result AwaitResponse Error)) → Awaits t v x → Happens AwaitLeaves v x
+awaits t v x comes = by_test (is_running v.phase) refl comes
   where
-    by_test : (b : Bool) → is_running v.phase ≡ b → Happens AwaitLeaves v (if b then tried handle (record v { results = used_for handle v.results }) else refused (state_fault v.phase) v)
-    by_test true e = tries handle v (record v { results = used_for handle v.results }) (refl, refl, refl) refl e
-    by_test false e = (refl, refl, refl)
-
-futures : (future : UnresolvedFuture) (v : Machine) (x : Outcome (Result AwaitResponse Error)) → MayCome future v x → Happens AwaitLeaves v x
-futures (Single handle) v x comes = subst (Happens AwaitLeaves v) (sym comes) (awaits handle.0 v)
+    by_test : (b : Bool) → is_running v.phase ≡ b → AwaitsAt b t v x → Happens AwaitLeaves v x
+    by_test true e (inl (n, least, is)) = subst (Happens AwaitLeaves v) (sym is) (record { sends = stays_sends v (with_used n v) (refl, refl, refl); failure = refl; left = e })
+    by_test true e (inr (left, pending, is)) =
+        let n = length v.results.queued in
+        subst (Happens AwaitLeaves v) (sym is) (pends (sent (ids v.results) left) v (with_used n v) (refl, refl, refl) refl e)
+    by_test false e is = subst (Happens AwaitLeaves v) (sym is) (refl, refl, refl)
 
 values : (o : Option Value) (v u : Machine) → Stays v u → u.failure ≡ v.failure → is_running u.phase ≡ true → Happens RunsOn v (value_taken o u)
 values None v u s f runs = s
@@ -335,7 +331,9 @@ asked_leaves (ask.Command c) v live o does = subst (CallLeaves StandsBy v) (sym 
 asked_leaves ask.Awakeable v live o does = subst (CallLeaves StandsBy v) (sym does) (mapping RunsOn StandsBy _ (λ h w runs. runs) v (called (new_awakeable_step v) v) (calling RunsOn v (new_awakeable_step v) live.failure (new_awakeables (skips_replay v.options.journal_replay) v)))
 asked_leaves (ask.Read r) v live o does = subst (CallLeaves StandsBy v) (sym does) (mapping RunsOn StandsBy _ (λ h w runs. runs) v (called (read_step r v) v) (calling RunsOn v (read_step r v) live.failure (state_reads r v)))
 asked_leaves (ask.Signal name) v live o does = subst (CallLeaves StandsBy v) (sym does) (mapping RunsOn StandsBy _ (λ h w runs. runs) v (called (signal_step name v) v) (calling RunsOn v (signal_step name v) live.failure (signals name v)))
-asked_leaves (ask.Await future) v live o (x, comes, does) = subst (CallLeaves StandsBy v) (sym does) (mapping AwaitLeaves StandsBy await_reply await_stands v (called x v) (calling AwaitLeaves v x live.failure (futures future v x comes)))
+asked_leaves (ask.Await future) v live o (x, comes, does) =
+    let from = called_from (Awaits (tree_of future) v) v x comes in
+    subst (CallLeaves StandsBy v) (sym (does ∙ ap (mapped await_reply) from.2)) (mapping AwaitLeaves StandsBy await_reply await_stands v (called from.0 v) (calling AwaitLeaves v from.0 live.failure (awaits (tree_of future) v from.0 (from.1 live.failure))))
 asked_leaves (ask.Take handle) v live o does = subst (CallLeaves StandsBy v) (sym does) (mapping RunsOn StandsBy _ (λ h w runs. runs) v (called (take_step handle.0 v) v) (calling RunsOn v (take_step handle.0 v) live.failure (takes handle.0 v)))
 asked_leaves (ask.Completed handle) v live o does = subst (CallLeaves StandsBy v) (sym does) (record { sends = stays_sends v v (refl, refl, refl); failure = refl; left = live.phase })
 asked_leaves ask.End v live o does = subst (CallLeaves StandsBy v) (sym does) (mapping HasClosed StandsBy _ (λ h w closed. closed) v (called (end_step v) v) (calling HasClosed v (end_step v) live.failure (ends v.phase v refl)))

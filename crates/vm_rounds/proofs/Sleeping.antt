@@ -23,7 +23,7 @@ use Rattle.vm_rounds.specs.declared.progress.Reply.TheVariants as reply
 use Rattle.vm_rounds.specs.Blames.{IsLate, LateBy}
 use Rattle.vm_rounds.specs.Record.{Record}
 use Rattle.vm_rounds.specs.Stepping.{Advances, Asks, CloseDoes, Closes, FeedDoes, Feeds, IfWaits, LacksMemory, Reads, StepAt, StepDoes, StepFrom, StepUnless, Takes, emptied, future_in, kept, kept_at, progress_of, replied, step_asked, taken_from, with_vm}
-use Rattle.vm_rounds.specs.Told.{IsAsleep, IsKeptUnder, NothingWakes, Premises, Quiet, Sleeps, StillSleeps, Wrote, arrivals_of}
+use Rattle.vm_rounds.specs.Told.{IsAsleep, IsKeptUnder, NothingWakes, Premises, Quiet, Sleeps, StillSleeps, Wrote}
 use Rattle.vm_rounds.proofs.Advanced.{asleep_waits, step_waits}
 use Rattle.invocation_vm.proofs.Feeds.{among_output}
 use Rattle.vm_rounds.proofs.Late.{feeds_over}
@@ -182,11 +182,11 @@ over_repeats m made old result new over does = by_test old.starved does
     by_test false d = repeats_unless m made old result new old.vm.machine.failure (subst (λ o. StepUnless old.vm.machine.failure o m old result new) over d)
 
 -- where a step waits, the attempt sleeps
-step_asleep : (m : Meaning) (version : Version) (options : VMOptions) (old : Record) (result : Result Progress Error) (new : Record) → IsKeptUnder m version options old → StillSleeps m version options old → StepDoes m old result new → Premises options (arrivals_of old.fed) → IfWaits result (Sleeps m version options new.fed new.answers new.taken new.vm)
+step_asleep : (m : Meaning) (version : Version) (options : VMOptions) (old : Record) (result : Result Progress Error) (new : Record) → IsKeptUnder m version options old → StillSleeps m version options old → StepDoes m old result new → Premises m version options old.fed → IfWaits result (Sleeps m version options new.fed new.answers new.taken new.vm)
 step_asleep m version options old result new u s does p = by_over old.over refl
   where
     by_over : (over : Option Progress) → old.over ≡ over → IfWaits result (Sleeps m version options new.fed new.answers new.taken new.vm)
-    by_over None going = step_waits m version options old result new (u p) going does
+    by_over None going = step_waits m version options old result new p (u p) going does
     by_over (Some made) over =
         let r = over_repeats m made old result new over does in
         ⊎_elim
@@ -204,10 +204,10 @@ step_sleeps m version options old result new u s does = by_over old.over refl
         (λ (x : (q : Progress) × (result ≡ Ok q) × (new.over ≡ Some q)).
         let same : x.0 ≡ made = same_Some x.0 made (sym x.2 ∙ over) in
         subst (λ z. IfWaits z (Sleeps m version options new.fed new.answers new.taken new.vm)) (x.1 ∙ ap (λ q. Ok q) same)
-        (step_asleep m version options old result new u s does (subst (λ fed. Premises options (arrivals_of fed)) (step_fed m old result new does) p)))
+        (step_asleep m version options old result new u s does (subst (λ fed. Premises m version options fed) (step_fed m old result new does) p)))
         (open_ends m old result new going does)
     by_over (Some made) over = subst (StillSleeps m version options) (sym (over_repeats m made old result new over does).0) s
 
 -- a step waits only where nothing wakes
-pub waits_rightly : (m : Meaning) (version : Version) (options : VMOptions) (old : Record) (result : Result Progress Error) (new : Record) → IsKeptUnder m version options old → StillSleeps m version options old → StepDoes m old result new → WholeFrames new.vm.machine.output → Premises options (arrivals_of old.fed) → IfWaits result (NothingWakes m version options new)
+pub waits_rightly : (m : Meaning) (version : Version) (options : VMOptions) (old : Record) (result : Result Progress Error) (new : Record) → IsKeptUnder m version options old → StillSleeps m version options old → StepDoes m old result new → WholeFrames new.vm.machine.output → Premises m version options old.fed → IfWaits result (NothingWakes m version options new)
 waits_rightly m version options old result new u s does f p = asleep_waits m version options new result f (step_asleep m version options old result new u s does p)

@@ -17,8 +17,8 @@ use Rattle.vm_parts.specs.declared.options.VMOptions.{VMOptions}
 use Rattle.vm_parts.specs.declared.steps.Answer.{Answer}
 use Rattle.vm_parts.specs.declared.steps.Step.{Step}
 use Rattle.vm_parts.specs.declared.steps.Step.TheVariants as step
-use Rattle.vm_parts.specs.declared.types.NotificationHandle.{NotificationHandle}
-use Rattle.vm_parts.specs.declared.types.UnresolvedFuture.{UnresolvedFuture}
+use Rattle.await_trees.specs.declared.handle.NotificationHandle.{NotificationHandle}
+use Rattle.await_trees.specs.declared.tree.UnresolvedFuture.{UnresolvedFuture}
 use Rattle.vm_parts.specs.declared.values.Value.{Value}
 use Rattle.vm_parts.specs.Counting.{missing, missing_signals}
 use Rattle.vm_parts.specs.Deliveries.{id_at, present_for}
@@ -32,7 +32,7 @@ use Rattle.vm_machine.specs.Asks.{ask_of}
 use Rattle.journal_messages.specs.Commands.{IsCommand}
 use Rattle.vm_rounds.proofs.Own.{AsksCommand, asks_command, numbered_is, own_is}
 use Rattle.vm_machine.specs.Commands.{phase_after}
-use Rattle.vm_machine.specs.Outcomes.{IsStarved, Outcome, Done, Failed}
+use Rattle.vm_machine.specs.Outcomes.{DoesBy, IsStarved, Outcome, Done, Failed}
 use Rattle.vm_machine.specs.Phases.{is_running}
 use Rattle.vm_machine.specs.Requests.{ids_of}
 use Rattle.invocation_vm.specs.Calls.{skips_replay}
@@ -54,8 +54,8 @@ use Rattle.vm_rounds.specs.Agreement.{Agrees, Answered, Follows, HasEnded, IsRef
 use Rattle.vm_rounds.specs.Journals.{is_command, setup_for}
 use Rattle.vm_rounds.specs.Record.{Record}
 use Rattle.vm_rounds.specs.Stepping.{Asks, IfWaits, step_asked, asked_from, future_in, progress_of, replied, with_vm}
-use Rattle.vm_rounds.specs.Steps.{DoesBy, IfDone, Performs, ReadsBack, StepMade}
-use Rattle.vm_rounds.specs.Told.{arrivals, IsKept, IsLive, IsAsleep, Sleeps, RefusesReplay, Replays, Runs, StillAwaits, Wrote, commands_of, handed_out}
+use Rattle.vm_rounds.specs.Steps.{IfDone, Performs, ReadsBack, StepMade}
+use Rattle.vm_rounds.specs.Told.{IsAsleep, IsKept, IsLive, Premises, RefusesReplay, Replays, Runs, Sleeps, StillAwaits, Wrote, arrivals, commands_of, handed_out}
 use Rattle.vm_rounds.proofs.Following.{agreeing_follows}
 use Rattle.vm_rounds.proofs.Kept.{dead_same, not_live}
 use Rattle.vm_rounds.proofs.Lasting.{runs_last}
@@ -211,7 +211,7 @@ module _ (m : Meaning) (version : Version) (options : VMOptions) (r : Record) (k
   suspended_keeps : IsSuspended s m (handed_out k.journal) k.at r.vm.machine w.machine → Runs m version options r.fed r.answers r.waiting r.taken w
   suspended_keeps f =
       no_answer r.waiting
-      (runs_on m version options r.fed r.answers r.waiting r.waiting r.taken r.vm w k live und f.at [] [] f.waits.moves (message.Suspension (suspended_on f.waits.future f.at.derived) ∷ []) refl f.output (same_awaits m k.at f.at r.waiting f.waits.moves.answers k.awaits)
+      (runs_on m version options r.fed r.answers r.waiting r.waiting r.taken r.vm w k live und f.at [] [] f.waits.moves (message.Suspension (suspended_on f.left f.at.derived) ∷ []) refl f.output (same_awaits m k.at f.at r.waiting f.waits.moves.answers k.awaits)
       (λ alive. not_live w.machine f.closed alive) (λ _. inr f.closed))
 
   ended_keeps : HasEnded m k.at r.vm.machine w.machine → Runs m version options r.fed r.answers r.waiting r.taken w
@@ -271,7 +271,7 @@ module _ (m : Meaning) (version : Version) (options : VMOptions) (r : Record) (k
       waits_so g.at g.waits [] refl (g.output ∙ sym (append-nil r.vm.machine.output))
   replied_waits P (Ok reply.Suspended) R f does h =
       let g : IsSuspended s m (handed_out k.journal) k.at r.vm.machine w.machine = f (Done reply.Suspended w.machine) does h in
-      waits_so g.at g.waits (message.Suspension (suspended_on g.waits.future g.at.derived) ∷ []) refl g.output
+      waits_so g.at g.waits (message.Suspension (suspended_on g.left g.at.derived) ∷ []) refl g.output
   replied_waits P (Ok reply.Ended) R f does h = tt
   replied_waits P (Err e) R f does h = tt
 
@@ -333,15 +333,15 @@ module _ (m : Meaning) (version : Version) (options : VMOptions) (r : Record) (k
       does
 
 -- a step of a handler that runs
-pub asks_keep : (m : Meaning) (version : Version) (options : VMOptions) (old : Record) (result : Result Progress Error) (new : Record) (k : Runs m version options old.fed old.answers old.waiting old.taken old.vm) → IsLive old.vm.machine → Asks m old result new → IsKept m version options new
-asks_keep m version options old result new k live (x, w, does, is, progress) =
+pub asks_keep : (m : Meaning) (version : Version) (options : VMOptions) (old : Record) (result : Result Progress Error) (new : Record) → Premises m version options old.fed → (k : Runs m version options old.fed old.answers old.waiting old.taken old.vm) → IsLive old.vm.machine → Asks m old result new → IsKept m version options new
+asks_keep m version options old result new under k live (x, w, does, is, progress) =
     let s = setup_for version options k.journal.start in
     let st = m k.at.answers in
     let same : step_asked m old ≡ st = asks_next m k.at old.answers old.waiting k.answers k.awaits in
     let made : StepMade st x old.vm w = subst (λ q. StepMade q x old.vm w) same does in
     subst (IsKept m version options) (sym is)
     (subst (λ q. IsKept m version options (replied old (future_in q) x w)) (sym same)
-    (replied_keeps m version options old k live w made.0.1 (ReadsBack st old.vm.machine) st refl x (Performs st old.vm.machine) (λ o. agreeing_follows s m (handed_out k.journal) k.written old.vm.machine k.at o (k.agrees live)) made.0.0 made.1))
+    (replied_keeps m version options old k live w made.0.1 (ReadsBack st old.vm.machine) st refl x (Performs st old.vm.machine) (λ o. agreeing_follows s m (handed_out k.journal) k.written old.vm.machine k.at o under.queues (under.once k.journal k.moves k.written k.at k.run) (k.agrees live)) made.0.0 made.1))
 
 -- what a step that waits leaves of the record
 settled_waits : (m : Meaning) (version : Version) (options : VMOptions) (old : Record) (future : Option UnresolvedFuture) (w : View) (x : Result Reply Error) → IfWaits (progress_of x) (Sleeps m version options old.fed old.answers old.taken w)
@@ -352,7 +352,7 @@ settled_waits m version options old future w (Ok reply.Suspended) h = h
 settled_waits m version options old future w (Ok reply.Ended) h = tt
 settled_waits m version options old future w (Err e) h = tt
 
-module _ (m : Meaning) (version : Version) (options : VMOptions) (old : Record) (result : Result Progress Error) (new : Record) (k : Runs m version options old.fed old.answers old.waiting old.taken old.vm) (live : IsLive old.vm.machine) where
+module _ (m : Meaning) (version : Version) (options : VMOptions) (old : Record) (result : Result Progress Error) (new : Record) (under : Premises m version options old.fed) (k : Runs m version options old.fed old.answers old.waiting old.taken old.vm) (live : IsLive old.vm.machine) where
   abbrev made_here : Setup
   made_here = setup_for version options k.journal.start
 
@@ -361,7 +361,7 @@ module _ (m : Meaning) (version : Version) (options : VMOptions) (old : Record) 
   is_next = asks_next m k.at old.answers old.waiting k.answers k.awaits
 
   follows_here : (o : Outcome Reply) → Performs (m k.at.answers) old.vm.machine o → IfDone o (ReadsBack (m k.at.answers) old.vm.machine) → Follows made_here m (handed_out k.journal) k.written k.at old.vm.machine o
-  follows_here o = agreeing_follows made_here m (handed_out k.journal) k.written old.vm.machine k.at o (k.agrees live)
+  follows_here o = agreeing_follows made_here m (handed_out k.journal) k.written old.vm.machine k.at o under.queues (under.once k.journal k.moves k.written k.at k.run) (k.agrees live)
 
   -- a step waits only where nothing wakes
   pub asks_wait : Asks m old result new → IfWaits result (Sleeps m version options new.fed new.answers new.taken new.vm)

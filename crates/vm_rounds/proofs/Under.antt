@@ -1,11 +1,13 @@
--- What an attempt keeps under the premises: they hold of a beginning of the arrivals where they hold of all.
-use Rattle.std.proofs.Common.{◌≡◌, ◌≢◌, ◌⊎◌, ℕ, Bool, true, false, List, [], ◌∷◌, ◌++◌, Option, Some, None, Result, Ok, Err, refl, sym, ap, ◌∙◌, subst, inl, inr, ⊎_elim}
+-- What an attempt keeps under the premises: they hold of a beginning of what was fed where they hold of all.
+use Rattle.std.proofs.Common.{◌≡◌, ◌≢◌, ◌⊎◌, ◌≤◌, ◌+◌, length, length-append, arith, ℕ, Bool, true, false, List, [], ◌∷◌, ◌++◌, Option, Some, None, Result, Ok, Err, refl, sym, ap, ◌∙◌, subst, inl, inr, ⊎_elim}
 use Rattle.std.specs.declared.alloc.AllocError.{AllocError}
 use Rattle.journal_errors.specs.declared.error.Error.{Error}
 use Rattle.journal_messages.specs.declared.message.RawMessage.{RawMessage}
 use Rattle.journal_values.specs.declared.notification.Notification.{Notification}
-use Rattle.journal_values.specs.declared.notification.NotificationId.{NotificationId}
-use Rattle.journal_values.specs.declared.notification.NotificationId.TheVariants.{CompletionId, SignalId, SignalName}
+use Rattle.arrivals.specs.Results.{results_of}
+use Rattle.await_tries.proofs.LaterArrivals.{results-append}
+use Rattle.journal_values.specs.declared.notification.NotificationId.TheVariants.{CompletionId}
+use Rattle.journal_values.specs.declared.notification.NotificationResult.{NotificationResult}
 use Rattle.journal_errors.specs.declared.version.Version.{Version}
 use Rattle.vm_parts.specs.declared.options.VMOptions.{VMOptions}
 use Rattle.vm_machine.specs.declared.phase.Phase.{Phase}
@@ -13,53 +15,45 @@ use Rattle.vm_machine.specs.declared.phase.Phase.TheVariants.{WaitingStart, Wait
 use Rattle.invocation_vm.specs.Frames.{frames_of}
 use Rattle.invocation_vm.proofs.Cuts.{frames_of-append}
 use Rattle.vm_model.specs.Calls.{Meaning}
-use Rattle.vm_model.specs.Histories.{behind}
+use Rattle.vm_model.specs.Deliveries.{HasNoTwo, deliveries}
+use Rattle.vm_model.specs.Histories.{Handed}
+use Rattle.vm_model.specs.Moves.{Point, later}
 use Rattle.vm_rounds.specs.declared.progress.Fed.{Fed}
 use Rattle.vm_rounds.specs.declared.progress.Progress.{Progress}
-use Rattle.vm_rounds.specs.Journals.{notifications_among}
+use Rattle.vm_rounds.specs.Journals.{notifications_among, setup_for}
 use Rattle.vm_rounds.specs.Record.{Record}
 use Rattle.vm_rounds.specs.Stepping.{Advances, Asks, CloseDoes, Closes, FeedDoes, Feeds, LacksMemory, Reads, StepAt, StepDoes, StepFrom, StepUnless, Takes, kept, kept_at, step_asked, future_in, replied, with_vm}
-use Rattle.vm_rounds.specs.Told.{CompleteOnce, HasNoOther, IsAbsent, IsKeptUnder, Premises, Runs, arrivals_of, bytes_fed, frames_fed}
+use Rattle.vm_rounds.specs.Told.{IsKeptUnder, Premises, Runs, bytes_fed, frames_fed, handed_out}
 use Rattle.vm_rounds.specs.declared.progress.Reply.{Reply}
 use Rattle.vm_rounds.specs.declared.progress.Reply.TheVariants as reply
-use Rattle.vm_parts.specs.declared.types.UnresolvedFuture.{UnresolvedFuture}
+use Rattle.await_trees.specs.declared.tree.UnresolvedFuture.{UnresolvedFuture}
 use Rattle.invocation_vm.specs.Views.{StarvesAmong, View, brought}
 use Rattle.vm_rounds.proofs.Advanced.{step_keeps}
 use Rattle.vm_rounds.proofs.Kept.{close_keeps, feed_keeps, take_keeps}
 use Rattle.vm_rounds.proofs.Lasting.{runs_last}
-use Rattle.vm_rounds.proofs.Pieces.{bytes_behind, more_frames, notifications_append}
+use Rattle.vm_rounds.proofs.Pieces.{bytes_behind, journal_to, more_frames, run_to}
 
--- ---- a beginning of the arrivals
+-- ---- a beginning of what was fed
 
-absent_before : (id : NotificationId) (ns more : List Notification) → IsAbsent id (ns ++ more) → IsAbsent id ns
-absent_before id [] more h = tt
-absent_before id (n ∷ ns) more h = (h.0, absent_before id ns more h.1)
-
-no_other_before : (id : NotificationId) (ns more : List Notification) → HasNoOther id (ns ++ more) → HasNoOther id ns
-no_other_before (CompletionId id) ns more h = absent_before (CompletionId id) ns more h
-no_other_before (SignalId id) ns more h = tt
-no_other_before (SignalName name) ns more h = tt
-
-pub once_before : (ns more : List Notification) → CompleteOnce (ns ++ more) → CompleteOnce ns
-once_before [] more h = tt
-once_before (n ∷ ns) more h = (no_other_before n.id ns more h.0, once_before ns more h.1)
-
-behind_more : (xs G : List RawMessage) → (more : List Notification) × (notifications_among (behind (xs ++ G)) ≡ notifications_among (behind xs) ++ more)
-behind_more [] G = (notifications_among (behind G), refl)
-behind_more (x ∷ xs) G = (notifications_among G, notifications_append xs G)
-
-arrivals_more : (fed : List Fed) (f : Fed) → (more : List Notification) × (arrivals_of (fed ++ f ∷ []) ≡ arrivals_of fed ++ more)
-arrivals_more fed f =
-    let G = more_frames (frames_of (bytes_fed fed)) f.piece in
-    let frames : frames_fed (fed ++ f ∷ []) ≡ frames_fed fed ++ G.0 = ap (λ l. (frames_of l).0) (bytes_behind fed f) ∙ ap (λ p. p.0) (frames_of-append (bytes_fed fed) f.piece) ∙ G.1 in
-    let more = behind_more (frames_fed fed) G.0 in
-    (more.0, ap (λ l. notifications_among (behind l)) frames ∙ more.1)
+-- no completion has two results at a point where none has with further arrivals
+pub fewer_waiting : (p : Point) (ns : List Notification) → HasNoTwo (later ns p) → HasNoTwo p
+fewer_waiting p ns two i =
+    let long = length-append (results_of (CompletionId i) p.queue) (results_of (CompletionId i) ns) in
+    let all = subst (λ (rs : List NotificationResult). length (deliveries (CompletionId i) p.derived.usage) + length rs ≤ 1) (results-append (CompletionId i) p.queue ns) (two i) in
+    omega (arith, long, all)
 
 -- the premises hold before a piece comes where they hold with it
-pub premises_before : (options : VMOptions) (fed : List Fed) (f : Fed) → Premises options (arrivals_of (fed ++ f ∷ [])) → Premises options (arrivals_of fed)
-premises_before options fed f p =
-    let more = arrivals_more fed f in
-    record { replays = p.replays; queues = p.queues; once = once_before (arrivals_of fed) more.0 (subst CompleteOnce more.1 p.once) }
+pub premises_before : (m : Meaning) (version : Version) (options : VMOptions) (fed : List Fed) (f : Fed) → Premises m version options (fed ++ f ∷ []) → Premises m version options fed
+premises_before m version options fed f p =
+    let G = more_frames (frames_of (bytes_fed fed)) f.piece in
+    let frames : frames_fed (fed ++ f ∷ []) ≡ frames_fed fed ++ G.0 = ap (λ l. (frames_of l).0) (bytes_behind fed f) ∙ ap (λ p. p.0) (frames_of-append (bytes_fed fed) f.piece) ∙ G.1 in
+    record {
+      replays = p.replays;
+      queues = p.queues;
+      once = λ j n made q run.
+          fewer_waiting q (notifications_among G.0)
+          (p.once (journal_to fed (fed ++ f ∷ []) G.0 frames j) n made (later (notifications_among G.0) q) (run_to (setup_for version options j.start) m (Handed (handed_out j)) fed j G.0 n made q run));
+    }
 
 -- ---- what was fed
 
@@ -67,11 +61,11 @@ premises_before options fed f p =
 abbrev Grows : List Fed → List Fed → Type 0
 Grows old new = (new ≡ old) ⊎ ((f : Fed) × (new ≡ old ++ f ∷ []))
 
-pub premises_of : (options : VMOptions) (old new : List Fed) → Grows old new → Premises options (arrivals_of new) → Premises options (arrivals_of old)
-premises_of options old new g p =
+pub premises_of : (m : Meaning) (version : Version) (options : VMOptions) (old new : List Fed) → Grows old new → Premises m version options new → Premises m version options old
+premises_of m version options old new g p =
     ⊎_elim
-    (λ (x : new ≡ old). subst (λ fed. Premises options (arrivals_of fed)) x p)
-    (λ (x : (f : Fed) × (new ≡ old ++ f ∷ [])). premises_before options old x.0 (subst (λ fed. Premises options (arrivals_of fed)) x.1 p))
+    (λ (x : new ≡ old). subst (Premises m version options) x p)
+    (λ (x : (f : Fed) × (new ≡ old ++ f ∷ [])). premises_before m version options old x.0 (subst (Premises m version options) x.1 p))
     g
 
 kept_grows : (o : Option Error) (ph : Phase) (piece : List ℕ) (r : Record) → Grows r.fed (kept_at o ph piece r).fed
@@ -155,13 +149,15 @@ step_fed m old result new does = by_test old.starved does
 -- ---- each call
 
 pub feed_under : (m : Meaning) (version : Version) (options : VMOptions) (piece : List ℕ) (old : Record) (result : Result Unit AllocError) (new : Record) → IsKeptUnder m version options old → FeedDoes old.starved piece old result new → IsKeptUnder m version options new
-feed_under m version options piece old result new u does p = feed_keeps (Runs m version options) (runs_last m version options) version options piece old result new (u (premises_of options old.fed new.fed (feed_grows piece old result new does) p)) does
+feed_under m version options piece old result new u does p = feed_keeps (Runs m version options) (runs_last m version options) version options piece old result new (u (premises_of m version options old.fed new.fed (feed_grows piece old result new does) p)) does
 
 pub close_under : (m : Meaning) (version : Version) (options : VMOptions) (old : Record) (result : Result Unit AllocError) (new : Record) → IsKeptUnder m version options old → CloseDoes old.starved old result new → IsKeptUnder m version options new
-close_under m version options old result new u does p = close_keeps (Runs m version options) (runs_last m version options) version options old result new (u (premises_of options old.fed new.fed (inl (close_fed old result new does)) p)) does
+close_under m version options old result new u does p = close_keeps (Runs m version options) (runs_last m version options) version options old result new (u (premises_of m version options old.fed new.fed (inl (close_fed old result new does)) p)) does
 
 pub take_under : (m : Meaning) (version : Version) (options : VMOptions) (old : Record) (result : Result (List ℕ) AllocError) (new : Record) → IsKeptUnder m version options old → Takes old result new → IsKeptUnder m version options new
-take_under m version options old result new u does p = take_keeps (Runs m version options) (runs_last m version options) version options old result new (u (premises_of options old.fed new.fed (inl (take_fed old result new does)) p)) does
+take_under m version options old result new u does p = take_keeps (Runs m version options) (runs_last m version options) version options old result new (u (premises_of m version options old.fed new.fed (inl (take_fed old result new does)) p)) does
 
 pub step_under : (m : Meaning) (version : Version) (options : VMOptions) (old : Record) (result : Result Progress Error) (new : Record) → IsKeptUnder m version options old → StepDoes m old result new → IsKeptUnder m version options new
-step_under m version options old result new u does p = step_keeps m version options old result new (u (premises_of options old.fed new.fed (inl (step_fed m old result new does)) p)) does
+step_under m version options old result new u does p =
+    let before = premises_of m version options old.fed new.fed (inl (step_fed m old result new does)) p in
+    step_keeps m version options old result new before (u before) does

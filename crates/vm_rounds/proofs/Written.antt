@@ -149,6 +149,14 @@ written_is taken waits written w f =
     ∙ commands_stored (w.sent ++ f.messages)
     ∙ ap commands_among (sym (ap (λ l. (frames_of l).0) (bytes_are taken waits written w f) ∙ messages_spelled (w.sent ++ f.messages) (all_whole w.sent f.messages w.whole f.each)))
 
+-- what was taken are the first of the commands that were written
+pub taken_first : (taken waits : List (List ℕ)) (written : List RawMessage) → Wrote taken waits written → (rest : List RawMessage) × (written ≡ commands_among (frames_of (concat taken)).0 ++ rest)
+taken_first taken waits written w = (
+  commands_of w.waiting,
+  sym w.commands ∙ commands_append w.sent w.waiting
+      ∙ ap (λ l. l ++ commands_of w.waiting) (commands_stored w.sent ∙ ap commands_among (sym (ap (λ l. (frames_of l).0) w.bytes ∙ messages_spelled w.sent w.whole))),
+)
+
 -- ---- an attempt
 
 pub writes_whole : (version : Version) (options : VMOptions) (r : Record) → HasCome version options r → WholeFrames r.vm.machine.output → WholeStream (bytes_written r)

@@ -14,15 +14,17 @@ use Rattle.vm_parts.specs.declared.context.StartInfo.{StartInfo}
 use Rattle.vm_parts.specs.declared.context.StateMap.{StateMap}
 use Rattle.vm_parts.specs.declared.steps.Answer.{Answer}
 use Rattle.vm_parts.specs.declared.steps.Step.TheVariants as step
-use Rattle.vm_parts.specs.declared.types.UnresolvedFuture.{UnresolvedFuture}
-use Rattle.vm_parts.specs.declared.types.UnresolvedFuture.TheVariants.{Single}
+use Rattle.await_trees.specs.declared.tree.UnresolvedFuture.{UnresolvedFuture}
+use Rattle.await_trees.specs.Residual.{Residual}
+use Rattle.await_trees.specs.Tree.{Tree, tree_of}
+use Rattle.await_trees.specs.Wires.{sent}
+use Rattle.await_tries.specs.Await.{AwakeAlike}
 use Rattle.vm_parts.specs.Deliveries.{id_at}
 use Rattle.vm_machine.specs.declared.machine.Machine.{Machine}
 use Rattle.vm_machine.specs.declared.phase.Phase.TheVariants.{Closed}
-use Rattle.vm_machine.specs.Awaits.{future_of}
 use Rattle.vm_machine.specs.Commands.{phase_after}
 use Rattle.vm_machine.specs.Outcomes.{Outcome, Done, Failed, ruled}
-use Rattle.vm_model.specs.Calls.{Setup, Meaning, Derived, identity_of, is_awake, ready_in}
+use Rattle.vm_model.specs.Calls.{Setup, Meaning, Derived, identity_of, is_awake, leaf_in, ready_in}
 use Rattle.vm_model.specs.Moves.{Point, changed_by, move_at}
 use Rattle.vm_model.specs.Histories.{Handed, IsAwaiting, Made}
 use Rattle.vm_model.specs.Refusals.{IsRefusedFor}
@@ -111,15 +113,23 @@ pub record StillAgrees (s : Setup) (m : Meaning) (given : StateMap) (written : L
   pub agrees : Agrees s given written w at
   pub output : w.output ≡ v.output
 
--- what a suspension on this future waits for
-abbrev pub suspended_on : UnresolvedFuture → Derived → Suspension
-suspended_on (Single handle) d = record { future = future_of (id_at handle.0 d.handles) }
+-- This is left of a future: of each node the children that have no outcome yet; whatever the leaves come to later, the two are awake
+-- alike.
+pub record IsLeftOf (s : Setup) (future : UnresolvedFuture) (d : Derived) (left : Tree) : Type 0 where
+  pub residual : Residual (leaf_in s d) (tree_of future) left
+  pub alike : AwakeAlike (leaf_in s d) (tree_of future) left
 
--- it waits, and the invocation is suspended: one Suspension is written, on what the future waits for
+-- what a suspension on this tree waits for, by the ids of its handles
+abbrev pub suspended_on : Tree → Derived → Suspension
+suspended_on left d = record { future = sent (λ handle. id_at handle d.handles) left }
+
+-- it waits, and the invocation is suspended: one Suspension is written, on what is left of the future
 pub record IsSuspended (s : Setup) (m : Meaning) (given : StateMap) (p : Point) (v w : Machine) : Type 0 where
   pub at : Point
   pub waits : Waits s m given p at
-  pub output : w.output ≡ v.output ++ encoding (message.Suspension (suspended_on waits.future at.derived)) ∷ []
+  pub left : Tree
+  pub is_left : IsLeftOf s waits.future at.derived left
+  pub output : w.output ≡ v.output ++ encoding (message.Suspension (suspended_on left at.derived)) ∷ []
   pub closed : w.phase ≡ Closed
 
 -- the handler ends where no recorded command is left: one End is written

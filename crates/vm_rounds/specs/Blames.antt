@@ -32,7 +32,7 @@ use Rattle.vm_rounds.specs.declared.progress.Fed.{Fed}
 use Rattle.vm_rounds.specs.declared.progress.Progress.{Progress}
 use Rattle.vm_rounds.specs.Journals.{as_entries, commands_among, is_command, is_notification, setup_for}
 use Rattle.vm_rounds.specs.Record.{Record, all_fed}
-use Rattle.vm_rounds.specs.Told.{handed_out, Journal, Premises, arrivals_of, begun, bytes_fed, frames_fed}
+use Rattle.vm_rounds.specs.Told.{handed_out, Journal, Premises, begun, bytes_fed, frames_fed}
 
 -- ---- frames
 
@@ -153,7 +153,7 @@ pub data Blame (m : Meaning) (version : Version) (options : VMOptions) (fed : Li
   NoFrame : (frames_of (bytes_fed fed)).1 ≡ Garbage → e ≡ ruled_by version options (named_error fault.BadMessage None) → Blame m version options fed closed answers e
   ClosedEarly : closed ≡ true → IsShort (frames_fed fed) → e ≡ ruled_by version options (named_error fault.InputClosedWhileWaitingEntries None) → Blame m version options fed closed answers e
   NoInput : LacksInput (frames_fed fed) → Blame m version options fed closed answers e
-  Call : (Premises options (arrivals_of fed) → RefusedCall m version options fed answers e) → Blame m version options fed closed answers e
+  Call : (Premises m version options fed → RefusedCall m version options fed answers e) → Blame m version options fed closed answers e
 
 -- As long as an attempt is not over, its VM isn't closed, and has failed only for such a reason.
 pub record BlamedAt (m : Meaning) (version : Version) (options : VMOptions) (over : Option Progress) (fed : List Fed) (closed : Bool) (answers : List Answer) (v : Machine) : Type 0 where
@@ -191,7 +191,7 @@ IfError (Err e) P = P e
 -- Each frame has its place and is whole there, no bytes are garbage, the known entries are a history of the handler, and the
 -- premises hold.
 pub record IsHonest (m : Meaning) (version : Version) (options : VMOptions) (fed : List Fed) : Type 0 where
-  pub premises : Premises options (arrivals_of fed)
+  pub premises : Premises m version options fed
   pub frames : (before : List RawMessage) (raw : RawMessage) (behind : List RawMessage) (phase : Phase) (k : ℕ) → frames_fed fed ≡ before ++ raw ∷ behind → Place phase k before → frame_fault phase raw ≡ None
   pub whole : (frames_of (bytes_fed fed)).1 ≢ Garbage
   pub history : (first : RawMessage) (entries others : List RawMessage) (st : Start) → frames_fed fed ≡ first ∷ (entries ++ others) → start_in first.body ≡ Some st → length entries ≡ st.known_entries → (base : StateMap) × History (setup_for version options st) m base (as_entries entries)

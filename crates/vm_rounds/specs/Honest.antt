@@ -10,13 +10,17 @@ use Rattle.journal_messages.specs.Message.{frame}
 use Rattle.journal_messages.specs.Message.{IsWhole}
 use Rattle.vm_parts.specs.declared.context.StateMap.{StateMap}
 use Rattle.vm_parts.specs.declared.options.VMOptions.{VMOptions}
-use Rattle.vm_machine.specs.Inputs.{entries_in}
+use Rattle.vm_parts.specs.declared.options.JournalReplay.TheVariants.{Enabled}
+use Rattle.vm_parts.specs.declared.options.SignalDelivery.TheVariants.{Queued}
+use Rattle.vm_machine.specs.Inputs.{coverage_of, entries_in}
 use Rattle.vm_model.specs.Calls.{Meaning}
-use Rattle.vm_model.specs.Histories.{History}
+use Rattle.vm_model.specs.Deliveries.{HasNoTwo}
+use Rattle.vm_model.specs.Histories.{Handed, History, Made}
+use Rattle.vm_model.specs.Moves.{Point, start as first_point}
 use Rattle.vm_model.specs.Journal.{Entry, Recorded, Notified, notifications_in, stored_form}
 use Rattle.vm_rounds.specs.declared.progress.Fed.{Fed}
 use Rattle.vm_rounds.specs.Journals.{is_command, setup_for}
-use Rattle.vm_rounds.specs.Told.{Premises, bytes_fed}
+use Rattle.vm_rounds.specs.Told.{bytes_fed}
 
 -- an entry that can be fed: the frame of a command, or a whole notification
 abbrev pub IsEntry : Entry → Type 0
@@ -41,7 +45,8 @@ abbrev pub honest_frames : Start → List Entry → List Notification → List R
 honest_frames start journal more = stored_form (message.Start start) ∷ (map entry_frame journal ++ map notification_frame more)
 
 -- What was fed is a beginning of Start, which tells the length of the journal; of the whole journal, which is a history of the
--- handler; and of notifications that come behind it. Each of these can be fed, and the premises hold of all notifications.
+-- handler; and of notifications that come behind it. Each of these can be fed. Recorded commands are replayed, signals queue, and with
+-- all the notifications no completion has two results at a point that the handler's run comes to.
 pub record FeedsHonestly (m : Meaning) (version : Version) (options : VMOptions) (fed : List Fed) : Type 0 where
   pub start : Start
   pub journal : List Entry
@@ -56,4 +61,6 @@ pub record FeedsHonestly (m : Meaning) (version : Version) (options : VMOptions)
   pub more_is_whole : AllByRecursion (λ n. IsWhole (message.Notification n)) more
   pub base : StateMap
   pub history : History (setup_for version options start) m base journal
-  pub premises : Premises options (notifications_in journal ++ more)
+  pub replays : options.journal_replay ≡ Enabled
+  pub queues : options.signal_delivery ≡ Queued
+  pub once : (n : ℕ) (made : List RawMessage) (p : Point) → Made (setup_for version options start) m (Handed (record { entries = state; coverage = coverage_of start.partial })) n (first_point (setup_for version options start) history.input (notifications_in journal ++ more) history.rest) made p → HasNoTwo p

@@ -5,21 +5,23 @@ use Rattle.vm_parts.specs.declared.steps.Answer.TheVariants as answer
 use Rattle.vm_parts.specs.declared.steps.Step.{Step}
 use Rattle.vm_parts.specs.declared.types.AwaitResponse.{AwaitResponse}
 use Rattle.vm_parts.specs.declared.types.AwaitResponse.TheVariants.{AnyCompleted, WaitingExternalProgress}
-use Rattle.vm_parts.specs.declared.types.NotificationHandle.{NotificationHandle}
-use Rattle.vm_parts.specs.declared.types.UnresolvedFuture.{UnresolvedFuture}
+use Rattle.await_trees.specs.declared.handle.NotificationHandle.{NotificationHandle}
+use Rattle.await_trees.specs.declared.tree.UnresolvedFuture.{UnresolvedFuture}
+use Rattle.await_trees.specs.Tree.{tree_of}
 use Rattle.vm_machine.specs.declared.machine.Machine.{Machine}
 use Rattle.vm_machine.specs.declared.asks.Ask.{Ask}
 use Rattle.vm_machine.specs.declared.asks.Ask.TheVariants as ask
 use Rattle.vm_machine.specs.declared.asks.Command.{Command}
 use Rattle.vm_machine.specs.Asks.{ask_of, command_answer}
-use Rattle.vm_machine.specs.Awaits.{is_completed, take_step}
+use Rattle.vm_machine.specs.Awaits.{Awaits}
+use Rattle.vm_machine.specs.Takes.{is_completed, take_step}
 use Rattle.vm_machine.specs.Commands.{CanBeRead, commanded}
 use Rattle.vm_machine.specs.Inputs.{end_step}
-use Rattle.vm_machine.specs.Outcomes.{Outcome, Done, Failed, IsStarved, called}
+use Rattle.vm_machine.specs.Outcomes.{CalledBy, DoesBy, Done, Failed, Outcome, called}
 use Rattle.vm_machine.specs.declared.reads.StateRead.{StateRead}
 use Rattle.vm_machine.specs.Reads.{ReadCanBeRead, read_step}
 use Rattle.vm_machine.specs.Signals.{signal_step}
-use Rattle.invocation_vm.specs.Calls.{future_step, new_awakeable_step}
+use Rattle.invocation_vm.specs.Calls.{new_awakeable_step}
 use Rattle.invocation_vm.specs.Views.{View}
 use Rattle.vm_rounds.specs.declared.progress.Reply.{Reply}
 use Rattle.vm_rounds.specs.declared.progress.Reply.TheVariants as reply
@@ -56,13 +58,9 @@ await_reply (Ok AnyCompleted) = reply.Answer answer.Awake
 await_reply (Ok (WaitingExternalProgress input run)) = reply.Waiting input run
 await_reply (Err e) = reply.Suspended
 
--- what an await of a future may come to
-abbrev pub MayCome : UnresolvedFuture → Machine → Outcome (Result AwaitResponse Error) → Type 0
-MayCome future v x = x ≡ future_step future v
-
--- an await of a future: what it comes to, as a reply
+-- an await of a future: what it may come to, as a reply
 abbrev pub Awaited : UnresolvedFuture → Machine → Outcome Reply → Type 0
-Awaited future v o = (x : Outcome (Result AwaitResponse Error)) × MayCome future v x × (o ≡ mapped await_reply (called x v))
+Awaited future v o = (answered : Outcome (Result AwaitResponse Error)) × CalledBy (Awaits (tree_of future) v) v answered × (o ≡ mapped await_reply answered)
 
 -- a take: the answer is the result, if there is one
 abbrev pub taken : NotificationHandle → Machine → Outcome Reply
@@ -109,11 +107,6 @@ ReadsBack s v = IsReadable (ask_of v.version s) v
 abbrev pub IfDone : {A : Type 0} → Outcome A → Type 0 → Type 0
 IfDone (Done a w) P = P
 IfDone (Failed e w) P = Unit {0}
-
--- A call does one of the outcomes that it may come to, or finds no memory.
-abbrev pub DoesBy : {A : Type 0} → (Outcome A → Type 0) → Result A Error → Machine → Machine → Type 0
-DoesBy R (Ok a) old new = R (Done a new)
-DoesBy R (Err e) old new = R (Failed e new) ⊎ IsStarved old e new
 
 -- a call was made
 abbrev pub Asked : (Machine → Outcome Reply → Type 0) → Result Reply Error → View → View → Type 0

@@ -9,8 +9,6 @@ use Rattle.journal_messages.specs.declared.message.Message.{Message}
 use Rattle.journal_messages.specs.declared.message.Message.TheVariants as message
 use Rattle.journal_messages.specs.declared.message.RawMessage.{RawMessage}
 use Rattle.journal_values.specs.declared.notification.Notification.{Notification}
-use Rattle.journal_values.specs.declared.notification.NotificationId.{NotificationId}
-use Rattle.journal_values.specs.declared.notification.NotificationId.TheVariants.{CompletionId, SignalId, SignalName}
 use Rattle.journal_attempt.specs.declared.start.Start.{Start}
 use Rattle.journal_errors.specs.declared.version.Version.{Version}
 use Rattle.journal_errors.specs.Errors.{error_message, named_error}
@@ -22,7 +20,7 @@ use Rattle.vm_parts.specs.declared.options.JournalReplay.TheVariants.{Enabled}
 use Rattle.vm_parts.specs.declared.options.SignalDelivery.TheVariants.{Queued}
 use Rattle.vm_parts.specs.declared.options.VMOptions.{VMOptions}
 use Rattle.vm_parts.specs.declared.steps.Step.TheVariants as step
-use Rattle.vm_parts.specs.declared.types.UnresolvedFuture.{UnresolvedFuture}
+use Rattle.await_trees.specs.declared.tree.UnresolvedFuture.{UnresolvedFuture}
 use Rattle.vm_machine.specs.declared.machine.Machine.{Machine}
 use Rattle.std.proofs.Common.{Global}
 use Rattle.vm_machine.specs.declared.phase.Phase.TheVariants.{Closed}
@@ -31,6 +29,7 @@ use Rattle.vm_machine.specs.Making.{fresh}
 use Rattle.vm_machine.specs.Phases.{is_running}
 use Rattle.invocation_vm.specs.Frames.{Rest, frames_of}
 use Rattle.vm_model.specs.Calls.{Meaning, is_awake}
+use Rattle.vm_model.specs.Deliveries.{HasNoTwo}
 use Rattle.vm_model.specs.Journal.{input_read_from, stored_form}
 use Rattle.vm_model.specs.Moves.{Point, move_at, start}
 use Rattle.vm_model.specs.Histories.{Handed, Made, Told, behind}
@@ -117,27 +116,16 @@ begun version options j = start (setup_for version options j.start) j.input (arr
 
 -- ---- what is asked of the options and of the runtime
 
--- no notification has this id
-abbrev pub IsAbsent : NotificationId → List Notification → Type 0
-IsAbsent id [] = Unit {0}
-IsAbsent id (n ∷ ns) = (n.id ≢ id) × IsAbsent id ns
+-- No completion has two results at a point that the handler's run comes to, by what was fed, where each further command is its own.
+abbrev pub NoneHasTwo : Meaning → Version → VMOptions → List Fed → Type 0
+NoneHasTwo m version options fed =
+    (j : Journal fed) (n : ℕ) (made : List RawMessage) (p : Point) → Made (setup_for version options j.start) m (Handed (handed_out j)) n (begun version options j) made p → HasNoTwo p
 
--- a completion has no other result among these; a signal may be delivered again
-abbrev pub HasNoOther : NotificationId → List Notification → Type 0
-HasNoOther (CompletionId id) ns = IsAbsent (CompletionId id) ns
-HasNoOther (SignalId id) ns = Unit {0}
-HasNoOther (SignalName name) ns = Unit {0}
-
--- no completion has two results
-abbrev pub CompleteOnce : List Notification → Type 0
-CompleteOnce [] = Unit {0}
-CompleteOnce (n ∷ ns) = HasNoOther n.id ns × CompleteOnce ns
-
--- Recorded commands are replayed, signals queue, and no completion has two results among the arrivals.
-pub record Premises (options : VMOptions) (ns : List Notification) : Type 0 where
+-- Recorded commands are replayed, signals queue, and no completion has two results.
+pub record Premises (m : Meaning) (version : Version) (options : VMOptions) (fed : List Fed) : Type 0 where
   pub replays : options.journal_replay ≡ Enabled
   pub queues : options.signal_delivery ≡ Queued
-  pub once : CompleteOnce ns
+  pub once : NoneHasTwo m version options fed
 
 -- ---- the answers
 
@@ -282,8 +270,8 @@ IsKept m version options r = BeforeInput version options r.fed r.answers r.waiti
 
 -- the same, under the premises
 abbrev pub IsKeptUnder : Meaning → Version → VMOptions → Record → Type 0
-IsKeptUnder m version options r = Premises options (arrivals_of r.fed) → IsKept m version options r
+IsKeptUnder m version options r = Premises m version options r.fed → IsKept m version options r
 
 -- once the handler's await was suspended it waits rightly, under the premises
 abbrev pub StillSleeps : Meaning → Version → VMOptions → Record → Type 0
-StillSleeps m version options r = Premises options (arrivals_of r.fed) → (made : Progress) → r.over ≡ Some made → IfWaits (Ok made) (Sleeps m version options r.fed r.answers r.taken r.vm)
+StillSleeps m version options r = Premises m version options r.fed → (made : Progress) → r.over ≡ Some made → IfWaits (Ok made) (Sleeps m version options r.fed r.answers r.taken r.vm)

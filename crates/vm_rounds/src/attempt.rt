@@ -24,8 +24,12 @@ impl<H: Handler> Model for Attempt<H> {
     ghost use Rattle.vm_rounds.specs.Inside.{the_record};
     ghost use Rattle.vm_rounds.specs.Blames.{IsBlamed, IsLate};
     ghost use Rattle.vm_rounds.specs.Told.{HasCome, IsKeptUnder, StillSleeps};
+    ghost use Rattle.await_trees.specs.contracts.tree.UnresolvedFuture as future;
+    ghost use Rattle.std.specs.Coded.{codes};
 
     ghost Value = { AttemptView H };
+
+    ghost coded = { Prim.hlevel (codes, future.the_row.coded) };
 
     ghost view = { λ a. record { handler = a.inner.handler; version = a.version; options = a.options; record_of = the_record a.inner } };
 
@@ -39,7 +43,7 @@ impl<H: Handler> Attempt<H> {
     ghost use Rattle.vm_rounds.specs.Stepping.{MakesAttempt, StepDoes, FeedDoes, CloseDoes, IfWaits, IsReplaying, Takes, output_len};
     ghost use Rattle.vm_rounds.specs.Blames.{Blame, IfError, IsHonest, IsOwnError};
     ghost use Rattle.vm_rounds.specs.Record.{all_fed, bytes_written};
-    ghost use Rattle.vm_rounds.specs.Told.{AnswersAreTold, HasCome, NothingWakes, Premises, Replays, arrivals_of, written_by};
+    ghost use Rattle.vm_rounds.specs.Told.{AnswersAreTold, HasCome, NothingWakes, Premises, Replays, written_by};
 
     /// An attempt for the version that the header `content-type` names; the VM's refusals are its own.
     pub fn new<M: HeaderMap>(
@@ -84,10 +88,10 @@ impl<H: Handler> Attempt<H> {
     pub fn step(&mut self) -> VMResult<Progress>
         ensures does { StepDoes (H.meaning self.old.handler) self.old.record_of result self.new.record_of }
         // Under the premises it waits or is suspended only where no number of the arrivals wakes the handler's await.
-        ensures waits { Premises self.old.options (arrivals_of self.old.record_of.fed) → IfWaits result (NothingWakes (H.meaning self.old.handler) self.old.version self.old.options self.new.record_of) }
+        ensures waits { Premises (H.meaning self.old.handler) self.old.version self.old.options self.old.record_of.fed → IfWaits result (NothingWakes (H.meaning self.old.handler) self.old.version self.old.options self.new.record_of) }
         // Under the premises, while recorded commands are left, the handler's next call is answered, or it is refused where the journal
         // tells no more.
-        ensures replays { IsReplaying self.old.record_of → Premises self.old.options (arrivals_of self.old.record_of.fed) → Replays (H.meaning self.old.handler) self.old.version self.old.options self.old.record_of result self.new.record_of }
+        ensures replays { IsReplaying self.old.record_of → Premises (H.meaning self.old.handler) self.old.version self.old.options self.old.record_of.fed → Replays (H.meaning self.old.handler) self.old.version self.old.options self.old.record_of result self.new.record_of }
         // An error is want of memory, a frame or bytes that were refused, input closed too early, a journal without input, or a call
         // that was refused.
         ensures blamed { IfError result (λ e. Blame (H.meaning self.old.handler) self.old.version self.old.options (all_fed self.new.record_of) self.new.record_of.closed self.new.record_of.answers e) }
@@ -120,7 +124,7 @@ impl<H: Handler> Attempt<H> {
         ensures begins { self.now.record_of.answers ≡ [] → written_by self.now.record_of ≡ [] }
         // Under the premises the journal, which is what was fed, followed by the commands that were written, tells them; no command is
         // written while recorded ones are left.
-        ensures told { Premises self.now.options (arrivals_of self.now.record_of.fed) → (self.now.record_of.answers ≡ []) ⊎ AnswersAreTold (H.meaning self.now.handler) self.now.version self.now.options self.now.record_of }
+        ensures told { Premises (H.meaning self.now.handler) self.now.version self.now.options self.now.record_of.fed → (self.now.record_of.answers ≡ []) ⊎ AnswersAreTold (H.meaning self.now.handler) self.now.version self.now.options self.now.record_of }
     {
         // What waits now is whole frames, from which the clauses read the commands.
         let _ = self.inner.output_len();

@@ -13,7 +13,9 @@ ghost use Rattle.journal_errors.specs.declared.version.Version.{Version};
 ghost use Rattle.vm_parts.specs.declared.options.VMOptions.{VMOptions};
 ghost use Rattle.invocation_vm.specs.Views.{all_received};
 ghost use Rattle.vm_model.specs.Calls.{Setup, Meaning, identity_of};
+ghost use Rattle.vm_model.specs.Deliveries.{HasNoTwo};
 ghost use Rattle.vm_model.specs.Histories.{History};
+ghost use Rattle.vm_parts.specs.declared.options.SignalDelivery.TheVariants.{Queued};
 ghost use Rattle.vm_model.specs.Journal.{input_read_from};
 ghost use Rattle.vm_model.specs.Moves.{Point, later};
 ghost use Rattle.vm_parts.specs.declared.context.StateMap.{StateMap};
@@ -23,7 +25,7 @@ ghost use Rattle.vm_rounds.specs.Blames.{Blame, FailsAt, IsHonest, IsOwnError};
 ghost use Rattle.vm_rounds.specs.Honest.{FeedsHonestly};
 ghost use Rattle.vm_rounds.specs.Journals.{BeginsOrFails, Started, as_entries, machine_fed, notifications_among, setup_for};
 ghost use Rattle.vm_rounds.specs.Steps.{IfDone, Performs, ReadsBack};
-ghost use Rattle.vm_rounds.specs.Told.{AnswersAreTold, HasCome, IsKeptUnder, Premises, RefusesReplay, arrivals_of};
+ghost use Rattle.vm_rounds.specs.Told.{AnswersAreTold, HasCome, IsKeptUnder, Premises, RefusesReplay};
 ghost use Rattle.vm_rounds.specs.declared.progress.Progress.{Progress};
 ghost use Rattle.vm_rounds.specs.declared.progress.Reply.{Reply};
 ghost use Rattle.std.specs.Prelude.{Result};
@@ -35,15 +37,15 @@ ghost use Rattle.vm_rounds.specs.Record.{Record};
 ghost use Rattle.invocation_vm.specs.Views.{View, after_input};
 ghost use Rattle.std.specs.Prelude.{ℕ, Bool, Option};
 ghost use Rattle.vm_parts.specs.declared.steps.Answer.{Answer};
-ghost use Rattle.vm_parts.specs.declared.types.UnresolvedFuture.{UnresolvedFuture};
+ghost use Rattle.await_trees.specs.declared.tree.UnresolvedFuture.{UnresolvedFuture};
 
-/// In a machine that agrees with a point of the handler's run, the handler's call does what the moves from there lead to:
+/// In a machine that agrees with a point of the handler's run, where signals queue and no completion has two results, the handler's call does what the moves from there lead to:
 /// it is answered as they are, writes the commands that they make and no others, and agrees with the point where they lead;
 /// or an await waits, where no arrival and no recorded command is left, and wakes by none of the arrivals; or the handler
 /// ends, where no recorded command is left; or the call is refused, where no move leads on. (That a command which was written can
 /// be read back is in the contract of each call.)
 pub fn calls_follow()
-    ensures { (s : Setup) (m : Meaning) (given : StateMap) (written : List RawMessage) (v : Machine) (p : Point) (o : Outcome Reply) → Agrees s given written v p → Performs (m p.answers) v o → IfDone o (ReadsBack (m p.answers) v) → Follows s m given written p v o }
+    ensures { (s : Setup) (m : Meaning) (given : StateMap) (written : List RawMessage) (v : Machine) (p : Point) (o : Outcome Reply) → s.options.signal_delivery ≡ Queued → HasNoTwo p → Agrees s given written v p → Performs (m p.answers) v o → IfDone o (ReadsBack (m p.answers) v) → Follows s m given written p v o }
 {}
 
 /// Frames that come to a machine that agrees with a point are arrivals: the machine then agrees with that point and these
@@ -77,7 +79,7 @@ pub fn attempts_write()
 {}
 
 /// What each call of an attempt keeps under the premises: recorded commands are replayed, signals queue, and no completion has two
-/// results among the arrivals. So many moves of the handler's run lead to its answers and made what was written, and the machine
+/// results. So many moves of the handler's run lead to its answers and made what was written, and the machine
 /// agrees with that point as long as it can make calls.
 pub fn attempts_keep()
     ensures made { (m : Meaning) (alloc : Global) (version : Version) (options : VMOptions) → IsKeptUnder m version options (fresh_record (made alloc options version)) }
@@ -96,7 +98,7 @@ pub fn histories_are_replayed()
 /// Under the premises the answers of an attempt are those of a point that its journal tells, followed by what it wrote, with the arrivals that it
 /// was fed; while recorded commands are left, it has written none.
 pub fn answers_are_told()
-    ensures { (m : Meaning) (version : Version) (options : VMOptions) (r : Record) → IsKeptUnder m version options r → WholeFrames r.vm.machine.output → Premises options (arrivals_of r.fed) → (r.answers ≡ []) ⊎ AnswersAreTold m version options r }
+    ensures { (m : Meaning) (version : Version) (options : VMOptions) (r : Record) → IsKeptUnder m version options r → WholeFrames r.vm.machine.output → Premises m version options r.fed → (r.answers ≡ []) ⊎ AnswersAreTold m version options r }
 {}
 
 /// Where the known entries are a history of the handler and each frame has its place, an error is only: want of memory; input that

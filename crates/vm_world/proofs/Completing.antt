@@ -31,7 +31,7 @@ stored_input raw input reads id = by_read (message_in raw.ty raw.body) refl
     by_read (Some m) is = ap (is_among id) (input_carries m ((message_is raw.ty raw.body m is).1 ∙ typed raw.ty type.InputCommand (input_type raw input reads)))
 
 -- behind the input the commands carry the same ids
-carried_behind : (ns : List Notification) (raw : RawMessage) (input : InputCommand) (rest : List RawMessage) → input_read_from raw ≡ Some input → AreCarried ns (raw ∷ rest) → AreCarried ns rest
+pub carried_behind : (ns : List Notification) (raw : RawMessage) (input : InputCommand) (rest : List RawMessage) → input_read_from raw ≡ Some input → AreCarried ns (raw ∷ rest) → AreCarried ns rest
 carried_behind ns raw input rest reads h id none = h id (ap (λ b. b || is_carried id rest) (stored_input raw input reads id) ∙ none)
 
 pub completes_once : (s : Setup) (m : Meaning) (base : StateMap) (journal : List (List ℕ)) → IsJournal journal → History s m base (entries_of journal) → CompletesOnce s m (entries_of journal)

@@ -123,7 +123,7 @@ event_brings m (event.Arrive x) now mid (none, is) =
       fed = same_prefix (bytes_fed now.attempt.fed) (bytes_fed mid.attempt.fed) (ap (λ s. bytes_fed s.attempt.fed) is);
       apart = inl (one_note x note.note note.reads).none;
     }
-event_brings m (event.Store n) now mid (journal, unstored, s, is) =
+event_brings m (event.Store n) now mid (journal, unstored, s, is, whole) =
     let same : bytes_written mid.attempt ≡ bytes_written now.attempt = ap (λ x. bytes_written x.attempt) is ∙ taken_same now.attempt in
     record {
       stored = (_, ap (λ x. x.journal) is ∙ s.stored);

@@ -23,10 +23,9 @@ use Rattle.vm_model.specs.Histories.{Handed, IsPrefix, Made, behind}
 use Rattle.vm_model.specs.HonestRounds.{Attempted, HonestRound, IsToldOn}
 use Rattle.vm_model.proofs.Stored.{changes_state, unchanged}
 use Rattle.vm_rounds.specs.Journals.{as_entries, commands_among, notifications_among, setup_for}
-use Rattle.vm_rounds.specs.Told.{AnswersAreTold, CompleteOnce, Premises, arrivals, arrivals_of, frames_fed, handed_out, written_by}
+use Rattle.vm_rounds.specs.Told.{AnswersAreTold, NoneHasTwo, Premises, arrivals, arrivals_of, frames_fed, handed_out, written_by}
 use Rattle.vm_rounds.proofs.Pieces.{notifications_append}
 use Rattle.vm_rounds.proofs.Replayed.{commands_same, head_same, notes_same, tail_same}
-use Rattle.vm_rounds.proofs.Under.{once_before}
 use Rattle.vm_world.specs.declared.types.Setting.{Setting}
 use Rattle.vm_world.specs.Courses.{given_by}
 use Rattle.vm_world.specs.Entries.{entries_of, frames_in, notes_in}
@@ -73,12 +72,6 @@ input_says journal b g = ap (λ l. changed_by (messages_in l) g) b.commands ∙ 
 front_taken : (xs ys zs : List RawMessage) → ys ≡ xs ++ zs → xs ≡ take (length xs) ys
 front_taken xs ys zs e = sym (ap (take (length xs)) e ∙ take-append_seam xs zs)
 
-once_front : (raw : RawMessage) (X F G : List RawMessage) → raw ∷ X ≡ F ++ G → CompleteOnce (notifications_among X) → CompleteOnce (notifications_among (behind F))
-once_front raw X [] G e once = tt
-once_front raw X (f ∷ fs) G e once =
-    let tail : X ≡ fs ++ G = tail_same raw f X (fs ++ G) e in
-    once_before (notifications_among fs) (notifications_among G) (subst CompleteOnce (ap notifications_among tail ∙ notifications_append fs G) once)
-
 -- ---- a round with its attempt
 
 -- a round is an honest one, of an attempt that its journal tells
@@ -86,7 +79,7 @@ pub record IsHonest (s : Setup) (m : Meaning) (before : List Entry) (a : Attempt
   pub told : IsToldOn s m before a
   pub honest : HonestRound before a.course after
 
-module _ (m : Meaning) (w : Setting) (begin_bytes : List ℕ) (raw : RawMessage) (st : Start) (old : List (List ℕ)) (j : IsJournal old) (framed : AreFrames begin_bytes (raw ∷ [])) (found : start_in raw.body ≡ Some st) (known : st.known_entries ≡ length old) (s : Setup) (same_setup : setup_for w.version w.options st ≡ s) (now : Now) (course : List Entry) (a : Along m begin_bytes raw old j framed course now) where
+module _ (m : Meaning) (w : Setting) (begin_bytes : List ℕ) (raw : RawMessage) (st : Start) (old : List (List ℕ)) (j : IsJournal old) (framed : AreFrames begin_bytes (raw ∷ [])) (found : start_in raw.body ≡ Some st) (known : st.known_entries ≡ length old) (s : Setup) (same_setup : setup_for w.version w.options st ≡ s) (now : Now) (course : List Entry) (a : Along m begin_bytes raw old j framed course now) (none : NoneHasTwo m w.version w.options now.attempt.fed) where
   abbrev E : List Entry
   E = entries_of old
 
@@ -116,14 +109,8 @@ module _ (m : Meaning) (w : Setting) (begin_bytes : List ℕ) (raw : RawMessage)
   frames : (G : List RawMessage) × (raw ∷ (frames_in old ++ N) ≡ frames_fed now.attempt.fed ++ G)
   frames = fed_frames m begin_bytes raw old j framed now g
 
-  all_notes : notifications_among (frames_in old ++ N) ≡ notes_in now.journal
-  all_notes =
-      notifications_append (frames_in old) N
-      ∙ (λ i. sym (notes_are old) i ++ (sym (notes_are g.arrived) ∙ sym g.notifications) i)
-      ∙ sym (notes_append old g.added) ∙ ap notes_in (sym g.extends)
-
-  pub premises : Replays w.options → Premises w.options (arrivals_of now.attempt.fed)
-  premises r = record { replays = r.replays; queues = r.queues; once = once_front raw (frames_in old ++ N) (frames_fed now.attempt.fed) frames.0 frames.1 (subst CompleteOnce (sym all_notes) g.journal.once) }
+  pub premises : Replays w.options → Premises m w.version w.options now.attempt.fed
+  premises r = record { replays = r.replays; queues = r.queues; once = none }
 
   -- what the attempt was fed behind its journal are the notifications of the frames behind it
   notes_behind : (entries others : List RawMessage) → frames_fed now.attempt.fed ≡ raw ∷ (entries ++ others) → frames_in old ≡ entries → notifications_in course ≡ notifications_among others

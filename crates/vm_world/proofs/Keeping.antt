@@ -15,7 +15,8 @@ use Rattle.vm_model.specs.Histories.{IsPrefix}
 use Rattle.vm_rounds.specs.Journals.{commands_among, is_command, is_notification, notifications_among, notified_by}
 use Rattle.vm_rounds.specs.Record.{Record}
 use Rattle.vm_rounds.specs.Stepping.{taken_from}
-use Rattle.vm_rounds.specs.Told.{CompleteOnce, bytes_fed}
+use Rattle.vm_rounds.specs.Told.{bytes_fed}
+use Rattle.vm_world.specs.Completions.{CompleteOnce}
 use Rattle.vm_rounds.proofs.Pieces.{commands_append}
 use Rattle.vm_world.specs.declared.types.Event.{Event}
 use Rattle.vm_world.specs.declared.types.Event.TheVariants as event
@@ -26,7 +27,8 @@ use Rattle.vm_world.specs.Storing.{Stores}
 use Rattle.vm_world.specs.Worlds.{IsJournal}
 use Rattle.vm_world.proofs.Framing.{command_no_note, entries_join, frames_append, front_grows, in_front, note_no_command, notes_append, notes_are}
 use Rattle.vm_world.proofs.Going.{IsOpen, Stepped, Takes, closes, fed, stepped}
-use Rattle.vm_world.proofs.Once.{carried_more, has_room, is_new, once_more, still_carried}
+use Rattle.vm_model.proofs.Once.{still_carried}
+use Rattle.vm_world.proofs.Once.{carried_more, has_room, is_new, once_more}
 
 -- ---- one entry more
 
@@ -234,7 +236,7 @@ module _ (m : Meaning) (start : List ℕ) (first : List (List ℕ)) where
   event_keeps event.Close now new (result, r, d, is) g = subst (Going start first) (sym is) (acts now r true _ (closes now.attempt result r d) g)
   event_keeps event.Step now new (result, r, d, is) g = subst (Going start first) (sym is) (acts now r now.closed _ (stepped m now.attempt result r d) g)
   event_keeps (event.Arrive x) now new (none, is) g = subst (Going start first) (sym is) (arrives now x none g)
-  event_keeps (event.Store n) now new (journal, unstored, s, is) g = subst (Going start first) (sym is) (stores n now journal unstored s g)
+  event_keeps (event.Store n) now new (journal, unstored, s, is, whole) g = subst (Going start first) (sym is) (stores n now journal unstored s g)
 
   pub events_keep : (es : List Event) (now new : Now) → Happen m es now new → Going start first now → Going start first new
   events_keep [] now new d g = subst (Going start first) (sym d) g

@@ -7,6 +7,7 @@ pub mod Writing
 pub mod Coursing
 pub mod Handing
 pub mod Headline
+pub mod Running
 pub mod Rounding
 pub mod Agreeing
 pub mod Completing

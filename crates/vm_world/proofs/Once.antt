@@ -16,7 +16,7 @@ use Rattle.vm_model.specs.Carried.{AreCarried, ComeOnce, carried, is_among, is_c
 use Rattle.vm_model.specs.Journal.{messages_in, read_before}
 use Rattle.vm_model.proofs.Results.{results_behind, same_is}
 use Rattle.vm_rounds.specs.Journals.{commands_among}
-use Rattle.vm_rounds.specs.Told.{CompleteOnce, HasNoOther, IsAbsent}
+use Rattle.vm_world.specs.Completions.{CompleteOnce, HasNoOther, IsAbsent}
 use Rattle.vm_world.specs.declared.completions.Completes.{Completes}
 use Rattle.vm_world.specs.declared.completions.Completes.TheVariants as completes
 use Rattle.vm_world.specs.declared.types.RoundFault.{RoundFault}
@@ -60,17 +60,6 @@ none_true true b e = absurd (cc)
 none_true false b e = (refl, e)
 
 -- ---- each completion that came is of an id that a command carries
-
-carried_front : (id : ℕ) (us vs : List RawMessage) → is_carried id (us ++ vs) ≡ false → is_carried id us ≡ false
-carried_front id [] vs e = refl
-carried_front id (u ∷ us) vs e = by_test (read_carries id (message_in u.ty u.body)) e (carried_front id us vs)
-  where
-    by_test : (b : Bool) → (b || is_carried id (us ++ vs)) ≡ false → (is_carried id (us ++ vs) ≡ false → is_carried id us ≡ false) → (b || is_carried id us) ≡ false
-    by_test true h ih = absurd (cc)
-    by_test false h ih = ih h
-
-pub still_carried : (ns : List Notification) (cs more : List RawMessage) → AreCarried ns cs → AreCarried ns (cs ++ more)
-still_carried ns cs more h id none = h id (carried_front id cs more none)
 
 pub carried_more : (ns : List Notification) (n : Notification) (cs : List RawMessage) → AreCarried ns cs → ((id : ℕ) → n.id ≡ CompletionId id → is_carried id cs ≡ true) → AreCarried (ns ++ n ∷ []) cs
 carried_more ns n cs h new id none = results_behind (CompletionId id) ns n ∙ by_test (same_id n.id (CompletionId id)) refl

@@ -18,13 +18,14 @@ use Rattle.vm_model.specs.Calls.{Meaning, Setup}
 use Rattle.vm_model.specs.Journal.{Entry, commands_in, messages_in, notifications_in, stored_form}
 use Rattle.vm_model.specs.Moves.{changed_by, start as first_point}
 use Rattle.vm_model.specs.Histories.{History, Honest, IsAllOf, IsTrueOf, Knowledge, Whole, behind}
-use Rattle.vm_model.specs.HonestRounds.{IsOneRun}
+use Rattle.vm_model.specs.HonestRounds.{Attempted, HonestRound, IsHanded, IsOneRun, IsToldOn}
 use Rattle.vm_model.proofs.Lasting.{commands-append}
-use Rattle.vm_model.proofs.Honesty.{honest_rounds, run_is_history, whole_rounds}
+use Rattle.vm_model.proofs.Honesty.{honest_round, honest_rounds, run_is_history, whole_round, whole_rounds}
 use Rattle.vm_rounds.specs.Journals.{as_entries, commands_among, notifications_among}
 use Rattle.vm_rounds.specs.Record.{Record}
 use Rattle.vm_rounds.specs.Stepping.{fresh_record}
-use Rattle.vm_rounds.specs.Told.{bytes_fed}
+use Rattle.vm_rounds.specs.Told.{NoneHasTwo, bytes_fed}
+use Rattle.vm_rounds.proofs.Advanced.{made_new}
 use Rattle.vm_rounds.proofs.Replayed.{commands_same}
 use Rattle.vm_world.specs.declared.types.Event.{Event}
 use Rattle.vm_world.specs.declared.types.Round.{Round}
@@ -40,6 +41,7 @@ use Rattle.vm_world.proofs.Framing.{AreFrames, as_entries_append, frames_append,
 use Rattle.vm_world.proofs.Handing.{base_in_order, round_all, round_true}
 use Rattle.vm_world.proofs.Headline.{Begins, IsHonest, input_says, is_honest}
 use Rattle.vm_world.proofs.Keeping.{Going, arrivals_keep, events_keep}
+use Rattle.vm_world.proofs.Running.{events_run, none_two}
 
 -- ---- one round
 
@@ -113,13 +115,30 @@ attempt_along m w round old report new j d =
     drop_nil zero ns e = e
     drop_nil (suc k) ns e = ap (drop (suc k)) e
 
+-- a journal that one run made begins with its input
+pub run_begins : (s : Setup) (m : Meaning) (K : Knowledge) (journal : List Entry) → IsOneRun s m K journal → Begins journal
+run_begins s m K journal h = record { first = h.first; input = h.input; reads = h.reads; rest = h.rest; commands = h.begins }
+
+-- at no point of the run of a round's attempt has a completion two results
+attempt_once : (K : Knowledge) (m : Meaning) (w : Setting) (round : Round) (old : List (List ℕ)) (report : ReportView) (new : List (List ℕ)) → Replays w.options → IsJournal old → IsOneRun (setup_of w) m K (entries_of old) → (d : AttemptDoes m w round old report new) → NoneHasTwo m w.version w.options d.ran.now.attempt.fed
+attempt_once K m w round old report new r j h d =
+    let st = start_for w round old in
+    let bytes = encoding (message.Start st) in
+    let raw = stored_form (message.Start st) in
+    let framed = start_framed st d.start in
+    let found = start_reads st d.start in
+    let first = begin d.alloc w round old in
+    let kept = events_run m w bytes raw st old j framed found refl (setup_of w) refl K h r round.events first d.ran.now d.ran.happen (begun bytes old (fresh_record (made d.alloc w.options w.version)) j refl refl) (inl (made_new d.alloc w.version w.options)) in
+    none_two m w bytes raw st old j framed found refl (setup_of w) refl K h r d.ran.now (attempt_goes m w round old report new j d) kept
+
 -- a round with its attempt is an honest one
-attempt_honest : (m : Meaning) (w : Setting) (round : Round) (old : List (List ℕ)) (report : ReportView) (new : List (List ℕ)) → Replays w.options → IsJournal old → Begins (entries_of old) → (d : AttemptDoes m w round old report new) → IsHonest (setup_of w) m (entries_of old) (attempt_of m w round old report new (inl d)) (entries_of new)
-attempt_honest m w round old report new r j b d =
+attempt_honest : (K : Knowledge) (m : Meaning) (w : Setting) (round : Round) (old : List (List ℕ)) (report : ReportView) (new : List (List ℕ)) → Replays w.options → IsJournal old → IsOneRun (setup_of w) m K (entries_of old) → (d : AttemptDoes m w round old report new) → IsHonest (setup_of w) m (entries_of old) (attempt_of m w round old report new (inl d)) (entries_of new)
+attempt_honest K m w round old report new r j h d =
     let st = start_for w round old in
     let course = course_of m old round.events (begin d.alloc w round old) d.ran.now d.ran.happen in
-    let h = is_honest m w (encoding (message.Start st)) (stored_form (message.Start st)) st old j (start_framed st d.start) (start_reads st d.start) refl (setup_of w) refl d.ran.now course (attempt_along m w round old report new j d) r d.ran.ends b in
-    subst (λ (x : List Answer × List (List ℕ)). IsHonest (setup_of w) m (entries_of old) (record { given = given_by st; course = course; answers = x.0 }) (entries_of x.1)) (λ i. (sym (ap (λ (v : ReportView). v.answers) d.ran.told) i, sym d.ran.left i)) h
+    let b = run_begins (setup_of w) m K (entries_of old) h in
+    let honest = is_honest m w (encoding (message.Start st)) (stored_form (message.Start st)) st old j (start_framed st d.start) (start_reads st d.start) refl (setup_of w) refl d.ran.now course (attempt_along m w round old report new j d) (attempt_once K m w round old report new r j h d) r d.ran.ends b in
+    subst (λ (x : List Answer × List (List ℕ)). IsHonest (setup_of w) m (entries_of old) (record { given = given_by st; course = course; answers = x.0 }) (entries_of x.1)) (λ i. (sym (ap (λ (v : ReportView). v.answers) d.ran.told) i, sym d.ran.left i)) honest
 
 -- a round whose attempt was refused too: nothing was delivered or written
 refused_honest : (m : Meaning) (w : Setting) (round : Round) (old : List (List ℕ)) (report : ReportView) (new : List (List ℕ)) → IsJournal old → Begins (entries_of old) → (d : RefusedDoes w round old report new) → IsHonest (setup_of w) m (entries_of old) (attempt_of m w round old report new (inr d)) (entries_of new)
@@ -140,9 +159,9 @@ refused_honest m w round old report new j b d =
       };
     }
 
-pub round_honest : (m : Meaning) (w : Setting) (round : Round) (old : List (List ℕ)) (report : ReportView) (new : List (List ℕ)) → Replays w.options → IsJournal old → Begins (entries_of old) → (d : RoundDoes m w round old report new) → IsHonest (setup_of w) m (entries_of old) (attempt_of m w round old report new d) (entries_of new)
-round_honest m w round old report new r j b (inl d) = attempt_honest m w round old report new r j b d
-round_honest m w round old report new r j b (inr d) = refused_honest m w round old report new j b d
+pub round_honest : (K : Knowledge) (m : Meaning) (w : Setting) (round : Round) (old : List (List ℕ)) (report : ReportView) (new : List (List ℕ)) → Replays w.options → IsJournal old → IsOneRun (setup_of w) m K (entries_of old) → (d : RoundDoes m w round old report new) → IsHonest (setup_of w) m (entries_of old) (attempt_of m w round old report new d) (entries_of new)
+round_honest K m w round old report new r j h (inl d) = attempt_honest K m w round old report new r j h d
+round_honest K m w round old report new r j h (inr d) = refused_honest m w round old report new j (run_begins (setup_of w) m K (entries_of old) h) d
 
 -- what a round's attempt is handed and what it answers, whether it was refused or not
 pub round_gives : (m : Meaning) (w : Setting) (round : Round) (old : List (List ℕ)) (report : ReportView) (new : List (List ℕ)) (d : RoundDoes m w round old report new) → ((attempt_of m w round old report new d).given ≡ given_by (start_for w round old)) × ((attempt_of m w round old report new d).answers ≡ report.answers)
@@ -161,26 +180,37 @@ rounds_grow m w (r ∷ rs) old reports new j (mid, report, more, is, one, others
 pub entries_grow : (old new added : List (List ℕ)) → new ≡ old ++ added → entries_of new ≡ entries_of old ++ entries_of added
 entries_grow old new added e = ap entries_of e ∙ ap as_entries (frames_append old added) ∙ as_entries_append (frames_in old) (frames_in added)
 
--- a journal that has grown begins with the same input
-pub begins_on : (old new : List (List ℕ)) → Grows old new → Begins (entries_of old) → Begins (entries_of new)
-begins_on old new g b = record {
-  first = b.first;
-  input = b.input;
-  reads = b.reads;
-  rest = b.rest ++ commands_in (entries_of g.added);
-  commands = ap commands_in (entries_grow old new g.added g.extends) ∙ commands-append (entries_of old) (entries_of g.added) ∙ ap (λ l. l ++ commands_in (entries_of g.added)) b.commands;
-}
-
 -- each of the rounds hands out so much, over whatever journal
-abbrev HandsOut : Knowledge → Setting → List Round → Type 0
+abbrev pub HandsOut : Knowledge → Setting → List Round → Type 0
 HandsOut K w rounds = AllByRecursion (λ r. (journal : List (List ℕ)) → Begins (entries_of journal) → K (given_by (start_for w r journal)) (messages_in (behind (commands_in (entries_of journal))))) rounds
 
-rounds_honest : (K : Knowledge) (m : Meaning) (w : Setting) (rounds : List Round) (old : List (List ℕ)) (reports : List ReportView) (new : List (List ℕ)) → Replays w.options → HandsOut K w rounds → IsJournal old → Begins (entries_of old) → (d : RoundsDo m w rounds old reports new) → AreHonest K m w rounds old reports new d
-rounds_honest K m w [] old reports new r hands j b d = ap entries_of d.1
-rounds_honest K m w (q ∷ qs) old reports new r hands j b (mid, report, more, is, one, others) =
+-- an honest round leaves a journal that one run made
+abbrev pub Lasts : Knowledge → Setting → Meaning → Type 0
+Lasts K w m = (before : List Entry) (a : Attempted) (after : List Entry) → IsOneRun (setup_of w) m K before → IsHanded K before a → IsToldOn (setup_of w) m before a → HonestRound before a.course after → IsOneRun (setup_of w) m K after
+
+-- what a round hands out, as its attempt has it
+pub round_handed : (K : Knowledge) (m : Meaning) (w : Setting) (q : Round) (qs : List Round) (old : List (List ℕ)) (report : ReportView) (mid : List (List ℕ)) → HandsOut K w (q ∷ qs) → IsOneRun (setup_of w) m K (entries_of old) → (d : RoundDoes m w q old report mid) → IsHanded K (entries_of old) (attempt_of m w q old report mid d)
+round_handed K m w q qs old report mid hands h d = subst (λ x. K x (messages_in (behind (commands_in (entries_of old))))) (sym (round_gives m w q old report mid d).0) (hands.0 old (run_begins (setup_of w) m K (entries_of old) h))
+
+-- one run made the journal behind a round too
+pub round_lasts : (K : Knowledge) (m : Meaning) (w : Setting) (q : Round) (qs : List Round) (old : List (List ℕ)) (report : ReportView) (mid : List (List ℕ)) → Replays w.options → Lasts K w m → HandsOut K w (q ∷ qs) → IsJournal old → IsOneRun (setup_of w) m K (entries_of old) → RoundDoes m w q old report mid → IsOneRun (setup_of w) m K (entries_of mid)
+round_lasts K m w q qs old report mid r lasts hands j h d =
+    let honest = round_honest K m w q old report mid r j h d in
+    lasts (entries_of old) (attempt_of m w q old report mid d) (entries_of mid) h (round_handed K m w q qs old report mid hands h d) honest.told honest.honest
+
+rounds_honest : (K : Knowledge) (m : Meaning) (w : Setting) (rounds : List Round) (old : List (List ℕ)) (reports : List ReportView) (new : List (List ℕ)) → Replays w.options → Lasts K w m → HandsOut K w rounds → IsJournal old → IsOneRun (setup_of w) m K (entries_of old) → (d : RoundsDo m w rounds old reports new) → AreHonest K m w rounds old reports new d
+rounds_honest K m w [] old reports new r lasts hands j h d = ap entries_of d.1
+rounds_honest K m w (q ∷ qs) old reports new r lasts hands j h (mid, report, more, is, one, others) =
     let g = round_grows m w q old report mid j one in
-    let h = round_honest m w q old report mid r j b one in
-    (entries_of mid, subst (λ x. K x (messages_in (behind (commands_in (entries_of old))))) (sym (round_gives m w q old report mid one).0) (hands.0 old b), h.told, h.honest, rounds_honest K m w qs mid more new r hands.1 g.journal (begins_on old mid g b) others)
+    let honest = round_honest K m w q old report mid r j h one in
+    let on = round_lasts K m w q qs old report mid r lasts hands j h one in
+    (entries_of mid, round_handed K m w q qs old report mid hands h one, honest.told, honest.honest, rounds_honest K m w qs mid more new r lasts hands.1 g.journal on others)
+
+pub honest_lasts : (m : Meaning) (w : Setting) → Lasts (Honest (base_of w)) w m
+honest_lasts m w before a after = honest_round (setup_of w) m (base_of w) before a after (base_in_order w)
+
+whole_lasts : (m : Meaning) (w : Setting) → Lasts (Whole (base_of w)) w m
+whole_lasts m w before a after = whole_round (setup_of w) m (base_of w) before a after (base_in_order w)
 
 -- ---- what is handed out
 
@@ -198,12 +228,9 @@ hands_whole w (r ∷ rs) h = (λ journal b. subst (λ now. IsAllOf now (given_by
 
 -- ---- the headline
 
-pub run_begins : (s : Setup) (m : Meaning) (K : Knowledge) (journal : List Entry) → IsOneRun s m K journal → Begins journal
-run_begins s m K journal h = record { first = h.first; input = h.input; reads = h.reads; rest = h.rest; commands = h.begins }
-
 module _ (m : Meaning) (w : Setting) (rounds : List Round) (old : List (List ℕ)) (reports : List ReportView) (new : List (List ℕ)) (j : IsJournal old) (d : RoundsDo m w rounds old reports new) where
   pub are_honest : Replays w.options → IsOneRun (setup_of w) m (Honest (base_of w)) (entries_of old) → AreHonest (Honest (base_of w)) m w rounds old reports new d
-  are_honest r h = rounds_honest (Honest (base_of w)) m w rounds old reports new r (hands_honest w rounds) j (run_begins (setup_of w) m (Honest (base_of w)) (entries_of old) h) d
+  are_honest r h = rounds_honest (Honest (base_of w)) m w rounds old reports new r (honest_lasts m w) (hands_honest w rounds) j h d
 
   pub stays_one_run : Replays w.options → IsOneRun (setup_of w) m (Honest (base_of w)) (entries_of old) → IsOneRun (setup_of w) m (Honest (base_of w)) (entries_of new)
   stays_one_run r h = honest_rounds (setup_of w) m (base_of w) (entries_of old) (attempts_of m w rounds old reports new d) (entries_of new) (base_in_order w) h (are_honest r h)
@@ -213,7 +240,7 @@ module _ (m : Meaning) (w : Setting) (rounds : List Round) (old : List (List ℕ
 
   pub stays_undisturbed : Replays w.options → AreWhole rounds → IsOneRun (setup_of w) m (Whole (base_of w)) (entries_of old) → IsOneRun (setup_of w) m (Whole (base_of w)) (entries_of new)
   stays_undisturbed r whole h =
-      let a = rounds_honest (Whole (base_of w)) m w rounds old reports new r (hands_whole w rounds whole) j (run_begins (setup_of w) m (Whole (base_of w)) (entries_of old) h) d in
+      let a = rounds_honest (Whole (base_of w)) m w rounds old reports new r (whole_lasts m w) (hands_whole w rounds whole) j h d in
       whole_rounds (setup_of w) m (base_of w) (entries_of old) (attempts_of m w rounds old reports new d) (entries_of new) (base_in_order w) h a
 
 -- ---- one round more

@@ -10,8 +10,8 @@ use Rattle.journal_messages.specs.Message.{encoding}
 use Rattle.vm_parts.specs.declared.steps.Step.{Step}
 use Rattle.vm_parts.specs.declared.types.AwaitResponse.{AwaitResponse}
 use Rattle.vm_parts.specs.declared.types.AwakeableHandle.{AwakeableHandle}
-use Rattle.vm_parts.specs.declared.types.UnresolvedFuture.{UnresolvedFuture}
-use Rattle.vm_parts.specs.declared.types.UnresolvedFuture.TheVariants.{Single}
+use Rattle.await_trees.specs.declared.tree.UnresolvedFuture.{UnresolvedFuture}
+use Rattle.await_trees.specs.Tree.{tree_of}
 use Rattle.vm_machine.specs.declared.asks.Ask.{Ask}
 use Rattle.vm_machine.specs.declared.asks.Ask.TheVariants as ask
 use Rattle.vm_machine.specs.declared.machine.Machine.{Machine}
@@ -21,9 +21,9 @@ use Rattle.vm_machine.specs.Asks.{ask_of}
 use Rattle.vm_machine.specs.Commands.{commanded}
 use Rattle.vm_machine.specs.Endings.{EventWrites, Writes}
 use Rattle.vm_machine.specs.Inputs.{close_step, input_step}
-use Rattle.vm_machine.specs.Outcomes.{Does, Done, Failed, Outcome, called, refused}
+use Rattle.vm_machine.specs.Outcomes.{Does, DoesBy, Done, Failed, Outcome, called, refused}
 use Rattle.vm_machine.specs.Signals.{awakeable_step}
-use Rattle.vm_machine.proofs.Endings.{GoesOn, asks_go_on, await_writes, awakeable_writes, called_writes, close_writes, commanded_event, end_writes, input_writes, read_writes, same, signal_writes, take_writes, writes_nothing}
+use Rattle.vm_machine.proofs.Endings.{GoesOn, asks_go_on, awaited_writes, awakeable_writes, called_writes, close_writes, commanded_event, end_writes, input_writes, read_writes, same, signal_writes, take_writes, writes_nothing}
 use Rattle.invocation_vm.specs.Calls.{skips_replay}
 use Rattle.invocation_vm.specs.Views.{View, after_closing, after_input, left_by}
 use Rattle.invocation_vm.proofs.Feeds.{among_output}
@@ -34,7 +34,7 @@ use Rattle.vm_rounds.specs.declared.progress.Reply.{Reply}
 use Rattle.vm_rounds.specs.declared.progress.Reply.TheVariants as reply
 use Rattle.vm_rounds.specs.Record.{Record, bytes_written}
 use Rattle.vm_rounds.specs.Stepping.{Advances, Asks, CloseDoes, Closes, FeedDoes, Feeds, Reads, StepAt, StepDoes, StepFrom, StepUnless, future_in, kept_at, replied, step_asked, with_vm}
-use Rattle.vm_rounds.specs.Steps.{DoesBy, MayCome, Performs, PerformsBy, await_reply, mapped}
+use Rattle.vm_rounds.specs.Steps.{Performs, PerformsBy, await_reply, mapped}
 use Rattle.vm_rounds.proofs.Quiet.{input_quiet}
 
 -- ---- one event of the machine
@@ -47,16 +47,13 @@ new_awakeable_writes : (b : Bool) (v : Machine) → EventWrites v (called (if b 
 new_awakeable_writes true v = called_writes v (refused {A = AwakeableHandle} fault.UnsupportedFeature v) (λ live. same v)
 new_awakeable_writes false v = awakeable_writes v
 
-await_event : (future : UnresolvedFuture) (v : Machine) (x : Outcome (Result AwaitResponse Error)) → MayCome future v x → EventWrites v (called x v)
-await_event (Single handle) v x comes = subst (λ y. EventWrites v (called y v)) (sym comes) (await_writes handle.0 v)
-
 -- what is asked for writes behind the output
 asked_writes : (a : Ask) → GoesOn a → (v : Machine) (o : Outcome Reply) → PerformsBy a v o → EventWrites v o
 asked_writes (ask.Command c) goes v o does = subst (EventWrites v) (sym does) (mapped_writes _ v (called (commanded c v) v) (called_writes v (commanded c v) (commanded_event c v goes)))
 asked_writes ask.Awakeable goes v o does = subst (EventWrites v) (sym does) (mapped_writes _ v _ (new_awakeable_writes (skips_replay v.options.journal_replay) v))
 asked_writes (ask.Read r) goes v o does = subst (EventWrites v) (sym does) (mapped_writes _ v _ (read_writes r v))
 asked_writes (ask.Signal name) goes v o does = subst (EventWrites v) (sym does) (mapped_writes _ v _ (signal_writes name v))
-asked_writes (ask.Await future) goes v o (x, comes, does) = subst (EventWrites v) (sym does) (mapped_writes await_reply v (called x v) (await_event future v x comes))
+asked_writes (ask.Await future) goes v o (x, comes, does) = subst (EventWrites v) (sym does) (mapped_writes await_reply v x (awaited_writes (tree_of future) v x comes))
 asked_writes (ask.Take handle) goes v o does = subst (EventWrites v) (sym does) (mapped_writes _ v _ (take_writes handle.0 v))
 asked_writes (ask.Completed handle) goes v o does = subst (EventWrites v) (sym does) (writes_nothing v v (same v))
 asked_writes ask.End goes v o does = subst (EventWrites v) (sym does) (mapped_writes _ v _ (end_writes v))

@@ -1,6 +1,7 @@
 pub mod Entries
 pub mod States
 pub mod Arrivals
+pub mod Completions
 pub mod Storing
 pub mod Worlds
 pub mod Rounds

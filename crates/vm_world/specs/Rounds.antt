@@ -11,18 +11,19 @@ use Rattle.journal_messages.specs.Message.{IsWhole}
 use Rattle.vm_parts.specs.declared.options.JournalReplay.TheVariants.{Enabled}
 use Rattle.vm_parts.specs.declared.options.SignalDelivery.TheVariants.{Queued}
 use Rattle.vm_parts.specs.declared.options.VMOptions.{VMOptions}
+use Rattle.vm_parts.specs.Outboxes.{WholeFrames}
 use Rattle.vm_parts.specs.declared.steps.Answer.{Answer}
 use Rattle.invocation_vm.specs.Making.{made, supported}
 use Rattle.vm_model.specs.Calls.{Meaning, Setup}
 use Rattle.vm_model.specs.Histories.{OneBegins, Told}
 use Rattle.vm_model.specs.Journal.{Entry, commands_in, input_read_from, notifications_in}
 use Rattle.vm_model.specs.Moves.{Point}
-use Rattle.vm_model.specs.Trees.{HasNoTwo}
+use Rattle.vm_model.specs.Deliveries.{HasNoTwo}
 use Rattle.journal_attempt.specs.declared.commands.InputCommand.{InputCommand}
 use Rattle.journal_messages.specs.declared.message.RawMessage.{RawMessage}
 use Rattle.vm_rounds.specs.declared.progress.Progress.{Progress}
 use Rattle.vm_rounds.specs.Record.{Record}
-use Rattle.vm_rounds.specs.Told.{AnswersAreTold, Premises, arrivals_of, written_by}
+use Rattle.vm_rounds.specs.Told.{AnswersAreTold, Premises, written_by}
 use Rattle.vm_rounds.specs.Stepping.{CloseDoes, FeedDoes, StepDoes, fresh_record, taken_from}
 use Rattle.vm_world.specs.declared.types.Event.{Event}
 use Rattle.vm_world.specs.declared.types.Event.TheVariants as event
@@ -86,6 +87,7 @@ Happens m (event.Arrive x) old new =
 Happens m (event.Store n) old new =
     (journal : List (List ℕ)) × (unstored : List ℕ) × Stores n old.journal (old.unstored ++ concat old.attempt.vm.machine.output) journal unstored
     × (new ≡ record old { journal = journal; output = old.output ++ concat old.attempt.vm.machine.output; unstored = unstored; attempt = taken_from old.attempt })
+    × WholeFrames old.attempt.vm.machine.output
 
 -- an event's fault, but for want of memory
 abbrev pub Fault : Event → Now → RoundFault → Type 0
@@ -156,7 +158,7 @@ refused_report e journal = record { answers = []; output = []; error = Some e; e
 -- premises its journal, with what it wrote, tells its answers.
 pub record EndsTold (m : Meaning) (version : Version) (options : VMOptions) (r : Record) : Type 0 where
   pub begins : r.answers ≡ [] → written_by r ≡ []
-  pub told : Premises options (arrivals_of r.fed) → (r.answers ≡ []) ⊎ AnswersAreTold m version options r
+  pub told : Premises m version options r.fed → (r.answers ≡ []) ⊎ AnswersAreTold m version options r
 
 -- a round begins with this attempt, and these bytes wait
 abbrev pub new_now : List (List ℕ) → List ℕ → Record → Now

@@ -8,7 +8,7 @@ use Rattle.journal_attempt.specs.declared.start.Start.{Start}
 use Rattle.vm_model.specs.Calls.{Setup}
 use Rattle.vm_model.specs.Carried.{AreCarried}
 use Rattle.vm_rounds.specs.Journals.{commands_among, setup_for}
-use Rattle.vm_rounds.specs.Told.{CompleteOnce}
+use Rattle.vm_world.specs.Completions.{CompleteOnce}
 use Rattle.vm_world.specs.declared.types.Identity.{Identity}
 use Rattle.vm_world.specs.declared.types.Round.{Round}
 use Rattle.vm_world.specs.declared.types.Setting.{Setting}

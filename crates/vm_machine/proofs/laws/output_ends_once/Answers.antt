@@ -1,4 +1,4 @@
-use Rattle.vm_machine.proofs.Endings.{issued_writes, awakeable_writes, signal_writes, read_writes, await_writes, tree_writes, take_writes, input_writes, end_writes, report_writes, message_writes, malformed_writes, close_writes}
+use Rattle.vm_machine.proofs.Endings.{issued_writes, awakeable_writes, signal_writes, read_writes, await_writes, take_writes, input_writes, end_writes, report_writes, message_writes, malformed_writes, close_writes}
 use Rattle.vm_machine.proofs.laws.output_ends_once.Goals as goal
 
 pub returns-clause-commands : goal.returns-clause-commands
@@ -15,9 +15,6 @@ returns-clause-reads c = read_writes
 
 pub returns-clause-awaits : goal.returns-clause-awaits
 returns-clause-awaits c = await_writes
-
-pub returns-clause-trees : goal.returns-clause-trees
-returns-clause-trees c = tree_writes
 
 pub returns-clause-takes : goal.returns-clause-takes
 returns-clause-takes c = take_writes

@@ -6,7 +6,7 @@ use Rattle.vm_world.specs.Worlds.{IsJournal, WorldView}
 use Rattle.vm_world.proofs.Agreeing.{rounds_agree}
 use Rattle.vm_world.proofs.Completing.{completes_once}
 use Rattle.vm_world.proofs.Lists.{split_at, whole_at}
-use Rattle.vm_world.proofs.Rounding.{Grows, are_honest, run_begins, rounds_fail, rounds_grow, rounds_then, stays_history, stays_one_run, stays_undisturbed}
+use Rattle.vm_world.proofs.Rounding.{Grows, are_honest, hands_honest, honest_lasts, rounds_fail, rounds_grow, rounds_then, stays_history, stays_one_run, stays_undisturbed}
 use Rattle.vm_world.proofs.rounds.run_rounds.Given as given
 use Rattle.vm_world.proofs.rounds.run_rounds.Goals as goal
 
@@ -52,7 +52,7 @@ pub returns-clause-undisturbed : goal.returns-clause-undisturbed
 returns-clause-undisturbed g c r whole h = stays_undisturbed (g.H.Handler.meaning c.args.handler.now) c.args.world.setting c.args.rounds.now c.args.world.journal (map report_view c.loop-round.reports.items) c.loop-round.journal.items (before g c) (all g c) r whole h
 
 pub returns-clause-agree : goal.returns-clause-agree
-returns-clause-agree g c r h = rounds_agree (g.H.Handler.meaning c.args.handler.now) c.args.world.setting c.args.rounds.now c.args.world.journal (map report_view c.loop-round.reports.items) c.loop-round.journal.items r (before g c) (run_begins _ (g.H.Handler.meaning c.args.handler.now) _ _ h) (all g c)
+returns-clause-agree g c r h = rounds_agree _ (g.H.Handler.meaning c.args.handler.now) c.args.world.setting c.args.rounds.now c.args.world.journal (map report_view c.loop-round.reports.items) c.loop-round.journal.items r (honest_lasts (g.H.Handler.meaning c.args.handler.now) c.args.world.setting) (hands_honest c.args.world.setting c.args.rounds.now) (before g c) h (all g c)
 
 pub returns-then-not-keep_report-clause-err : goal.returns-then-not-keep_report-clause-err
 returns-then-not-keep_report-clause-err g c =

@@ -5,7 +5,7 @@ use Rattle.await_tries.specs.Left.{tree_left}
 use Rattle.await_tries.specs.Resolved.{Resolved}
 use Rattle.await_tries.specs.declared.residue.Resolution.TheVariants.{Pending}
 use Rattle.vm_machine.specs.declared.machine.Machine.{Machine}
-use Rattle.vm_machine.specs.TreeAwaits.{with_used}
+use Rattle.vm_machine.specs.Awaits.{with_used}
 use Rattle.vm_machine.proofs.Resolving.{stays_pending}
 use Rattle.vm_machine.proofs.machine.Machine.await_tree.Goals as goal
 

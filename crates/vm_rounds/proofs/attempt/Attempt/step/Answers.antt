@@ -29,7 +29,7 @@ returns-clause-waits g c =
 pub returns-clause-replays : goal.returns-clause-replays
 returns-clause-replays g c =
     let a = c.self.inside in
-    rw (← c.self.view_is) (λ is p. step_replays (g.H.Handler.meaning a.inner.handler) a.version a.options (the_record a.inner) c.step-progress.result (the_record c.step-progress.new.self) (c.self.invariant.2 p) is c.step-progress.ensures.does)
+    rw (← c.self.view_is) (λ is p. step_replays (g.H.Handler.meaning a.inner.handler) a.version a.options (the_record a.inner) c.step-progress.result (the_record c.step-progress.new.self) p (c.self.invariant.2 p) is c.step-progress.ensures.does)
 
 pub returns-clause-blamed : goal.returns-clause-blamed
 returns-clause-blamed g c =

@@ -1,0 +1,13 @@
+-- A call whose event may come to several outcomes is the call of one of them.
+use Rattle.std.proofs.Common.{◌≡◌, Option, Some, None, refl, sym, ap, ◌∙◌}
+use Rattle.journal_errors.specs.declared.error.Error.{Error}
+use Rattle.vm_machine.specs.declared.machine.Machine.{Machine}
+use Rattle.vm_machine.specs.Outcomes.{CalledAt, CalledBy, Failed, Outcome, called, called_at}
+
+pub called_from : {A : Type 0} (R : Outcome A → Type 0) (v : Machine) (o : Outcome A) → CalledBy R v o → (event : Outcome A) × (v.failure ≡ None → R event) × (o ≡ called event v)
+unfolding called
+called_from {A} R v o h = by_failure v.failure refl h
+  where
+    by_failure : (f : Option Error) → v.failure ≡ f → CalledAt f R v o → (event : Outcome A) × (v.failure ≡ None → R event) × (o ≡ called_at v.failure event v)
+    by_failure None live x = (x.0, λ _. x.1, x.2 ∙ ap (λ f. called_at f x.0 v) (sym live))
+    by_failure (Some e) dead x = (Failed e v, λ live. absurd (let z : Some e ≡ None = sym dead ∙ live in cc), x ∙ ap (λ f. called_at f (Failed e v) v) (sym dead))

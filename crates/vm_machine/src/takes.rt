@@ -1,0 +1,38 @@
+//! Takes of a handle's present result, and whether it has one.
+ghost use Rattle.vm_machine.specs.Outcomes.{Gives};
+ghost use Rattle.std.specs.Prelude.{◌≡◌};
+ghost use Rattle.vm_machine.specs.Takes.{take_step, is_completed, value_taken};
+
+use crate::fault::{Fault, refuse};
+use crate::machine::Machine;
+use journal_errors::NamedFault;
+use vm_parts::values::read_result;
+use vm_parts::{NotificationHandle, Value};
+
+impl Machine {
+    /// The handler takes the present result of a handle.
+    #[tactic(auto, unfolding(crate::specs::Takes::take_step))]
+    pub fn take(&mut self, handle: NotificationHandle) -> Result<Option<Value>, Fault>
+        ensures { Gives (take_step handle.0 self.old) result self.old self.new }
+    {
+        if !self.phase.is_running() {
+            return Err(refuse(self.phase.fault()));
+        }
+        let Some(found) = self.results.take(self.options.signal_delivery, handle) else {
+            return Ok(None);
+        };
+        match read_result(self.alloc, found)? {
+            Some(value) => Ok(Some(value)),
+            None => Err(refuse(NamedFault::StateKeyIsNotUtf8)),
+        }
+    }
+
+    pub fn is_completed(&self, handle: NotificationHandle) -> bool
+        ensures { result ≡ is_completed handle.0 self.now }
+    {
+        if self.failure.is_some() || !self.phase.is_running() {
+            return false;
+        }
+        self.results.is_completed(handle.0)
+    }
+}

@@ -1,0 +1,206 @@
+-- A round's attempt runs as its journal tells: at no point of its run has a completion two results.
+use Rattle.std.proofs.Common.{◌≡◌, ◌≤◌, ◌+◌, inl, inr, ⊎_elim, ℕ, Bool, true, false, List, [], ◌∷◌, ◌++◌, length, take, drop, length-append, Option, Some, None, Result, Ok, Err, refl, sym, ap, ◌∙◌, subst, arith, append_assoc, append-nil}
+use Rattle.std.proofs.lemmas.Option.{same_Some}
+use Rattle.std.specs.List.{concat, flat_map}
+use Rattle.arrivals.specs.Results.{results_of}
+use Rattle.await_tries.proofs.LaterArrivals.{results-append}
+use Rattle.journal_attempt.specs.declared.commands.InputCommand.{InputCommand}
+use Rattle.journal_attempt.specs.declared.start.Start.{Start}
+use Rattle.journal_messages.specs.declared.message.RawMessage.{RawMessage}
+use Rattle.journal_messages.specs.Reading.{start_in}
+use Rattle.journal_values.specs.declared.notification.Notification.{Notification}
+use Rattle.journal_values.specs.declared.notification.NotificationId.TheVariants.{CompletionId}
+use Rattle.journal_values.specs.declared.notification.NotificationResult.{NotificationResult}
+use Rattle.invocation_vm.specs.Frames.{Tail, frames_of}
+use Rattle.vm_parts.specs.declared.context.StateMap.{StateMap}
+use Rattle.vm_parts.specs.Entries.{entries_of as state_entries}
+use Rattle.vm_machine.specs.Inputs.{coverage_of}
+use Rattle.vm_model.specs.Calls.{Meaning, Setup}
+use Rattle.vm_model.specs.Carried.{AreCarried, ComeOnce}
+use Rattle.vm_model.specs.Deliveries.{HasNoTwo}
+use Rattle.vm_model.specs.Histories.{Handed, IsPrefix, Knowledge, Made}
+use Rattle.vm_model.specs.HonestRounds.{IsOneRun}
+use Rattle.vm_model.specs.Journal.{Entry, commands_in, input_read_from, notifications_in}
+use Rattle.vm_model.specs.Moves.{Point, after, later, start as first_point}
+use Rattle.vm_model.proofs.Once.{run_once, still_carried}
+use Rattle.vm_model.proofs.Runs.{after_later, made_after, made_spent}
+use Rattle.vm_rounds.specs.Journals.{commands_among, notifications_among, setup_for}
+use Rattle.vm_rounds.specs.Record.{Record}
+use Rattle.vm_rounds.specs.Told.{BeforeInput, IsKept, Journal, NoneHasTwo, Runs, Wrote, arrivals, arrivals_of, begun, commands_of, frames_fed, handed_out}
+use Rattle.vm_rounds.proofs.Advanced.{step_keeps}
+use Rattle.vm_rounds.proofs.Kept.{close_keeps, feed_keeps, take_keeps}
+use Rattle.vm_rounds.proofs.Lasting.{runs_last}
+use Rattle.vm_rounds.proofs.Pieces.{commands_append, notifications_append}
+use Rattle.vm_rounds.proofs.Replayed.{commands_same, head_same, notes_same, tail_same}
+use Rattle.vm_rounds.proofs.Written.{taken_first}
+use Rattle.vm_world.specs.declared.types.Event.{Event}
+use Rattle.vm_world.specs.declared.types.Event.TheVariants as event
+use Rattle.vm_world.specs.declared.types.Setting.{Setting}
+use Rattle.vm_world.specs.Courses.{delivered, given_by}
+use Rattle.vm_world.specs.Entries.{entries_of, frames_in, notes_in}
+use Rattle.vm_world.specs.Rounds.{Happen, Happens, Now, Pieces, Replays}
+use Rattle.vm_world.specs.Worlds.{IsJournal}
+use Rattle.vm_world.proofs.Completing.{carried_behind}
+use Rattle.vm_world.proofs.Coursing.{behind_first, delivered_arrived, fed_frames, new_behind}
+use Rattle.vm_world.proofs.Framing.{AreFrames, frames_append, journal_length, notes_append, notes_are, same_front}
+use Rattle.vm_world.proofs.Handing.{entries_found}
+use Rattle.vm_world.proofs.Keeping.{Going, event_keeps}
+use Rattle.vm_world.proofs.Once.{come_once}
+
+-- ---- a beginning of notifications
+
+front_nothing : {A : Type 0} (xs ys : List A) → xs ++ ys ≡ [] → xs ≡ []
+front_nothing [] ys e = refl
+front_nothing (x ∷ xs) ys e = absurd (cc)
+
+once_front : (xs ys : List Notification) → ComeOnce (xs ++ ys) → ComeOnce xs
+once_front xs ys once id =
+    let all = subst (λ (l : List NotificationResult). length l ≤ 1) (results-append (CompletionId id) xs ys) (once id) in
+    let long = length-append (results_of (CompletionId id) xs) (results_of (CompletionId id) ys) in
+    omega (arith, all, long)
+
+carried_front : (xs ys : List Notification) (cs : List RawMessage) → AreCarried (xs ++ ys) cs → AreCarried xs cs
+carried_front xs ys cs h id none = front_nothing (results_of (CompletionId id) xs) (results_of (CompletionId id) ys) (sym (results-append (CompletionId id) xs ys) ∙ h id none)
+
+-- ---- an attempt over a journal that one run made
+
+module _ (m : Meaning) (w : Setting) (begin_bytes : List ℕ) (raw : RawMessage) (st : Start) (old : List (List ℕ)) (j : IsJournal old) (framed : AreFrames begin_bytes (raw ∷ [])) (found : start_in raw.body ≡ Some st) (known : st.known_entries ≡ length old) (s : Setup) (same_setup : setup_for w.version w.options st ≡ s) (K : Knowledge) (one : IsOneRun s m K (entries_of old)) (r : Replays w.options) where
+  abbrev E : List Entry
+  E = entries_of old
+
+  abbrev given : StateMap
+  given = given_by st
+
+  -- all that came to the attempt
+  abbrev came : Now → List Notification
+  came now = notifications_in E ++ delivered old now.attempt
+
+  -- the first point of its run
+  abbrev from : Now → Point
+  from now = first_point s one.input (came now) one.rest
+
+  -- ---- what was fed is the world's journal
+
+  record IsWorlds (now : Now) (J : Journal now.attempt.fed) : Type 0 where
+    start : J.start ≡ st
+    state : J.state ≡ state_entries st.state
+    input : J.input ≡ one.input
+    notes : arrivals J ≡ came now
+    rest : J.rest ≡ one.rest
+
+  is_worlds : (now : Now) → Going begin_bytes old now → (J : Journal now.attempt.fed) → IsWorlds now J
+  is_worlds now g J =
+      let N = frames_in g.arrived in
+      let F = fed_frames m begin_bytes raw old j framed now g in
+      let G = F.0 in
+      let same : raw ∷ (frames_in old ++ N) ≡ J.first_frame ∷ ((J.entries ++ J.others) ++ G) = F.1 ∙ ap (λ l. l ++ G) J.frames in
+      let head : raw ≡ J.first_frame = head_same raw J.first_frame (frames_in old ++ N) ((J.entries ++ J.others) ++ G) same in
+      let tail : frames_in old ++ N ≡ J.entries ++ (J.others ++ G) = tail_same raw J.first_frame (frames_in old ++ N) ((J.entries ++ J.others) ++ G) same ∙ append_assoc J.entries J.others G in
+      let is_st : J.start ≡ st = same_Some J.start st (sym J.reads_start ∙ ap (λ (x : RawMessage). start_in x.body) (sym head) ∙ found) in
+      let count : length (frames_in old) ≡ length J.entries = journal_length old j.entries ∙ sym (J.count ∙ ap (λ (x : Start). x.known_entries) is_st ∙ known) in
+      let entries : frames_in old ≡ J.entries = (same_front (frames_in old) J.entries N (J.others ++ G) count tail).0 in
+      let commands : one.first ∷ one.rest ≡ J.first ∷ J.rest = sym one.begins ∙ commands_same (frames_in old) ∙ ap commands_among entries ∙ J.commands in
+      let first = head_same one.first J.first one.rest J.rest commands in
+      let others = notifications_among J.others in
+      let all : arrivals_of now.attempt.fed ≡ notes_in old ++ others =
+      ap (λ l. notifications_among l) (ap tail_of J.frames) ∙ notifications_append J.entries J.others ∙ ap (λ l. notifications_among l ++ others) (sym entries) ∙ ap (λ l. l ++ others) (sym (notes_are old)) in
+      record {
+        start = is_st;
+        state = entries_found J.start.state J.state J.reads_state ∙ ap (λ (x : Start). state_entries x.state) is_st;
+        input = sym (same_Some one.input J.input (sym one.reads ∙ ap input_read_from first ∙ J.reads_input));
+        notes = notifications_append J.entries J.others ∙ ap (λ l. notifications_among l ++ others) (sym entries)
+            ∙ (λ i. sym (notes_same (frames_in old)) i ++ sym (ap (drop (length (notes_in old))) all ∙ new_behind (notes_in old) others) i);
+        rest = sym (tail_same one.first J.first one.rest J.rest commands);
+      }
+    where
+      tail_of : List RawMessage → List RawMessage
+      tail_of [] = []
+      tail_of (x ∷ xs) = xs
+
+  -- a run over what was fed is one from the first point
+  there : (now : Now) (g : Going begin_bytes old now) (J : Journal now.attempt.fed) (n : ℕ) (made : List RawMessage) (p : Point) → Made (setup_for w.version w.options J.start) m (Handed (handed_out J)) n (begun w.version w.options J) made p → Made s m (Handed given) n (from now) made p
+  there now g J n made p run =
+      let x = is_worlds now g J in
+      subst (λ (z : Setup). Made z m (Handed given) n (first_point z one.input (came now) one.rest) made p) same_setup
+      (subst
+      (λ (z : Start × List (List ℕ × Option (List ℕ)) × InputCommand × List Notification × List RawMessage). Made (setup_for w.version w.options z.0) m (Handed (record { entries = z.1; coverage = coverage_of z.0.partial })) n (first_point (setup_for w.version w.options z.0) z.2 z.3 z.4) made p)
+      (λ i. (x.start i, x.state i, x.input i, x.notes i, x.rest i)) run)
+
+  -- ---- each completion came once, for an id that a command carries
+
+  notes_split : (now : Now) (g : Going begin_bytes old now) → (later : List Notification) × (notes_in now.journal ≡ came now ++ later)
+  notes_split now g =
+      let d = delivered_arrived m begin_bytes raw old j framed now g in
+      let D = delivered old now.attempt in (
+        d.0,
+        ap notes_in g.extends ∙ notes_append old g.added
+            ∙ (λ i. (notes_are old ∙ sym (notes_same (frames_in old))) i ++ (notes_are g.added ∙ sym (notes_same (frames_in g.added)) ∙ d.1) i)
+            ∙ sym (append_assoc (notifications_in E) D d.0),
+      )
+
+  came_once : (now : Now) (g : Going begin_bytes old now) → ComeOnce (came now)
+  came_once now g = let x = notes_split now g in once_front (came now) x.0 (subst ComeOnce x.1 (come_once (notes_in now.journal) g.journal.once))
+
+  -- the commands behind the input are those of the journal and the stored ones
+  stored_carry : (now : Now) (g : Going begin_bytes old now) → AreCarried (came now) (one.rest ++ commands_among g.scanned)
+  stored_carry now g =
+      let x = notes_split now g in
+      let all : commands_among (frames_in now.journal) ≡ one.first ∷ (one.rest ++ commands_among g.scanned) =
+      ap (λ l. commands_among (frames_in l)) g.extends ∙ ap commands_among (frames_append old g.added) ∙ commands_append (frames_in old) (frames_in g.added)
+      ∙ (λ i. (sym (commands_same (frames_in old)) ∙ one.begins) i ++ g.commands i)
+      in
+      carried_behind (came now) one.first one.input (one.rest ++ commands_among g.scanned) one.reads
+      (carried_front (came now) x.0 (one.first ∷ (one.rest ++ commands_among g.scanned)) (subst (λ (z : List Notification × List RawMessage). AreCarried z.0 z.1) (λ i. (x.1 i, all i)) g.journal.carried))
+
+  -- what was stored was written
+  stored_written : (now : Now) (g : Going begin_bytes old now) (written : List RawMessage) → Wrote now.attempt.taken now.attempt.vm.machine.output written → IsPrefix (commands_among g.scanned) written
+  stored_written now g written wrote =
+      let t = taken_first now.attempt.taken now.attempt.vm.machine.output written wrote in
+      let frames = (frames_of now.unstored).0 in
+      let scanned : commands_among (frames_of (concat now.attempt.taken)).0 ≡ commands_among g.scanned ++ commands_among frames =
+      ap (λ b. commands_among (frames_of b).0) g.output_is ∙ ap (λ (x : List RawMessage × Tail). commands_among x.0) g.output_frames ∙ commands_append g.scanned frames in
+      (commands_among frames ++ t.0, t.1 ∙ ap (λ l. l ++ t.0) scanned ∙ append_assoc (commands_among g.scanned) (commands_among frames) t.0)
+
+  written_carry : (now : Now) (g : Going begin_bytes old now) (written : List RawMessage) → Wrote now.attempt.taken now.attempt.vm.machine.output written → AreCarried (came now) (one.rest ++ written)
+  written_carry now g written wrote =
+      let x = stored_written now g written wrote in
+      subst (AreCarried (came now)) (append_assoc one.rest (commands_among g.scanned) x.0 ∙ ap (λ l. one.rest ++ l) (sym x.1)) (still_carried (came now) (one.rest ++ commands_among g.scanned) x.0 (stored_carry now g))
+
+  -- ---- at no point has a completion two results
+
+  abbrev Kept : Now → Type 0
+  Kept now = IsKept m w.version w.options now.attempt
+
+  at_each : (now : Now) (g : Going begin_bytes old now) (k : ℕ) (written : List RawMessage) (at : Point) → Made s m (Handed given) k (from now) written at → Wrote now.attempt.taken now.attempt.vm.machine.output written → (n : ℕ) (made : List RawMessage) (p : Point) → Made s m (Handed given) n (from now) made p → HasNoTwo p
+  at_each now g k written at ran wrote =
+      let D = delivered old now.attempt in
+      let begins = first_point s one.input (notifications_in E) one.rest in
+      let told = after_later s m D one.moves begins one.at (made_after s m K one.moves (first_point s one.input (notifications_in E) []) one.rest one.at one.made) in
+      let spent = made_spent s m K one.moves (first_point s one.input (notifications_in E) []) one.rest one.at refl one.made in
+      run_once s m given one.input (came now) one.rest one.moves (later D one.at) told spent (came_once now g) k written at ran (written_carry now g written wrote)
+
+  pub none_two : (now : Now) (g : Going begin_bytes old now) → Kept now → NoneHasTwo m w.version w.options now.attempt.fed
+  none_two now g kept J n made p run =
+      let here = there now g J n made p run in
+      ⊎_elim
+      (λ (b : BeforeInput w.version w.options now.attempt.fed now.attempt.answers now.attempt.waiting now.attempt.taken now.attempt.vm). at_each now g 0 [] (from now) (refl, refl) b.wrote n made p here)
+      (λ (b : Runs m w.version w.options now.attempt.fed now.attempt.answers now.attempt.waiting now.attempt.taken now.attempt.vm). at_each now g b.moves b.written b.at (there now g b.journal b.moves b.written b.at b.run) b.wrote n made p here)
+      kept
+
+  -- ---- events
+
+  pieces_run : (closed : Bool) (n : ℕ) (now mid : Now) → Pieces closed n now mid → Kept now → Kept mid
+  pieces_run true n now mid d kept = subst Kept (sym d) kept
+  pieces_run false n now mid (result, a, d, is) kept = subst Kept (sym is) (feed_keeps (Runs m w.version w.options) (runs_last m w.version w.options) w.version w.options (take n now.waiting) now.attempt result a kept d)
+
+  event_runs : (e : Event) (now mid : Now) → Happens m e now mid → Going begin_bytes old now → Kept now → Kept mid
+  event_runs (event.Piece n) now mid d g kept = pieces_run now.closed n now mid d kept
+  event_runs event.Close now mid (result, a, d, is) g kept = subst Kept (sym is) (close_keeps (Runs m w.version w.options) (runs_last m w.version w.options) w.version w.options now.attempt result a kept d)
+  event_runs event.Step now mid (result, a, d, is) g kept = subst Kept (sym is) (step_keeps m w.version w.options now.attempt result a (record { replays = r.replays; queues = r.queues; once = none_two now g kept }) kept d)
+  event_runs (event.Arrive x) now mid (none, is) g kept = subst Kept (sym is) kept
+  event_runs (event.Store n) now mid (journal, unstored, stores, is, whole) g kept =
+      subst Kept (sym is) (take_keeps (Runs m w.version w.options) (runs_last m w.version w.options) w.version w.options now.attempt (Ok (concat now.attempt.vm.machine.output)) _ kept (refl, refl, whole))
+
+  pub events_run : (es : List Event) (now end : Now) → Happen m es now end → Going begin_bytes old now → Kept now → Kept end
+  events_run [] now end d g kept = subst Kept (sym d) kept
+  events_run (e ∷ es) now end (mid, d, more) g kept = events_run es mid end more (event_keeps m begin_bytes old e now mid d g) (event_runs e now mid d g kept)
