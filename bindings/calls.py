@@ -5,6 +5,7 @@ import struct
 
 from handler import CONTENT_TYPE, start
 from palqytun import VM, BadLine, Failure, IdempotencyId, InvocationId, Suspended, VMError, WorkflowId
+from palqytun import all_completed, all_succeeded_or_first_failed, first_completed, first_succeeded_or_all_failed, unknown
 
 INPUT = bytes.fromhex((pathlib.Path(__file__).with_name("journal.hex")).read_text().splitlines()[2])
 
@@ -56,10 +57,11 @@ with VM(CONTENT_TYPE, cancel="none", checks="on", seed=7) as vm:
     print(vm.sys_get_promise("p"), vm.sys_peek_promise("p"), vm.sys_complete_promise("p", failure, unstable=True))
     print(vm.sys_attach_invocation(InvocationId("inv_1")), vm.sys_get_invocation_output(WorkflowId("w", "k", "s")))
     print(vm.sys_attach_invocation(IdempotencyId("s", "h", "i", service_key="k", scope="s")))
-    print(vm.do_await(27))
+    print(vm.do_await(27), vm.do_await(first_completed(27, all_completed(23, 26))), vm.do_await(unknown()))
     vm.notify_input(notification(b"\2" + text(b"go"), b"\2" + struct.pack(">I", 409) + text(b"no") + struct.pack(">Q", 1) + text(b"k") + text(b"v")))
     vm.notify_input(notification(b"\0" + struct.pack(">I", 7), b"\4" + text(b"inv_9")))
     vm.notify_input(notification(b"\1" + struct.pack(">I", 17), b"\1" + text(every)))
+    print(vm.do_await(all_succeeded_or_first_failed(26, 27)), vm.do_await(first_succeeded_or_all_failed(27, 23)))
     print(awaited(vm, 27), awaited(vm, 23))
     print(vm.do_await(26), vm.take_notification(26) == every)
     vm.notify_input_closed()

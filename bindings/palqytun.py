@@ -18,7 +18,7 @@ import pathlib
 import re
 from dataclasses import dataclass, field
 
-__all__ = ["VM", "VMError", "Suspended", "BadLine", "Failure", "Input", "InvocationId", "Awakeable", "ResponseHead", "Void", "VOID", "WorkflowId", "IdempotencyId"]
+__all__ = ["VM", "VMError", "Suspended", "BadLine", "Failure", "Input", "InvocationId", "Awakeable", "Future", "first_completed", "all_completed", "first_succeeded_or_all_failed", "all_succeeded_or_first_failed", "unknown", "ResponseHead", "Void", "VOID", "WorkflowId", "IdempotencyId"]
 
 _DONE, _NO_MEMORY, _NO_SESSION, _NO_VM, _NO_ROOM = range(5)
 _SUSPENDED = 599
@@ -99,6 +99,41 @@ class Input:
     scope: object = None
     limit_key: object = None
     idempotency_key: object = None
+
+
+class Future(str):
+    """What can be awaited beside a handle: a node over handles and futures, as a line spells it. The five functions below make them."""
+
+    __slots__ = ()
+
+
+def _over(kind, children):
+    return Future(f"{kind}({','.join(map(str, children))})")
+
+
+def first_completed(*children):
+    """Awaited until some child has an outcome."""
+    return _over("fc", children)
+
+
+def all_completed(*children):
+    """Awaited until all children have an outcome."""
+    return _over("ac", children)
+
+
+def first_succeeded_or_all_failed(*children):
+    """Awaited until some child succeeds, or all have failed."""
+    return _over("fsaf", children)
+
+
+def all_succeeded_or_first_failed(*children):
+    """Awaited until all children succeed, or some child has failed."""
+    return _over("asff", children)
+
+
+def unknown(*children):
+    """Some way of the caller's own: asked again at each outcome of a child."""
+    return _over("un", children)
 
 
 @dataclass(frozen=True)
@@ -324,10 +359,10 @@ class VM:
         """Whether a take of the handle would answer a value."""
         return self.call(f"completed {handle}") == "true"
 
-    def do_await(self, handle):
-        """Whether the handle has a result. Where it has none, more input is to be fed; where the input is closed the invocation is suspended, and
-        `Suspended` is raised."""
-        return self.call(f"await {handle}") == "any"
+    def do_await(self, future):
+        """Whether the future, a handle or a `Future`, is awake. Where it isn't, more input is to be fed; where the input is closed the invocation is
+        suspended, and `Suspended` is raised."""
+        return self.call(f"await {future}") == "any"
 
     def take_notification(self, handle):
         """Takes the result that a handle has: `bytes`, `VOID`, a `Failure`, a list of keys or an `InvocationId`; `None` where it has none."""

@@ -1,2 +1,2 @@
-pub mod Awaited
 pub mod Thirds
+pub mod TreeReading

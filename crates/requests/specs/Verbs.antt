@@ -6,14 +6,14 @@ use Rattle.std.specs.Str.Parse.{digits_value}
 use Rattle.lines.specs.Atoms.{IsAtom}
 use Rattle.vm_parts.specs.declared.steps.Step.{Step}
 use Rattle.vm_parts.specs.declared.steps.Step.TheVariants as step
-use Rattle.await_trees.specs.declared.handle.NotificationHandle.{NotificationHandle}
 use Rattle.await_trees.specs.declared.tree.UnresolvedFuture.{UnresolvedFuture}
-use Rattle.await_trees.specs.declared.tree.UnresolvedFuture.TheVariants.{Single}
+use Rattle.await_trees.specs.Tree.{tree_of}
 use Rattle.requests.specs.declared.request.Call.{Call}
 use Rattle.requests.specs.declared.request.Call.TheVariants as call
 use Rattle.requests.specs.declared.verb.Verb.{Verb}
 use Rattle.requests.specs.declared.verb.Verb.TheVariants as verb
 use Rattle.requests.specs.Durations.{IsDuration}
+use Rattle.requests.specs.Trees.{SpellsTree}
 
 -- the word that names a call
 unfoldable pub verb_name : Verb → List ℕ
@@ -116,9 +116,9 @@ HasCodeAndText code message words = (code ≡ digits_value 10 (text_at 0 words))
 abbrev pub HasCallee : List (Bor (List ℕ)) → List ℕ → List ℕ → List ℕ → Type 0
 HasCallee words service handler input = IsAtom (text_at 0 words) service × IsAtom (text_at 1 words) handler × IsAtom (text_at 2 words) input
 
--- the digits of the one handle that is awaited, and no other word
+-- one word that spells the tree that is awaited, and no other word
 abbrev pub IsAwaited : List (Bor (List ℕ)) → UnresolvedFuture → Type 0
-IsAwaited words future = (handle : NotificationHandle) × (future ≡ Single handle) × IsHandle words handle.0
+IsAwaited words future = (length words ≡ 1) × SpellsTree (text_at 0 words) (tree_of future)
 
 -- The arguments of a step that stand before a value, a target and the options, in their places. A step without these has no
 -- other argument.

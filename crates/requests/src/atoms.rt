@@ -46,7 +46,8 @@ pub fn u16_of(text: &[u8]) -> Result<u16, Fault>
 
 /// The number of decimal digits, where it fits thirty-two bits.
 pub fn u32_of(text: &[u8]) -> Result<u32, Fault>
-    ensures { IfOk result (λ number. number ≡ digits_value 10 text.now) }
+    ensures digits { IfOk result (λ _. IsNumeral 10 text.now) }
+    ensures value { IfOk result (λ number. number ≡ digits_value 10 text.now) }
 {
     let number = number_of(text).ok_or(Fault::Malformed)?;
     u32::try_from(number).map_err(|_| Fault::Malformed)
@@ -54,7 +55,8 @@ pub fn u32_of(text: &[u8]) -> Result<u32, Fault>
 
 /// The handle of this number.
 pub fn handle_of(text: &[u8]) -> Result<NotificationHandle, Fault>
-    ensures { IfOk result (λ handle. handle.0 ≡ digits_value 10 text.now) }
+    ensures digits { IfOk result (λ _. IsNumeral 10 text.now) }
+    ensures value { IfOk result (λ handle. handle.0 ≡ digits_value 10 text.now) }
 {
     let number = u32_of(text)?;
     Ok(NotificationHandle(number))

@@ -10,4 +10,5 @@ pub mod parse;
 pub mod report;
 pub mod request;
 pub mod targets;
+pub mod trees;
 pub mod verb;

@@ -15,6 +15,7 @@ use crate::options::options_of;
 use crate::report::error_of;
 use crate::request::{Call, Request};
 use crate::targets::target_of;
+use crate::trees::tree_of_word;
 use crate::verb::{Verb, verb_of_word};
 use lines::fields::Fields;
 use lines::pieces::words;
@@ -177,19 +178,20 @@ fn write_output_of(alloc: Global, arguments: &[&[u8]]) -> Result<Call, Fault>
     Ok(Call::Step(Step::WriteOutput(value, options)))
 }
 
-/// What is awaited: `H` alone.
-#[tactic(auto, using(crate::proofs::Awaited::is_awaited))]
-fn awaited(arguments: &[&[u8]]) -> Result<UnresolvedFuture, Fault>
+/// What is awaited: `TREE` alone.
+fn awaited(alloc: Global, arguments: &[&[u8]]) -> Result<UnresolvedFuture, Fault>
     ensures { IfOk result (λ future. IsAwaited arguments.now future) }
 {
-    let handle = handle_alone(arguments)?;
-    Ok(UnresolvedFuture::Single(handle))
+    match arguments {
+        [tree] => tree_of_word(alloc, *tree),
+        _ => Err(Fault::Malformed),
+    }
 }
 
-fn await_of(arguments: &[&[u8]]) -> Result<Call, Fault>
+fn await_of(alloc: Global, arguments: &[&[u8]]) -> Result<Call, Fault>
     ensures { IfOk result (λ call. IsLine verb.Await arguments.now call) }
 {
-    let future = awaited(arguments)?;
+    let future = awaited(alloc, arguments)?;
     Ok(Call::Step(Step::Await(future)))
 }
 
@@ -207,7 +209,7 @@ fn call_named(alloc: Global, verb: Verb, arguments: &[&[u8]]) -> Result<Call, Fa
         Verb::Index => alone(arguments, Call::Index),
         Verb::Error => error_of(alloc, arguments),
         Verb::SysInput => alone(arguments, Call::SysInput),
-        Verb::Await => await_of(arguments),
+        Verb::Await => await_of(alloc, arguments),
         Verb::Completed => Ok(Call::Step(Step::Completed(handle_alone(arguments)?))),
         Verb::Take => Ok(Call::Step(Step::Take(handle_alone(arguments)?))),
         Verb::Get => get_of(alloc, arguments),

@@ -39,3 +39,5 @@ mod states;
 mod table;
 #[cfg(test)]
 mod transcripts;
+#[cfg(test)]
+mod trees;
