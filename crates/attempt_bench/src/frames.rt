@@ -80,6 +80,15 @@ pub const SUSPENSION_ON_SIGNAL_17: &[u8] = b"\0\x02\0\0\0\0\0\0\0\x25\
     \0\0\0\0\0\0\0\0\
     \0\0\0\0\0\0\0\0";
 
+/// The same wait while the input is open, and no run is executing.
+pub const AWAITING_ON_SIGNAL_17: &[u8] = b"\0\x07\0\0\0\0\0\0\0\x26\
+    \0\
+    \0\0\0\0\0\0\0\0\
+    \0\0\0\0\0\0\0\x01\0\0\0\x11\
+    \0\0\0\0\0\0\0\0\
+    \0\0\0\0\0\0\0\0\
+    \0";
+
 /// The first command behind the input is no clearing of a key.
 pub const NO_CLEAR_AT_1: &[u8] = b"\0\x03\0\0\0\0\0\0\0\x39\
     \0\0\x02\x3a\

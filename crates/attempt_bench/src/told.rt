@@ -1,7 +1,7 @@
 //! What rows tell of an attempt: its answers, its errors and what it sends. A row that doesn't hold is a failure.
 //! The attempts are made for the version 7, under the options by default.
 
-use invocation_vm::{VMOptions, VMResult, Value};
+use invocation_vm::{AwaitingOnPolicy, VMOptions, VMResult, Value};
 use std::alloc::Global;
 use std::test::Fail;
 use vectors::headers::Headers;
@@ -94,10 +94,18 @@ pub fn expect_frames<H: Handler>(
     Ok(())
 }
 
+const HEADERS: Headers = Headers::ContentType("application/vnd.restate.invocation.v7");
+
 /// A new attempt of this handler.
 pub fn attempt_of<H: Handler + Drop>(alloc: Global, handler: H) -> VMResult<Attempt<H>> {
-    let headers = Headers::ContentType("application/vnd.restate.invocation.v7");
-    Attempt::new(alloc, headers, VMOptions::default(), handler)
+    Attempt::new(alloc, HEADERS, VMOptions::default(), handler)
+}
+
+/// A new attempt that doesn't say what it waits for, so that what it writes doesn't depend on how often it is asked.
+pub fn quiet_attempt_of<H: Handler + Drop>(alloc: Global, handler: H) -> VMResult<Attempt<H>> {
+    let mut options = VMOptions::default();
+    options.awaiting_on_policy = AwaitingOnPolicy::DontSend;
+    Attempt::new(alloc, HEADERS, options, handler)
 }
 
 /// More steps than any of these runs has.

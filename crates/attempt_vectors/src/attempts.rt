@@ -1,6 +1,7 @@
 // One attempt of a handler, from the bytes of its journal to the bytes of its commands.
 // Rows tell what happens to it in turn.
 use attempt_bench::asker::Asker;
+use attempt_bench::frames::AWAITING_ON_SIGNAL_17;
 use attempt_bench::napper::Napper;
 use attempt_bench::told::{Told, attempt_of, expect_answers, expect_error, expect_frames};
 use bytes::Bytes;
@@ -8,9 +9,9 @@ use std::alloc::Global;
 use std::process::Abort;
 use std::test::Fail;
 use vectors::frames::{
-    COMPLETION_1, END, ERROR_INPUT_CLOSED, ERROR_KNOWN_ENTRIES, INPUT_TILL, OUTPUT_EMPTY,
-    SIGNAL_17, SLEEP_TO_1000, SLEEP_TO_2024, START_0, START_1, START_2, START_3, SUSPENSION_ON_1,
-    TYPE_MISMATCH, UNCOMPLETED,
+    AWAITING_ON_1, COMPLETION_1, END, ERROR_INPUT_CLOSED, ERROR_KNOWN_ENTRIES, INPUT_TILL,
+    OUTPUT_EMPTY, SIGNAL_17, SLEEP_TO_1000, SLEEP_TO_2024, START_0, START_1, START_2, START_3,
+    SUSPENSION_ON_1, TYPE_MISMATCH, UNCOMPLETED,
 };
 use vm_rounds::{Attempt, Handler, Progress};
 
@@ -135,7 +136,7 @@ const CLOSED_LATE: &[Act] = &[
     Act::Step(2, WAITING),
     Act::Close,
     Act::Step(2, Progress::Suspended),
-    Act::Sends(&[SLEEP_TO_1000, SUSPENSION_ON_1]),
+    Act::Sends(&[SLEEP_TO_1000, AWAITING_ON_1, AWAITING_ON_1, SUSPENSION_ON_1]),
 ];
 
 const COMPLETED_LATE: &[Act] = &[
@@ -143,7 +144,7 @@ const COMPLETED_LATE: &[Act] = &[
     Act::Feed(INPUT_TILL),
     Act::Step(2, Progress::Stepped),
     Act::Step(1, WAITING),
-    Act::Sends(&[SLEEP_TO_1000]),
+    Act::Sends(&[SLEEP_TO_1000, AWAITING_ON_1]),
     Act::Feed(COMPLETION_1),
     Act::Step(4, Progress::Stepped),
     Act::Answers(SLEPT),
@@ -232,7 +233,7 @@ const ASKED: &[Act] = &[
         Told::Void,
     ]),
     Act::Step(1, Progress::Ended),
-    Act::Sends(&[END]),
+    Act::Sends(&[AWAITING_ON_SIGNAL_17, END]),
 ];
 
 #[test]

@@ -1,6 +1,6 @@
 //! The handles that a tree still awaits.
 ghost use Rattle.std.specs.Prelude.{◌≡◌, IfOk};
-ghost use Rattle.await_trees.specs.Handles.{handles_of};
+ghost use Rattle.await_trees.specs.Handles.{handles_of, has_leaf};
 ghost use Rattle.await_tries.specs.Left.{tree_left};
 
 use crate::residue::Residue;
@@ -36,4 +36,31 @@ pub fn list_handles(alloc: Global, left: &Residue) -> Result<Vec<u32>, AllocErro
         }
     }
     Ok(handles)
+}
+
+/// Whether a leaf is left. The walk ends at the first.
+pub fn has_leaf(alloc: Global, left: &Residue) -> Result<bool, AllocError>
+    ensures { IfOk result (λ answer. answer ≡ has_leaf (tree_left left.now)) }
+{
+    let nodes = left.nodes();
+    let kids = left.kids();
+    let Node {
+        label,
+        first,
+        count,
+    } = nodes[0];
+    if let Label::Leaf(_) = label {
+        return Ok(true);
+    }
+    let mut rows = Vec::new(alloc);
+    rows.push(Row {
+        place: first,
+        end: first + count,
+    })?;
+    while let Some(number) = next_node(nodes, kids, &mut rows)? {
+        if let Label::Leaf(_) = nodes[number].label {
+            return Ok(true);
+        }
+    }
+    Ok(false)
 }

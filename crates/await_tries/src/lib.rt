@@ -13,7 +13,7 @@ pub mod tries;
 pub mod walk;
 pub mod wire_future;
 
-pub use handles::list_handles;
+pub use handles::{has_leaf, list_handles};
 pub use leaves::{Asked, Leaves};
 pub use residue::{Residue, Resolution};
 pub use tries::try_future;

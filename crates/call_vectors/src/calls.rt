@@ -10,9 +10,9 @@ use std::process::Abort;
 use std::test::Fail;
 use std::time::Duration;
 use vectors::frames::{
-    AWAKEABLE_X, CANCEL_INV1, CLEAR_ALL, CLEAR_K, COMPLETION_1, END, ERROR_INPUT_CLOSED,
-    INPUT_TILL, OF_NOTHING, OUTPUT_EMPTY, SET_K, SIGNAL_V, SLEEP_TO_1000, SLEEP_TO_2024, START_1,
-    START_3,
+    AWAITING_ON_1, AWAKEABLE_X, CANCEL_INV1, CLEAR_ALL, CLEAR_K, COMPLETION_1, END,
+    ERROR_INPUT_CLOSED, INPUT_TILL, OF_NOTHING, OUTPUT_EMPTY, SET_K, SIGNAL_V, SLEEP_TO_1000,
+    SLEEP_TO_2024, START_1, START_3,
 };
 use vectors::headers::Headers;
 
@@ -185,7 +185,12 @@ fn assert_ends(rt: &impl Abort, alloc: Global, vm: &mut CoreVM) -> Result<(), Fa
     write(vm)?;
     vm.sys_end()?;
     assert_eq!(rt; vm.state(), State::Closed);
-    assert_sends(rt, alloc, vm, &[SLEEP_TO_1000, OUTPUT_EMPTY, END])
+    assert_sends(
+        rt,
+        alloc,
+        vm,
+        &[SLEEP_TO_1000, AWAITING_ON_1, OUTPUT_EMPTY, END],
+    )
 }
 
 fn assert_slept(rt: &impl Abort, alloc: Global, vm: &mut CoreVM) -> Result<(), Fail> {

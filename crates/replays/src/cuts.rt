@@ -1,7 +1,7 @@
 // Journals of whole runs, cut at each byte, and one byte at a time.
 // However a journal is cut, an attempt is ready when the known entries are there, and makes the same run.
 use attempt_bench::runs::{Ending, Replay, Run};
-use attempt_bench::told::{attempt_of, drive, expect_answers, expect_error, expect_frames};
+use attempt_bench::told::{drive, expect_answers, expect_error, expect_frames, quiet_attempt_of};
 use bytes::Bytes;
 use std::alloc::{AllocError, Global};
 use std::process::Abort;
@@ -68,7 +68,7 @@ fn assert_makes<H: Handler>(
     replay: &Replay,
     pieces: &[&[u8]],
 ) -> Result<(), Fail> {
-    let mut attempt = attempt_of(alloc, handler)?;
+    let mut attempt = quiet_attempt_of(alloc, handler)?;
     let made = assert_run(rt, alloc, &mut attempt, run, replay, pieces);
     drop(attempt);
     made

@@ -9,7 +9,7 @@ input <start_1 input_till>                 => ok
 sys_input                                  => ok id="abc" seed=0 key="" headers=[] value="Till" scope=- limit=- idem=-
 sleep "" 1000                              => ok 17
 await 17                                   => ok wait true false
-output                                     => ok <sleep_to_1000>
+output                                     => ok <sleep_to_1000 awaiting_on_1>
 "#;
 
 /// Each call once.

@@ -6,7 +6,7 @@ use crate::read_frames::{
 };
 use std::test::Fail;
 use vectors::frames::{
-    AWAKEABLE_X, AWAKEABLE_Y, CANCEL_INV1, CLEAR_ALL, CLEAR_ALL_N, CLEAR_K, CLEAR_L,
+    AWAITING_ON_1, AWAKEABLE_X, AWAKEABLE_Y, CANCEL_INV1, CLEAR_ALL, CLEAR_ALL_N, CLEAR_K, CLEAR_L,
     CLEAR_MISMATCH, COMPLETION_1, COMPLETION_9, CUT, END, ERROR_BAD_MESSAGE, ERROR_EAGER_STATE_KEY,
     ERROR_ENTRY_MESSAGE, ERROR_INPUT_CLOSED, ERROR_INPUT_MESSAGE, ERROR_KNOWN_ENTRIES,
     ERROR_NO_REPLAY, ERROR_NOT_UTF_8, ERROR_OUT_OF_BOUNDS, ERROR_STATE, ERROR_STATE_CLEAR,
@@ -18,7 +18,7 @@ use vectors::frames::{
     START_WITH_A_BAD_KEY, SUSPENSION_ON_1, TYPE_31, TYPE_MISMATCH, UNCOMPLETED,
 };
 
-static FRAMES: [(&str, &[u8]); 81] = [
+static FRAMES: [(&str, &[u8]); 82] = [
     ("start_0", START_0),
     ("start_1", START_1),
     ("start_2", START_2),
@@ -45,6 +45,7 @@ static FRAMES: [(&str, &[u8]); 81] = [
     ("signal_a_2", SIGNAL_A_2),
     ("no_notification", NO_NOTIFICATION),
     ("suspension_on_1", SUSPENSION_ON_1),
+    ("awaiting_on_1", AWAITING_ON_1),
     ("uncompleted", UNCOMPLETED),
     ("type_mismatch", TYPE_MISMATCH),
     ("error_input_closed", ERROR_INPUT_CLOSED),
@@ -112,10 +113,11 @@ pub fn frame_of(name: &str) -> Result<&'static [u8], Fail> {
     Err("no such frame")?
 }
 
-static TYPES: [(&str, u8); 11] = [
+static TYPES: [(&str, u8); 12] = [
     ("Suspension", 2),
     ("Error", 3),
     ("End", 4),
+    ("AwaitingOn", 7),
     ("SetState", 15),
     ("ClearState", 16),
     ("ClearAllState", 17),

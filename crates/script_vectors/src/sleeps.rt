@@ -28,7 +28,7 @@ await 17                                   => ok wait true false
 await 17                                   => ok wait true false
 input <completion_1>                       => ok
 await 17                                   => ok any
-output                                     => ok <sleep_to_1000>
+output                                     => ok <sleep_to_1000 awaiting_on_1 awaiting_on_1>
 output                                     => ok 0x
 
 # The sleep is recorded, and over. The time that is asked for isn't compared.

@@ -135,6 +135,118 @@ sleep "" 1000                                          => ok 17
 await fc(17)                                           => err 570 "UncompletedDoProgressDuringReplay"
 "#;
 
+const SAYS: &str = r#"
+# An await that waits says what for, each time that it is asked: what is left of the tree, the last child in the place of one that is over.
+vm "application/vnd.restate.invocation.v7" cancel=off                => ok V7
+input <start_1 input_till>                                           => ok
+sys_input                                                            => ok id="abc" seed=0 key="" headers=[] value="Till" scope=- limit=- idem=-
+sleep "" 1000                                                        => ok 17
+sleep "" 1000                                                        => ok 18
+sleep "" 1000                                                        => ok 19
+output                                                               => frames Sleep Sleep Sleep
+input <completion_1>                                                 => ok
+await asff(17,18,19)                                                 => ok wait true false
+output                                                               => ok 0x0007000000000000002a030000000000000002000000030000000200000000000000000000000000000000000000000000000000
+await asff(17,18,19)                                                 => ok wait true false
+await asff(17,18,19)                                                 => ok wait true false
+output                                                               => ok 0x0007000000000000002a0300000000000000020000000300000002000000000000000000000000000000000000000000000000000007000000000000002a030000000000000002000000030000000200000000000000000000000000000000000000000000000000
+
+# A leaf alone is the first of one; a node nests, with its leaves.
+vm "application/vnd.restate.invocation.v7" cancel=off                => ok V7
+input <start_1 input_till>                                           => ok
+sys_input                                                            => ok id="abc" seed=0 key="" headers=[] value="Till" scope=- limit=- idem=-
+sleep "" 1000                                                        => ok 17
+sleep "" 1000                                                        => ok 18
+sleep "" 1000                                                        => ok 19
+output                                                               => frames Sleep Sleep Sleep
+await 17                                                             => ok wait true false
+output                                                               => ok <awaiting_on_1>
+await fc(ac(18,19),17)                                               => ok wait true false
+output                                                               => ok 0x0007000000000000004f00000000000000000100000001000000000000000000000000000000000000000000000001010000000000000002000000020000000300000000000000000000000000000000000000000000000000
+
+# What was taken stands for no id, and is a leaf all the same.
+vm "application/vnd.restate.invocation.v7" cancel=off                => ok V7
+input <start_1 input_till>                                           => ok
+sys_input                                                            => ok id="abc" seed=0 key="" headers=[] value="Till" scope=- limit=- idem=-
+sleep "" 1000                                                        => ok 17
+sleep "" 1000                                                        => ok 18
+sleep "" 1000                                                        => ok 19
+output                                                               => frames Sleep Sleep Sleep
+input <completion_1>                                                 => ok
+await 17                                                             => ok any
+take 17                                                              => ok void
+await ac(17,18)                                                      => ok wait true false
+output                                                               => ok 0x000700000000000000260100000000000000010000000200000000000000000000000000000000000000000000000000
+await ac(17)                                                         => ok wait true false
+output                                                               => ok 0x0007000000000000002201000000000000000000000000000000000000000000000000000000000000000000
+
+# Where no leaf is left nothing is said.
+vm "application/vnd.restate.invocation.v7" cancel=off                => ok V7
+input <start_1 input_till>                                           => ok
+sys_input                                                            => ok id="abc" seed=0 key="" headers=[] value="Till" scope=- limit=- idem=-
+sleep "" 1000                                                        => ok 17
+sleep "" 1000                                                        => ok 18
+sleep "" 1000                                                        => ok 19
+output                                                               => frames Sleep Sleep Sleep
+await fc()                                                           => ok wait true false
+await un()                                                           => ok wait true false
+await fc(fc(),un())                                                  => ok wait true false
+output                                                               => ok 0x
+
+# By the policy nothing is said, or always; and nothing before version 7.
+vm "application/vnd.restate.invocation.v7" cancel=off awaiting=never => ok V7
+input <start_1 input_till>                                           => ok
+sys_input                                                            => ok id="abc" seed=0 key="" headers=[] value="Till" scope=- limit=- idem=-
+sleep "" 1000                                                        => ok 17
+sleep "" 1000                                                        => ok 18
+sleep "" 1000                                                        => ok 19
+output                                                               => frames Sleep Sleep Sleep
+await 17                                                             => ok wait true false
+output                                                               => ok 0x
+
+vm "application/vnd.restate.invocation.v7" cancel=off awaiting=always => ok V7
+input <start_1 input_till>                                           => ok
+sys_input                                                            => ok id="abc" seed=0 key="" headers=[] value="Till" scope=- limit=- idem=-
+sleep "" 1000                                                        => ok 17
+sleep "" 1000                                                        => ok 18
+sleep "" 1000                                                        => ok 19
+output                                                               => frames Sleep Sleep Sleep
+await 17                                                             => ok wait true false
+output                                                               => ok <awaiting_on_1>
+
+vm "application/vnd.restate.invocation.v6" cancel=off                => ok V6
+input <start_1 input_till>                                           => ok
+sys_input                                                            => ok id="abc" seed=0 key="" headers=[] value="Till" scope=- limit=- idem=-
+sleep "" 1000                                                        => ok 17
+sleep "" 1000                                                        => ok 18
+sleep "" 1000                                                        => ok 19
+output                                                               => frames Sleep Sleep Sleep
+await 17                                                             => ok wait true false
+output                                                               => ok 0x
+
+vm "application/vnd.restate.invocation.v8" cancel=off                => ok V8
+input <start_1 input_till>                                           => ok
+sys_input                                                            => ok id="abc" seed=0 key="" headers=[] value="Till" scope=- limit=- idem=-
+sleep "" 1000                                                        => ok 17
+sleep "" 1000                                                        => ok 18
+sleep "" 1000                                                        => ok 19
+output                                                               => frames Sleep Sleep Sleep
+await 17                                                             => ok wait true false
+output                                                               => ok <awaiting_on_1>
+
+# A suspension says it in its own frame.
+vm "application/vnd.restate.invocation.v7" cancel=off                => ok V7
+input <start_1 input_till>                                           => ok
+sys_input                                                            => ok id="abc" seed=0 key="" headers=[] value="Till" scope=- limit=- idem=-
+sleep "" 1000                                                        => ok 17
+sleep "" 1000                                                        => ok 18
+sleep "" 1000                                                        => ok 19
+output                                                               => frames Sleep Sleep Sleep
+close                                                                => ok
+await 17                                                             => err 599 "SUSPENDED"
+output                                                               => ok <suspension_on_1>
+"#;
+
 const WORDS: &str = r#"
 # What isn't a tree is a bad line.
 vm "application/vnd.restate.invocation.v7" cancel=off => ok V7
@@ -164,6 +276,11 @@ fn trees_wake(rt: HostRuntime) -> Result<(), Fail> {
 #[test]
 fn what_is_left_is_waited_for(rt: HostRuntime) -> Result<(), Fail> {
     assert_table(&rt, rt.alloc(), SUSPENDS)
+}
+
+#[test]
+fn await_that_waits_says_what_for(rt: HostRuntime) -> Result<(), Fail> {
+    assert_table(&rt, rt.alloc(), SAYS)
 }
 
 #[test]

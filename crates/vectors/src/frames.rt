@@ -206,6 +206,15 @@ pub const SUSPENSION_ON_1: &[u8] = b"\0\x02\0\0\0\0\0\0\0\x25\
     \0\0\0\0\0\0\0\0\
     \0\0\0\0\0\0\0\0";
 
+/// The same wait while the input is open, and no run is executing.
+pub const AWAITING_ON_1: &[u8] = b"\0\x07\0\0\0\0\0\0\0\x26\
+    \0\
+    \0\0\0\0\0\0\0\x01\0\0\0\x01\
+    \0\0\0\0\0\0\0\0\
+    \0\0\0\0\0\0\0\0\
+    \0\0\0\0\0\0\0\0\
+    \0";
+
 /// The refusal of an await in replay.
 pub const UNCOMPLETED: &[u8] = b"\0\x03\0\0\0\0\0\0\0\x3a\
     \0\0\x02\x3a\

@@ -1,5 +1,5 @@
 -- Each event writes at most one terminal message, and nothing behind it.
-use Rattle.std.proofs.Common.{◌≡◌, ℕ, Bool, true, false, List, [], ◌∷◌, ◌++◌, Option, Some, None, length, refl, sym, ap, subst, ⊎_elim, ◌∙◌}
+use Rattle.std.proofs.Common.{◌≡◌, ℕ, Bool, true, false, List, [], ◌∷◌, ◌++◌, Option, Some, None, length, map, refl, sym, ap, subst, ⊎_elim, ◌∙◌}
 use Rattle.std.specs.Prelude.{if◌then◌else◌, ◌||◌, ◌&&◌, ◌==◌, nat_le, nat_lt, not, is_some, Result, Ok, Err}
 use Rattle.std.proofs.lemmas.List.{append-nil}
 use Rattle.journal_errors.specs.declared.error.Error.{Error}
@@ -60,7 +60,7 @@ use Rattle.vm_machine.specs.Outcomes.{Outcome, Done, Failed, ◌>>=◌, CalledBy
 use Rattle.vm_machine.specs.Phases.{is_closed, is_from_v7, is_processing, is_replaying, is_running, state_fault}
 use Rattle.vm_machine.specs.Requests.{ids_of, name_of, shown_type, with_ids}
 use Rattle.vm_machine.proofs.Calling.{called_from}
-use Rattle.vm_machine.specs.Awaits.{Awaits, AwaitsAt, Ends, StaysPending, suspended, with_used}
+use Rattle.vm_machine.specs.Awaits.{Awaits, AwaitsAt, Ends, StaysPending, said_waiting, says_so, suspended, waiting, with_used}
 
 -- ---- nothing is written
 
@@ -380,20 +380,35 @@ suspended_so v u future s goes =
       ends_once = last_message (is_over v) m (is_some u.failure || true) goes refl (or_true (is_some u.failure));
     }
 
-pending_so : (future : Future) (v u : Machine) (a b : Bool) → Same v u → is_over v ≡ false
+-- a message that isn't terminal, or none
+none_last : (b : Bool) (c : Bool) (m : Message) (after : Bool) → b ≡ false → is_terminal m ≡ false → EndsOnce b (if c then m ∷ [] else []) after
+none_last true c m after e t = absurd cc
+none_last false true m after e t = rw t tt
+none_last false false m after e t = tt
+
+waiting_so : (v u : Machine) (left : Tree) → Same v u → is_over v ≡ false → Writes v (waiting left u)
+waiting_so v u left s goes =
+    let said = said_waiting u.version u.options.awaiting_on_policy (ids u.results) left in
+    record {
+      messages = said;
+      output = ap (λ o. o ++ map encoding said) s.output;
+      ends_once = none_last (is_over v) (says_so u.version u.options.awaiting_on_policy left) (message.AwaitingOn (record { future = sent (ids u.results) left; executing_side_effects = false })) (is_over u) goes refl;
+    }
+
+pending_so : (left : Tree) (v u : Machine) (a b : Bool) → Same v u → is_over v ≡ false
     → Event {A = Result AwaitResponse Error} v (if a then refused fault.UncompletedDoProgressDuringReplay u
-    else if b then Done (Err (named_error fault.Suspended None)) (suspended future u)
-    else Done (Ok (WaitingExternalProgress true false)) u)
-pending_so future v u true b s goes = s
-pending_so future v u false true s goes = suspended_so v u future s goes
-pending_so future v u false false s goes = writes_nothing v u s
+    else if b then Done (Err (named_error fault.Suspended None)) (suspended (sent (ids u.results) left) u)
+    else Done (Ok (WaitingExternalProgress true false)) (waiting left u))
+pending_so left v u true b s goes = s
+pending_so left v u false true s goes = suspended_so v u (sent (ids u.results) left) s goes
+pending_so left v u false false s goes = waiting_so v u left s goes
 
 await_so : (t : Tree) (v : Machine) (o : Outcome (Result AwaitResponse Error)) (b : Bool) → is_running v.phase ≡ b → v.failure ≡ None → AwaitsAt b t v o → Event v o
 await_so t v o true e live comes = ⊎_elim
     (λ (x : Ends t v o). subst (Event v) (sym x.2) (writes_nothing v (with_used x.0 v) (record { output = refl; closed = refl; failure = refl })))
     (λ (x : StaysPending t v o).
     let u = with_used (length v.results.queued) v in
-    subst (Event v) (sym x.2) (pending_so (sent (ids v.results) x.0) v u (is_replaying u.phase) u.input_closed (record { output = refl; closed = refl; failure = refl }) (goes_on v live e)))
+    subst (Event v) (sym x.2) (pending_so x.0 v u (is_replaying u.phase) u.input_closed (record { output = refl; closed = refl; failure = refl }) (goes_on v live e)))
     comes
 await_so t v o false e live comes = subst (Event v) (sym comes) (same v)
 

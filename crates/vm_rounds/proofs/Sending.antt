@@ -23,7 +23,7 @@ use Rattle.await_trees.specs.declared.handle.NotificationHandle.{NotificationHan
 use Rattle.await_trees.specs.Tree.{Tree, tree_of}
 use Rattle.await_trees.specs.Wires.{sent}
 use Rattle.await_tries.specs.Message.{ids}
-use Rattle.journal_attempt.specs.declared.future.Future.{Future}
+use Rattle.await_tries.specs.Message.{ids}
 use Rattle.vm_parts.specs.declared.values.Value.{Value}
 use Rattle.vm_parts.specs.declared.steps.Step.{Step}
 use Rattle.vm_parts.specs.Counting.{missing, missing_signals}
@@ -35,7 +35,7 @@ use Rattle.vm_machine.specs.declared.machine.Machine.{Machine}
 use Rattle.vm_machine.specs.declared.phase.Phase.{Phase}
 use Rattle.vm_machine.specs.declared.phase.Phase.TheVariants.{WaitingStart, WaitingReplayEntries, Replaying, Processing, Closed}
 use Rattle.vm_machine.specs.Asks.{ask_of}
-use Rattle.vm_machine.specs.Awaits.{Awaits, AwaitsAt, pending_on, suspended, with_used}
+use Rattle.vm_machine.specs.Awaits.{Awaits, AwaitsAt, pending_on, said_waiting, suspended, waiting, with_used}
 use Rattle.vm_machine.specs.Takes.{result_taken, take_step, taken_at, value_taken}
 use Rattle.vm_machine.specs.Commands.{CanBeRead, carried_out, commanded, commanded_unless, compared, counted, entered, ignores_payloads, issued, phase_after, popped, popped_from, prepared, replayed, written, about_next, handed_out}
 use Rattle.vm_machine.specs.Inputs.{end_at, end_step}
@@ -248,26 +248,35 @@ abbrev AwaitLeaves : Result AwaitResponse Error → Machine → Type 0
 AwaitLeaves (Ok response) w = is_running w.phase ≡ true
 AwaitLeaves (Err e) w = w.phase ≡ Closed
 
-module _ (future : Future) (v u : Machine) (same : Stays v u) (failure : u.failure ≡ v.failure) (runs : is_running u.phase ≡ true) where
-  suspends : Leaves AwaitLeaves v (Err (named_error fault.Suspended None)) (suspended future u)
+module _ (left : Tree) (v u : Machine) (same : Stays v u) (failure : u.failure ≡ v.failure) (runs : is_running u.phase ≡ true) where
+  suspends : Leaves AwaitLeaves v (Err (named_error fault.Suspended None)) (suspended (sent (ids u.results) left) u)
   suspends =
-      let m = message.Suspension (record { future = future }) in
+      let m = message.Suspension (record { future = sent (ids u.results) left }) in
       record {
         sends = record { messages = m ∷ []; output = ap (λ l. l ++ encoding m ∷ []) same.0; version = same.1; options = same.2 };
         failure = failure;
         left = refl;
       }
 
-  pends : Happens AwaitLeaves v (pending_on future u)
+  waits : Leaves AwaitLeaves v (Ok (WaitingExternalProgress true false)) (waiting left u)
+  waits =
+      let said = said_waiting u.version u.options.awaiting_on_policy (ids u.results) left in
+      record {
+        sends = record { messages = said; output = ap (λ l. l ++ map encoding said) same.0; version = same.1; options = same.2 };
+        failure = failure;
+        left = runs;
+      }
+
+  pends : Happens AwaitLeaves v (pending_on left u)
   pends = by_tests (is_replaying u.phase) u.input_closed
     where
       by_tests : (a b : Bool)
           → Happens AwaitLeaves v (if a then refused fault.UncompletedDoProgressDuringReplay u
-          else if b then Done (Err (named_error fault.Suspended None)) (suspended future u)
-          else Done (Ok (WaitingExternalProgress true false)) u)
+          else if b then Done (Err (named_error fault.Suspended None)) (suspended (sent (ids u.results) left) u)
+          else Done (Ok (WaitingExternalProgress true false)) (waiting left u))
       by_tests true b = same
       by_tests false true = suspends
-      by_tests false false = record { sends = stays_sends v u same; failure = failure; left = runs }
+      by_tests false false = waits
 
 awaits : (t : Tree) (v : Machine) (x : Outcome (Result AwaitResponse Error)) → Awaits t v x → Happens AwaitLeaves v x
 awaits t v x comes = by_test (is_running v.phase) refl comes
@@ -276,7 +285,7 @@ awaits t v x comes = by_test (is_running v.phase) refl comes
     by_test true e (inl (n, least, is)) = subst (Happens AwaitLeaves v) (sym is) (record { sends = stays_sends v (with_used n v) (refl, refl, refl); failure = refl; left = e })
     by_test true e (inr (left, pending, is)) =
         let n = length v.results.queued in
-        subst (Happens AwaitLeaves v) (sym is) (pends (sent (ids v.results) left) v (with_used n v) (refl, refl, refl) refl e)
+        subst (Happens AwaitLeaves v) (sym is) (pends left v (with_used n v) (refl, refl, refl) refl e)
     by_test false e is = subst (Happens AwaitLeaves v) (sym is) (refl, refl, refl)
 
 values : (o : Option Value) (v u : Machine) → Stays v u → u.failure ≡ v.failure → is_running u.phase ≡ true → Happens RunsOn v (value_taken o u)

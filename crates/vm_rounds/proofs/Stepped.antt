@@ -2,7 +2,7 @@
 use Rattle.vm_machine.specs.declared.reads.StateRead.{StateRead}
 use Rattle.vm_parts.specs.declared.context.StateMap.{StateMap}
 use Rattle.std.proofs.Common.{◌≡◌, ◌≢◌, ◌⊎◌, ℕ, zero, suc, ◌+◌, Bool, true, false, cond, List, [], ◌∷◌, ◌++◌, map, Option, Some, None, Result, Ok, Err, refl, sym, ap, ◌∙◌, subst, inl, inr, ⊎_elim, append-nil}
-use Rattle.std.specs.Prelude.{is_some, OnOk}
+use Rattle.std.specs.Prelude.{if◌then◌else◌, is_some, OnOk}
 use Rattle.journal_errors.specs.declared.error.Error.{Error}
 use Rattle.journal_errors.specs.declared.faults.NamedFault.{NamedFault}
 use Rattle.journal_messages.specs.declared.message.Message.{Message}
@@ -19,6 +19,8 @@ use Rattle.vm_parts.specs.declared.steps.Step.{Step}
 use Rattle.vm_parts.specs.declared.steps.Step.TheVariants as step
 use Rattle.await_trees.specs.declared.handle.NotificationHandle.{NotificationHandle}
 use Rattle.await_trees.specs.declared.tree.UnresolvedFuture.{UnresolvedFuture}
+use Rattle.await_trees.specs.Tree.{Tree}
+use Rattle.await_trees.specs.Wires.{sent}
 use Rattle.vm_parts.specs.declared.values.Value.{Value}
 use Rattle.vm_parts.specs.Counting.{missing, missing_signals}
 use Rattle.vm_parts.specs.Deliveries.{id_at, present_for}
@@ -31,6 +33,7 @@ use Rattle.vm_machine.specs.declared.asks.Command.{Command}
 use Rattle.vm_machine.specs.Asks.{ask_of}
 use Rattle.journal_messages.specs.Commands.{IsCommand}
 use Rattle.vm_rounds.proofs.Own.{AsksCommand, asks_command, numbered_is, own_is}
+use Rattle.vm_machine.specs.Awaits.{says_so}
 use Rattle.vm_machine.specs.Commands.{phase_after}
 use Rattle.vm_machine.specs.Outcomes.{DoesBy, IsStarved, Outcome, Done, Failed}
 use Rattle.vm_machine.specs.Phases.{is_running}
@@ -50,7 +53,7 @@ use Rattle.vm_rounds.specs.declared.progress.Fed.{Fed}
 use Rattle.vm_rounds.specs.declared.progress.Progress.{Progress}
 use Rattle.vm_rounds.specs.declared.progress.Reply.{Reply}
 use Rattle.vm_rounds.specs.declared.progress.Reply.TheVariants as reply
-use Rattle.vm_rounds.specs.Agreement.{Agrees, Answered, Follows, HasEnded, IsRefused, IsSuspended, MovesOn, StillAgrees, Waits, command_frames, suspended_on}
+use Rattle.vm_rounds.specs.Agreement.{Agrees, Answered, Follows, HasEnded, IsRefused, IsSuspended, MovesOn, StillAgrees, Waits, command_frames, suspended_on, waiting_on}
 use Rattle.vm_rounds.specs.Journals.{is_command, setup_for}
 use Rattle.vm_rounds.specs.Record.{Record}
 use Rattle.vm_rounds.specs.Stepping.{Asks, IfWaits, step_asked, asked_from, future_in, progress_of, replied, with_vm}
@@ -187,6 +190,14 @@ same_awaits : (m : Meaning) (p q : Point) (waiting : Option UnresolvedFuture) �
 same_awaits m p q None same a = tt
 same_awaits m p q (Some future) same a = ap m (same ∙ append-nil p.answers) ∙ a
 
+-- what an await that waits says is no command
+no_command_said : (s : Setup) (left : Tree) (d : Derived) → commands_of (waiting_on s left d) ≡ []
+no_command_said s left d = by_test (says_so s.version s.options.awaiting_on_policy left)
+  where
+    by_test : (b : Bool) → commands_of (if b then message.AwaitingOn (record { future = sent (λ handle. id_at handle d.handles) left; executing_side_effects = false }) ∷ [] else []) ≡ []
+    by_test true = refl
+    by_test false = refl
+
 -- ---- what the VM replies
 
 module _ (m : Meaning) (version : Version) (options : VMOptions) (r : Record) (k : Runs m version options r.fed r.answers r.waiting r.taken r.vm) (live : IsLive r.vm.machine) (w : View) (und : w.undecoded ≡ r.vm.undecoded) where
@@ -204,7 +215,7 @@ module _ (m : Meaning) (version : Version) (options : VMOptions) (r : Record) (k
   waits_keeps : (st : Step) → m k.at.answers ≡ st → StillAgrees s m (handed_out k.journal) k.written k.at r.vm.machine w.machine → Runs m version options r.fed r.answers (future_in st) r.taken w
   waits_keeps st is f =
       no_answer (future_in st)
-      (runs_on m version options r.fed r.answers r.waiting (future_in st) r.taken r.vm w k live und f.at [] [] f.waits.moves [] refl (f.output ∙ sym (append-nil r.vm.machine.output)) (future_awaits m k.at f.at st is f.waits.moves.answers)
+      (runs_on m version options r.fed r.answers r.waiting (future_in st) r.taken r.vm w k live und f.at [] [] f.waits.moves (waiting_on s f.left f.at.derived) (no_command_said s f.left f.at.derived) f.output (future_awaits m k.at f.at st is f.waits.moves.answers)
       (λ _. subst (λ l. Agrees s (handed_out k.journal) l w.machine f.at) (sym (append-nil k.written)) f.agrees)
       (λ _. inl (agrees_running s (handed_out k.journal) k.written w.machine f.at f.agrees)))
 
@@ -268,7 +279,7 @@ module _ (m : Meaning) (version : Version) (options : VMOptions) (r : Record) (k
   replied_waits P (Ok (reply.Answer a)) R f does h = tt
   replied_waits P (Ok (reply.Waiting input run)) R f does h =
       let g : StillAgrees s m (handed_out k.journal) k.written k.at r.vm.machine w.machine = f (Done (reply.Waiting input run) w.machine) does h in
-      waits_so g.at g.waits [] refl (g.output ∙ sym (append-nil r.vm.machine.output))
+      waits_so g.at g.waits (waiting_on s g.left g.at.derived) (no_command_said s g.left g.at.derived) g.output
   replied_waits P (Ok reply.Suspended) R f does h =
       let g : IsSuspended s m (handed_out k.journal) k.at r.vm.machine w.machine = f (Done reply.Suspended w.machine) does h in
       waits_so g.at g.waits (message.Suspension (suspended_on g.left g.at.derived) ∷ []) refl g.output

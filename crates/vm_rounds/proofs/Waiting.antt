@@ -1,5 +1,5 @@
 -- An await, in a machine that agrees with a point: it uses arrivals until its future wakes or none is left.
-use Rattle.std.proofs.Common.{◌≡◌, ◌<◌, ◌≤◌, ℕ, zero, suc, ◌+◌, Bool, true, false, List, [], ◌∷◌, ◌++◌, take, drop, length, Option, Some, None, refl, sym, ap, ◌∙◌, subst, inl, inr, append-nil, Ok, Err, arith}
+use Rattle.std.proofs.Common.{◌≡◌, ◌<◌, ◌≤◌, ℕ, zero, suc, ◌+◌, Bool, true, false, List, [], ◌∷◌, ◌++◌, map, take, drop, length, Option, Some, None, refl, sym, ap, ◌∙◌, subst, inl, inr, append-nil, Ok, Err, arith}
 use Rattle.std.specs.Prelude.{if◌then◌else◌, Result}
 use Rattle.await_trees.specs.declared.tree.UnresolvedFuture.{UnresolvedFuture}
 use Rattle.await_trees.specs.Residual.{Residual}
@@ -11,6 +11,7 @@ use Rattle.await_tries.specs.Used.{used}
 use Rattle.journal_errors.specs.declared.error.Error.{Error}
 use Rattle.journal_errors.specs.declared.faults.NamedFault.TheVariants as fault
 use Rattle.journal_messages.specs.declared.message.RawMessage.{RawMessage}
+use Rattle.journal_messages.specs.Message.{encoding}
 use Rattle.journal_values.specs.declared.notification.Notification.{Notification}
 use Rattle.journal_errors.specs.Errors.{named_error}
 use Rattle.vm_parts.specs.Arrived.{Arrived}
@@ -21,7 +22,7 @@ use Rattle.vm_parts.specs.declared.steps.Step.TheVariants as step
 use Rattle.vm_parts.specs.declared.types.AwaitResponse.{AwaitResponse}
 use Rattle.vm_parts.specs.declared.types.AwaitResponse.TheVariants.{AnyCompleted, WaitingExternalProgress}
 use Rattle.vm_machine.specs.declared.machine.Machine.{Machine}
-use Rattle.vm_machine.specs.Awaits.{AwaitsAt, Ends, StaysPending, pending_on, suspended, with_used}
+use Rattle.vm_machine.specs.Awaits.{AwaitsAt, Ends, StaysPending, pending_on, suspended, waiting, with_used}
 use Rattle.vm_machine.specs.Commands.{phase_after}
 use Rattle.vm_machine.specs.Outcomes.{Outcome, Done, ruled, settled}
 use Rattle.vm_model.specs.Calls.{Derived, Setup, Meaning, Move, awaiting, call_of, identity_of, is_awake}
@@ -32,7 +33,7 @@ use Rattle.vm_model.specs.Histories.{Made, Handed, arrivals_used}
 use Rattle.vm_model.specs.Refusals.{IsRefusedFor}
 use Rattle.vm_model.proofs.Runs.{longer_nothing, made_add}
 use Rattle.vm_model.proofs.Trees.{all_used, counters_more, left_at, tree_least, tree_never, used_at}
-use Rattle.vm_rounds.specs.Agreement.{Answered, Aside, Follows, IsLeftOf, MovesOn, Waits, machine_at}
+use Rattle.vm_rounds.specs.Agreement.{Answered, Aside, Follows, IsLeftOf, MovesOn, Waits, machine_at, waiting_on}
 use Rattle.vm_rounds.specs.declared.progress.Reply.{Reply}
 use Rattle.vm_rounds.specs.Steps.{Awaited, await_reply, mapped}
 use Rattle.vm_rounds.proofs.Leading.{error_written, state_at}
@@ -137,16 +138,19 @@ module _ (s : Setup) (m : Meaning) (given : StateMap) (written : List RawMessage
     abbrev sends : List RawMessage → Machine
     sends others = record (machine_at s given written aside last) { phase = phase_after others }
 
-    pends : (others : List RawMessage) → p.left ≡ others → Follows s m given written p v (mapped await_reply (settled (pending_on (sent (ids (arrived_at s last)) left) (sends others))))
+    pends : (others : List RawMessage) → p.left ≡ others → Follows s m given written p v (mapped await_reply (settled (pending_on left (sends others))))
     unfolding stands
     pends (c ∷ others) e =
         let w = sends (c ∷ others) in
         record { at = last; moves = to_last; why = fault.UncompletedDoProgressDuringReplay; reason = stuck c others e; related = None; error = refl; none_used = refl; output = error_written (ruled w (named_error fault.UncompletedDoProgressDuringReplay None)) w aside.output refl refl; failure = refl }
     pends [] e = by_test aside.input_closed refl
       where
-        by_test : (b : Bool) → aside.input_closed ≡ b → Follows s m given written p v (mapped await_reply (settled (if b then Done (Err (named_error fault.Suspended None)) (suspended (sent (ids (arrived_at s last)) left) (sends [])) else Done (Ok (WaitingExternalProgress true false)) (sends []))))
+        by_test : (b : Bool) → aside.input_closed ≡ b → Follows s m given written p v (mapped await_reply (settled (if b then Done (Err (named_error fault.Suspended None)) (suspended (sent (ids (arrived_at s last)) left) (sends [])) else Done (Ok (WaitingExternalProgress true false)) (waiting left (sends [])))))
         by_test true closed = record { at = last; waits = stands e; left = left; is_left = is_left; output = refl; closed = refl }
-        by_test false closed = record { at = last; waits = stands e; agrees = record { aside = aside; machine = λ i. record (machine_at s given written aside last) { phase = phase_after (sym e i) }; identity = identity }; output = refl }
+        by_test false closed =
+            let said = map encoding (waiting_on s left last.derived) in
+            let after : Aside = record aside { output = aside.output ++ said } in
+            record { at = last; waits = stands e; left = left; is_left = is_left; agrees = record { aside = after; machine = λ i. record (machine_at s given written after last) { phase = phase_after (sym e i) }; identity = identity }; output = refl }
 
   -- ---- what it comes to
 
@@ -154,8 +158,7 @@ module _ (s : Setup) (m : Meaning) (given : StateMap) (written : List RawMessage
   event_follows event (inl (n, least, is_so)) = subst (λ x. Follows s m given written p v (mapped await_reply (settled x))) (sym is_so) (wakes n least)
   event_follows event (inr (left, pending, is_so)) =
       let n = length p.queue in
-      let same : pending_on (sent (ids (arrived_at s p)) left) (with_used n v) ≡ pending_on (sent (ids (arrived_at s last)) left) (sends left pending p.left) =
-      λ i. pending_on (sent (ids (used_at s p n i)) left) (agrees_at n i) in
+      let same : pending_on left (with_used n v) ≡ pending_on left (sends left pending p.left) = ap (pending_on left) (agrees_at n) in
       subst (λ x. Follows s m given written p v (mapped await_reply (settled x))) (sym (is_so ∙ same)) (pends left pending p.left refl)
 
 -- an await does what its moves lead to

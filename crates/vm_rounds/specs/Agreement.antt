@@ -5,6 +5,7 @@ use Rattle.journal_attempt.specs.declared.control.Suspension.{Suspension}
 use Rattle.journal_errors.specs.declared.error.Error.{Error}
 use Rattle.journal_errors.specs.declared.error.RelatedCommand.{RelatedCommand}
 use Rattle.journal_errors.specs.declared.faults.NamedFault.{NamedFault}
+use Rattle.journal_messages.specs.declared.message.Message.{Message}
 use Rattle.journal_messages.specs.declared.message.Message.TheVariants as message
 use Rattle.journal_messages.specs.declared.message.RawMessage.{RawMessage}
 use Rattle.journal_errors.specs.Errors.{error_message, named_error}
@@ -22,6 +23,7 @@ use Rattle.await_tries.specs.Await.{AwakeAlike}
 use Rattle.vm_parts.specs.Deliveries.{id_at}
 use Rattle.vm_machine.specs.declared.machine.Machine.{Machine}
 use Rattle.vm_machine.specs.declared.phase.Phase.TheVariants.{Closed}
+use Rattle.vm_machine.specs.Awaits.{said_waiting}
 use Rattle.vm_machine.specs.Commands.{phase_after}
 use Rattle.vm_machine.specs.Outcomes.{Outcome, Done, Failed, ruled}
 use Rattle.vm_model.specs.Calls.{Setup, Meaning, Derived, identity_of, is_awake, leaf_in, ready_in}
@@ -106,18 +108,24 @@ pub record Waits (s : Setup) (m : Meaning) (given : StateMap) (p q : Point) : Ty
   pub none_recorded : p.left ≡ []
   pub no_command : q.left ≡ []
 
--- it waits in a machine that agrees with where that leads, and nothing was written
-pub record StillAgrees (s : Setup) (m : Meaning) (given : StateMap) (written : List RawMessage) (p : Point) (v w : Machine) : Type 0 where
-  pub at : Point
-  pub waits : Waits s m given p at
-  pub agrees : Agrees s given written w at
-  pub output : w.output ≡ v.output
-
 -- This is left of a future: of each node the children that have no outcome yet; whatever the leaves come to later, the two are awake
 -- alike.
 pub record IsLeftOf (s : Setup) (future : UnresolvedFuture) (d : Derived) (left : Tree) : Type 0 where
   pub residual : Residual (leaf_in s d) (tree_of future) left
   pub alike : AwakeAlike (leaf_in s d) (tree_of future) left
+
+-- what an await that waits says of what is left of it, by the ids of its handles
+abbrev pub waiting_on : Setup → Tree → Derived → List Message
+waiting_on s left d = said_waiting s.version s.options.awaiting_on_policy (λ handle. id_at handle d.handles) left
+
+-- it waits in a machine that agrees with where that leads, and says no more than what is left of the future
+pub record StillAgrees (s : Setup) (m : Meaning) (given : StateMap) (written : List RawMessage) (p : Point) (v w : Machine) : Type 0 where
+  pub at : Point
+  pub waits : Waits s m given p at
+  pub left : Tree
+  pub is_left : IsLeftOf s waits.future at.derived left
+  pub agrees : Agrees s given written w at
+  pub output : w.output ≡ v.output ++ map encoding (waiting_on s left at.derived)
 
 -- what a suspension on this tree waits for, by the ids of its handles
 abbrev pub suspended_on : Tree → Derived → Suspension

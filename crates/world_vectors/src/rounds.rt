@@ -7,7 +7,7 @@ use handlers::sleeper::Sleeper;
 use std::alloc::Global;
 use std::process::Abort;
 use std::test::Fail;
-use vectors::frames::{COMPLETION_1, END, INPUT_TILL, OUTPUT_EMPTY, SLEEP_TO_1000};
+use vectors::frames::{AWAITING_ON_1, COMPLETION_1, END, INPUT_TILL, OUTPUT_EMPTY, SLEEP_TO_1000};
 use vm_parts::{Answer, Value};
 use vm_world::Report;
 
@@ -82,7 +82,7 @@ fn a_sleep_is_over_in_the_second_round(rt: HostRuntime) -> Result<(), Fail> {
         alloc,
         reports.get(1),
         &["input", "handle 17", "awake", "taken void", "unit"],
-        &[OUTPUT_EMPTY, END],
+        &[AWAITING_ON_1, OUTPUT_EMPTY, END],
         4,
     )?;
     assert_journal(
