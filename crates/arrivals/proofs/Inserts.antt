@@ -7,11 +7,12 @@ use Rattle.arrivals.specs.declared.index.Index.{Index}
 use Rattle.journal_values.specs.declared.notification.NotificationId.{NotificationId}
 use Rattle.journal_values.specs.declared.notification.NotificationId.TheVariants.{CompletionId, SignalId, SignalName}
 use Rattle.arrivals.specs.Ids.{same_id, slot_of}
+use Rattle.arrivals.specs.Numbers.{slot_of_number}
 
 pub named : (name key : List ℕ) (slot : ℕ) (old new : Index) → key ≡ name → new.completions ≡ old.completions → new.signals ≡ old.signals
     → ((q : List ℕ) → get (slice_cmp nat_cmp) new.names q ≡ cond (is_at (slice_cmp nat_cmp key) q) (Some slot) (get (slice_cmp nat_cmp) old.names q))
     → (other : NotificationId) → slot_of new other ≡ cond (same_id (SignalName name) other) (Some slot) (slot_of old other)
-named name key slot old new k c s h (CompletionId i) = ap (λ m. get nat_cmp m i) c
+named name key slot old new k c s h (CompletionId i) = ap (λ m. slot_of_number m i) c
 named name key slot old new k c s h (SignalId i) = ap (λ m. get nat_cmp m i) s
 named name key slot old new k c s h (SignalName q) =
     let e : cond (is_at (slice_cmp nat_cmp key) q) (Some slot) (get (slice_cmp nat_cmp) old.names q) ≡ cond (is_at (slice_cmp nat_cmp name) q) (Some slot) (get (slice_cmp nat_cmp) old.names q) = ap (λ (t : List ℕ). cond (is_at (slice_cmp nat_cmp t) q) (Some slot) (get (slice_cmp nat_cmp) old.names q)) k in

@@ -3,4 +3,5 @@ pub mod Ids
 pub mod Inserts
 pub mod Moves
 pub mod Presents
+pub mod Slots
 pub mod Tracking

@@ -6,6 +6,7 @@ use Rattle.std.specs.BTreeMap.{get}
 use Rattle.journal_values.specs.declared.notification.NotificationId.{NotificationId}
 use Rattle.journal_values.specs.declared.notification.NotificationId.TheVariants.{CompletionId, SignalId, SignalName}
 use Rattle.arrivals.specs.declared.index.Index.{Index}
+use Rattle.arrivals.specs.Numbers.{slot_of_number}
 
 -- whether two ids are one
 abbrev pub same_id : NotificationId → NotificationId → Bool
@@ -16,6 +17,6 @@ same_id _ _ = false
 
 -- the slot of an id
 abbrev pub slot_of : Index → NotificationId → Option ℕ
-slot_of index (CompletionId i) = get nat_cmp index.completions i
+slot_of index (CompletionId i) = slot_of_number index.completions i
 slot_of index (SignalId i) = get nat_cmp index.signals i
 slot_of index (SignalName name) = get (slice_cmp nat_cmp) index.names name

@@ -2,6 +2,7 @@
 ghost use Rattle.std.specs.Prelude.{◌≡◌, Some, None, cond, OnOk, OnErr};
 ghost use Rattle.arrivals.specs.Ids.{same_id, slot_of};
 
+use crate::numbers::Numbers;
 use journal_values::NotificationId;
 use std::alloc::{AllocError, Global};
 use std::collections::BTreeMap;
@@ -10,7 +11,7 @@ use wire::Text;
 /// Which slot each id has, where it has one.
 #[derive(Debug, Drop)]
 pub struct Index {
-    pub completions: BTreeMap<u32, usize>,
+    pub completions: Numbers,
     pub signals: BTreeMap<u32, usize>,
     pub names: BTreeMap<Text, usize>,
 }
@@ -20,7 +21,7 @@ impl Index {
         ensures { (id : NotificationId) → slot_of result id ≡ None }
     {
         Index {
-            completions: BTreeMap::new(alloc),
+            completions: Numbers::new(alloc),
             signals: BTreeMap::new(alloc),
             names: BTreeMap::new(alloc),
         }
@@ -30,7 +31,7 @@ impl Index {
         ensures { result ≡ slot_of self.now id.now }
     {
         match id {
-            NotificationId::CompletionId(id) => self.completions.get(id).copied(),
+            NotificationId::CompletionId(id) => self.completions.find(*id),
             NotificationId::SignalId(id) => self.signals.get(id).copied(),
             NotificationId::SignalName(name) => self.names.get(name).copied(),
         }

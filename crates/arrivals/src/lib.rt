@@ -5,6 +5,7 @@ pub mod arrivals;
 pub mod eager;
 pub mod index;
 pub mod log;
+pub mod numbers;
 pub mod places;
 
 pub use arrivals::Arrivals;

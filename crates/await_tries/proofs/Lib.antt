@@ -4,6 +4,7 @@ pub mod Lifting
 pub mod Links
 pub mod Messages
 pub mod Moves
+pub mod OneLeaf
 pub mod Settling
 pub mod Spelled
 pub mod Sweeping

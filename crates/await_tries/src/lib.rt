@@ -4,6 +4,7 @@
 
 pub mod handles;
 pub mod laws;
+pub mod leaf_tries;
 pub mod leaves;
 pub mod linking;
 pub mod pass;

@@ -6,6 +6,7 @@ ghost use Rattle.await_tries.specs.Resolved.{Resolved};
 ghost use Rattle.await_tries.specs.Spells.{Spells};
 ghost use Rattle.await_tries.specs.Try.{Tried};
 
+use crate::leaf_tries::try_leaf;
 use crate::leaves::Asked;
 use crate::linking::link;
 use crate::pass::pass;
@@ -66,6 +67,9 @@ pub fn try_future(
     ensures ok { IfOk result (λ answer. Resolved delivery results.old (tree_of future.now) results.new answer) }
     ensures err { OnErr result (results.new ≡ results.old) }
 {
+    if let UnresolvedFuture::Single(handle) = future {
+        return try_leaf(alloc, results, delivery, handle.0);
+    }
     let mut nodes = list_nodes(alloc, future)?;
     let mut kids = link(alloc, &mut nodes)?;
     let mut values = no_values(alloc, nodes.len())?;

@@ -1,5 +1,6 @@
 //! Messages as frames: writing one, and reading the body of one.
-ghost use Rattle.std.specs.Prelude.{◌≡◌, ◌++◌, IfOk, OnOk};
+ghost use Rattle.std.specs.Prelude.{◌≡◌, ◌≤◌, ◌-◌, ◌++◌, take, drop, length, IfOk, OnOk};
+ghost use Rattle.wire.specs.Format.{u64s};
 ghost use Rattle.wire.specs.Reads.{Read};
 ghost use Rattle.journal_messages.specs.Reading.{body_as, start_in, input_in, notification_in, message_in};
 ghost use Rattle.journal_messages.specs.Message.{IsWhole};
@@ -149,7 +150,20 @@ pub struct Encoder {
     alloc: Global,
 }
 
-#[tactic(auto, unfolding(wire::specs::Format::bytes))]
+/// The bytes that a frame has at first: enough for most commands.
+const ROOM: usize = 64;
+
+/// Writes the length of a frame's body to its place, behind the type's number.
+#[tactic(auto, unfolding(wire::specs::Format::u64s))]
+fn set_length(frame: &mut Vec<u8>)
+    requires { 10 ≤ length frame.old.items }
+    ensures { frame.new.items ≡ take 2 frame.old.items ++ (u64s (length frame.old.items - 10) ++ drop 10 frame.old.items) }
+{
+    let len = (frame.len() - 10) as u64;
+    frame[2..10].copy_from_slice(&len.to_be_bytes());
+}
+
+#[tactic(auto, unfolding(wire::specs::Format::bytes), using(crate::proofs::Framing::has_head, crate::proofs::Framing::framed))]
 impl Encoder {
     pub fn new(alloc: Global) -> Encoder {
         Encoder { alloc }
@@ -159,12 +173,11 @@ impl Encoder {
         ensures written { IfOk result (λ b. b ≡ encoding message.now) }
         ensures valid { OnOk result (IsWhole message.now) }
     {
-        let mut rest = Vec::new(self.alloc);
-        message.put_body(&mut rest)?;
-        let mut frame = Vec::new(self.alloc);
+        let mut frame = Vec::with_capacity(self.alloc, ROOM)?;
         message.ty().number().put(&mut frame)?;
-        (rest.len() as u64).put(&mut frame)?;
-        frame.extend_from_slice(&rest)?;
+        0u64.put(&mut frame)?;
+        message.put_body(&mut frame)?;
+        set_length(&mut frame);
         Ok(Bytes::from_vec(frame)?)
     }
 }

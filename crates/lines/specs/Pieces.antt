@@ -60,6 +60,10 @@ ArePieces separator text pieces =
 abbrev pub is_word : Bor (List ℕ) → Bool
 is_word piece = not (length piece.now == 0)
 
+-- these words, and the piece where it is one
+unfoldable pub with_word : List (Bor (List ℕ)) → Bor (List ℕ) → List (Bor (List ℕ))
+with_word words piece = words ++ filter is_word (piece ∷ [])
+
 -- the words of the text are its pieces between blanks, without those that are empty
 abbrev pub AreWords : List ℕ → List (Bor (List ℕ)) → Type 0
 AreWords text words = (pieces : List (Bor (List ℕ))) × ArePieces 32 text pieces × (words ≡ filter is_word pieces)

@@ -1,8 +1,8 @@
 //! A text cut into pieces, none of them within quotes or brackets.
-ghost use Rattle.std.specs.Prelude.{◌≡◌, ◌++◌, IfOk, IfSome, IsTrue, ◌↔◌, Some};
-ghost use Rattle.lines.specs.Pieces.{ArePieces, AreWords, behind, outside};
+ghost use Rattle.std.specs.Prelude.{◌≡◌, ◌++◌, IfOk, OnOk, IfSome, IsTrue, ◌↔◌, Some};
+ghost use Rattle.lines.specs.Pieces.{ArePieces, AreWords, behind, outside, with_word};
 
-use std::alloc::Global;
+use std::alloc::{AllocError, Global};
 use wire::Fault;
 
 #[derive(Clone, Copy, Debug, PartialEq, Eq)]
@@ -94,17 +94,38 @@ pub fn first_word<'a>(text: &'a [u8]) -> Result<(&'a [u8], &'a [u8]), Fault>
     Err(Fault::Malformed)
 }
 
-/// The pieces between blanks.
+/// Adds a piece that isn't empty.
+#[tactic(auto, unfolding(crate::specs::Pieces::with_word))]
+fn add_word<'a>(words: &mut Vec<&'a [u8]>, piece: &'a [u8]) -> Result<(), AllocError>
+    ensures { OnOk result (words.new.items ≡ with_word words.old.items piece.entry) }
+{
+    if piece.is_empty() {
+        return Ok(());
+    }
+    words.push(piece)?;
+    Ok(())
+}
+
+/// The pieces between blanks, without those that are empty.
+#[tactic(auto, using(crate::proofs::Wording::words_none, crate::proofs::Wording::words_within, crate::proofs::Wording::words_here, crate::proofs::Wording::words_all))]
 pub fn words<'a>(alloc: Global, text: &'a [u8]) -> Result<Vec<&'a [u8]>, Fault>
     ensures { IfOk result (λ words. AreWords text.now words.items) }
 {
     let mut words = Vec::new(alloc);
-    let pieces = pieces(alloc, text, b' ')?;
-    for piece in &pieces {
-        if !piece.is_empty() {
-            words.push(*piece)?;
+    let mut start = 0;
+    let mut nesting = Nesting::NONE;
+    for i in 0..text.len() {
+        if text[i] == b' ' && nesting.is_none() {
+            add_word(&mut words, &text[start..i])?;
+            start = i + 1;
+        } else {
+            nesting = nesting.behind(text[i]).ok_or(Fault::Malformed)?;
         }
     }
+    if !nesting.is_none() {
+        return Err(Fault::Malformed);
+    }
+    add_word(&mut words, &text[start..])?;
     Ok(words)
 }
 

@@ -1,11 +1,11 @@
 //! A line of the script, read as a whole: one row a call.
-ghost use Rattle.std.specs.Prelude.{◌≡◌, ◌⊎◌, IfOk, Ok, true, false, codes};
+ghost use Rattle.std.specs.Prelude.{◌≡◌, ◌⊎◌, [], IfOk, Ok, true, false, codes};
 ghost use Rattle.requests.specs.declared.verb.Verb.TheVariants as verb;
 ghost use Rattle.requests.specs.Lines.{Asks, AsksCall, IsContentType, MakesWith, Reads, begins_with_vm, says_nothing};
 ghost use Rattle.requests.specs.Verbs.{IsAwaited, IsLine, IsAsked, text_at};
 
 use crate::arguments::{
-    Extras, alone, bytes_alone, extras_of, handle_alone, name_of, now_of, text_alone, two_texts,
+    Extras, bytes_alone, extras_of, handle_alone, name_of, now_of, text_alone, two_texts,
     value_alone, value_and_payload,
 };
 use crate::atoms::{duration_of, shared_of, string_of, text_of};
@@ -195,34 +195,89 @@ fn await_of(alloc: Global, arguments: &[&[u8]]) -> Result<Call, Fault>
     Ok(Call::Step(Step::Await(future)))
 }
 
+/// The call of a name that takes no arguments.
+fn bare_call(verb: Verb) -> Result<Call, Fault>
+    ensures { IfOk result (λ call. IsLine verb [] call) }
+{
+    match verb {
+        Verb::Head => Ok(Call::Head),
+        Verb::Close => Ok(Call::Close),
+        Verb::Output => Ok(Call::Output),
+        Verb::Ready => Ok(Call::Ready),
+        Verb::State => Ok(Call::State),
+        Verb::Index => Ok(Call::Index),
+        Verb::SysInput => Ok(Call::SysInput),
+        Verb::Awakeable => Ok(Call::Step(Step::Awakeable)),
+        Verb::End => Ok(Call::Step(Step::End)),
+        _ => Err(Fault::Malformed),
+    }
+}
+
+fn bare_of(verb: Verb, arguments: &[&[u8]]) -> Result<Call, Fault>
+    ensures { IfOk result (λ call. IsLine verb arguments.now call) }
+{
+    if arguments.is_empty() {
+        bare_call(verb)
+    } else {
+        Err(Fault::Malformed)
+    }
+}
+
+fn input_of(alloc: Global, arguments: &[&[u8]]) -> Result<Call, Fault>
+    ensures { IfOk result (λ call. IsLine verb.Input arguments.now call) }
+{
+    let bytes = bytes_alone(alloc, arguments)?;
+    Ok(Call::Input(bytes))
+}
+
+fn completed_of(arguments: &[&[u8]]) -> Result<Call, Fault>
+    ensures { IfOk result (λ call. IsLine verb.Completed arguments.now call) }
+{
+    let handle = handle_alone(arguments)?;
+    Ok(Call::Step(Step::Completed(handle)))
+}
+
+fn take_of(arguments: &[&[u8]]) -> Result<Call, Fault>
+    ensures { IfOk result (λ call. IsLine verb.Take arguments.now call) }
+{
+    let handle = handle_alone(arguments)?;
+    Ok(Call::Step(Step::Take(handle)))
+}
+
+fn clear_all_of(alloc: Global, arguments: &[&[u8]]) -> Result<Call, Fault>
+    ensures { IfOk result (λ call. IsLine verb.ClearAll arguments.now call) }
+{
+    let name = name_of(alloc, arguments)?;
+    Ok(Call::Step(Step::StateClearAll { name }))
+}
+
 /// The call of this name, with the arguments behind it.
 fn call_named(alloc: Global, verb: Verb, arguments: &[&[u8]]) -> Result<Call, Fault>
     ensures { IfOk result (λ call. IsLine verb arguments.now call) }
 {
     match verb {
-        Verb::Head => alone(arguments, Call::Head),
-        Verb::Input => Ok(Call::Input(bytes_alone(alloc, arguments)?)),
-        Verb::Close => alone(arguments, Call::Close),
-        Verb::Output => alone(arguments, Call::Output),
-        Verb::Ready => alone(arguments, Call::Ready),
-        Verb::State => alone(arguments, Call::State),
-        Verb::Index => alone(arguments, Call::Index),
+        Verb::Head
+        | Verb::Close
+        | Verb::Output
+        | Verb::Ready
+        | Verb::State
+        | Verb::Index
+        | Verb::SysInput
+        | Verb::Awakeable
+        | Verb::End => bare_of(verb, arguments),
+        Verb::Input => input_of(alloc, arguments),
         Verb::Error => error_of(alloc, arguments),
-        Verb::SysInput => alone(arguments, Call::SysInput),
         Verb::Await => await_of(alloc, arguments),
-        Verb::Completed => Ok(Call::Step(Step::Completed(handle_alone(arguments)?))),
-        Verb::Take => Ok(Call::Step(Step::Take(handle_alone(arguments)?))),
+        Verb::Completed => completed_of(arguments),
+        Verb::Take => take_of(arguments),
         Verb::Get => get_of(alloc, arguments),
         Verb::Keys => keys_of(alloc, arguments),
         Verb::Set => set_of(alloc, arguments),
         Verb::Clear => clear_of(alloc, arguments),
-        Verb::ClearAll => Ok(Call::Step(Step::StateClearAll {
-            name: name_of(alloc, arguments)?,
-        })),
+        Verb::ClearAll => clear_all_of(alloc, arguments),
         Verb::Sleep => sleep_of(alloc, arguments),
         Verb::Call => call_line(alloc, arguments),
         Verb::Send => send_line(alloc, arguments),
-        Verb::Awakeable => alone(arguments, Call::Step(Step::Awakeable)),
         Verb::Signal => signal_of(alloc, arguments),
         Verb::CompleteAwakeable => complete_awakeable_of(alloc, arguments),
         Verb::CompleteSignal => complete_signal_of(alloc, arguments),
@@ -233,7 +288,6 @@ fn call_named(alloc: Global, verb: Verb, arguments: &[&[u8]]) -> Result<Call, Fa
         Verb::Attach => attach_of(alloc, arguments),
         Verb::GetOutput => get_output_of(alloc, arguments),
         Verb::WriteOutput => write_output_of(alloc, arguments),
-        Verb::End => alone(arguments, Call::Step(Step::End)),
     }
 }
 

@@ -1,12 +1,12 @@
 //! What a line asks for, done.
-ghost use Rattle.std.specs.Prelude.{◌≡◌, codes};
+ghost use Rattle.std.specs.Prelude.{◌≡◌, None, codes};
 ghost use Rattle.vm_machine.specs.Asks.{command_answer};
 ghost use Rattle.vm_machine.specs.Commands.{commanded};
 ghost use Rattle.vm_machine.specs.Requests.{ids_of};
 ghost use Rattle.vm_parts.specs.declared.steps.Answer.TheVariants as answer;
 ghost use Rattle.invocation_vm.specs.Making.{version_in};
 ghost use Rattle.invocation_vm.specs.Seen.{seen};
-ghost use Rattle.scripts.specs.Called.{Answers, Called, StepDone, reply_of, reply_or_memory};
+ghost use Rattle.scripts.specs.Called.{Answers, Called, DoneAsAsked, StepDone, reply_of, reply_or_memory};
 ghost use Rattle.requests.specs.ContentTypes.{found};
 ghost use Rattle.replies.specs.declared.reply.Reply.TheVariants as reply;
 ghost use Rattle.scripts.specs.Performed.{Made, Performed};
@@ -127,12 +127,12 @@ fn carry(vm: &mut CoreVM, command: Command) -> Reply
     }
 }
 
-/// Makes the call that a step of a handler is.
+/// Makes the call that is asked for.
 #[tactic(auto, using(crate::proofs::Told::answers, crate::proofs::Told::awaits))]
-fn perform_step(vm: &mut CoreVM, step: Step) -> Reply
-    ensures { StepDone step result (seen vm.old) (seen vm.new) }
+fn perform_ask(vm: &mut CoreVM, ask: Ask) -> Reply
+    ensures { DoneAsAsked ask result (seen vm.old) (seen vm.new) }
 {
-    match vm.ask_of(step) {
+    match ask {
         Ask::Command(command) => carry(vm, command),
         Ask::Awakeable => awakeable(vm.sys_awakeable()),
         Ask::Read(read) => handle(vm.read(read)),
@@ -141,6 +141,21 @@ fn perform_step(vm: &mut CoreVM, step: Step) -> Reply
         Ask::Take(handle) => taken(vm.take_notification(handle)),
         Ask::Completed(handle) => Reply::Answer(Answer::Completed(vm.is_completed(handle))),
         Ask::End => ended(vm.sys_end()),
+    }
+}
+
+/// Makes the call that a step of a handler is: an await or a take at once, since most lines are one.
+#[tactic(auto, using(crate::proofs::Told::answers, crate::proofs::Told::awaits))]
+fn perform_step(vm: &mut CoreVM, step: Step) -> Reply
+    ensures { StepDone step result (seen vm.old) (seen vm.new) }
+{
+    match step {
+        Step::Await(future) => awaited(vm.do_await(future)),
+        Step::Take(handle) => taken(vm.take_notification(handle)),
+        step => {
+            let ask = vm.ask_of(step);
+            perform_ask(vm, ask)
+        }
     }
 }
 
@@ -199,6 +214,15 @@ fn make_anew(
     reply
 }
 
+/// Lets the last VM go, since no new one can be made.
+fn bad_make(vm: &mut Option<CoreVM>) -> Reply
+    ensures vm { vm.new ≡ None }
+    ensures reply { result ≡ reply.Bad }
+{
+    replace(vm, None);
+    Reply::Bad
+}
+
 /// Does what a line asks for.
 pub fn perform(alloc: Global, vm: &mut Option<CoreVM>, request: Request) -> Reply
     ensures { Performed alloc request vm.old result vm.new }
@@ -206,10 +230,7 @@ pub fn perform(alloc: Global, vm: &mut Option<CoreVM>, request: Request) -> Repl
     match request {
         Request::Nothing => Reply::Nothing,
         Request::Bad => Reply::Bad,
-        Request::BadMake => {
-            replace(vm, None);
-            Reply::Bad
-        }
+        Request::BadMake => bad_make(vm),
         Request::Make(content_type, options) => make_anew(alloc, vm, content_type, options),
         Request::Call(call) => match vm {
             Some(vm) => perform_call(vm, call),

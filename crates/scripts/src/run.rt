@@ -1,6 +1,7 @@
 //! A run of the program: what a reader gives is a script, and its answers go to a writer.
 ghost use Rattle.std.specs.Prelude.{◌≡◌, ◌≢◌, ◌<◌, length, IfOk, OnOk, Option, None};
 ghost use Rattle.invocation_vm.specs.declared.core_vm.CoreVM.{CoreVM};
+ghost use Rattle.replies.specs.Replies.{reply_text};
 ghost use Rattle.scripts.specs.Transcripts.{IsFirstLine, IsRun, IsWritten, Transcribes};
 ghost use Rattle.scripts.specs.declared.exit_status.ExitStatus.TheVariants as status;
 
@@ -8,7 +9,7 @@ use crate::exit_status::ExitStatus;
 use crate::perform::perform;
 use invocation_vm::CoreVM;
 use lines::line::Line;
-use replies::Shown;
+use replies::{Reply, Shown};
 use requests::parse::parse;
 use std::alloc::{AllocError, Global};
 use std::io::{self, Read, Write};
@@ -18,13 +19,23 @@ use std::io::{self, Read, Write};
 pub fn answer(alloc: Global, vm: &mut Option<CoreVM>, line: &[u8]) -> Result<Line, AllocError>
     ensures { IfOk result (λ answer. Transcribes alloc vm.old vm.new line.now answer) }
 {
-    let request = parse(alloc, line)?;
-    let reply = perform(alloc, vm, request);
+    match parse(alloc, line) {
+        Ok(request) => written(alloc, perform(alloc, vm, request)),
+        Err(error) => Err(error),
+    }
+}
+
+/// A reply as it is written.
+fn written(alloc: Global, reply: Reply) -> Result<Line, AllocError>
+    ensures { IfOk result (λ answer. answer ≡ reply_text reply) }
+{
     let mut answer = Line::new(alloc);
     let printed = reply.show(&mut answer);
     drop(reply);
-    printed?;
-    Ok(answer)
+    match printed {
+        Ok(()) => Ok(answer),
+        Err(error) => Err(error),
+    }
 }
 
 /// The first line, without its end, and what follows it.

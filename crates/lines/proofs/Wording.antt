@@ -1,0 +1,43 @@
+-- A text that is cut into words byte by byte.
+use Rattle.std.proofs.Common.{◌≡◌, ◌≢◌, ◌<◌, ◌+◌, ◌++◌, ℕ, List, [], ◌∷◌, length, drop, filter, get_or, sym, ap, refl, ◌∙◌, Some}
+use Rattle.std.specs.Borrow.{Bor}
+use Rattle.std.specs.List.{slice_range}
+use Rattle.std.proofs.lemmas.List.Elements.{filter-append}
+use Rattle.lines.specs.declared.pieces.Nesting.{Nesting}
+use Rattle.lines.specs.Pieces.{behind, outside, is_word, with_word, AreWords}
+use Rattle.lines.proofs.Cutting.{IsCut, cut_none, cut_within, cut_here, cut_all}
+
+-- the text is cut up to i, and these are the words so far
+pub record IsCutToWords (start i : ℕ) (text : List ℕ) (words : List (Bor (List ℕ))) (nesting : Nesting) : Type 0 where
+  pub pieces : List (Bor (List ℕ))
+  pub cut : IsCut 32 start i text pieces nesting
+  pub words_are : words ≡ filter is_word pieces
+
+-- a piece more
+word_more : (words longer pieces : List (Bor (List ℕ))) (p : Bor (List ℕ)) → words ≡ filter is_word pieces → longer ≡ with_word words p → longer ≡ filter is_word (pieces ++ p ∷ [])
+unfolding with_word
+word_more words longer pieces p are e = e ∙ ap (λ ws. ws ++ filter is_word (p ∷ [])) are ∙ sym (filter-append is_word pieces (p ∷ []))
+
+-- where the text begins, nothing is cut
+pub words_none : (text : List ℕ) (words : List (Bor (List ℕ))) (nesting : Nesting) → words ≡ [] → Some nesting ≡ outside → IsCutToWords 0 0 text words nesting
+words_none text words nesting none e = record { pieces = []; cut = cut_none 32 text [] nesting refl e; words_are = none }
+
+-- a byte more of a piece
+pub words_within : (start i : ℕ) (text : List ℕ) (words : List (Bor (List ℕ))) (n m : Nesting) → IsCutToWords start i text words n → i < length text
+    → (get_or text i 0 ≡ 32 → Some n ≢ outside) → behind (Some n) (get_or text i 0) ≡ Some m → IsCutToWords start (i + 1) text words m
+words_within start i text words n m c h here e = record { pieces = c.pieces; cut = cut_within 32 start i text c.pieces n m c.cut h here e; words_are = c.words_are }
+
+-- the text is cut at a blank
+pub words_here : (start i : ℕ) (text : List ℕ) (words longer : List (Bor (List ℕ))) (n : Nesting) (p : Bor (List ℕ)) → IsCutToWords start i text words n → i < length text
+    → get_or text i 0 ≡ 32 → Some n ≡ outside → p.now ≡ slice_range text start i → longer ≡ with_word words p → IsCutToWords (i + 1) (i + 1) text longer n
+words_here start i text words longer n p c h sep e now long = record {
+  pieces = c.pieces ++ p ∷ [];
+  cut = cut_here 32 start i text c.pieces (c.pieces ++ p ∷ []) n p c.cut h sep e now refl;
+  words_are = word_more words longer c.pieces p c.words_are long;
+}
+
+-- the whole text is cut
+pub words_all : (start : ℕ) (text : List ℕ) (words longer : List (Bor (List ℕ))) (n : Nesting) (p : Bor (List ℕ)) → IsCutToWords start (length text) text words n
+    → Some n ≡ outside → p.now ≡ drop start text → longer ≡ with_word words p → AreWords text longer
+words_all start text words longer n p c e now long =
+    (c.pieces ++ p ∷ [], cut_all 32 start text c.pieces (c.pieces ++ p ∷ []) n p c.cut e now refl, word_more words longer c.pieces p c.words_are long)
