@@ -14,7 +14,7 @@ use Rattle.vm_model.specs.Histories.{Handed, Made}
 use Rattle.vm_model.specs.Moves.{Point, after, longer, next, start, supplied}
 use Rattle.vm_model.proofs.Carried.{completions_once}
 use Rattle.vm_model.proofs.Compared.{attempt_is_told}
-use Rattle.vm_model.proofs.Runs.{after_longer, longer_twice}
+use Rattle.vm_model.proofs.Runs.{after_longer}
 
 -- ---- the ids that commands carry
 

@@ -4,9 +4,11 @@ ghost use Rattle.journal_attempt.specs.declared.commands.InputCommand.{InputComm
 ghost use Rattle.journal_messages.specs.declared.message.RawMessage.{RawMessage};
 ghost use Rattle.journal_values.specs.declared.notification.Notification.{Notification};
 ghost use Rattle.journal_values.specs.declared.notification.NotificationId.{NotificationId};
+ghost use Rattle.vm_parts.specs.declared.context.StateMap.{StateMap};
 ghost use Rattle.vm_parts.specs.Deliveries.{id_at};
 ghost use Rattle.vm_model.specs.Calls.{Setup, Meaning};
 ghost use Rattle.vm_model.specs.Carried.{AreCarried, ComeOnce};
+ghost use Rattle.vm_model.specs.Histories.{Handed, Made};
 ghost use Rattle.vm_model.specs.Moves.{Point, after, start};
 ghost use Rattle.vm_model.specs.Sums.{calls_for};
 ghost use Rattle.vm_model.specs.Deliveries.{HasNoTwo};
@@ -33,7 +35,12 @@ pub fn handles_stand_for_ids()
 
 /// No completion id has two results at any point of a run, where some point uses all recorded commands, and the arrivals have one
 /// result at most for each completion id, and only for ids that the commands carry: an eager read has an id of its own.
+/// The same is so of an attempt, whose written commands count as the recorded ones do: it has the results of its own commands,
+/// and at each point of its run, before it wrote them and behind, no completion id has two.
 pub fn completions_come_once()
-    ensures { (s : Setup) (m : Meaning) (n k : ℕ) (input : InputCommand) (ns : List Notification) (cs : List RawMessage) (p q : Point) → after s m n (start s input ns cs) ≡ Some p → after s m k (start s input ns cs) ≡ Some q → q.left ≡ []
+    ensures told { (s : Setup) (m : Meaning) (n k : ℕ) (input : InputCommand) (ns : List Notification) (cs : List RawMessage) (p q : Point) → after s m n (start s input ns cs) ≡ Some p → after s m k (start s input ns cs) ≡ Some q → q.left ≡ []
         → ComeOnce ns → AreCarried ns cs → HasNoTwo p }
+    ensures attempts { (s : Setup) (m : Meaning) (given : StateMap) (input : InputCommand) (ns : List Notification) (cs : List RawMessage) (k : ℕ) (q : Point) → after s m k (start s input ns cs) ≡ Some q → q.left ≡ [] → ComeOnce ns
+        → (l : ℕ) (written : List RawMessage) (at : Point) → Made s m (Handed given) l (start s input ns cs) written at → AreCarried ns (cs ++ written)
+        → (n : ℕ) (made : List RawMessage) (p : Point) → Made s m (Handed given) n (start s input ns cs) made p → HasNoTwo p }
 {}

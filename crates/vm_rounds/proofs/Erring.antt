@@ -201,7 +201,7 @@ module _ (m : Meaning) (version : Version) (options : VMOptions) (r : Record) (u
   call_refused : (e : Error) → Performs (step_asked m r) r.vm.machine (Failed e w.machine) → RefusedCall m version options r.fed r.answers e
   call_refused e does =
       let same : step_asked m r ≡ m k.at.answers = asks_next m k.at r.answers r.waiting k.answers k.awaits in
-      refused_call e (agreeing_follows (setup_for version options k.journal.start) m (handed_out k.journal) k.written r.vm.machine k.at (Failed e w.machine) under.queues (under.once k.journal k.moves k.written k.at k.run) (k.agrees live) (subst (λ q. Performs q r.vm.machine (Failed e w.machine)) same does) (tt {0}))
+      refused_call e (agreeing_follows (setup_for version options k.journal.start) m (handed_out k.journal) k.written r.vm.machine k.at (Failed e w.machine) (λ future _. (under.queues, under.once k.journal k.moves k.written k.at k.run)) (k.agrees live) (subst (λ q. Performs q r.vm.machine (Failed e w.machine)) same does) (tt {0}))
 
 asks_blamed : (m : Meaning) (version : Version) (options : VMOptions) (old : Record) (result : Result Progress Error) (new : Record) → (Premises m version options old.fed → Runs m version options old.fed old.answers old.waiting old.taken old.vm) → IsLive old.vm.machine → Asks m old result new → IsBlamed m version options new
 asks_blamed m version options old result new runs live (x, w, does, is, made) = subst (IsBlamed m version options) (sym is) (by_reply x (step_leaves (step_asked m old) old.vm.machine live x w.machine does.0.0) does.0.0)

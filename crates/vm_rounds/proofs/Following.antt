@@ -25,7 +25,6 @@ use Rattle.vm_machine.specs.declared.asks.Ask.{Ask}
 use Rattle.vm_machine.specs.declared.asks.Ask.TheVariants as ask
 use Rattle.vm_machine.specs.declared.asks.Command.{Command}
 use Rattle.vm_machine.specs.Asks.{ask_of, command_answer}
-use Rattle.vm_machine.specs.Requests.{ids_of}
 use Rattle.vm_machine.specs.Takes.{take_step}
 use Rattle.vm_machine.specs.Takes as takes
 use Rattle.vm_machine.specs.Commands.{CanBeRead, commanded_unless, phase_after}
@@ -40,6 +39,7 @@ use Rattle.vm_model.specs.Calls.Move.{Answers, Ends, Refuses}
 use Rattle.vm_model.specs.Refusals.{IsRefusedFor}
 use Rattle.vm_model.specs.Deliveries.{HasNoTwo}
 use Rattle.vm_parts.specs.declared.options.SignalDelivery.TheVariants.{Queued}
+use Rattle.vm_model.specs.Histories.{IsAwaiting}
 use Rattle.vm_model.specs.Moves.{Point, longer, move_at, moved, supply}
 use Rattle.vm_rounds.specs.declared.progress.Reply.{Reply}
 use Rattle.vm_rounds.specs.declared.progress.Reply.TheVariants as reply
@@ -180,42 +180,49 @@ end_asked version st is = absurd cc
 comes_so : (s : Setup) (m : Meaning) (given : StateMap) (written : List RawMessage) (aside : Aside) (p : Point) (P : Type 0) (o q : Outcome Reply) → o ≡ q → (IfDone q P → Follows s m given written p (machine_at s given written aside p) q) → IfDone o P → Follows s m given written p (machine_at s given written aside p) o
 comes_so s m given written aside p P o q is follows whole = subst (Follows s m given written p (machine_at s given written aside p)) (sym is) (follows (subst (λ x. IfDone x P) is whole))
 
+-- where the handler awaits, signals queue and no completion has two results
+abbrev pub IfAwaiting : Setup → Meaning → Point → Type 0
+IfAwaiting s m p = (future : UnresolvedFuture) → IsAwaiting m p future → (s.options.signal_delivery ≡ Queued) × HasNoTwo p
+
 -- what is asked for, in a machine that agrees with a point
-asked_follows : (s : Setup) (m : Meaning) (given : StateMap) (written : List RawMessage) (aside : Aside) (p : Point) → s.identity ≡ identity_of aside.start → s.options.signal_delivery ≡ Queued → HasNoTwo p → (a : Ask) → ask_of s.version (m p.answers) ≡ a → AsksCommand a → (o : Outcome Reply) → PerformsBy a (machine_at s given written aside p) o → IfDone o (IsReadable a (machine_at s given written aside p)) → Follows s m given written p (machine_at s given written aside p) o
-asked_follows s m given written aside p identity queued two (ask.Command c) is command o does whole =
+asked_follows : (s : Setup) (m : Meaning) (given : StateMap) (written : List RawMessage) (aside : Aside) (p : Point) → s.identity ≡ identity_of aside.start → IfAwaiting s m p → (a : Ask) → ask_of s.version (m p.answers) ≡ a → AsksCommand a → (o : Outcome Reply) → PerformsBy a (machine_at s given written aside p) o → IfDone o (IsReadable a (machine_at s given written aside p)) → Follows s m given written p (machine_at s given written aside p) o
+asked_follows s m given written aside p identity awaits (ask.Command c) is command o does whole =
     let v = machine_at s given written aside p in
     comes_so s m given written aside p (IsReadable (ask.Command c) v) o (carried c v) does
     (λ (here : IfDone (carried c v) (IsReadable (ask.Command c) v)). follows_from s m given written aside p (command_answer c.message) _ _ identity (ap (λ a. asked s a p.derived) is) (commands_follow s given written aside p c command c.refusal (event_done _ _ s given written aside p _ here))) whole
-asked_follows s m given written aside p identity queued two ask.Awakeable is command o does whole =
+asked_follows s m given written aside p identity awaits ask.Awakeable is command o does whole =
     let v = machine_at s given written aside p in
     comes_so s m given written aside p (IsReadable ask.Awakeable v) o (made_awakeable v) does
     (λ _. follows_from s m given written aside p answer.Awakeable _ _ identity (ap (λ a. asked s a p.derived) is) (makes_awakeable s given written aside p identity (skips_replay s.options.journal_replay))) whole
-asked_follows s m given written aside p identity queued two (ask.Read r) is command o does whole =
+asked_follows s m given written aside p identity awaits (ask.Read r) is command o does whole =
     let v = machine_at s given written aside p in
     comes_so s m given written aside p (IsReadable (ask.Read r) v) o (read_made r v) does
     (λ (here : IfDone (read_made r v) (IsReadable (ask.Read r) v)). follows_from s m given written aside p answer.Handle _ _ identity (ap (λ a. asked s a p.derived) is) (reads_follow s given written aside r p (event_done _ _ s given written aside p _ here))) whole
-asked_follows s m given written aside p identity queued two (ask.Signal name) is command o does whole =
+asked_follows s m given written aside p identity awaits (ask.Signal name) is command o does whole =
     let v = machine_at s given written aside p in
     comes_so s m given written aside p (IsReadable (ask.Signal name) v) o (signalled name v) does
     (λ _. follows_from s m given written aside p answer.Handle _ _ identity (ap (λ a. asked s a p.derived) is) (makes_signal s given written aside p name)) whole
-asked_follows s m given written aside p identity queued two (ask.Await future) is command o does whole = awaits_follow s m given written aside p future identity (awaits_asked s.version (m p.answers) future is) queued two o does
-asked_follows s m given written aside p identity queued two (ask.Take h) is command o does whole =
+asked_follows s m given written aside p identity awaits (ask.Await future) is command o does whole =
+    let here = awaits_asked s.version (m p.answers) future is in
+    let so = awaits future here in
+    awaits_follow s m given written aside p future identity here so.0 so.1 o does
+asked_follows s m given written aside p identity awaits (ask.Take h) is command o does whole =
     let v = machine_at s given written aside p in
     comes_so s m given written aside p (IsReadable (ask.Take h) v) o (taken h v) does
     (λ _. follows_from s m given written aside p answer.Taken _ _ identity (ap (λ a. asked s a p.derived) is) (takes_follow s given written aside p h)) whole
-asked_follows s m given written aside p identity queued two (ask.Completed h) is command o does whole =
+asked_follows s m given written aside p identity awaits (ask.Completed h) is command o does whole =
     let v = machine_at s given written aside p in
     comes_so s m given written aside p (IsReadable (ask.Completed h) v) o (completed h v) does
     (λ _. completes s m given written aside p h identity (ap (λ a. asked s a p.derived) is)) whole
-asked_follows s m given written aside p identity queued two ask.End is command o does whole =
+asked_follows s m given written aside p identity awaits ask.End is command o does whole =
     let v = machine_at s given written aside p in
     comes_so s m given written aside p (IsReadable ask.End v) o (ended v) does
     (λ _. ends s m given written aside p (end_asked s.version (m p.answers) is) p.left refl) whole
 
 -- In a machine that agrees with a point, the handler's call does what the moves from there lead to.
-call_follows : (s : Setup) (m : Meaning) (given : StateMap) (written : List RawMessage) (aside : Aside) (p : Point) → s.identity ≡ identity_of aside.start → s.options.signal_delivery ≡ Queued → HasNoTwo p → (o : Outcome Reply) → Performs (m p.answers) (machine_at s given written aside p) o → IfDone o (ReadsBack (m p.answers) (machine_at s given written aside p)) → Follows s m given written p (machine_at s given written aside p) o
-call_follows s m given written aside p identity queued two = asked_follows s m given written aside p identity queued two (ask_of s.version (m p.answers)) refl (asks_command s.version (m p.answers))
+call_follows : (s : Setup) (m : Meaning) (given : StateMap) (written : List RawMessage) (aside : Aside) (p : Point) → s.identity ≡ identity_of aside.start → IfAwaiting s m p → (o : Outcome Reply) → Performs (m p.answers) (machine_at s given written aside p) o → IfDone o (ReadsBack (m p.answers) (machine_at s given written aside p)) → Follows s m given written p (machine_at s given written aside p) o
+call_follows s m given written aside p identity awaits = asked_follows s m given written aside p identity awaits (ask_of s.version (m p.answers)) refl (asks_command s.version (m p.answers))
 
-pub agreeing_follows : (s : Setup) (m : Meaning) (given : StateMap) (written : List RawMessage) (v : Machine) (p : Point) (o : Outcome Reply) → s.options.signal_delivery ≡ Queued → HasNoTwo p → Agrees s given written v p → Performs (m p.answers) v o → IfDone o (ReadsBack (m p.answers) v) → Follows s m given written p v o
-agreeing_follows s m given written v p o queued two a does whole =
-    rw a.machine (call_follows s m given written a.aside p a.identity queued two o (subst (λ (x : Machine). Performs (m p.answers) x o) a.machine does) (subst (λ (x : Machine). IfDone o (ReadsBack (m p.answers) x)) a.machine whole))
+pub agreeing_follows : (s : Setup) (m : Meaning) (given : StateMap) (written : List RawMessage) (v : Machine) (p : Point) (o : Outcome Reply) → IfAwaiting s m p → Agrees s given written v p → Performs (m p.answers) v o → IfDone o (ReadsBack (m p.answers) v) → Follows s m given written p v o
+agreeing_follows s m given written v p o awaits a does whole =
+    rw a.machine (call_follows s m given written a.aside p a.identity awaits o (subst (λ (x : Machine). Performs (m p.answers) x o) a.machine does) (subst (λ (x : Machine). IfDone o (ReadsBack (m p.answers) x)) a.machine whole))

@@ -58,7 +58,7 @@ use Rattle.vm_rounds.specs.Journals.{is_command, setup_for}
 use Rattle.vm_rounds.specs.Record.{Record}
 use Rattle.vm_rounds.specs.Stepping.{Asks, IfWaits, step_asked, asked_from, future_in, progress_of, replied, with_vm}
 use Rattle.vm_rounds.specs.Steps.{IfDone, Performs, ReadsBack, StepMade}
-use Rattle.vm_rounds.specs.Told.{IsAsleep, IsKept, IsLive, Premises, RefusesReplay, Replays, Runs, Sleeps, StillAwaits, Wrote, arrivals, commands_of, handed_out}
+use Rattle.vm_rounds.specs.Told.{IsKept, IsLive, Premises, RefusesReplay, Replays, Runs, Sleeps, StillAwaits, Wrote, arrivals, commands_of, handed_out}
 use Rattle.vm_rounds.proofs.Following.{agreeing_follows}
 use Rattle.vm_rounds.proofs.Kept.{dead_same, not_live}
 use Rattle.vm_rounds.proofs.Lasting.{runs_last}
@@ -352,7 +352,7 @@ asks_keep m version options old result new under k live (x, w, does, is, progres
     let made : StepMade st x old.vm w = subst (λ q. StepMade q x old.vm w) same does in
     subst (IsKept m version options) (sym is)
     (subst (λ q. IsKept m version options (replied old (future_in q) x w)) (sym same)
-    (replied_keeps m version options old k live w made.0.1 (ReadsBack st old.vm.machine) st refl x (Performs st old.vm.machine) (λ o. agreeing_follows s m (handed_out k.journal) k.written old.vm.machine k.at o under.queues (under.once k.journal k.moves k.written k.at k.run) (k.agrees live)) made.0.0 made.1))
+    (replied_keeps m version options old k live w made.0.1 (ReadsBack st old.vm.machine) st refl x (Performs st old.vm.machine) (λ o. agreeing_follows s m (handed_out k.journal) k.written old.vm.machine k.at o (λ future _. (under.queues, under.once k.journal k.moves k.written k.at k.run)) (k.agrees live)) made.0.0 made.1))
 
 -- what a step that waits leaves of the record
 settled_waits : (m : Meaning) (version : Version) (options : VMOptions) (old : Record) (future : Option UnresolvedFuture) (w : View) (x : Result Reply Error) → IfWaits (progress_of x) (Sleeps m version options old.fed old.answers old.taken w)
@@ -372,7 +372,7 @@ module _ (m : Meaning) (version : Version) (options : VMOptions) (old : Record) 
   is_next = asks_next m k.at old.answers old.waiting k.answers k.awaits
 
   follows_here : (o : Outcome Reply) → Performs (m k.at.answers) old.vm.machine o → IfDone o (ReadsBack (m k.at.answers) old.vm.machine) → Follows made_here m (handed_out k.journal) k.written k.at old.vm.machine o
-  follows_here o = agreeing_follows made_here m (handed_out k.journal) k.written old.vm.machine k.at o under.queues (under.once k.journal k.moves k.written k.at k.run) (k.agrees live)
+  follows_here o = agreeing_follows made_here m (handed_out k.journal) k.written old.vm.machine k.at o (λ future _. (under.queues, under.once k.journal k.moves k.written k.at k.run)) (k.agrees live)
 
   -- a step waits only where nothing wakes
   pub asks_wait : Asks m old result new → IfWaits result (Sleeps m version options new.fed new.answers new.taken new.vm)

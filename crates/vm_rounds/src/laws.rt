@@ -14,7 +14,7 @@ ghost use Rattle.vm_parts.specs.declared.options.VMOptions.{VMOptions};
 ghost use Rattle.invocation_vm.specs.Views.{all_received};
 ghost use Rattle.vm_model.specs.Calls.{Setup, Meaning, identity_of};
 ghost use Rattle.vm_model.specs.Deliveries.{HasNoTwo};
-ghost use Rattle.vm_model.specs.Histories.{History};
+ghost use Rattle.vm_model.specs.Histories.{History, IsAwaiting};
 ghost use Rattle.vm_parts.specs.declared.options.SignalDelivery.TheVariants.{Queued};
 ghost use Rattle.vm_model.specs.Journal.{input_read_from};
 ghost use Rattle.vm_model.specs.Moves.{Point, later};
@@ -39,13 +39,13 @@ ghost use Rattle.std.specs.Prelude.{ℕ, Bool, Option};
 ghost use Rattle.vm_parts.specs.declared.steps.Answer.{Answer};
 ghost use Rattle.await_trees.specs.declared.tree.UnresolvedFuture.{UnresolvedFuture};
 
-/// In a machine that agrees with a point of the handler's run, where signals queue and no completion has two results, the handler's call does what the moves from there lead to:
+/// In a machine that agrees with a point of the handler's run, the handler's call does what the moves from there lead to:
 /// it is answered as they are, writes the commands that they make and no others, and agrees with the point where they lead;
 /// or an await waits, where no arrival and no recorded command is left, and wakes by none of the arrivals; or the handler
-/// ends, where no recorded command is left; or the call is refused, where no move leads on. (That a command which was written can
-/// be read back is in the contract of each call.)
+/// ends, where no recorded command is left; or the call is refused, where no move leads on. Of an await this is said where signals
+/// queue and no completion has two results. (That a command which was written can be read back is in the contract of each call.)
 pub fn calls_follow()
-    ensures { (s : Setup) (m : Meaning) (given : StateMap) (written : List RawMessage) (v : Machine) (p : Point) (o : Outcome Reply) → s.options.signal_delivery ≡ Queued → HasNoTwo p → Agrees s given written v p → Performs (m p.answers) v o → IfDone o (ReadsBack (m p.answers) v) → Follows s m given written p v o }
+    ensures { (s : Setup) (m : Meaning) (given : StateMap) (written : List RawMessage) (v : Machine) (p : Point) (o : Outcome Reply) → ((future : UnresolvedFuture) → IsAwaiting m p future → (s.options.signal_delivery ≡ Queued) × HasNoTwo p) → Agrees s given written v p → Performs (m p.answers) v o → IfDone o (ReadsBack (m p.answers) v) → Follows s m given written p v o }
 {}
 
 /// Frames that come to a machine that agrees with a point are arrivals: the machine then agrees with that point and these
