@@ -19,7 +19,7 @@ use Rattle.vm_world.specs.Entries.{entries_of, frames_in, notes_in}
 use Rattle.vm_world.specs.Rounds.{CompletesOnce}
 use Rattle.vm_world.specs.Worlds.{IsJournal}
 use Rattle.vm_world.proofs.Framing.{notes_are}
-use Rattle.vm_world.proofs.Headline.{input_type}
+use Rattle.vm_world.proofs.Inputs.{input_type}
 use Rattle.vm_world.proofs.Once.{come_once}
 
 -- a stored input carries no id

@@ -14,7 +14,7 @@ use Rattle.vm_model.specs.HonestRounds.{ahead_of}
 use Rattle.vm_model.specs.Journal.{Entry, Recorded, Notified, commands_in, notifications_in}
 use Rattle.vm_model.proofs.Lasting.{commands-append, notifications-append}
 use Rattle.vm_rounds.specs.declared.progress.Fed.{Fed}
-use Rattle.vm_rounds.specs.Journals.{as_entries, commands_among, notifications_among}
+use Rattle.vm_rounds.specs.Journals.{commands_among, notifications_among}
 use Rattle.vm_rounds.specs.Record.{Record, bytes_written}
 use Rattle.vm_rounds.specs.Stepping.{taken_from}
 use Rattle.vm_rounds.specs.Told.{arrivals_of, bytes_fed, frames_fed, written_by}
@@ -26,7 +26,7 @@ use Rattle.vm_world.specs.Courses.{brought_by, course_of, delivered, new_in}
 use Rattle.vm_world.specs.Entries.{entries_of, frames_in, notes_in}
 use Rattle.vm_world.specs.Rounds.{Happen, Happens, Now, Pieces}
 use Rattle.vm_world.specs.Worlds.{IsJournal}
-use Rattle.vm_world.proofs.Framing.{AreFrames, as_entries_append, frames_append, join, journal_framed, notes_are}
+use Rattle.vm_world.proofs.Framing.{AreFrames, entries_append, join, journal_framed, notes_are}
 use Rattle.vm_world.proofs.Going.{IsOpen, Takes, closes, fed, stepped}
 use Rattle.vm_world.proofs.Keeping.{Going, event_keeps, one_note}
 use Rattle.vm_world.proofs.Once.{is_new}
@@ -256,7 +256,7 @@ module _ (m : Meaning) (start : List ℕ) (raw : RawMessage) (first : List (List
       let writes = written_grows now.attempt mid.attempt b.wrote in
       let delivers = dropped (length (notes_in first)) (arrivals_of now.attempt.fed) (arrivals_of mid.attempt.fed) (arrivals_grow now.attempt.fed mid.attempt.fed b.fed) in
       let added : g'.added ≡ g.added ++ b.stored.0 = after_front first g'.added (g.added ++ b.stored.0) (sym g'.extends ∙ b.stored.1 ∙ ap (λ l. l ++ b.stored.0) g.extends ∙ append_assoc first g.added b.stored.0) in
-      let entries : behind_first g' ≡ behind_first g ++ more = ap entries_of added ∙ ap as_entries (frames_append g.added b.stored.0) ∙ as_entries_append (frames_in g.added) (frames_in b.stored.0) in
+      let entries : behind_first g' ≡ behind_first g ++ more = ap entries_of added ∙ entries_append g.added b.stored.0 in
       let kept : Ordered course (behind_first g ++ more) = order_kept course (behind_first g) more a.order (subst (λ l. IsPrefix l (notifications_in (behind_first g))) (sym a.came) (delivered_arrived now g)) in
       record {
         going = g';

@@ -14,7 +14,7 @@ use Rattle.invocation_vm.specs.Frames.{Tail, Rest, Garbage, frames_from, frames_
 use Rattle.invocation_vm.proofs.Cuts.{frames_of-append, frames_of-next}
 use Rattle.vm_model.specs.Journal.{Entry, messages_in, read_before}
 use Rattle.vm_rounds.specs.Journals.{as_entries, commands_among, is_command, is_notification, notifications_among, notified_by, recorded_by, told_by}
-use Rattle.vm_world.specs.Entries.{AreEntries, alone, frame_in, frame_of, framed_by, frames_in, may_stand, note_in, note_of, notes_in, read_from, said_by, said_in}
+use Rattle.vm_world.specs.Entries.{AreEntries, alone, entries_of, frame_in, frame_of, framed_by, frames_in, may_stand, note_in, note_of, notes_in, read_from, said_by, said_in}
 
 -- ---- frames of bytes
 
@@ -166,12 +166,15 @@ noted_append : (b : Bool) (o : Option Notification) (xs ys : List Entry) → con
 noted_append true o xs ys = told_append o xs ys
 noted_append false o xs ys = refl
 
-pub as_entries_append : (xs ys : List RawMessage) → as_entries (xs ++ ys) ≡ as_entries xs ++ as_entries ys
+as_entries_append : (xs ys : List RawMessage) → as_entries (xs ++ ys) ≡ as_entries xs ++ as_entries ys
 as_entries_append [] ys = refl
 as_entries_append (x ∷ xs) ys =
     ap (λ es. recorded_by (is_command x) x (cond (is_notification x) (told_by (notification_in x.body) es) es)) (as_entries_append xs ys)
     ∙ ap (recorded_by (is_command x) x) (noted_append (is_notification x) (notification_in x.body) (as_entries xs) (as_entries ys))
     ∙ recorded_append (is_command x) x (cond (is_notification x) (told_by (notification_in x.body) (as_entries xs)) (as_entries xs)) (as_entries ys)
+
+pub entries_append : (xs ys : List (List ℕ)) → entries_of (xs ++ ys) ≡ entries_of xs ++ entries_of ys
+entries_append xs ys = ap as_entries (frames_append xs ys) ∙ as_entries_append (frames_in xs) (frames_in ys)
 
 -- ---- lists
 

@@ -6,8 +6,9 @@ pub mod Keeping
 pub mod Writing
 pub mod Coursing
 pub mod Handing
-pub mod Headline
+pub mod Inputs
 pub mod Running
+pub mod Headline
 pub mod Rounding
 pub mod Agreeing
 pub mod Completing

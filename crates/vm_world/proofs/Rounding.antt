@@ -6,25 +6,23 @@ use Rattle.journal_messages.specs.declared.message.Message.TheVariants as messag
 use Rattle.journal_values.specs.declared.notification.Notification.{Notification}
 use Rattle.journal_attempt.specs.declared.start.Start.{Start}
 use Rattle.journal_errors.specs.declared.types.MessageType.TheVariants as type
-use Rattle.journal_messages.specs.Message.{encoding}
+use Rattle.journal_messages.specs.Message.{encoding, IsWhole}
 use Rattle.journal_messages.specs.Reading.{message_in, start_in}
-use Rattle.journal_messages.specs.Message.{IsWhole}
 use Rattle.journal_streams.proofs.Alone.{read_back}
 use Rattle.journal_messages.specs.declared.message.RawMessage.{RawMessage}
 use Rattle.invocation_vm.specs.Frames.{Tail, frames_of}
 use Rattle.invocation_vm.specs.Making.{made}
 use Rattle.vm_parts.specs.declared.steps.Answer.{Answer}
-use Rattle.vm_model.specs.Calls.{Meaning, Setup}
+use Rattle.vm_model.specs.Calls.{Meaning}
 use Rattle.vm_model.specs.Journal.{Entry, commands_in, messages_in, notifications_in, stored_form}
 use Rattle.vm_model.specs.Moves.{changed_by, start as first_point}
 use Rattle.vm_model.specs.Histories.{History, Honest, IsAllOf, IsTrueOf, Knowledge, Whole, behind}
 use Rattle.vm_model.specs.HonestRounds.{Attempted, HonestRound, IsHanded, IsOneRun, IsToldOn}
-use Rattle.vm_model.proofs.Lasting.{commands-append}
 use Rattle.vm_model.proofs.Honesty.{honest_round, honest_rounds, run_is_history, whole_round, whole_rounds}
-use Rattle.vm_rounds.specs.Journals.{as_entries, commands_among, notifications_among}
+use Rattle.vm_rounds.specs.Journals.{commands_among, notifications_among}
 use Rattle.vm_rounds.specs.Record.{Record}
 use Rattle.vm_rounds.specs.Stepping.{fresh_record}
-use Rattle.vm_rounds.specs.Told.{NoneHasTwo, bytes_fed}
+use Rattle.vm_rounds.specs.Told.{bytes_fed}
 use Rattle.vm_rounds.proofs.Advanced.{made_new}
 use Rattle.vm_rounds.proofs.Replayed.{commands_same}
 use Rattle.vm_world.specs.declared.types.Event.{Event}
@@ -37,11 +35,12 @@ use Rattle.vm_world.specs.Rounds.{AreWhole, AttemptDoes, IsShort, RefusedDoes, R
 use Rattle.vm_world.specs.States.{base_of, state_of}
 use Rattle.vm_world.specs.Worlds.{IsJournal, setup_of, start_for, start_message}
 use Rattle.vm_world.proofs.Coursing.{Along, events_go_along}
-use Rattle.vm_world.proofs.Framing.{AreFrames, as_entries_append, frames_append, one_framed, said_are, none_framed}
+use Rattle.vm_world.proofs.Framing.{AreFrames, entries_append, one_framed, said_are, none_framed}
 use Rattle.vm_world.proofs.Handing.{base_in_order, round_all, round_true}
-use Rattle.vm_world.proofs.Headline.{Begins, IsHonest, input_says, is_honest}
+use Rattle.vm_world.proofs.Headline.{IsHonest, is_honest}
+use Rattle.vm_world.proofs.Inputs.{Begins, input_says, run_begins}
 use Rattle.vm_world.proofs.Keeping.{Going, arrivals_keep, events_keep}
-use Rattle.vm_world.proofs.Running.{events_run, none_two}
+use Rattle.vm_world.proofs.Running.{events_run}
 
 -- ---- one round
 
@@ -115,29 +114,18 @@ attempt_along m w round old report new j d =
     drop_nil zero ns e = e
     drop_nil (suc k) ns e = ap (drop (suc k)) e
 
--- a journal that one run made begins with its input
-pub run_begins : (s : Setup) (m : Meaning) (K : Knowledge) (journal : List Entry) → IsOneRun s m K journal → Begins journal
-run_begins s m K journal h = record { first = h.first; input = h.input; reads = h.reads; rest = h.rest; commands = h.begins }
-
--- at no point of the run of a round's attempt has a completion two results
-attempt_once : (K : Knowledge) (m : Meaning) (w : Setting) (round : Round) (old : List (List ℕ)) (report : ReportView) (new : List (List ℕ)) → Replays w.options → IsJournal old → IsOneRun (setup_of w) m K (entries_of old) → (d : AttemptDoes m w round old report new) → NoneHasTwo m w.version w.options d.ran.now.attempt.fed
-attempt_once K m w round old report new r j h d =
+-- a round with its attempt is an honest one
+attempt_honest : (K : Knowledge) (m : Meaning) (w : Setting) (round : Round) (old : List (List ℕ)) (report : ReportView) (new : List (List ℕ)) → Replays w.options → IsJournal old → IsOneRun (setup_of w) m K (entries_of old) → (d : AttemptDoes m w round old report new) → IsHonest (setup_of w) m (entries_of old) (attempt_of m w round old report new (inl d)) (entries_of new)
+attempt_honest K m w round old report new r j h d =
     let st = start_for w round old in
     let bytes = encoding (message.Start st) in
     let raw = stored_form (message.Start st) in
     let framed = start_framed st d.start in
     let found = start_reads st d.start in
     let first = begin d.alloc w round old in
+    let course = course_of m old round.events first d.ran.now d.ran.happen in
     let kept = events_run m w bytes raw st old j framed found refl (setup_of w) refl K h r round.events first d.ran.now d.ran.happen (begun bytes old (fresh_record (made d.alloc w.options w.version)) j refl refl) (inl (made_new d.alloc w.version w.options)) in
-    none_two m w bytes raw st old j framed found refl (setup_of w) refl K h r d.ran.now (attempt_goes m w round old report new j d) kept
-
--- a round with its attempt is an honest one
-attempt_honest : (K : Knowledge) (m : Meaning) (w : Setting) (round : Round) (old : List (List ℕ)) (report : ReportView) (new : List (List ℕ)) → Replays w.options → IsJournal old → IsOneRun (setup_of w) m K (entries_of old) → (d : AttemptDoes m w round old report new) → IsHonest (setup_of w) m (entries_of old) (attempt_of m w round old report new (inl d)) (entries_of new)
-attempt_honest K m w round old report new r j h d =
-    let st = start_for w round old in
-    let course = course_of m old round.events (begin d.alloc w round old) d.ran.now d.ran.happen in
-    let b = run_begins (setup_of w) m K (entries_of old) h in
-    let honest = is_honest m w (encoding (message.Start st)) (stored_form (message.Start st)) st old j (start_framed st d.start) (start_reads st d.start) refl (setup_of w) refl d.ran.now course (attempt_along m w round old report new j d) (attempt_once K m w round old report new r j h d) r d.ran.ends b in
+    let honest = is_honest m w bytes raw st old j framed found refl (setup_of w) refl K h r d.ran.now course (attempt_along m w round old report new j d) kept d.ran.ends in
     subst (λ (x : List Answer × List (List ℕ)). IsHonest (setup_of w) m (entries_of old) (record { given = given_by st; course = course; answers = x.0 }) (entries_of x.1)) (λ i. (sym (ap (λ (v : ReportView). v.answers) d.ran.told) i, sym d.ran.left i)) honest
 
 -- a round whose attempt was refused too: nothing was delivered or written
@@ -150,7 +138,7 @@ refused_honest m w round old report new j b d =
       told = record { first = b.first; input = b.input; reads = b.reads; rest = b.rest; begins = b.commands; moves = 0; at = first_point (setup_of w) b.input (notifications_in (entries_of old) ++ []) b.rest; made = (refl, refl); answered = inl (ap (λ (v : ReportView). v.answers) d.told) };
       honest = record {
         added = added;
-        extends = ap entries_of g.extends ∙ ap as_entries (frames_append old g.added) ∙ as_entries_append (frames_in old) (frames_in g.added);
+        extends = ap entries_of g.extends ∙ entries_append old g.added;
         undelivered = notifications_in added;
         notifications = refl;
         stored = 0;
@@ -178,7 +166,7 @@ rounds_grow m w (r ∷ rs) old reports new j (mid, report, more, is, one, others
     record { added = a.added ++ b.added; extends = b.extends ∙ ap (λ l. l ++ b.added) a.extends ∙ append_assoc old a.added b.added; journal = b.journal }
 
 pub entries_grow : (old new added : List (List ℕ)) → new ≡ old ++ added → entries_of new ≡ entries_of old ++ entries_of added
-entries_grow old new added e = ap entries_of e ∙ ap as_entries (frames_append old added) ∙ as_entries_append (frames_in old) (frames_in added)
+entries_grow old new added e = ap entries_of e ∙ entries_append old added
 
 -- each of the rounds hands out so much, over whatever journal
 abbrev pub HandsOut : Knowledge → Setting → List Round → Type 0

@@ -1,7 +1,7 @@
 -- A round's attempt runs as its journal tells: at no point of its run has a completion two results.
-use Rattle.std.proofs.Common.{◌≡◌, ◌≤◌, ◌+◌, inl, inr, ⊎_elim, ℕ, Bool, true, false, List, [], ◌∷◌, ◌++◌, length, take, drop, length-append, Option, Some, None, Result, Ok, Err, refl, sym, ap, ◌∙◌, subst, arith, append_assoc, append-nil}
+use Rattle.std.proofs.Common.{◌≡◌, ◌≤◌, ◌+◌, ⊎_elim, ℕ, Bool, true, false, List, [], ◌∷◌, ◌++◌, length, take, drop, length-append, Option, Some, Ok, refl, sym, ap, ◌∙◌, subst, arith, append_assoc}
 use Rattle.std.proofs.lemmas.Option.{same_Some}
-use Rattle.std.specs.List.{concat, flat_map}
+use Rattle.std.specs.List.{concat}
 use Rattle.arrivals.specs.Results.{results_of}
 use Rattle.await_tries.proofs.LaterArrivals.{results-append}
 use Rattle.journal_attempt.specs.declared.commands.InputCommand.{InputCommand}
@@ -20,13 +20,12 @@ use Rattle.vm_model.specs.Carried.{AreCarried, ComeOnce}
 use Rattle.vm_model.specs.Deliveries.{HasNoTwo}
 use Rattle.vm_model.specs.Histories.{Handed, IsPrefix, Knowledge, Made}
 use Rattle.vm_model.specs.HonestRounds.{IsOneRun}
-use Rattle.vm_model.specs.Journal.{Entry, commands_in, input_read_from, notifications_in}
-use Rattle.vm_model.specs.Moves.{Point, after, later, start as first_point}
+use Rattle.vm_model.specs.Journal.{Entry, input_read_from, notifications_in}
+use Rattle.vm_model.specs.Moves.{Point, later, start as first_point}
 use Rattle.vm_model.proofs.Once.{run_once, still_carried}
 use Rattle.vm_model.proofs.Runs.{after_later, made_after, made_spent}
 use Rattle.vm_rounds.specs.Journals.{commands_among, notifications_among, setup_for}
-use Rattle.vm_rounds.specs.Record.{Record}
-use Rattle.vm_rounds.specs.Told.{BeforeInput, IsKept, Journal, NoneHasTwo, Runs, Wrote, arrivals, arrivals_of, begun, commands_of, frames_fed, handed_out}
+use Rattle.vm_rounds.specs.Told.{BeforeInput, IsKept, Journal, NoneHasTwo, Runs, Wrote, arrivals, arrivals_of, begun, handed_out}
 use Rattle.vm_rounds.proofs.Advanced.{step_keeps}
 use Rattle.vm_rounds.proofs.Kept.{close_keeps, feed_keeps, take_keeps}
 use Rattle.vm_rounds.proofs.Lasting.{runs_last}
@@ -41,7 +40,7 @@ use Rattle.vm_world.specs.Entries.{entries_of, frames_in, notes_in}
 use Rattle.vm_world.specs.Rounds.{Happen, Happens, Now, Pieces, Replays}
 use Rattle.vm_world.specs.Worlds.{IsJournal}
 use Rattle.vm_world.proofs.Completing.{carried_behind}
-use Rattle.vm_world.proofs.Coursing.{behind_first, delivered_arrived, fed_frames, new_behind}
+use Rattle.vm_world.proofs.Coursing.{delivered_arrived, fed_frames, new_behind}
 use Rattle.vm_world.proofs.Framing.{AreFrames, frames_append, journal_length, notes_append, notes_are, same_front}
 use Rattle.vm_world.proofs.Handing.{entries_found}
 use Rattle.vm_world.proofs.Keeping.{Going, event_keeps}
@@ -118,7 +117,7 @@ module _ (m : Meaning) (w : Setting) (begin_bytes : List ℕ) (raw : RawMessage)
       tail_of (x ∷ xs) = xs
 
   -- a run over what was fed is one from the first point
-  there : (now : Now) (g : Going begin_bytes old now) (J : Journal now.attempt.fed) (n : ℕ) (made : List RawMessage) (p : Point) → Made (setup_for w.version w.options J.start) m (Handed (handed_out J)) n (begun w.version w.options J) made p → Made s m (Handed given) n (from now) made p
+  pub there : (now : Now) (g : Going begin_bytes old now) (J : Journal now.attempt.fed) (n : ℕ) (made : List RawMessage) (p : Point) → Made (setup_for w.version w.options J.start) m (Handed (handed_out J)) n (begun w.version w.options J) made p → Made s m (Handed given) n (from now) made p
   there now g J n made p run =
       let x = is_worlds now g J in
       subst (λ (z : Setup). Made z m (Handed given) n (first_point z one.input (came now) one.rest) made p) same_setup
