@@ -1,2 +1,4 @@
-pub mod Thirds
+pub mod Naming
+pub mod Pairing
+pub mod Places
 pub mod TreeReading

@@ -1,17 +1,20 @@
 -- What a line of the script asks for.
-use Rattle.std.specs.Prelude.{◌≡◌, ◌==◌, ◌||◌, ℕ, Bool, true, false, List, length, nat_eq, codes, string_bytes}
+use Rattle.std.specs.Prelude.{◌≡◌, ◌==◌, ◌||◌, ℕ, Bool, true, false, List, drop, length, nat_eq, codes, string_bytes}
 use Rattle.std.specs.Borrow.{Bor}
 use Rattle.std.specs.Cmp.Lexicographic.{pointwise}
 use Rattle.std.specs.List.{starts_with}
 use Rattle.std.specs.Str.{IsTrimAscii}
 use Rattle.lines.specs.Atoms.{IsAtom}
 use Rattle.lines.specs.Pieces.{AreWords}
+use Rattle.vm_parts.specs.declared.options.VMOptions.{VMOptions}
 use Rattle.requests.specs.declared.content_type.ContentType.{ContentType}
 use Rattle.requests.specs.declared.content_type.ContentType.TheVariants.{Absent, Unreadable, Named}
 use Rattle.requests.specs.declared.request.Call.{Call}
 use Rattle.requests.specs.declared.request.Request.{Request}
 use Rattle.requests.specs.declared.request.Request.TheVariants as request
-use Rattle.requests.specs.Verbs.{IsAsked, text_at}
+use Rattle.requests.specs.Verbs.{IsAsked}
+use Rattle.requests.specs.VmOptions.{AreOptions}
+use Rattle.requests.specs.Words.{text_at}
 
 -- whether a line without blanks at its ends is empty or a comment
 unfoldable pub says_nothing : List ℕ → Bool
@@ -27,10 +30,10 @@ IsContentType word Absent = word ≡ codes "-"
 IsContentType word Unreadable = word ≡ codes "!"
 IsContentType word (Named text) = IsAtom word (string_bytes text)
 
--- the words of the line are `vm` and a content type, and options behind them
-abbrev pub MakesWith : List ℕ → ContentType → Type 0
-MakesWith text content_type =
-    (words : List (Bor (List ℕ))) × AreWords text words × (text_at 0 words ≡ codes "vm") × IsContentType (text_at 1 words) content_type
+-- the words of the line are `vm`, this content type and these options
+abbrev pub MakesWith : List ℕ → ContentType → VMOptions → Type 0
+MakesWith text content_type options =
+    (words : List (Bor (List ℕ))) × AreWords text words × (text_at 0 words ≡ codes "vm") × IsContentType (text_at 1 words) content_type × AreOptions (drop 2 words) options
 
 -- the words of the line ask for this call
 abbrev pub AsksCall : List ℕ → Call → Type 0
@@ -42,7 +45,7 @@ abbrev pub Asks : List ℕ → Request → Type 0
 Asks text request.Nothing = says_nothing text ≡ true
 Asks text request.Bad = (says_nothing text ≡ false) × (begins_with_vm text ≡ false)
 Asks text request.BadMake = (says_nothing text ≡ false) × (begins_with_vm text ≡ true)
-Asks text (request.Make content_type options) = (says_nothing text ≡ false) × (begins_with_vm text ≡ true) × MakesWith text content_type
+Asks text (request.Make content_type options) = (says_nothing text ≡ false) × (begins_with_vm text ≡ true) × MakesWith text content_type options
 Asks text (request.Call call) = (says_nothing text ≡ false) × (begins_with_vm text ≡ false) × AsksCall text call
 
 -- what a line asks for; blanks at its ends don't count

@@ -1,5 +1,5 @@
 -- The names by which a script's line says what the handler's runner reports, and the error that it reports.
-use Rattle.std.specs.Prelude.{ℕ, List, [], codes, Option, Some, None, string_bytes}
+use Rattle.std.specs.Prelude.{◌≡◌, ℕ, true, List, [], ◌∷◌, ◌++◌, length, codes, Option, Some, None, string_bytes}
 use Rattle.std.proofs.Common.{Global}
 use Rattle.std.specs.declared.string.String.{String}
 use Rattle.std.specs.declared.time.Duration.{Duration}
@@ -8,7 +8,16 @@ use Rattle.journal_errors.specs.declared.error.ErrorBehavior.{ErrorBehavior}
 use Rattle.journal_errors.specs.declared.error.ErrorBehavior.TheVariants as behavior
 use Rattle.vm_parts.specs.declared.command_type.CommandType.{CommandType}
 use Rattle.vm_parts.specs.declared.command_type.CommandType.TheVariants as command
+use Rattle.vm_parts.specs.declared.command_type.CommandRelationship.{CommandRelationship}
+use Rattle.vm_parts.specs.declared.command_type.CommandRelationship.TheVariants as relationship
+use Rattle.std.specs.Borrow.{Bor}
+use Rattle.std.specs.Str.Parse.{digits_value}
+use Rattle.lines.specs.Atoms.{IsAtom}
+use Rattle.lines.specs.Pieces.{AreWords}
 use Rattle.requests.specs.declared.report.Details.{Details}
+use Rattle.requests.specs.Fields.{IsOptional, IsSet, are_named, texts}
+use Rattle.requests.specs.Values.{IsTime}
+use Rattle.requests.specs.Words.{text_at}
 
 -- what is to be done after an error
 abbrev pub behavior_name : ErrorBehavior → List ℕ
@@ -58,3 +67,48 @@ reported code message details = record {
   next_retry_delay = delay_or details.delay None;
   related_command = None;
 }
+
+-- the name of a command: a text, or `-` for none
+abbrev pub IsCommandName : List ℕ → Option (List ℕ) → Type 0
+IsCommandName text None = text ≡ codes "-"
+IsCommandName text (Some name) = IsAtom text name
+
+-- the words in the brackets name this type and this name
+pub record IsCommand (text : List ℕ) (ty : CommandType) (name : Option (List ℕ)) : Type 0 where
+  pub inside : List ℕ
+  pub words : List (Bor (List ℕ))
+  pub brackets : text ≡ 40 ∷ (inside ++ 41 ∷ [])
+  pub are_words : AreWords inside words
+  pub two : length words ≡ 2
+  pub is_type : text_at 0 words ≡ type_name ty
+  pub is_name : IsCommandName (text_at 1 words) name
+
+-- the words in the brackets name this index, this type and this name
+pub record IsCommandAt (text : List ℕ) (index : ℕ) (ty : CommandType) (name : Option (List ℕ)) : Type 0 where
+  pub inside : List ℕ
+  pub words : List (Bor (List ℕ))
+  pub brackets : text ≡ 40 ∷ (inside ++ 41 ∷ [])
+  pub are_words : AreWords inside words
+  pub three : length words ≡ 3
+  pub is_index : index ≡ digits_value 10 (text_at 0 words)
+  pub is_type : text_at 1 words ≡ type_name ty
+  pub is_name : IsCommandName (text_at 2 words) name
+
+-- the command that an error relates to: `last`, `next(TYPE NAME)` or `at(N TYPE NAME)`
+abbrev pub IsRelated : List ℕ → CommandRelationship → Type 0
+IsRelated text relationship.Last = text ≡ codes "last"
+IsRelated text (relationship.Next ty name) = (command : List ℕ) × (text ≡ codes "next" ++ command) × IsCommand command ty name
+IsRelated text (relationship.Specific index ty name) = (command : List ℕ) × (text ≡ codes "at" ++ command) × IsCommandAt command index ty name
+
+-- the names of an error's options
+abbrev pub error_names : List (List ℕ)
+error_names = codes "stack=" ∷ codes "behaviour=" ∷ codes "delay=" ∷ codes "rel=" ∷ []
+
+-- what the options of an error say, and the command that it relates to
+pub record AreErrorOptions (words : List (Bor (List ℕ))) (error : Error) (relationship : Option CommandRelationship) : Type 0 where
+  pub stack : IsSet IsAtom [] (texts (codes "stack=") words) error.stacktrace
+  pub behavior : IsSet (λ text it. text ≡ behavior_name it) behavior.Retry (texts (codes "behaviour=") words) error.behavior
+  pub delay : IsOptional IsTime (texts (codes "delay=") words) error.next_retry_delay
+  pub related : IsOptional IsRelated (texts (codes "rel=") words) relationship
+  pub by_itself : error.related_command ≡ None
+  pub only : are_named error_names words ≡ true

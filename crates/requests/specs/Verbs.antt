@@ -1,5 +1,5 @@
 -- The call that a line asks for: its first word names it, and its arguments are in their places.
-use Rattle.std.specs.Prelude.{◌≡◌, ℕ, zero, suc, List, [], ◌∷◌, length, codes}
+use Rattle.std.specs.Prelude.{◌≡◌, ℕ, List, [], length, drop, codes}
 use Rattle.std.specs.Borrow.{Bor}
 use Rattle.std.specs.Duration.{as_nanos}
 use Rattle.std.specs.Str.Parse.{digits_value}
@@ -13,7 +13,11 @@ use Rattle.requests.specs.declared.request.Call.TheVariants as call
 use Rattle.requests.specs.declared.verb.Verb.{Verb}
 use Rattle.requests.specs.declared.verb.Verb.TheVariants as verb
 use Rattle.requests.specs.Durations.{IsDuration}
+use Rattle.requests.specs.Reports.{AreErrorOptions}
+use Rattle.requests.specs.Targets.{AreCallOptions, AreSendOptions, NamesInvocation}
 use Rattle.requests.specs.Trees.{SpellsTree}
+use Rattle.requests.specs.Values.{HasCodeAndText, HasExtras, HasName, HasNow, HasValue, HasValueAlone}
+use Rattle.requests.specs.Words.{IsOneAtom, behind, text_at}
 
 -- the word that names a call
 unfoldable pub verb_name : Verb → List ℕ
@@ -89,28 +93,9 @@ verb_of (call.Error error relationship) = verb.Error
 verb_of call.SysInput = verb.SysInput
 verb_of (call.Step s) = verb_of_step s
 
--- the text of a word, or nothing where there are no so many words
-abbrev pub text_at : ℕ → List (Bor (List ℕ)) → List ℕ
-text_at i [] = []
-text_at zero (word ∷ words) = word.now
-text_at (suc i) (word ∷ words) = text_at i words
-
--- the words behind the first
-abbrev pub behind : List (Bor (List ℕ)) → List (Bor (List ℕ))
-behind [] = []
-behind (word ∷ words) = words
-
--- one atom of these bytes, and no other word
-abbrev pub IsOneAtom : List (Bor (List ℕ)) → List ℕ → Type 0
-IsOneAtom words bytes = (length words ≡ 1) × IsAtom (text_at 0 words) bytes
-
 -- the digits of this handle, and no other word
 abbrev pub IsHandle : List (Bor (List ℕ)) → ℕ → Type 0
 IsHandle words handle = (length words ≡ 1) × (handle ≡ digits_value 10 (text_at 0 words))
-
--- the words begin with this code and this text
-abbrev pub HasCodeAndText : ℕ → List ℕ → List (Bor (List ℕ)) → Type 0
-HasCodeAndText code message words = (code ≡ digits_value 10 (text_at 0 words)) × IsAtom (text_at 1 words) message
 
 -- the words begin with this service, this handler and this input
 abbrev pub HasCallee : List (Bor (List ℕ)) → List ℕ → List ℕ → List ℕ → Type 0
@@ -120,37 +105,36 @@ HasCallee words service handler input = IsAtom (text_at 0 words) service × IsAt
 abbrev pub IsAwaited : List (Bor (List ℕ)) → UnresolvedFuture → Type 0
 IsAwaited words future = (length words ≡ 1) × SpellsTree (text_at 0 words) (tree_of future)
 
--- The arguments of a step that stand before a value, a target and the options, in their places. A step without these has no
--- other argument.
+-- the arguments of a step, in their places, and the options behind them
 abbrev pub HasStepArguments : List (Bor (List ℕ)) → Step → Type 0
 HasStepArguments arguments (step.Await future) = IsAwaited arguments future
 HasStepArguments arguments (step.Completed handle) = IsHandle arguments handle.0
 HasStepArguments arguments (step.Take handle) = IsHandle arguments handle.0
-HasStepArguments arguments (step.StateGet key name options) = IsAtom (text_at 0 arguments) key
-HasStepArguments arguments (step.StateGetKeys name) = Unit {0}
-HasStepArguments arguments (step.StateSet key value name options) = IsAtom (text_at 0 arguments) key × IsAtom (text_at 1 arguments) value
-HasStepArguments arguments (step.StateClear key name) = IsAtom (text_at 0 arguments) key
-HasStepArguments arguments (step.StateClearAll name) = Unit {0}
-HasStepArguments arguments (step.Sleep name until now) = IsAtom (text_at 0 arguments) name × IsDuration (text_at 1 arguments) (as_nanos until)
-HasStepArguments arguments (step.Call target input name options) = HasCallee arguments target.service target.handler input
-HasStepArguments arguments (step.Send target input time name options) = HasCallee arguments target.service target.handler input
+HasStepArguments arguments (step.StateGet key name options) = IsAtom (text_at 0 arguments) key × HasExtras (drop 1 arguments) name options
+HasStepArguments arguments (step.StateGetKeys name) = HasName arguments name
+HasStepArguments arguments (step.StateSet key value name options) = IsAtom (text_at 0 arguments) key × IsAtom (text_at 1 arguments) value × HasExtras (drop 2 arguments) name options
+HasStepArguments arguments (step.StateClear key name) = IsAtom (text_at 0 arguments) key × HasName (drop 1 arguments) name
+HasStepArguments arguments (step.StateClearAll name) = HasName arguments name
+HasStepArguments arguments (step.Sleep name until now) = IsAtom (text_at 0 arguments) name × IsDuration (text_at 1 arguments) (as_nanos until) × HasNow (drop 2 arguments) now
+HasStepArguments arguments (step.Call target input name options) = HasCallee arguments target.service target.handler input × AreCallOptions (drop 3 arguments) target name options
+HasStepArguments arguments (step.Send target input time name options) = HasCallee arguments target.service target.handler input × AreSendOptions (drop 3 arguments) target time name options
 HasStepArguments arguments step.Awakeable = arguments ≡ []
 HasStepArguments arguments (step.Signal name) = IsOneAtom arguments name
-HasStepArguments arguments (step.CompleteAwakeable id value options) = IsAtom (text_at 0 arguments) id
-HasStepArguments arguments (step.CompleteSignal target name value) = IsAtom (text_at 0 arguments) target × IsAtom (text_at 1 arguments) name
+HasStepArguments arguments (step.CompleteAwakeable id value options) = IsAtom (text_at 0 arguments) id × HasValue (drop 1 arguments) value options
+HasStepArguments arguments (step.CompleteSignal target name value) = IsAtom (text_at 0 arguments) target × IsAtom (text_at 1 arguments) name × HasValueAlone (drop 2 arguments) value
 HasStepArguments arguments (step.CancelInvocation target) = IsOneAtom arguments target
 HasStepArguments arguments (step.GetPromise key) = IsOneAtom arguments key
 HasStepArguments arguments (step.PeekPromise key) = IsOneAtom arguments key
-HasStepArguments arguments (step.CompletePromise key value options) = IsAtom (text_at 0 arguments) key
-HasStepArguments arguments (step.AttachInvocation target) = Unit {0}
-HasStepArguments arguments (step.GetInvocationOutput target) = Unit {0}
-HasStepArguments arguments (step.WriteOutput value options) = Unit {0}
+HasStepArguments arguments (step.CompletePromise key value options) = IsAtom (text_at 0 arguments) key × HasValue (drop 1 arguments) value options
+HasStepArguments arguments (step.AttachInvocation target) = NamesInvocation arguments target
+HasStepArguments arguments (step.GetInvocationOutput target) = NamesInvocation arguments target
+HasStepArguments arguments (step.WriteOutput value options) = HasValue arguments value options
 HasStepArguments arguments step.End = arguments ≡ []
 
--- The arguments that stand before a value and the options, in their places. A call without these has no argument.
+-- the arguments of a call, in their places, and the options behind them
 abbrev pub HasArguments : List (Bor (List ℕ)) → Call → Type 0
 HasArguments arguments (call.Input bytes) = IsOneAtom arguments bytes
-HasArguments arguments (call.Error error relationship) = HasCodeAndText error.code error.message arguments
+HasArguments arguments (call.Error error relationship) = HasCodeAndText error.code error.message arguments × AreErrorOptions (drop 2 arguments) error relationship
 HasArguments arguments (call.Step s) = HasStepArguments arguments s
 HasArguments arguments other = arguments ≡ []
 

@@ -1,5 +1,5 @@
 //! The atoms of a script: texts, byte strings, numbers and durations.
-ghost use Rattle.std.specs.Prelude.{◌≡◌, ◌+◌, ◌*◌, IfOk, IfSome, string_bytes};
+ghost use Rattle.std.specs.Prelude.{◌≡◌, ◌+◌, ◌*◌, [], ◌∷◌, ◌++◌, IfOk, IfSome, string_bytes};
 ghost use Rattle.std.specs.Duration.{as_nanos};
 ghost use Rattle.std.specs.Str.Parse.{IsNumeral, digits_value};
 ghost use Rattle.lines.specs.Atoms.{IsAtom};
@@ -98,4 +98,14 @@ pub fn duration_of(text: &[u8]) -> Result<Duration, Fault>
         digits => long_number_of(digits).and_then(milliseconds),
     };
     duration.ok_or(Fault::Malformed)
+}
+
+/// What stands between the brackets that the text begins and ends with.
+pub fn inside_of(text: &[u8], opening: u8, closing: u8) -> Result<&[u8], Fault>
+    ensures { IfOk result (λ inside. text.now ≡ opening ∷ (inside.now ++ closing ∷ [])) }
+{
+    match text {
+        [first, inside @ .., last] if *first == opening && *last == closing => Ok(inside),
+        _ => Err(Fault::Malformed),
+    }
 }

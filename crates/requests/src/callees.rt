@@ -1,20 +1,18 @@
 //! The lines that call another handler: which one, with what, and how.
-ghost use Rattle.std.specs.Prelude.{◌≡◌, IfOk};
-ghost use Rattle.lines.specs.Atoms.{IsAtom};
+ghost use Rattle.std.specs.Prelude.{◌≡◌, ◌∷◌, IfOk, codes, drop};
 ghost use Rattle.requests.specs.declared.verb.Verb.TheVariants as verb;
-ghost use Rattle.requests.specs.Verbs.{HasCallee, IsLine, text_at};
+ghost use Rattle.requests.specs.Fields.{are_named, texts};
+ghost use Rattle.requests.specs.Targets.{AreHeaders, HasCallOptions, call_names};
+ghost use Rattle.requests.specs.Verbs.{HasCallee, IsLine};
 
-use crate::arguments::{
-    first_bytes, pair_of, take_optional_duration, take_optional_text, take_two_optional_texts,
-    two_texts, without_unstable,
-};
+use crate::arguments::{optional_duration, optional_text, pair_of, without_unstable};
+use crate::atoms::{shared_of, text_of};
+use crate::fields::{are_named, text_behind};
 use crate::request::Call;
 use bytes::Bytes;
 use journal_values::Header;
-use lines::fields::Fields;
 use std::alloc::Global;
-use std::time::Duration;
-use vm_parts::{PayloadOptions, Step, Target};
+use vm_parts::{Step, Target};
 use wire::{Fault, Items, Text};
 
 /// What is called, and with what.
@@ -25,130 +23,38 @@ struct Callee {
     input: Bytes,
 }
 
-/// The options of a call.
-#[derive(Debug, Drop)]
-struct CallOptions {
-    key: Option<Text>,
-    idempotency_key: Option<Text>,
-    scope: Option<Text>,
-    limit_key: Option<Text>,
-    headers: Items<Header>,
-    name: Option<Text>,
-    payload: PayloadOptions,
-    execution_time: Option<Duration>,
-}
-
-/// `[header={T T}]..`, at most so many.
-fn headers_of(fields: &mut Fields<'_>, most: usize) -> Result<Items<Header>, Fault> {
-    let alloc = fields.alloc();
+/// `[header={T T}]..`, among other words.
+fn headers_of(alloc: Global, words: &[&[u8]]) -> Result<Items<Header>, Fault>
+    ensures { IfOk result (λ headers. AreHeaders (texts (codes "header=") words.now) headers) }
+{
     let mut headers = Items::new(alloc);
-    for _ in 0..most {
-        let Some(text) = fields.take_text("header") else {
-            break;
-        };
-        let (key, value) = pair_of(alloc, text)?;
-        headers.push(Header { key, value })?;
+    for word in words {
+        if let Some(text) = text_behind(*word, "header=") {
+            let (key, value) = pair_of(alloc, text)?;
+            headers.push(Header { key, value })?;
+        }
     }
     Ok(headers)
 }
 
-/// `[header={T T}].. [name=T]`, at most so many headers, among other fields.
-fn headers_and_name(
-    fields: &mut Fields<'_>,
-    most: usize,
-) -> Result<(Items<Header>, Option<Text>), Fault> {
-    let headers = headers_of(fields, most)?;
-    let name = take_optional_text(fields, "name")?;
-    Ok((headers, name))
-}
-
-/// `[at=D]`, among other fields, where a time may stand.
-fn take_time(fields: &mut Fields<'_>, may_have_time: bool) -> Result<Option<Duration>, Fault> {
-    if may_have_time {
-        take_optional_duration(fields, "at")
-    } else {
-        Ok(None)
-    }
-}
-
-/// `[key=T] [idem=T] [scope=T] [limit=T] [header={T T}].. [name=T]`, at most so many headers, among other fields.
-fn take_options(
-    fields: &mut Fields<'_>,
-    most: usize,
-    payload: PayloadOptions,
-    execution_time: Option<Duration>,
-) -> Result<CallOptions, Fault> {
-    let (key, idempotency_key) = take_two_optional_texts(fields, "key", "idem")?;
-    let (scope, limit_key) = take_two_optional_texts(fields, "scope", "limit")?;
-    let (headers, name) = headers_and_name(fields, most)?;
-    Ok(CallOptions {
-        key,
-        idempotency_key,
-        scope,
-        limit_key,
-        headers,
-        name,
-        payload,
-        execution_time,
-    })
-}
-
-/// The options that the words without `unstable` name, and no others.
-fn options_among(
-    alloc: Global,
-    words: &[&[u8]],
-    payload: PayloadOptions,
-    may_have_time: bool,
-) -> Result<CallOptions, Fault> {
-    let mut fields = Fields::of_pieces(alloc, words)?;
-    let time = take_time(&mut fields, may_have_time)?;
-    let options = take_options(&mut fields, words.len(), payload, time)?;
-    fields.end()?;
-    Ok(options)
-}
-
-/// The options that the words name. Some calls may have a time, `[at=D]`.
-fn options_of(alloc: Global, words: &[&[u8]], may_have_time: bool) -> Result<CallOptions, Fault> {
-    let (others, payload) = without_unstable(alloc, words)?;
-    options_among(alloc, others.as_slice(), payload, may_have_time)
-}
-
-/// `T T B`, and the words behind them.
-fn callee_of<'w, 'a>(
-    alloc: Global,
-    words: &'w [&'a [u8]],
-) -> Result<(Callee, &'w [&'a [u8]]), Fault>
-    ensures { IfOk result (λ found. HasCallee words.now found.0.service found.0.handler found.0.input) }
-{
-    let (service, handler, rest) = two_texts(alloc, words)?;
-    let (input, options) = first_bytes(alloc, rest)?;
-    let callee = Callee {
-        service,
-        handler,
-        input,
-    };
-    Ok((callee, options))
-}
-
-/// The target that a call with these options has, and the call's name and what is said of its payload.
+/// The target with these options, and the call's name:
+/// `[key=T] [idem=T] [scope=T] [limit=T] [header={T T}].. [name=T]`, among other words.
 fn target_with(
+    alloc: Global,
     service: Text,
     handler: Text,
-    options: CallOptions,
-) -> (Target, Option<Text>, PayloadOptions)
-    ensures service { result.0.service ≡ service }
-    ensures handler { result.0.handler ≡ handler }
+    words: &[&[u8]],
+) -> Result<(Target, Option<Text>), Fault>
+    ensures service { IfOk result (λ found. found.0.service ≡ service) }
+    ensures handler { IfOk result (λ found. found.0.handler ≡ handler) }
+    ensures options { IfOk result (λ found. HasCallOptions words.now found.0 found.1) }
 {
-    let CallOptions {
-        key,
-        idempotency_key,
-        scope,
-        limit_key,
-        headers,
-        name,
-        payload,
-        ..
-    } = options;
+    let key = optional_text(alloc, words, "key=")?;
+    let idempotency_key = optional_text(alloc, words, "idem=")?;
+    let scope = optional_text(alloc, words, "scope=")?;
+    let limit_key = optional_text(alloc, words, "limit=")?;
+    let headers = headers_of(alloc, words)?;
+    let name = optional_text(alloc, words, "name=")?;
     let target = Target {
         service,
         handler,
@@ -158,7 +64,51 @@ fn target_with(
         limit_key,
         headers,
     };
-    (target, name, payload)
+    Ok((target, name))
+}
+
+/// `T T B`, and the words behind them.
+fn callee_of<'w, 'a>(
+    alloc: Global,
+    words: &'w [&'a [u8]],
+) -> Result<(Callee, &'w [&'a [u8]]), Fault>
+    ensures callee { IfOk result (λ found. HasCallee words.now found.0.service found.0.handler found.0.input) }
+    ensures rest { IfOk result (λ found. found.1.now ≡ drop 3 words.now) }
+{
+    let [service, handler, input, options @ ..] = words else {
+        return Err(Fault::Malformed);
+    };
+    let service = text_of(alloc, *service)?;
+    let handler = text_of(alloc, *handler)?;
+    let input = shared_of(alloc, *input)?;
+    let callee = Callee {
+        service,
+        handler,
+        input,
+    };
+    Ok((callee, options))
+}
+
+/// Whether the words name options of a `call` line alone.
+fn are_call_options(words: &[&[u8]]) -> bool
+    ensures { result ≡ are_named call_names words.now }
+{
+    are_named(
+        words,
+        &["key=", "idem=", "scope=", "limit=", "header=", "name="],
+    )
+}
+
+/// Whether the words name options of a `send` line alone.
+fn are_send_options(words: &[&[u8]]) -> bool
+    ensures { result ≡ are_named (codes "at=" ∷ call_names) words.now }
+{
+    are_named(
+        words,
+        &[
+            "at=", "key=", "idem=", "scope=", "limit=", "header=", "name=",
+        ],
+    )
 }
 
 /// The row `call`: `T T B [key=T] [idem=T] [scope=T] [limit=T] [header={T T}].. [name=T] [unstable]`.
@@ -166,13 +116,16 @@ pub fn call_line(alloc: Global, arguments: &[&[u8]]) -> Result<Call, Fault>
     ensures { IfOk result (λ call. IsLine verb.Call arguments.now call) }
 {
     let (callee, rest) = callee_of(alloc, arguments)?;
-    let options = options_of(alloc, rest, false)?;
+    let (words, options) = without_unstable(alloc, rest)?;
+    if !are_call_options(words.as_slice()) {
+        return Err(Fault::Malformed);
+    }
     let Callee {
         service,
         handler,
         input,
     } = callee;
-    let (target, name, options) = target_with(service, handler, options);
+    let (target, name) = target_with(alloc, service, handler, words.as_slice())?;
     Ok(Call::Step(Step::Call {
         target,
         input,
@@ -186,14 +139,17 @@ pub fn send_line(alloc: Global, arguments: &[&[u8]]) -> Result<Call, Fault>
     ensures { IfOk result (λ call. IsLine verb.Send arguments.now call) }
 {
     let (callee, rest) = callee_of(alloc, arguments)?;
-    let options = options_of(alloc, rest, true)?;
-    let execution_time_since_unix_epoch = options.execution_time;
+    let (words, options) = without_unstable(alloc, rest)?;
+    if !are_send_options(words.as_slice()) {
+        return Err(Fault::Malformed);
+    }
+    let execution_time_since_unix_epoch = optional_duration(words.as_slice(), "at=")?;
     let Callee {
         service,
         handler,
         input,
     } = callee;
-    let (target, name, options) = target_with(service, handler, options);
+    let (target, name) = target_with(alloc, service, handler, words.as_slice())?;
     Ok(Call::Step(Step::Send {
         target,
         input,

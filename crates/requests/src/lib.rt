@@ -5,6 +5,7 @@ pub mod arguments;
 pub mod atoms;
 pub mod callees;
 pub mod content_type;
+pub mod fields;
 pub mod options;
 pub mod parse;
 pub mod report;

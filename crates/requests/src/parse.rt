@@ -1,8 +1,11 @@
 //! A line of the script, read as a whole: one row a call.
-ghost use Rattle.std.specs.Prelude.{◌≡◌, ◌⊎◌, [], IfOk, Ok, true, false, codes};
+ghost use Rattle.std.specs.Prelude.{◌≡◌, ◌⊎◌, [], IfOk, Ok, true, false, codes, drop};
 ghost use Rattle.requests.specs.declared.verb.Verb.TheVariants as verb;
 ghost use Rattle.requests.specs.Lines.{Asks, AsksCall, IsContentType, MakesWith, Reads, begins_with_vm, says_nothing};
-ghost use Rattle.requests.specs.Verbs.{IsAwaited, IsLine, IsAsked, text_at};
+ghost use Rattle.lines.specs.Atoms.{IsAtom};
+ghost use Rattle.requests.specs.Verbs.{IsAwaited, IsLine, IsAsked};
+ghost use Rattle.requests.specs.VmOptions.{AreOptions};
+ghost use Rattle.requests.specs.Words.{text_at};
 
 use crate::arguments::{
     Extras, bytes_alone, extras_of, handle_alone, name_of, now_of, text_alone, two_texts,
@@ -17,11 +20,11 @@ use crate::request::{Call, Request};
 use crate::targets::target_of;
 use crate::trees::tree_of_word;
 use crate::verb::{Verb, verb_of_word};
-use lines::fields::Fields;
+use bytes::Bytes;
 use lines::pieces::words;
 use std::alloc::{AllocError, Global};
 use vm_parts::{Step, UnresolvedFuture, VMOptions};
-use wire::Fault;
+use wire::{Fault, Text};
 
 fn get_of(alloc: Global, arguments: &[&[u8]]) -> Result<Call, Fault>
     ensures { IfOk result (λ call. IsLine verb.Get arguments.now call) }
@@ -45,14 +48,27 @@ fn keys_of(alloc: Global, arguments: &[&[u8]]) -> Result<Call, Fault>
     Ok(Call::Step(Step::StateGetKeys { name }))
 }
 
-fn set_of(alloc: Global, arguments: &[&[u8]]) -> Result<Call, Fault>
-    ensures { IfOk result (λ call. IsLine verb.Set arguments.now call) }
+/// `T B`, and the words behind them.
+fn key_and_value<'w, 'a>(
+    alloc: Global,
+    words: &'w [&'a [u8]],
+) -> Result<(Text, Bytes, &'w [&'a [u8]]), Fault>
+    ensures key { IfOk result (λ found. IsAtom (text_at 0 words.now) found.0) }
+    ensures value { IfOk result (λ found. IsAtom (text_at 1 words.now) found.1) }
+    ensures rest { IfOk result (λ found. found.2.now ≡ drop 2 words.now) }
 {
-    let [key, value, others @ ..] = arguments else {
+    let [key, value, rest @ ..] = words else {
         return Err(Fault::Malformed);
     };
     let key = text_of(alloc, *key)?;
     let value = shared_of(alloc, *value)?;
+    Ok((key, value, rest))
+}
+
+fn set_of(alloc: Global, arguments: &[&[u8]]) -> Result<Call, Fault>
+    ensures { IfOk result (λ call. IsLine verb.Set arguments.now call) }
+{
+    let (key, value, others) = key_and_value(alloc, arguments)?;
     let Extras { name, payload } = extras_of(alloc, others)?;
     Ok(Call::Step(Step::StateSet {
         key,
@@ -81,7 +97,7 @@ fn sleep_of(alloc: Global, arguments: &[&[u8]]) -> Result<Call, Fault>
     };
     let name = text_of(alloc, *name)?;
     let until = duration_of(*until)?;
-    let now = now_of(alloc, others)?;
+    let now = now_of(others)?;
     Ok(Call::Step(Step::Sleep {
         name,
         wake_up_time_since_unix_epoch: until,
@@ -313,16 +329,11 @@ fn content_type_of(alloc: Global, text: &[u8]) -> Result<ContentType, Fault>
     Ok(ContentType::Named(string_of(alloc, text)?))
 }
 
-/// The options of a `vm` line.
-fn vm_options_of(alloc: Global, words: &[&[u8]]) -> Result<VMOptions, Fault> {
-    let mut fields = Fields::of_pieces(alloc, words)?;
-    options_of(&mut fields)
-}
-
 /// The content type and the options that the words of a `vm` line name.
 fn make_of_words(alloc: Global, words: &[&[u8]]) -> Result<(ContentType, VMOptions), Fault>
     ensures name { IfOk result (λ _. text_at 0 words.now ≡ codes "vm") }
     ensures content_type { IfOk result (λ made. IsContentType (text_at 1 words.now) made.0) }
+    ensures options { IfOk result (λ made. AreOptions (drop 2 words.now) made.1) }
 {
     let [name, content_type, options @ ..] = words else {
         return Err(Fault::Malformed);
@@ -330,14 +341,14 @@ fn make_of_words(alloc: Global, words: &[&[u8]]) -> Result<(ContentType, VMOptio
     if *name != b"vm".as_slice() {
         return Err(Fault::Malformed);
     }
-    let options = vm_options_of(alloc, options)?;
+    let options = options_of(options)?;
     let content_type = content_type_of(alloc, *content_type)?;
     Ok((content_type, options))
 }
 
 /// The row `vm`.
 fn make_of(alloc: Global, line: &[u8]) -> Result<(ContentType, VMOptions), Fault>
-    ensures { IfOk result (λ made. MakesWith line.now made.0) }
+    ensures { IfOk result (λ made. MakesWith line.now made.0 made.1) }
 {
     let words = words(alloc, line)?;
     make_of_words(alloc, words.as_slice())

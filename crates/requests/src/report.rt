@@ -1,14 +1,19 @@
 //! The row `error`: what the handler's runner reports.
-ghost use Rattle.std.specs.Prelude.{◌≡◌, IfOk, string_bytes};
+ghost use Rattle.std.specs.Prelude.{◌≡◌, [], IfOk, codes, string_bytes};
+ghost use Rattle.journal_errors.specs.declared.error.ErrorBehavior.TheVariants as behavior;
+ghost use Rattle.lines.specs.Atoms.{IsAtom};
 ghost use Rattle.requests.specs.declared.verb.Verb.TheVariants as verb;
+ghost use Rattle.requests.specs.Fields.{IsOptional, IsSet, are_named, texts};
+ghost use Rattle.requests.specs.Reports.{AreErrorOptions, IsCommand, IsCommandAt, IsCommandName, IsRelated, behavior_name, delay_or, error_names, reported, stack_or, type_name};
+ghost use Rattle.requests.specs.Values.{IsTime};
 ghost use Rattle.requests.specs.Verbs.{IsLine};
-ghost use Rattle.requests.specs.Reports.{behavior_name, type_name, reported, stack_or, delay_or};
 
-use crate::atoms::{duration_of, string_of, text_of, u16_of, u32_of};
+use crate::arguments::optional_duration;
+use crate::atoms::{inside_of, string_of, text_of, u16_of, u32_of};
+use crate::fields::{are_named, field_of};
 use crate::request::Call;
 use journal_errors::{Error, ErrorBehavior};
-use lines::fields::Fields;
-use lines::pieces::{between, words};
+use lines::pieces::words;
 use std::alloc::Global;
 use std::time::Duration;
 use vm_parts::{CommandRelationship, CommandType};
@@ -102,7 +107,9 @@ fn command_type_of(text: &[u8]) -> Result<CommandType, Fault>
 }
 
 /// A text, or `-` for none.
-fn optional_of(alloc: Global, text: &[u8]) -> Result<Option<Text>, Fault> {
+fn optional_of(alloc: Global, text: &[u8]) -> Result<Option<Text>, Fault>
+    ensures { IfOk result (λ name. IsCommandName text.now name) }
+{
     if text == b"-".as_slice() {
         return Ok(None);
     }
@@ -110,64 +117,95 @@ fn optional_of(alloc: Global, text: &[u8]) -> Result<Option<Text>, Fault> {
 }
 
 /// `(TYPE NAME)`.
-fn next_of(alloc: Global, text: &[u8]) -> Result<CommandRelationship, Fault> {
-    let words = words(alloc, between(text, b'(', b')')?)?;
+fn next_of(alloc: Global, text: &[u8]) -> Result<(CommandType, Option<Text>), Fault>
+    ensures { IfOk result (λ command. IsCommand text.now command.0 command.1) }
+{
+    let inside = inside_of(text, b'(', b')')?;
+    let words = words(alloc, inside)?;
     let [ty, name] = words.as_slice() else {
         return Err(Fault::Malformed);
     };
     let ty = command_type_of(*ty)?;
     let name = optional_of(alloc, *name)?;
-    Ok(CommandRelationship::Next { ty, name })
+    Ok((ty, name))
 }
 
 /// `(N TYPE NAME)`.
-fn specific_of(alloc: Global, text: &[u8]) -> Result<CommandRelationship, Fault> {
-    let words = words(alloc, between(text, b'(', b')')?)?;
+fn specific_of(alloc: Global, text: &[u8]) -> Result<(u32, CommandType, Option<Text>), Fault>
+    ensures { IfOk result (λ command. IsCommandAt text.now command.0 command.1 command.2) }
+{
+    let inside = inside_of(text, b'(', b')')?;
+    let words = words(alloc, inside)?;
     let [index, ty, name] = words.as_slice() else {
         return Err(Fault::Malformed);
     };
-    let command_index = u32_of(*index)?;
+    let index = u32_of(*index)?;
     let ty = command_type_of(*ty)?;
     let name = optional_of(alloc, *name)?;
-    Ok(CommandRelationship::Specific {
-        command_index,
-        ty,
-        name,
-    })
+    Ok((index, ty, name))
 }
 
 /// The command that an error relates to.
-fn relationship_of(alloc: Global, text: &[u8]) -> Result<CommandRelationship, Fault> {
+fn relationship_of(alloc: Global, text: &[u8]) -> Result<CommandRelationship, Fault>
+    ensures { IfOk result (λ related. IsRelated text.now related) }
+{
     match text {
         b"last" => Ok(CommandRelationship::Last),
-        [b'n', b'e', b'x', b't', command @ ..] => next_of(alloc, command),
-        [b'a', b't', command @ ..] => specific_of(alloc, command),
+        [b'n', b'e', b'x', b't', command @ ..] => {
+            let (ty, name) = next_of(alloc, command)?;
+            Ok(CommandRelationship::Next { ty, name })
+        }
+        [b'a', b't', command @ ..] => {
+            let (command_index, ty, name) = specific_of(alloc, command)?;
+            Ok(CommandRelationship::Specific {
+                command_index,
+                ty,
+                name,
+            })
+        }
         _ => Err(Fault::Malformed),
     }
 }
 
-/// `[rel=R]`, among other fields.
-fn take_relationship(fields: &mut Fields<'_>) -> Result<Option<CommandRelationship>, Fault> {
-    match fields.take_text("rel") {
-        Some(text) => Ok(Some(relationship_of(fields.alloc(), text)?)),
+/// `[rel=R]`, among other words.
+fn related_in(alloc: Global, words: &[&[u8]]) -> Result<Option<CommandRelationship>, Fault>
+    ensures { IfOk result (λ related. IsOptional IsRelated (texts (codes "rel=") words.now) related) }
+{
+    match field_of(words, "rel=")? {
+        Some(text) => Ok(Some(relationship_of(alloc, text)?)),
         None => Ok(None),
     }
 }
 
-/// `[stack=T] [behaviour=..] [delay=D]`, among other fields.
-fn take_details(fields: &mut Fields<'_>) -> Result<Details, Fault> {
-    let stack = match fields.take_text("stack") {
-        Some(text) => Some(string_of(fields.alloc(), text)?),
-        None => None,
-    };
-    let behavior = match fields.take_text("behaviour") {
-        Some(text) => behavior_of(text)?,
-        None => ErrorBehavior::Retry,
-    };
-    let delay = match fields.take_text("delay") {
-        Some(text) => Some(duration_of(text)?),
-        None => None,
-    };
+/// `[stack=T]`, among other words.
+fn stack_in(alloc: Global, words: &[&[u8]]) -> Result<Option<String>, Fault>
+    ensures { IfOk result (λ stack. IsSet IsAtom [] (texts (codes "stack=") words.now) (stack_or stack [])) }
+{
+    match field_of(words, "stack=")? {
+        Some(text) => Ok(Some(string_of(alloc, text)?)),
+        None => Ok(None),
+    }
+}
+
+/// `[behaviour=..]`, among other words.
+fn behavior_in(words: &[&[u8]]) -> Result<ErrorBehavior, Fault>
+    ensures { IfOk result (λ it. IsSet (λ text it. text ≡ behavior_name it) behavior.Retry (texts (codes "behaviour=") words.now) it) }
+{
+    match field_of(words, "behaviour=")? {
+        Some(text) => behavior_of(text),
+        None => Ok(ErrorBehavior::Retry),
+    }
+}
+
+/// `[stack=T] [behaviour=..] [delay=D]`, among other words.
+fn details_in(alloc: Global, words: &[&[u8]]) -> Result<Details, Fault>
+    ensures stack { IfOk result (λ details. IsSet IsAtom [] (texts (codes "stack=") words.now) (stack_or details.stack [])) }
+    ensures behavior { IfOk result (λ details. IsSet (λ text it. text ≡ behavior_name it) behavior.Retry (texts (codes "behaviour=") words.now) details.behavior) }
+    ensures delay { IfOk result (λ details. IsOptional IsTime (texts (codes "delay=") words.now) details.delay) }
+{
+    let stack = stack_in(alloc, words)?;
+    let behavior = behavior_in(words)?;
+    let delay = optional_duration(words, "delay=")?;
     Ok(Details {
         stack,
         behavior,
@@ -208,16 +246,30 @@ fn error_with(code: u16, message: String, details: Details) -> Error
     delayed(stacked(error, stack), delay)
 }
 
-/// The options of the row `error`, and no other.
-fn options_of(
+/// Whether the words name options of an `error` line alone.
+fn are_options(words: &[&[u8]]) -> bool
+    ensures { result ≡ are_named error_names words.now }
+{
+    are_named(words, &["stack=", "behaviour=", "delay=", "rel="])
+}
+
+/// The error of this code and text with the options that the words name, and the command that it relates to.
+fn error_among(
     alloc: Global,
+    code: u16,
+    message: String,
     words: &[&[u8]],
-) -> Result<(Details, Option<CommandRelationship>), Fault> {
-    let mut fields = Fields::of_pieces(alloc, words)?;
-    let details = take_details(&mut fields)?;
-    let relationship = take_relationship(&mut fields)?;
-    fields.end()?;
-    Ok((details, relationship))
+) -> Result<(Error, Option<CommandRelationship>), Fault>
+    ensures code { IfOk result (λ found. found.0.code ≡ code) }
+    ensures message { IfOk result (λ found. found.0.message ≡ string_bytes message) }
+    ensures options { IfOk result (λ found. AreErrorOptions words.now found.0 found.1) }
+{
+    if !are_options(words) {
+        return Err(Fault::Malformed);
+    }
+    let relationship = related_in(alloc, words)?;
+    let details = details_in(alloc, words)?;
+    Ok((error_with(code, message, details), relationship))
 }
 
 /// The row `error`.
@@ -229,6 +281,6 @@ pub fn error_of(alloc: Global, arguments: &[&[u8]]) -> Result<Call, Fault>
     };
     let code = u16_of(*code)?;
     let message = string_of(alloc, *message)?;
-    let (details, relationship) = options_of(alloc, others)?;
-    Ok(Call::Error(error_with(code, message, details), relationship))
+    let (error, relationship) = error_among(alloc, code, message, others)?;
+    Ok(Call::Error(error, relationship))
 }

@@ -1,0 +1,11 @@
+use Rattle.std.proofs.Common.{[], arith}
+use Rattle.std.proofs.lemmas.Grind.{common_steps}
+use Rattle.requests.proofs.Pairing.{pairs_more, pairs_taken}
+use Rattle.requests.proofs.arguments.pairs_of.Goals as goal
+
+pub loop-word-preserved : goal.loop-word-preserved
+loop-word-preserved c =
+    pairs_more c.args.words.now c.loop-word.word-index (record { ref_ptr = (0, 0); now = [] }) c.loop-word.pairs c.push.new.self c.in_ok-pair_of.field-0 (grind (arith, common_steps)) c.loop-word.invariant c.in_ok-pair_of.ensures c.in_ok-push.ensures.ok
+
+pub returns : goal.returns
+returns c = pairs_taken c.args.words.now c.loop-word.word-index c.loop-word.pairs (omega (arith, c.loop-word.auto.word-index-end)) c.loop-word.invariant

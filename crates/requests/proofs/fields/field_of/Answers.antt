@@ -1,0 +1,11 @@
+use Rattle.std.proofs.Common.{[], arith}
+use Rattle.std.proofs.lemmas.Grind.{common_steps}
+use Rattle.requests.proofs.Naming.{texts_none, only_more}
+use Rattle.requests.proofs.fields.field_of.Goals.{in-Some+else-is_some, in_default}
+use Rattle.requests.proofs.fields.field_of.Goals as goal
+
+pub loop-word-preserved : goal.loop-word-preserved
+loop-word-preserved c = elim c.match-text_behind.branch [
+  | in-Some+else-is_some w ↦ only_more c.args.name.now c.args.words.now c.loop-word.word-index (record { ref_ptr = (0, 0); now = [] }) c.loop-word.found c.match-text_behind.found w.in-Some.text c.loop-word.invariant (grind (arith, common_steps)) (grind (arith, common_steps)) (grind (arith, common_steps)) w.found-is
+  | in_default w ↦ grind (arith, common_steps, texts_none)
+]

@@ -1,0 +1,19 @@
+-- The words of a line by their places.
+use Rattle.std.specs.Prelude.{◌≡◌, ℕ, zero, suc, List, [], ◌∷◌, length}
+use Rattle.std.specs.Borrow.{Bor}
+use Rattle.lines.specs.Atoms.{IsAtom}
+
+-- the text of a word, or nothing where there are no so many words
+abbrev pub text_at : ℕ → List (Bor (List ℕ)) → List ℕ
+text_at i [] = []
+text_at zero (word ∷ words) = word.now
+text_at (suc i) (word ∷ words) = text_at i words
+
+-- the words behind the first
+abbrev pub behind : List (Bor (List ℕ)) → List (Bor (List ℕ))
+behind [] = []
+behind (word ∷ words) = words
+
+-- one atom of these bytes, and no other word
+abbrev pub IsOneAtom : List (Bor (List ℕ)) → List ℕ → Type 0
+IsOneAtom words bytes = (length words ≡ 1) × IsAtom (text_at 0 words) bytes
