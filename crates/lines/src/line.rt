@@ -87,6 +87,7 @@ impl Line {
     }
 
     /// Writes a byte as two hex digits.
+    #[inline(always)]
     fn two_digits(&mut self, byte: u8) -> Result<(), AllocError>
         ensures { OnOk result (self.new ≡ self.old ++ in_hex byte) }
     {

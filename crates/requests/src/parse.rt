@@ -268,6 +268,7 @@ fn clear_all_of(alloc: Global, arguments: &[&[u8]]) -> Result<Call, Fault>
 }
 
 /// The call of this name, with the arguments behind it.
+#[inline(always)]
 fn call_named(alloc: Global, verb: Verb, arguments: &[&[u8]]) -> Result<Call, Fault>
     ensures { IfOk result (λ call. IsLine verb arguments.now call) }
 {

@@ -129,6 +129,7 @@ fn carry(vm: &mut CoreVM, command: Command) -> Reply
 
 /// Makes the call that is asked for.
 #[tactic(auto, using(crate::proofs::Told::answers, crate::proofs::Told::awaits))]
+#[inline(always)]
 fn perform_ask(vm: &mut CoreVM, ask: Ask) -> Reply
     ensures { DoneAsAsked ask result (seen vm.old) (seen vm.new) }
 {
@@ -161,6 +162,7 @@ fn perform_step(vm: &mut CoreVM, step: Step) -> Reply
 
 /// Makes a call.
 #[tactic(auto, using(crate::proofs::Told::answers, crate::proofs::Told::feeds, crate::proofs::Told::drains))]
+#[inline(always)]
 fn perform_call(vm: &mut CoreVM, call: Call) -> Reply
     ensures { Called call result (seen vm.old) (seen vm.new) }
 {
