@@ -11,13 +11,12 @@ use Rattle.vm_parts.specs.declared.command_type.CommandType.TheVariants as comma
 use Rattle.vm_parts.specs.declared.command_type.CommandRelationship.{CommandRelationship}
 use Rattle.vm_parts.specs.declared.command_type.CommandRelationship.TheVariants as relationship
 use Rattle.std.specs.Borrow.{Bor}
-use Rattle.std.specs.Str.Parse.{digits_value}
 use Rattle.lines.specs.Atoms.{IsAtom}
 use Rattle.lines.specs.Pieces.{AreWords}
 use Rattle.requests.specs.declared.report.Details.{Details}
 use Rattle.requests.specs.Fields.{IsOptional, IsSet, are_named, texts}
 use Rattle.requests.specs.Values.{IsTime}
-use Rattle.requests.specs.Words.{text_at}
+use Rattle.requests.specs.Words.{IsNumberOf, text_at}
 
 -- what is to be done after an error
 abbrev pub behavior_name : ErrorBehavior → List ℕ
@@ -90,7 +89,7 @@ pub record IsCommandAt (text : List ℕ) (index : ℕ) (ty : CommandType) (name 
   pub brackets : text ≡ 40 ∷ (inside ++ 41 ∷ [])
   pub are_words : AreWords inside words
   pub three : length words ≡ 3
-  pub is_index : index ≡ digits_value 10 (text_at 0 words)
+  pub is_index : IsNumberOf (text_at 0 words) index
   pub is_type : text_at 1 words ≡ type_name ty
   pub is_name : IsCommandName (text_at 2 words) name
 

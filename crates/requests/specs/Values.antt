@@ -4,7 +4,6 @@ use Rattle.std.specs.Borrow.{Bor}
 use Rattle.std.specs.Cmp.Lexicographic.{pointwise}
 use Rattle.std.specs.Duration.{as_nanos}
 use Rattle.std.specs.List.{AllZip}
-use Rattle.std.specs.Str.Parse.{digits_value}
 use Rattle.std.specs.declared.time.Duration.{Duration}
 use Rattle.lines.specs.Atoms.{IsAtom}
 use Rattle.lines.specs.Pieces.{AreWords}
@@ -14,7 +13,7 @@ use Rattle.vm_parts.specs.declared.values.NonEmptyValue.TheVariants as value
 use Rattle.vm_parts.specs.declared.values.TerminalFailure.{TerminalFailure}
 use Rattle.requests.specs.Durations.{IsDuration}
 use Rattle.requests.specs.Fields.{IsOptional, are_named, texts}
-use Rattle.requests.specs.Words.{behind, text_at}
+use Rattle.requests.specs.Words.{IsNumberOf, behind, text_at}
 
 -- two texts in braces
 pub record IsPair (text first second : List ℕ) : Type 0 where
@@ -32,7 +31,7 @@ ArePairs words pairs = AllZip (λ word pair. IsPair word.now pair.0 pair.1) word
 
 -- the words begin with this code and this text
 abbrev pub HasCodeAndText : ℕ → List ℕ → List (Bor (List ℕ)) → Type 0
-HasCodeAndText code message words = (code ≡ digits_value 10 (text_at 0 words)) × IsAtom (text_at 1 words) message
+HasCodeAndText code message words = IsNumberOf (text_at 0 words) code × IsAtom (text_at 1 words) message
 
 -- these words are a code, a text and pairs, and the rest
 pub record IsFailure (words : List (Bor (List ℕ))) (failure : TerminalFailure) (rest : List (Bor (List ℕ))) : Type 0 where

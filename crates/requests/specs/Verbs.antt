@@ -2,7 +2,6 @@
 use Rattle.std.specs.Prelude.{◌≡◌, ℕ, List, [], length, drop, codes}
 use Rattle.std.specs.Borrow.{Bor}
 use Rattle.std.specs.Duration.{as_nanos}
-use Rattle.std.specs.Str.Parse.{digits_value}
 use Rattle.lines.specs.Atoms.{IsAtom}
 use Rattle.vm_parts.specs.declared.steps.Step.{Step}
 use Rattle.vm_parts.specs.declared.steps.Step.TheVariants as step
@@ -17,7 +16,7 @@ use Rattle.requests.specs.Reports.{AreErrorOptions}
 use Rattle.requests.specs.Targets.{AreCallOptions, AreSendOptions, NamesInvocation}
 use Rattle.requests.specs.Trees.{SpellsTree}
 use Rattle.requests.specs.Values.{HasCodeAndText, HasExtras, HasName, HasNow, HasValue, HasValueAlone}
-use Rattle.requests.specs.Words.{IsOneAtom, behind, text_at}
+use Rattle.requests.specs.Words.{IsNumberOf, IsOneAtom, behind, text_at}
 
 -- the word that names a call
 unfoldable pub verb_name : Verb → List ℕ
@@ -95,7 +94,7 @@ verb_of (call.Step s) = verb_of_step s
 
 -- the digits of this handle, and no other word
 abbrev pub IsHandle : List (Bor (List ℕ)) → ℕ → Type 0
-IsHandle words handle = (length words ≡ 1) × (handle ≡ digits_value 10 (text_at 0 words))
+IsHandle words handle = (length words ≡ 1) × IsNumberOf (text_at 0 words) handle
 
 -- the words begin with this service, this handler and this input
 abbrev pub HasCallee : List (Bor (List ℕ)) → List ℕ → List ℕ → List ℕ → Type 0

@@ -1,8 +1,6 @@
 -- The options of a `vm` line, by their words.
 use Rattle.std.specs.Prelude.{◌≡◌, ◌⊎◌, ℕ, true, false, List, [], ◌∷◌, codes}
 use Rattle.std.specs.Borrow.{Bor}
-use Rattle.std.specs.Str.Parse.{digits_value}
-use Rattle.lines.specs.Atoms.{IsNumber}
 use Rattle.vm_parts.specs.Options.{default_options}
 use Rattle.vm_parts.specs.declared.options.VMOptions.{VMOptions}
 use Rattle.vm_parts.specs.declared.options.AwaitingOnPolicy.{AwaitingOnPolicy}
@@ -18,6 +16,7 @@ use Rattle.vm_parts.specs.declared.options.NonDeterministicChecksOption.TheVaria
 use Rattle.vm_parts.specs.declared.options.SignalDelivery.{SignalDelivery}
 use Rattle.vm_parts.specs.declared.options.SignalDelivery.TheVariants as delivery
 use Rattle.requests.specs.Fields.{IsSet, are_named, texts}
+use Rattle.requests.specs.Words.{IsNumberOf}
 
 -- which children the cancel signal cancels too
 abbrev pub cancel_word : ImplicitCancellationOption → List ℕ
@@ -57,10 +56,6 @@ delivery_word delivery.Overwrite = codes "overwrite"
 -- what a caller that skips commands does; no option of the VM
 abbrev pub IsSkip : List ℕ → Type 0
 IsSkip text = (text ≡ codes "double") ⊎ (text ≡ codes "carried")
-
--- a number that fits 64 bits
-abbrev pub IsNumberOf : List ℕ → ℕ → Type 0
-IsNumberOf text number = IsNumber text × (number ≡ digits_value 10 text)
 
 -- An option is what the word behind its name stands for, and as by default where it isn't named. The seed stands apart.
 pub record ArePolicies (words : List (Bor (List ℕ))) (options : VMOptions) : Type 0 where

@@ -1,6 +1,7 @@
 -- The words of a line by their places.
 use Rattle.std.specs.Prelude.{◌≡◌, ℕ, zero, suc, List, [], ◌∷◌, length}
 use Rattle.std.specs.Borrow.{Bor}
+use Rattle.std.specs.Str.Parse.{IsNumeral, digits_value}
 use Rattle.lines.specs.Atoms.{IsAtom}
 
 -- the text of a word, or nothing where there are no so many words
@@ -13,6 +14,10 @@ text_at (suc i) (word ∷ words) = text_at i words
 abbrev pub behind : List (Bor (List ℕ)) → List (Bor (List ℕ))
 behind [] = []
 behind (word ∷ words) = words
+
+-- the decimal digits of a number
+abbrev pub IsNumberOf : List ℕ → ℕ → Type 0
+IsNumberOf text number = IsNumeral 10 text × (number ≡ digits_value 10 text)
 
 -- one atom of these bytes, and no other word
 abbrev pub IsOneAtom : List (Bor (List ℕ)) → List ℕ → Type 0

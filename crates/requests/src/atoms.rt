@@ -38,7 +38,8 @@ pub fn text_of(alloc: Global, text: &[u8]) -> Result<Text, Fault>
 
 /// The number of decimal digits, where it fits sixteen bits.
 pub fn u16_of(text: &[u8]) -> Result<u16, Fault>
-    ensures { IfOk result (λ number. number ≡ digits_value 10 text.now) }
+    ensures digits { IfOk result (λ _. IsNumeral 10 text.now) }
+    ensures value { IfOk result (λ number. number ≡ digits_value 10 text.now) }
 {
     let number = number_of(text).ok_or(Fault::Malformed)?;
     u16::try_from(number).map_err(|_| Fault::Malformed)
