@@ -1,3 +1,4 @@
 pub mod Worlds
+pub mod Rounds
 pub mod Said
 pub mod Scripts

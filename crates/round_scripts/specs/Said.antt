@@ -5,11 +5,13 @@ use Rattle.std.specs.Str.{IsTrimAscii}
 use Rattle.std.specs.Str.Parse.{digits_value}
 use Rattle.lines.specs.Pieces.{AreWords}
 use Rattle.requests.specs.Lines.{says_nothing}
-use Rattle.requests.specs.Verbs.{behind, text_at}
+use Rattle.requests.specs.Words.{behind, text_at}
 use Rattle.vm_world.specs.declared.types.Event.{Event}
 use Rattle.vm_world.specs.declared.types.Event.TheVariants as event
 use Rattle.round_scripts.specs.declared.script_line.ScriptLine.{ScriptLine}
 use Rattle.round_scripts.specs.declared.script_line.ScriptLine.TheVariants as line
+use Rattle.round_scripts.specs.Rounds.{SaysRound}
+use Rattle.round_scripts.specs.Worlds.{SaysWorld}
 
 -- a number, or the greatest one where it is `all`
 abbrev pub IsCount : List ℕ → ℕ → Type 0
@@ -31,11 +33,11 @@ SaysEvent word others event.Step = ⊥
 SaysEvent word others (event.Arrive bytes) = word ≡ codes "arrive"
 SaysEvent word others (event.Store n) = (word ≡ codes "store") × IsOneCount others n
 
--- this word and those behind it say this; a round begins without events
+-- this word and those behind it say this
 abbrev pub SaysBehind : List ℕ → List (Bor (List ℕ)) → ScriptLine → Type 0
 SaysBehind word others line.Nothing = ⊥
-SaysBehind word others (line.World given) = word ≡ codes "world"
-SaysBehind word others (line.Round round) = (word ≡ codes "round") × (round.events ≡ [])
+SaysBehind word others (line.World given) = (word ≡ codes "world") × SaysWorld others given
+SaysBehind word others (line.Round round) = (word ≡ codes "round") × SaysRound others round
 SaysBehind word others (line.Event e) = SaysEvent word others e
 SaysBehind word others (line.Steps n) = (word ≡ codes "step") × AreSteps others n
 

@@ -1,5 +1,13 @@
--- The world of a script that says nothing of it.
-use Rattle.std.specs.Prelude.{◌≡◌, [], codes, None}
+-- What a script says of its world, and the world where it says nothing.
+use Rattle.std.specs.Prelude.{◌≡◌, ℕ, true, List, [], ◌∷◌, codes, None, string_bytes}
+use Rattle.std.proofs.Common.{Global}
+use Rattle.std.specs.Borrow.{Bor}
+use Rattle.std.specs.List.{AllZip}
+use Rattle.std.specs.declared.string.String.{String}
+use Rattle.lines.specs.Atoms.{IsAtom}
+use Rattle.requests.specs.Fields.{IsOptional, IsSet, are_named, texts}
+use Rattle.requests.specs.Values.{IsPair}
+use Rattle.requests.specs.VmOptions.{ArePolicies, IsNumberOf}
 use Rattle.vm_parts.specs.Options.{default_options}
 use Rattle.vm_world.specs.declared.types.Identity.{Identity}
 use Rattle.round_scripts.specs.declared.given.Given.{Given}
@@ -14,3 +22,31 @@ pub record IsDefault (given : Given) : Type 0 where
   pub options : given.options ≡ default_options
   pub input : given.input ≡ []
   pub state : given.state.items ≡ []
+
+-- the words say this of the invocation
+pub record SaysIdentity (words : List (Bor (List ℕ))) (identity : Identity) : Type 0 where
+  pub id : IsSet IsAtom default_identity.id (texts (codes "id=") words) identity.id
+  pub debug_id : IsSet IsAtom default_identity.debug_id (texts (codes "debug_id=") words) identity.debug_id
+  pub key : IsSet IsAtom default_identity.key (texts (codes "key=") words) identity.key
+  pub random_seed : IsSet IsNumberOf default_identity.random_seed (texts (codes "seed=") words) identity.random_seed
+  pub scope : IsOptional IsAtom (texts (codes "scope=") words) identity.scope
+  pub limit_key : IsOptional IsAtom (texts (codes "limit=") words) identity.limit_key
+  pub idempotency_key : IsOptional IsAtom (texts (codes "idem=") words) identity.idempotency_key
+
+-- texts that are these keys with their values
+abbrev pub AreEntries : List (List ℕ) → List (String Global × List ℕ) → Type 0
+AreEntries found entries = AllZip (λ text entry. IsPair text (string_bytes entry.0) entry.1) found entries
+
+-- what may be said of a world
+abbrev pub world_names : List (List ℕ)
+world_names =
+    codes "id=" ∷ codes "debug_id=" ∷ codes "key=" ∷ codes "seed=" ∷ codes "scope=" ∷ codes "limit=" ∷ codes "idem=" ∷ codes "input=" ∷ codes "state=" ∷ codes "cancel=" ∷ codes "checks=" ∷ codes "awaiting=" ∷ codes "mismatch=" ∷ codes "replay=" ∷ codes "delivery=" ∷ codes "skip=" ∷ []
+
+-- the words say this of a world; the seed is the invocation's, and no option of the VM
+pub record SaysWorld (words : List (Bor (List ℕ))) (given : Given) : Type 0 where
+  pub identity : SaysIdentity words given.identity
+  pub options : ArePolicies words given.options
+  pub seed : given.options.fallback_random_seed ≡ default_options.fallback_random_seed
+  pub input : IsSet IsAtom [] (texts (codes "input=") words) given.input
+  pub state : AreEntries (texts (codes "state=") words) given.state.items
+  pub only : are_named world_names words ≡ true

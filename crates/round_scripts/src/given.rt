@@ -1,14 +1,16 @@
 //! The line `world`: what a world is made of, but for the version of its attempts.
-ghost use Rattle.std.specs.Prelude.{◌≡◌, IfOk};
-ghost use Rattle.round_scripts.specs.Worlds.{IsDefault, default_identity};
+ghost use Rattle.std.specs.Prelude.{◌≡◌, IfOk, codes, string_bytes};
+ghost use Rattle.lines.specs.Atoms.{IsAtom};
+ghost use Rattle.requests.specs.Fields.{IsSet, are_named, texts};
+ghost use Rattle.requests.specs.Values.{IsPair};
+ghost use Rattle.round_scripts.specs.Worlds.{AreEntries, IsDefault, SaysIdentity, SaysWorld, default_identity, world_names};
 
 use bytes::Bytes;
-use lines::atoms::number_of;
-use lines::fields::Fields;
-use lines::pieces::{between, words};
-use requests::arguments::take_optional_text;
-use requests::atoms::{shared_of, string_of, text_of};
-use requests::options::options_of;
+use lines::pieces::words;
+use requests::arguments::optional_text;
+use requests::atoms::{inside_of, shared_of, string_of, text_of};
+use requests::fields::{are_named, field_of, text_behind};
+use requests::options::{policies_of, seed_in};
 use std::alloc::{AllocError, Global};
 use vm_parts::VMOptions;
 use vm_world::Identity;
@@ -50,37 +52,59 @@ pub fn default_given(alloc: Global) -> Result<Given, AllocError>
     })
 }
 
-/// `[id=B] [debug_id=T] [key=T] [seed=N] [scope=T] [limit=T] [idem=T]`, among other fields.
-fn take_identity(fields: &mut Fields<'_>, identity: &mut Identity) -> Result<(), Fault> {
-    if let Some(text) = fields.take_text("id") {
-        identity.id = shared_of(fields.alloc(), text)?;
+/// `[NAME=B]`, or the default.
+fn bytes_or(
+    alloc: Global,
+    words: &[&[u8]],
+    name: &str,
+    default: &'static [u8],
+) -> Result<Bytes, Fault>
+    ensures { IfOk result (λ bytes. IsSet IsAtom default.now (texts name.now words.now) bytes) }
+{
+    match field_of(words, name)? {
+        Some(text) => shared_of(alloc, text),
+        None => Ok(Bytes::from_static(default)),
     }
-    if let Some(text) = fields.take_text("debug_id") {
-        identity.debug_id = text_of(fields.alloc(), text)?;
-    }
-    if let Some(text) = fields.take_text("key") {
-        identity.key = text_of(fields.alloc(), text)?;
-    }
-    identity.scope = take_optional_text(fields, "scope")?;
-    identity.limit_key = take_optional_text(fields, "limit")?;
-    identity.idempotency_key = take_optional_text(fields, "idem")?;
-    take_seed(fields, identity)
 }
 
-/// `[seed=N]`, which is the identity's and no option of the VM.
-fn take_seed(fields: &mut Fields<'_>, identity: &mut Identity) -> Result<(), Fault> {
-    if let Some(text) = fields.take_text("seed") {
-        identity.random_seed = number_of(text).ok_or(Fault::Malformed)?;
+/// `[NAME=T]`, or the default.
+fn text_or(alloc: Global, words: &[&[u8]], name: &str, default: &str) -> Result<Text, Fault>
+    ensures { IfOk result (λ text. IsSet IsAtom default.now (texts name.now words.now) text) }
+{
+    match field_of(words, name)? {
+        Some(text) => text_of(alloc, text),
+        None => Ok(Text::from_str(alloc, default)?),
     }
-    if fields.take_text("seed").is_some() {
-        return Err(Fault::Malformed);
-    }
-    Ok(())
+}
+
+/// `[id=B] [debug_id=T] [key=T] [seed=N] [scope=T] [limit=T] [idem=T]`, among other words.
+fn identity_in(alloc: Global, words: &[&[u8]]) -> Result<Identity, Fault>
+    ensures { IfOk result (λ identity. SaysIdentity words.now identity) }
+{
+    let id = bytes_or(alloc, words, "id=", b"abc")?;
+    let debug_id = text_or(alloc, words, "debug_id=", "abc")?;
+    let key = text_or(alloc, words, "key=", "")?;
+    let random_seed = seed_in(words)?;
+    let scope = optional_text(alloc, words, "scope=")?;
+    let limit_key = optional_text(alloc, words, "limit=")?;
+    let idempotency_key = optional_text(alloc, words, "idem=")?;
+    Ok(Identity {
+        id,
+        debug_id,
+        key,
+        random_seed,
+        scope,
+        limit_key,
+        idempotency_key,
+    })
 }
 
 /// `{T B}`.
-fn pair_of(alloc: Global, text: &[u8]) -> Result<(String, Bytes), Fault> {
-    let pair = words(alloc, between(text, b'{', b'}')?)?;
+fn pair_of(alloc: Global, text: &[u8]) -> Result<(String, Bytes), Fault>
+    ensures { IfOk result (λ pair. IsPair text.now (string_bytes pair.0) pair.1) }
+{
+    let inside = inside_of(text, b'{', b'}')?;
+    let pair = words(alloc, inside)?;
     match pair.as_slice() {
         [key, value] => {
             let key = string_of(alloc, *key)?;
@@ -91,28 +115,61 @@ fn pair_of(alloc: Global, text: &[u8]) -> Result<(String, Bytes), Fault> {
     }
 }
 
-/// `[state={T B}]..`, at most so many.
-fn take_state(fields: &mut Fields<'_>, most: usize) -> Result<Vec<(String, Bytes)>, Fault> {
-    let alloc = fields.alloc();
+/// `[state={T B}]..`, among other words.
+fn state_in(alloc: Global, words: &[&[u8]]) -> Result<Vec<(String, Bytes)>, Fault>
+    ensures { IfOk result (λ state. AreEntries (texts (codes "state=") words.now) state.items) }
+{
     let mut state = Vec::new(alloc);
-    for _ in 0..most {
-        let Some(text) = fields.take_text("state") else {
-            break;
-        };
-        state.push(pair_of(alloc, text)?)?;
+    for word in words {
+        if let Some(text) = text_behind(*word, "state=") {
+            state.push(pair_of(alloc, text)?)?;
+        }
     }
     Ok(state)
 }
 
+/// Whether the words name what a world is made of, and nothing else.
+fn are_of_a_world(words: &[&[u8]]) -> bool
+    ensures { result ≡ are_named world_names words.now }
+{
+    are_named(
+        words,
+        &[
+            "id=",
+            "debug_id=",
+            "key=",
+            "seed=",
+            "scope=",
+            "limit=",
+            "idem=",
+            "input=",
+            "state=",
+            "cancel=",
+            "checks=",
+            "awaiting=",
+            "mismatch=",
+            "replay=",
+            "delivery=",
+            "skip=",
+        ],
+    )
+}
+
 /// What stands behind the word `world`; what isn't named is at its default.
-pub fn given_of(alloc: Global, words: &[&[u8]]) -> Result<Given, Fault> {
-    let mut fields = Fields::of_pieces(alloc, words)?;
-    let mut given = default_given(alloc)?;
-    take_identity(&mut fields, &mut given.identity)?;
-    if let Some(text) = fields.take_text("input") {
-        given.input = shared_of(alloc, text)?;
+pub fn given_of(alloc: Global, words: &[&[u8]]) -> Result<Given, Fault>
+    ensures { IfOk result (λ given. SaysWorld words.now given) }
+{
+    if !are_of_a_world(words) {
+        return Err(Fault::Malformed);
     }
-    given.state = take_state(&mut fields, words.len())?;
-    given.options = options_of(&mut fields)?;
-    Ok(given)
+    let options = policies_of(words)?;
+    let identity = identity_in(alloc, words)?;
+    let input = bytes_or(alloc, words, "input=", b"")?;
+    let state = state_in(alloc, words)?;
+    Ok(Given {
+        identity,
+        options,
+        input,
+        state,
+    })
 }

@@ -1,69 +1,68 @@
 //! The line `round`: with what a round begins.
-ghost use Rattle.std.specs.Prelude.{◌≡◌, [], IfOk};
+ghost use Rattle.std.specs.Prelude.{◌≡◌, IfOk, codes};
+ghost use Rattle.requests.specs.Fields.{IsSet, are_named, texts};
+ghost use Rattle.round_scripts.specs.Rounds.{AreKeys, IsRetryCount, IsWholeMilliseconds, SaysRound, round_names};
 
-use lines::fields::Fields;
-use requests::arguments::take_optional_duration;
-use requests::atoms::{text_of, u32_of};
+use requests::arguments::without_flag;
+use requests::atoms::{duration_of, text_of, u32_of};
+use requests::fields::{are_named, field_of, text_behind};
 use std::alloc::Global;
 use vm_world::Round;
 use wire::{Fault, Items, Text};
 
-/// The words but `partial`, which may stand once, and whether it stands there.
-fn without_partial<'a>(alloc: Global, words: &[&'a [u8]]) -> Result<(Vec<&'a [u8]>, bool), Fault> {
-    let mut others = Vec::new(alloc);
-    let mut partial = false;
-    for word in words {
-        if *word == b"partial".as_slice() {
-            if partial {
-                return Err(Fault::Malformed);
-            }
-            partial = true;
-        } else {
-            others.push(*word)?;
-        }
-    }
-    Ok((others, partial))
-}
-
-/// `[key=T]..`, at most so many.
-fn take_keys(fields: &mut Fields<'_>, most: usize) -> Result<Items<Text>, Fault> {
-    let alloc = fields.alloc();
+/// `[key=T]..`, among other words.
+fn keys_in(alloc: Global, words: &[&[u8]]) -> Result<Items<Text>, Fault>
+    ensures { IfOk result (λ keys. AreKeys (texts (codes "key=") words.now) keys) }
+{
     let mut keys = Items::new(alloc);
-    for _ in 0..most {
-        let Some(text) = fields.take_text("key") else {
-            break;
-        };
-        keys.push(text_of(alloc, text)?)?;
+    for word in words {
+        if let Some(text) = text_behind(*word, "key=") {
+            keys.push(text_of(alloc, text)?)?;
+        }
     }
     Ok(keys)
 }
 
 /// `[retry=N]`, by default 0.
-fn take_retry_count(fields: &mut Fields<'_>) -> Result<u32, Fault> {
-    match fields.take_text("retry") {
+fn retry_count_in(words: &[&[u8]]) -> Result<u32, Fault>
+    ensures { IfOk result (λ count. IsSet IsRetryCount 0 (texts (codes "retry=") words.now) count) }
+{
+    match field_of(words, "retry=")? {
         Some(text) => u32_of(text),
         None => Ok(0),
     }
 }
 
 /// `[duration=D]` in whole milliseconds, rounded down; by default 0.
-fn take_milliseconds(fields: &mut Fields<'_>) -> Result<u64, Fault> {
-    match take_optional_duration(fields, "duration")? {
-        Some(duration) => u64::try_from(duration.as_millis()).map_err(|_| Fault::Malformed),
+fn milliseconds_in(words: &[&[u8]]) -> Result<u64, Fault>
+    ensures { IfOk result (λ millis. IsSet IsWholeMilliseconds 0 (texts (codes "duration=") words.now) millis) }
+{
+    match field_of(words, "duration=")? {
+        Some(text) => {
+            u64::try_from(duration_of(text)?.as_millis()).map_err(|_| Fault::Malformed)
+        }
         None => Ok(0),
     }
 }
 
+/// Whether the words name with what a round begins, and nothing else.
+fn are_of_a_round(words: &[&[u8]]) -> bool
+    ensures { result ≡ are_named round_names words.now }
+{
+    are_named(words, &["key=", "retry=", "duration="])
+}
+
 /// What stands behind the word `round`.
 pub fn round_of(alloc: Global, words: &[&[u8]]) -> Result<Round, Fault>
-    ensures { IfOk result (λ round. round.events ≡ []) }
+    ensures { IfOk result (λ round. SaysRound words.now round) }
 {
-    let (others, partial) = without_partial(alloc, words)?;
-    let mut fields = Fields::of_pieces(alloc, others.as_slice())?;
-    let keys = take_keys(&mut fields, others.len())?;
-    let retry_count = take_retry_count(&mut fields)?;
-    let duration = take_milliseconds(&mut fields)?;
-    fields.end()?;
+    let (others, partial) = without_flag(alloc, words, "partial")?;
+    if !are_of_a_round(others.as_slice()) {
+        return Err(Fault::Malformed);
+    }
+    let retry_count = retry_count_in(others.as_slice())?;
+    let duration = milliseconds_in(others.as_slice())?;
+    let keys = keys_in(alloc, others.as_slice())?;
     Ok(Round {
         partial,
         keys,

@@ -1,0 +1,35 @@
+-- With what a round begins.
+use Rattle.std.specs.Prelude.{◌≡◌, ◌/◌, ℕ, true, List, [], ◌∷◌, codes}
+use Rattle.std.specs.Borrow.{Bor}
+use Rattle.std.specs.List.{AllZip}
+use Rattle.std.specs.Str.Parse.{digits_value}
+use Rattle.lines.specs.Atoms.{IsAtom}
+use Rattle.requests.specs.Durations.{IsDuration}
+use Rattle.requests.specs.Fields.{IsSet, are_named, texts}
+use Rattle.requests.specs.Values.{HasFlag, without}
+use Rattle.vm_world.specs.declared.types.Round.{Round}
+
+-- texts that are these keys
+abbrev pub AreKeys : List (List ℕ) → List (List ℕ) → Type 0
+AreKeys found keys = AllZip (λ text key. IsAtom text key) found keys
+
+-- a number of retries
+abbrev pub IsRetryCount : List ℕ → ℕ → Type 0
+IsRetryCount text count = count ≡ digits_value 10 text
+
+-- the whole milliseconds of a duration
+abbrev pub IsWholeMilliseconds : List ℕ → ℕ → Type 0
+IsWholeMilliseconds text millis = (nanos : ℕ) × IsDuration text nanos × (millis ≡ nanos / 1000000)
+
+-- what may be said of a round, beside `partial`
+abbrev pub round_names : List (List ℕ)
+round_names = codes "key=" ∷ codes "retry=" ∷ codes "duration=" ∷ []
+
+-- the words say this of a round, in which nothing happens yet
+pub record SaysRound (words : List (Bor (List ℕ))) (round : Round) : Type 0 where
+  pub partial : HasFlag (codes "partial") words round.partial
+  pub keys : AreKeys (texts (codes "key=") (without (codes "partial") words)) round.keys
+  pub retry_count : IsSet IsRetryCount 0 (texts (codes "retry=") (without (codes "partial") words)) round.retry_count
+  pub duration : IsSet IsWholeMilliseconds 0 (texts (codes "duration=") (without (codes "partial") words)) round.duration
+  pub events : round.events ≡ []
+  pub only : are_named round_names (without (codes "partial") words) ≡ true
