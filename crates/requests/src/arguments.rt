@@ -1,5 +1,5 @@
 //! The arguments of a line: values, options and single atoms, in their places.
-ghost use Rattle.std.specs.Prelude.{◌≡◌, ◌≢◌, [], codes, drop, take, length, IfErr, IfOk};
+ghost use Rattle.std.specs.Prelude.{◌≡◌, [], codes, drop, take, length, IfOk};
 ghost use Rattle.lines.specs.Atoms.{IsAtom};
 ghost use Rattle.requests.specs.Fields.{IsOptional, texts};
 ghost use Rattle.requests.specs.Values.{ArePairs, HasExtras, HasFlag, HasName, HasNow, HasValue, HasValueAlone, IsFailure, IsPair, IsPayload, IsSuccess, IsTime, IsValue, IsValueBehind, without};
@@ -8,7 +8,6 @@ ghost use Rattle.requests.specs.Words.{IsOneAtom, text_at};
 
 use crate::atoms::{duration_of, handle_of, inside_of, shared_of, text_of, u16_of};
 use crate::fields::{are_named, field_of};
-use crate::request::Call;
 use bytes::Bytes;
 use lines::pieces::words;
 use std::alloc::Global;
@@ -245,18 +244,6 @@ pub fn value_alone(alloc: Global, words: &[&[u8]]) -> Result<NonEmptyValue, Faul
     } else {
         Err(Fault::Malformed)
     }
-}
-
-/// A call without arguments.
-pub fn alone(arguments: &[&[u8]], call: Call) -> Result<Call, Fault>
-    ensures ok { IfOk result (λ it. (it ≡ call) × (arguments.now ≡ [])) }
-    ensures err { IfErr result (λ _. arguments.now ≢ []) }
-{
-    if arguments.is_empty() {
-        return Ok(call);
-    }
-    drop(call);
-    Err(Fault::Malformed)
 }
 
 /// `H` alone.

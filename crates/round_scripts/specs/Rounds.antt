@@ -2,20 +2,16 @@
 use Rattle.std.specs.Prelude.{◌≡◌, ◌/◌, ℕ, true, List, [], ◌∷◌, codes}
 use Rattle.std.specs.Borrow.{Bor}
 use Rattle.std.specs.List.{AllZip}
-use Rattle.std.specs.Str.Parse.{digits_value}
 use Rattle.lines.specs.Atoms.{IsAtom}
 use Rattle.requests.specs.Durations.{IsDuration}
 use Rattle.requests.specs.Fields.{IsSet, are_named, texts}
 use Rattle.requests.specs.Values.{HasFlag, without}
+use Rattle.requests.specs.Words.{IsNumberOf}
 use Rattle.vm_world.specs.declared.types.Round.{Round}
 
 -- texts that are these keys
 abbrev pub AreKeys : List (List ℕ) → List (List ℕ) → Type 0
 AreKeys found keys = AllZip (λ text key. IsAtom text key) found keys
-
--- a number of retries
-abbrev pub IsRetryCount : List ℕ → ℕ → Type 0
-IsRetryCount text count = count ≡ digits_value 10 text
 
 -- the whole milliseconds of a duration
 abbrev pub IsWholeMilliseconds : List ℕ → ℕ → Type 0
@@ -29,7 +25,7 @@ round_names = codes "key=" ∷ codes "retry=" ∷ codes "duration=" ∷ []
 pub record SaysRound (words : List (Bor (List ℕ))) (round : Round) : Type 0 where
   pub partial : HasFlag (codes "partial") words round.partial
   pub keys : AreKeys (texts (codes "key=") (without (codes "partial") words)) round.keys
-  pub retry_count : IsSet IsRetryCount 0 (texts (codes "retry=") (without (codes "partial") words)) round.retry_count
+  pub retry_count : IsSet IsNumberOf 0 (texts (codes "retry=") (without (codes "partial") words)) round.retry_count
   pub duration : IsSet IsWholeMilliseconds 0 (texts (codes "duration=") (without (codes "partial") words)) round.duration
   pub events : round.events ≡ []
   pub only : are_named round_names (without (codes "partial") words) ≡ true

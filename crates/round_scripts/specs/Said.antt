@@ -2,10 +2,9 @@
 use Rattle.std.specs.Prelude.{◌≡◌, ◌⊎◌, ◌-◌, ◌^◌, ℕ, true, false, List, [], length, codes}
 use Rattle.std.specs.Borrow.{Bor}
 use Rattle.std.specs.Str.{IsTrimAscii}
-use Rattle.std.specs.Str.Parse.{digits_value}
 use Rattle.lines.specs.Pieces.{AreWords}
 use Rattle.requests.specs.Lines.{says_nothing}
-use Rattle.requests.specs.Words.{behind, text_at}
+use Rattle.requests.specs.Words.{IsNumberOf, behind, text_at}
 use Rattle.vm_world.specs.declared.types.Event.{Event}
 use Rattle.vm_world.specs.declared.types.Event.TheVariants as event
 use Rattle.round_scripts.specs.declared.script_line.ScriptLine.{ScriptLine}
@@ -15,7 +14,7 @@ use Rattle.round_scripts.specs.Worlds.{SaysWorld}
 
 -- a number, or the greatest one where it is `all`
 abbrev pub IsCount : List ℕ → ℕ → Type 0
-IsCount text count = ((text ≡ codes "all") × (count ≡ 2 ^ 64 - 1)) ⊎ (count ≡ digits_value 10 text)
+IsCount text count = ((text ≡ codes "all") × (count ≡ 2 ^ 64 - 1)) ⊎ IsNumberOf text count
 
 -- one count, and no other word
 abbrev pub IsOneCount : List (Bor (List ℕ)) → ℕ → Type 0
@@ -23,7 +22,7 @@ IsOneCount words count = (length words ≡ 1) × IsCount (text_at 0 words) count
 
 -- one, where no word says how many, or the number that is the only word
 abbrev pub AreSteps : List (Bor (List ℕ)) → ℕ → Type 0
-AreSteps words steps = ((words ≡ []) × (steps ≡ 1)) ⊎ ((length words ≡ 1) × (steps ≡ digits_value 10 (text_at 0 words)))
+AreSteps words steps = ((words ≡ []) × (steps ≡ 1)) ⊎ ((length words ≡ 1) × IsNumberOf (text_at 0 words) steps)
 
 -- this word and those behind it say that this happens
 abbrev pub SaysEvent : List ℕ → List (Bor (List ℕ)) → Event → Type 0

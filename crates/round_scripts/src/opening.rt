@@ -1,7 +1,8 @@
 //! The line `round`: with what a round begins.
 ghost use Rattle.std.specs.Prelude.{◌≡◌, IfOk, codes};
 ghost use Rattle.requests.specs.Fields.{IsSet, are_named, texts};
-ghost use Rattle.round_scripts.specs.Rounds.{AreKeys, IsRetryCount, IsWholeMilliseconds, SaysRound, round_names};
+ghost use Rattle.requests.specs.Words.{IsNumberOf};
+ghost use Rattle.round_scripts.specs.Rounds.{AreKeys, IsWholeMilliseconds, SaysRound, round_names};
 
 use requests::arguments::without_flag;
 use requests::atoms::{duration_of, text_of, u32_of};
@@ -25,7 +26,7 @@ fn keys_in(alloc: Global, words: &[&[u8]]) -> Result<Items<Text>, Fault>
 
 /// `[retry=N]`, by default 0.
 fn retry_count_in(words: &[&[u8]]) -> Result<u32, Fault>
-    ensures { IfOk result (λ count. IsSet IsRetryCount 0 (texts (codes "retry=") words.now) count) }
+    ensures { IfOk result (λ count. IsSet IsNumberOf 0 (texts (codes "retry=") words.now) count) }
 {
     match field_of(words, "retry=")? {
         Some(text) => u32_of(text),
