@@ -7,7 +7,8 @@ use Rattle.std.specs.declared.string.String.{String}
 use Rattle.lines.specs.Atoms.{IsAtom}
 use Rattle.requests.specs.Fields.{IsOptional, IsSet, are_named, texts}
 use Rattle.requests.specs.Values.{IsPair}
-use Rattle.requests.specs.VmOptions.{ArePolicies, IsNumberOf}
+use Rattle.requests.specs.VmOptions.{ArePolicies}
+use Rattle.requests.specs.Words.{IsNumberOf}
 use Rattle.vm_parts.specs.Options.{default_options}
 use Rattle.vm_world.specs.declared.types.Identity.{Identity}
 use Rattle.round_scripts.specs.declared.given.Given.{Given}
