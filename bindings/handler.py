@@ -68,7 +68,8 @@ async def greeter(context):
 
 async def attempt(handler, stream):
     """One attempt: what it ended with, which is nothing where it was suspended, and all that it sent."""
-    with VM(CONTENT_TYPE) as vm:
+    # What it waits for it says once, when it is suspended.
+    with VM(CONTENT_TYPE, awaiting="never") as vm:
         try:
             result = await handler(Context(vm, stream))
             vm.sys_write_output(result)
