@@ -11,7 +11,7 @@ abbrev mutual
   handles_in none = []
   handles_in (more t ts) = handles_of t ++ handles_in ts
 
--- there is one
+-- there is a handle among these
 abbrev pub are_some : List ℕ → Bool
 are_some [] = false
 are_some (h ∷ hs) = true

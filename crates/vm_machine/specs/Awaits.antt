@@ -48,7 +48,7 @@ abbrev pub said_waiting : Version → AwaitingOnPolicy → (ℕ → Option Notif
 said_waiting version policy id left =
     if says_so version policy left then message.AwaitingOn (record { future = sent id left; executing_side_effects = false }) ∷ [] else []
 
--- it waits
+-- it waits, and has said what for where it says so
 abbrev pub waiting : Tree → Machine → Machine
 waiting left v = record v { output = v.output ++ map encoding (said_waiting v.version v.options.awaiting_on_policy (ids v.results) left) }
 

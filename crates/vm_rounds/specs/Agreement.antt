@@ -118,7 +118,7 @@ pub record IsLeftOf (s : Setup) (future : UnresolvedFuture) (d : Derived) (left 
 abbrev pub waiting_on : Setup → Tree → Derived → List Message
 waiting_on s left d = said_waiting s.version s.options.awaiting_on_policy (λ handle. id_at handle d.handles) left
 
--- it waits in a machine that agrees with where that leads, and says no more than what is left of the future
+-- it waits in a machine that agrees with where that leads; all that is written is what it says of what is left of the future
 pub record StillAgrees (s : Setup) (m : Meaning) (given : StateMap) (written : List RawMessage) (p : Point) (v w : Machine) : Type 0 where
   pub at : Point
   pub waits : Waits s m given p at
