@@ -4,7 +4,7 @@ import pathlib
 import struct
 
 from handler import CONTENT_TYPE, start
-from palqytun import VM, BadLine, Failure, IdempotencyId, InvocationId, Suspended, VMError, WorkflowId
+from palqytun import VM, BadLine, Cancelled, Failure, IdempotencyId, InvocationId, Suspended, VMError, WorkflowId
 from palqytun import all_completed, all_succeeded_or_first_failed, first_completed, first_succeeded_or_all_failed, unknown
 
 INPUT = bytes.fromhex((pathlib.Path(__file__).with_name("journal.hex")).read_text().splitlines()[2])
@@ -23,7 +23,7 @@ def refused(call, *arguments):
     """Tells by what a call is refused."""
     try:
         return call(*arguments)
-    except (VMError, BadLine, RuntimeError) as error:
+    except (VMError, BadLine, Cancelled, RuntimeError) as error:
         return f"{type(error).__name__}: {error}"
 
 
@@ -86,3 +86,8 @@ print(refused(vm.sys_input))
 vm.free()
 vm.free()
 print(issubclass(Suspended, VMError))
+with VM(CONTENT_TYPE) as vm:
+    vm.notify_input(start(1) + INPUT)
+    vm.sys_input()
+    vm.notify_input(notification(b"\1" + struct.pack(">I", 1), b"\0"))
+    print(refused(vm.do_await, vm.sys_sleep(1000)))

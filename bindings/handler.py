@@ -10,7 +10,7 @@ import pathlib
 import struct
 import sys
 
-from palqytun import VM, Failure, Suspended
+from palqytun import VM, Cancelled, Failure, Suspended
 
 CONTENT_TYPE = "application/vnd.restate.invocation.v7"
 NAMES = {2: "Suspension", 3: "Error", 4: "End", 11: "GetEagerState", 18: "Sleep", 19: "Call", 29: "Output"}
@@ -71,7 +71,10 @@ async def attempt(handler, stream):
     # What it waits for it says once, when it is suspended.
     with VM(CONTENT_TYPE, awaiting="never") as vm:
         try:
-            result = await handler(Context(vm, stream))
+            try:
+                result = await handler(Context(vm, stream))
+            except Cancelled as cancelled:
+                result = Failure(409, str(cancelled))
             vm.sys_write_output(result)
             vm.sys_end()
         except Suspended:
@@ -115,7 +118,7 @@ async def main():
         await connection
         sent = frames(output)
         print(f"{known} entries are recorded; sent: {' '.join(NAMES[kind] for kind, _ in sent)}")
-        print("suspended" if result is None else f"ended with {result.decode()!r}")
+        print("suspended" if result is None else f"ended with {result!r}")
         # What was sent is what the journal has recorded next.
         commands = [frame for kind, frame in sent if kind >= 10 and kind != 29]
         recorded = [frame for frame in journal[known:] if frame[1] != 30]

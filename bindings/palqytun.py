@@ -18,7 +18,7 @@ import pathlib
 import re
 from dataclasses import dataclass, field
 
-__all__ = ["VM", "VMError", "Suspended", "BadLine", "Failure", "Input", "InvocationId", "Awakeable", "Future", "first_completed", "all_completed", "first_succeeded_or_all_failed", "all_succeeded_or_first_failed", "unknown", "ResponseHead", "Void", "VOID", "WorkflowId", "IdempotencyId"]
+__all__ = ["VM", "VMError", "Suspended", "Cancelled", "BadLine", "Failure", "Input", "InvocationId", "Awakeable", "Future", "first_completed", "all_completed", "first_succeeded_or_all_failed", "all_succeeded_or_first_failed", "unknown", "ResponseHead", "Void", "VOID", "WorkflowId", "IdempotencyId"]
 
 _DONE, _NO_MEMORY, _NO_SESSION, _NO_VM, _NO_ROOM = range(5)
 _SUSPENDED = 599
@@ -35,6 +35,10 @@ class VMError(Exception):
 
 class Suspended(VMError):
     """The invocation is suspended: what is awaited can't come in this attempt. The output says what it waits for."""
+
+
+class Cancelled(Exception):
+    """The invocation was cancelled: the await has ended, and its children were sent the cancel signal. What the handler does then is its own."""
 
 
 class BadLine(ValueError):
@@ -361,8 +365,11 @@ class VM:
 
     def do_await(self, future):
         """Whether the future, a handle or a `Future`, is awake. Where it isn't, more input is to be fed; where the input is closed the invocation is
-        suspended, and `Suspended` is raised."""
-        return self.call(f"await {future}") == "any"
+        suspended, and `Suspended` is raised. `Cancelled` is raised where the invocation was cancelled."""
+        answer = self.call(f"await {future}")
+        if answer == "cancelled":
+            raise Cancelled("the invocation was cancelled")
+        return answer == "any"
 
     def take_notification(self, handle):
         """Takes the result that a handle has: `bytes`, `VOID`, a `Failure`, a list of keys or an `InvocationId`; `None` where it has none."""

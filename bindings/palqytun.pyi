@@ -3,7 +3,7 @@ from dataclasses import dataclass
 from types import TracebackType
 from typing import Final, Literal
 
-__all__ = ["VM", "VMError", "Suspended", "BadLine", "Failure", "Input", "InvocationId", "Awakeable", "Future", "first_completed", "all_completed", "first_succeeded_or_all_failed", "all_succeeded_or_first_failed", "unknown", "ResponseHead", "Void", "VOID", "WorkflowId", "IdempotencyId"]
+__all__ = ["VM", "VMError", "Suspended", "Cancelled", "BadLine", "Failure", "Input", "InvocationId", "Awakeable", "Future", "first_completed", "all_completed", "first_succeeded_or_all_failed", "all_succeeded_or_first_failed", "unknown", "ResponseHead", "Void", "VOID", "WorkflowId", "IdempotencyId"]
 
 class VMError(Exception):
     code: int
@@ -11,6 +11,7 @@ class VMError(Exception):
     def __init__(self, code: int, text: str) -> None: ...
 
 class Suspended(VMError): ...
+class Cancelled(Exception): ...
 class BadLine(ValueError): ...
 class Void: ...
 

@@ -72,19 +72,19 @@ pub const SIGNAL_17_FAILURE: &[u8] = b"\0\x1e\0\0\0\0\0\0\0\x1c\
     \0\0\0\0\0\0\0\x02no\
     \0\0\0\0\0\0\0\0";
 
-/// The invocation waits for the signal 17.
-pub const SUSPENSION_ON_SIGNAL_17: &[u8] = b"\0\x02\0\0\0\0\0\0\0\x25\
+/// The invocation waits for the signal 17, or the cancel signal.
+pub const SUSPENSION_ON_SIGNAL_17: &[u8] = b"\0\x02\0\0\0\0\0\0\0\x29\
     \0\
     \0\0\0\0\0\0\0\0\
-    \0\0\0\0\0\0\0\x01\0\0\0\x11\
+    \0\0\0\0\0\0\0\x02\0\0\0\x11\0\0\0\x01\
     \0\0\0\0\0\0\0\0\
     \0\0\0\0\0\0\0\0";
 
 /// The same wait while the input is open, and no run is executing.
-pub const AWAITING_ON_SIGNAL_17: &[u8] = b"\0\x07\0\0\0\0\0\0\0\x26\
+pub const AWAITING_ON_SIGNAL_17: &[u8] = b"\0\x07\0\0\0\0\0\0\0\x2a\
     \0\
     \0\0\0\0\0\0\0\0\
-    \0\0\0\0\0\0\0\x01\0\0\0\x11\
+    \0\0\0\0\0\0\0\x02\0\0\0\x11\0\0\0\x01\
     \0\0\0\0\0\0\0\0\
     \0\0\0\0\0\0\0\0\
     \0";

@@ -1,16 +1,33 @@
 -- What handlers read from their answers, and what they do when they are cancelled.
-use Rattle.std.specs.Prelude.{Bool, true, false, [], codes, Option, Some, None}
+use Rattle.std.specs.Prelude.{ℕ, Bool, true, false, List, [], codes, Option, Some, None}
 use Rattle.vm_parts.specs.declared.options.PayloadOptions.{PayloadOptions}
 use Rattle.vm_parts.specs.declared.steps.Answer.{Answer}
 use Rattle.vm_parts.specs.declared.steps.Answer.TheVariants as answer
 use Rattle.vm_parts.specs.declared.steps.Step.{Step}
 use Rattle.vm_parts.specs.declared.steps.Step.TheVariants as step
 use Rattle.await_trees.specs.declared.handle.NotificationHandle.{NotificationHandle}
-use Rattle.vm_parts.specs.declared.values.NonEmptyValue.TheVariants.{Failure}
+use Rattle.vm_parts.specs.declared.values.NonEmptyValue.{NonEmptyValue}
+use Rattle.vm_parts.specs.declared.values.NonEmptyValue.TheVariants as non_empty
+use Rattle.vm_parts.specs.declared.values.Value.{Value}
+use Rattle.vm_parts.specs.declared.values.Value.TheVariants as value
 
 -- payloads that each attempt writes the same
 abbrev pub stable : PayloadOptions
 stable = record { unstable_serialization = false }
+
+-- the bytes of an input; none where there isn't one
+abbrev pub input_of : Option Answer → List ℕ
+input_of (Some (answer.Input input)) = input.input
+input_of (Some (answer.Handle handle)) = []
+input_of (Some (answer.Call handles)) = []
+input_of (Some (answer.Send handle)) = []
+input_of (Some (answer.Awakeable awakeable)) = []
+input_of (Some answer.Unit) = []
+input_of (Some answer.Awake) = []
+input_of (Some answer.Cancelled) = []
+input_of (Some (answer.Taken taken)) = []
+input_of (Some (answer.Completed is)) = []
+input_of None = []
 
 -- the handle of an answer; none is 0
 abbrev pub handle_of : Option Answer → NotificationHandle
@@ -22,9 +39,60 @@ handle_of (Some (answer.Awakeable awakeable)) = record { 0 = 0 }
 handle_of (Some answer.Unit) = record { 0 = 0 }
 handle_of (Some answer.Awake) = record { 0 = 0 }
 handle_of (Some answer.Cancelled) = record { 0 = 0 }
-handle_of (Some (answer.Taken value)) = record { 0 = 0 }
+handle_of (Some (answer.Taken taken)) = record { 0 = 0 }
 handle_of (Some (answer.Completed is)) = record { 0 = 0 }
 handle_of None = record { 0 = 0 }
+
+-- the handle of a call's result; none is 0
+abbrev pub call_handle_of : Option Answer → NotificationHandle
+call_handle_of (Some (answer.Call handles)) = handles.call_notification_handle
+call_handle_of (Some (answer.Input input)) = record { 0 = 0 }
+call_handle_of (Some (answer.Handle handle)) = record { 0 = 0 }
+call_handle_of (Some (answer.Send handle)) = record { 0 = 0 }
+call_handle_of (Some (answer.Awakeable awakeable)) = record { 0 = 0 }
+call_handle_of (Some answer.Unit) = record { 0 = 0 }
+call_handle_of (Some answer.Awake) = record { 0 = 0 }
+call_handle_of (Some answer.Cancelled) = record { 0 = 0 }
+call_handle_of (Some (answer.Taken taken)) = record { 0 = 0 }
+call_handle_of (Some (answer.Completed is)) = record { 0 = 0 }
+call_handle_of None = record { 0 = 0 }
+
+-- the answer says that a result is there
+abbrev pub is_completed : Option Answer → Bool
+is_completed (Some (answer.Completed is)) = is
+is_completed (Some (answer.Input input)) = false
+is_completed (Some (answer.Handle handle)) = false
+is_completed (Some (answer.Call handles)) = false
+is_completed (Some (answer.Send handle)) = false
+is_completed (Some (answer.Awakeable awakeable)) = false
+is_completed (Some answer.Unit) = false
+is_completed (Some answer.Awake) = false
+is_completed (Some answer.Cancelled) = false
+is_completed (Some (answer.Taken taken)) = false
+is_completed None = false
+
+-- the output that hands a value on: of a success or a failure the same, of any other an empty success
+abbrev pub output_of_value : Value → NonEmptyValue
+output_of_value (value.Success bytes) = non_empty.Success bytes
+output_of_value (value.Failure failure) = non_empty.Failure failure
+output_of_value value.Void = non_empty.Success []
+output_of_value (value.StateKeys keys) = non_empty.Success []
+output_of_value (value.InvocationId id) = non_empty.Success []
+
+-- the output that hands on what was taken; an empty success where nothing was
+abbrev pub output_of : Option Answer → NonEmptyValue
+output_of (Some (answer.Taken (Some taken))) = output_of_value taken
+output_of (Some (answer.Taken None)) = non_empty.Success []
+output_of (Some (answer.Input input)) = non_empty.Success []
+output_of (Some (answer.Handle handle)) = non_empty.Success []
+output_of (Some (answer.Call handles)) = non_empty.Success []
+output_of (Some (answer.Send handle)) = non_empty.Success []
+output_of (Some (answer.Awakeable awakeable)) = non_empty.Success []
+output_of (Some answer.Unit) = non_empty.Success []
+output_of (Some answer.Awake) = non_empty.Success []
+output_of (Some answer.Cancelled) = non_empty.Success []
+output_of (Some (answer.Completed is)) = non_empty.Success []
+output_of None = non_empty.Success []
 
 -- the answer says that the invocation was cancelled
 abbrev pub is_cancelled : Option Answer → Bool
@@ -36,10 +104,10 @@ is_cancelled (Some (answer.Send handle)) = false
 is_cancelled (Some (answer.Awakeable awakeable)) = false
 is_cancelled (Some answer.Unit) = false
 is_cancelled (Some answer.Awake) = false
-is_cancelled (Some (answer.Taken value)) = false
+is_cancelled (Some (answer.Taken taken)) = false
 is_cancelled (Some (answer.Completed is)) = false
 is_cancelled None = false
 
 -- the output of a handler that was cancelled
 abbrev pub cancelled_output : Step
-cancelled_output = step.WriteOutput (Failure (record { code = 409; message = codes "cancelled"; metadata = [] })) stable
+cancelled_output = step.WriteOutput (non_empty.Failure (record { code = 409; message = codes "cancelled"; metadata = [] })) stable

@@ -1,4 +1,7 @@
 pub mod Answers
+pub mod Calls
 pub mod Sleeper
+pub mod Race
+pub mod Parent
 pub mod Counter
 pub mod Named

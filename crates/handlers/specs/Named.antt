@@ -6,16 +6,22 @@ use Rattle.vm_parts.specs.declared.steps.Step.{Step}
 use Rattle.handlers.specs.declared.named.Named.{Named}
 use Rattle.handlers.specs.declared.named.Named.TheVariants as named
 use Rattle.handlers.specs.Counter.{counter_step}
+use Rattle.handlers.specs.Parent.{parent_step}
+use Rattle.handlers.specs.Race.{race_step}
 use Rattle.handlers.specs.Sleeper.{sleeper_step}
 
 -- what a handler does next
 abbrev pub step_of : Named → List Answer → Step
 step_of (named.Sleeper sleeper) = sleeper_step
+step_of (named.Race race) = race_step
+step_of (named.Parent parent) = parent_step
 step_of (named.Counter counter) = counter_step
 
 -- what the handler of this name does next
 abbrev pub step_named : List ℕ → Option (List Answer → Step)
 step_named name =
     if pointwise nat_eq name (codes "sleeper") then Some sleeper_step
+    else if pointwise nat_eq name (codes "race") then Some race_step
+    else if pointwise nat_eq name (codes "parent") then Some parent_step
     else if pointwise nat_eq name (codes "counter") then Some counter_step
     else None

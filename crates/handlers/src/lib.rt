@@ -2,6 +2,9 @@
 #![tactic(auto)]
 
 pub mod answers;
+pub mod calls;
 pub mod counter;
 pub mod named;
+pub mod parent;
+pub mod race;
 pub mod sleeper;

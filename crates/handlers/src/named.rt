@@ -3,6 +3,8 @@ ghost use Rattle.std.specs.Prelude.{◌≡◌, MatchOption, Some, None};
 ghost use Rattle.handlers.specs.Named.{step_of, step_named};
 
 use crate::counter::Counter;
+use crate::parent::Parent;
+use crate::race::Race;
 use crate::sleeper::Sleeper;
 use std::alloc::{AllocError, Global};
 use vm_parts::{Answer, Step};
@@ -12,6 +14,8 @@ use vm_rounds::Handler;
 #[derive(Debug, Drop)]
 pub enum Named {
     Sleeper(Sleeper),
+    Race(Race),
+    Parent(Parent),
     Counter(Counter),
 }
 
@@ -22,6 +26,8 @@ impl Named {
     {
         match name {
             "sleeper" => Some(Named::Sleeper(Sleeper { alloc })),
+            "race" => Some(Named::Race(Race { alloc })),
+            "parent" => Some(Named::Parent(Parent { alloc })),
             "counter" => Some(Named::Counter(Counter { alloc })),
             _ => None,
         }
@@ -34,6 +40,8 @@ impl Handler for Named {
     fn next(&self, answers: &[Answer]) -> Result<Step, AllocError> {
         match self {
             Named::Sleeper(sleeper) => sleeper.next(answers),
+            Named::Race(race) => race.next(answers),
+            Named::Parent(parent) => parent.next(answers),
             Named::Counter(counter) => counter.next(answers),
         }
     }

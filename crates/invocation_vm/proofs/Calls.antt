@@ -1,5 +1,5 @@
 -- What a call does, from what its event gave and what the error rule made of it.
-use Rattle.std.proofs.Common.{◌≡◌, ◌+◌, ◌<◌, ◌^◌, arith, inl, inr, ◌∙◌, sym, ap, refl, subst, Option, Some, None, Result, Ok, Err, false}
+use Rattle.std.proofs.Common.{◌≡◌, ◌+◌, ◌<◌, ◌^◌, arith, inl, inr, ◌∙◌, sym, ap, refl, subst, Option, Some, None, Result, Ok, Err, true, false, []}
 use Rattle.std.specs.Prelude.{IfOk, OnOk, OnErr, unwrap_or}
 use Rattle.std.proofs.lemmas.Bool.{false≢true}
 use Rattle.journal_errors.specs.declared.error.Error.{Error}
@@ -14,8 +14,13 @@ use Rattle.vm_machine.specs.declared.phase.Phase.TheVariants.{Closed}
 use Rattle.vm_machine.specs.Phases.{is_closed}
 use Rattle.vm_machine.specs.Requests.{ids_of}
 use Rattle.vm_machine.specs.Commands.{CanBeRead, Fits, answered_by}
-use Rattle.invocation_vm.specs.Calls.{result_by}
-use Rattle.vm_machine.specs.Outcomes.{CalledAt, CalledBy, Does, DoesBy, Done, Failed, FlatBy, Gives, GivesBy, IsStarved, Lasting, Lives, Outcome, Settles, called, called_at, failed, flattened, lasting, ruled, settled, starved}
+use Rattle.invocation_vm.specs.Calls.{CallsAwait, CallsFlatAwait, CallsTry, result_by}
+use Rattle.invocation_vm.specs.Views.{View}
+use Rattle.await_trees.specs.declared.tree.UnresolvedFuture.{UnresolvedFuture}
+use Rattle.vm_parts.specs.declared.types.AwaitResponse.{AwaitResponse}
+use Rattle.vm_parts.specs.Tracked.{invocation_ids}
+use Rattle.vm_machine.specs.Cancels.{Cancels, FinishesIf, sends_cancels}
+use Rattle.vm_machine.specs.Outcomes.{CalledAt, CalledBy, Does, DoesBy, Done, Failed, Gives, GivesBy, IsStarved, Lasting, Lives, Outcome, Settles, called, called_at, failed, flattened, lasting, ruled, settled, starved}
 
 -- a machine that hasn't failed, and finds no memory
 pub starves : (old mid new : Machine) → old.failure ≡ None → lasting mid ≡ lasting old → new ≡ starved old.counters mid → IsStarved old no_memory new
@@ -103,15 +108,20 @@ none_at {A = A} (Some d) R e old is l =
 pub does_none : {A : Type 0} (R : Outcome A → Type 0) (e : Error) (old : Machine) → Lives old.failure (Err e) → DoesBy (CalledBy R old) (Err e) old old
 does_none R e old l = none_at old.failure R e old refl l
 
--- a call whose answer may be an error
-flattens : {A : Type 0} (R : Outcome (Result A Error) → Type 0) (r : Result (Result A Error) Error) (old new : Machine) → DoesBy R r old new → DoesBy (FlatBy R) (flattened r) old new
-flattens R (Ok (Ok a)) old new h = (Done (Ok a) new, h, refl)
-flattens R (Ok (Err e)) old new h = inl (Done (Err e) new, h, refl)
-flattens {A = A} R (Err e) old new h = elim h as (λ _. DoesBy (FlatBy {A = A} R) (Err e) old new) [ inl x ↦ inl (Failed e new, x, refl) | inr x ↦ inr x ]
+-- an await whose answer may be an error, from the call that keeps it as an answer
+pub flattens_call : (future : UnresolvedFuture) (answered : Result (Result AwaitResponse Error) Error) (r : Result AwaitResponse Error) (old new : View) → CallsAwait future answered old new → r ≡ flattened answered → CallsFlatAwait future r old new
+flattens_call future answered r old new calls is = (answered, calls, is)
 
--- a call whose answer may be an error, from the call that keeps it as an answer
-pub flattens_call : {A : Type 0} (R : Outcome (Result A Error) → Type 0) (r : Result (Result A Error) Error) (s : Result A Error) (old new : Machine) → DoesBy R r old new → s ≡ flattened r → DoesBy (FlatBy R) s old new
-flattens_call {A = A} R r s old new d e = subst (λ (x : Result A Error). DoesBy (FlatBy R) x old new) (sym e) (flattens R r old new d)
+-- an await that sends no cancel signal stays as it is
+pub finishes_so : (future : UnresolvedFuture) (first : Result (Result AwaitResponse Error) Error) (old new : View) → CallsTry future first old new → sends_cancels first ≡ false → CallsAwait future first old new
+finishes_so future first old new tries stays = ((first, new.machine, tries.0, subst (λ b. FinishesIf b first first new.machine new.machine) (sym stays) (refl, refl)), tries.1)
+
+-- one that sends them
+pub finishes_by : (future : UnresolvedFuture) (first r : Result (Result AwaitResponse Error) Error) (old mid cleared new : View) → CallsTry future first old mid → sends_cancels first ≡ true → cleared ≡ record mid { machine = record mid.machine { tracked = [] } } → Cancels (invocation_ids mid.machine.tracked) r cleared.machine new.machine → new.undecoded ≡ cleared.undecoded → CallsAwait future r old new
+finishes_by future first r old mid cleared new tries sends is cancels same = (
+  (first, mid.machine, tries.0, subst (λ b. FinishesIf b first r mid.machine new.machine) (sym sends) (subst (λ (x : View). Cancels (invocation_ids mid.machine.tracked) r x.machine new.machine) is cancels)),
+  same ∙ ap (λ (x : View). x.undecoded) is ∙ tries.1,
+)
 
 -- where a call is answered, its event was
 pub settles_sent : {A : Type 0} (m : Message) (v : Machine) (given : Result A Fault) (r : Result A Error) (before : Counters) (mid new : Machine) → Settles before given r mid new → OnOk given (CanBeRead m v) → OnOk r (CanBeRead m v)

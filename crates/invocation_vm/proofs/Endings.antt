@@ -23,13 +23,16 @@ use Rattle.vm_parts.specs.declared.values.Input.{Input}
 use Rattle.vm_parts.specs.declared.values.Value.{Value}
 use Rattle.vm_machine.specs.declared.machine.Machine.{Machine}
 use Rattle.vm_machine.specs.declared.asks.Command.{Command}
+use Rattle.vm_machine.specs.Asks.{cancel_invocation_command}
 use Rattle.vm_machine.specs.Awaits.{Awaits}
+use Rattle.vm_machine.specs.Cancels.{AwaitsWhole, Cancels, FinishesIf, Onward, SendsCancel, cancel_taken, sends_cancels}
+use Rattle.vm_parts.specs.Tracked.{invocation_ids}
 use Rattle.vm_machine.specs.Commands.{answered_by, commanded}
 use Rattle.vm_machine.specs.Endings.{EndsIf, EndsOnce, EventWrites, Writes, is_over, is_terminal}
 use Rattle.vm_machine.specs.Takes.{take_step}
 use Rattle.vm_machine.specs.Inputs.{close_step, end_step, input_step, malformed_step, message_step}
 use Rattle.vm_machine.specs.Signals.{awakeable_step, signal_step}
-use Rattle.vm_machine.specs.Outcomes.{CalledBy, Does, DoesBy, Done, Failed, FlatBy, IsStarved, Outcome, called, flat, refused}
+use Rattle.vm_machine.specs.Outcomes.{CalledBy, Does, DoesBy, Done, Failed, IsStarved, Outcome, called, refused}
 use Rattle.vm_machine.specs.Reports.{report_step}
 use Rattle.vm_machine.proofs.Endings.{answered, awaited_writes, awakeable_writes, signal_writes, read_writes, called_writes, close_writes, end_writes, input_writes, commanded_event, malformed_writes, message_writes, nothing_behind, report_writes, same, take_writes, writes_nothing}
 use Rattle.vm_machine.specs.declared.reads.StateRead.{StateRead}
@@ -106,11 +109,6 @@ left_writes : {A : Type 0} (o : Outcome A) (v : Machine) → EventWrites v o →
 left_writes (Done a w) v h = h
 left_writes (Failed e w) v h = h
 
-flat_writes : {A : Type 0} (o : Outcome (Result A Error)) (v : Machine) → EventWrites v o → EventWrites v (flat o)
-flat_writes (Done (Ok a) w) v h = h
-flat_writes (Done (Err e) w) v h = h
-flat_writes (Failed e w) v h = h
-
 -- ---- what is written in all
 
 bytes_of : (ms : List Message) → concat (map encoding ms) ≡ flat_map encoding ms
@@ -163,11 +161,31 @@ end_stays r old new c = calls_stay end_step r old new (end_writes old.machine) c
 pub take_stays : (handle : ℕ) (r : Result (Option Value) Error) (old new : View) → Calls (take_step handle) r old new → StaysSo old new
 take_stays handle r old new c = calls_stay (take_step handle) r old new (take_writes handle old.machine) c
 
-await_at : (t : Tree) (v : Machine) (o : Outcome AwaitResponse) → FlatBy (CalledBy (Awaits t v) v) o → EventWrites v o
-await_at t v o (answered, called, is) = subst (EventWrites v) (sym is) (flat_writes answered v (awaited_writes t v answered called))
+-- ---- awaits
+
+sends_write : (id : List ℕ) (sent : Result NotificationHandle Error) (v w : Machine) → SendsCancel id sent v w → Writes v w
+sends_write id sent v w h = does_writes (called (commanded (cancel_invocation_command id) v) v) sent v w (called_writes v (commanded (cancel_invocation_command id) v) (commanded_event (cancel_invocation_command id) v refl)) h.0
+
+onward_writes : (Next : Result (Result AwaitResponse Error) Error → Machine → Machine → Type 0) (sent : Result NotificationHandle Error) (r : Result (Result AwaitResponse Error) Error) (v mid w : Machine) → Writes v mid → (Next r mid w → Writes mid w) → Onward Next sent r mid w → Writes v w
+onward_writes Next (Ok handle) r v mid w first more on = writes_then v mid w first (more on)
+onward_writes Next (Err e) r v mid w first more on = subst (Writes v) (sym on.1) first
+
+cancels_write : (ids : List (List ℕ)) (r : Result (Result AwaitResponse Error) Error) (v w : Machine) → Cancels ids r v w → Writes v w
+cancels_write [] r v w h = subst (Writes v) (sym h.1) (writes_nothing v (cancel_taken v) (record { output = refl; closed = refl; failure = refl }))
+cancels_write (id ∷ ids) r v w (sent, mid, sends, on) = onward_writes (Cancels ids) sent r v mid w (sends_write id sent v mid sends) (cancels_write ids r mid w) on
+
+finishes_write : (b : Bool) (first r : Result (Result AwaitResponse Error) Error) (v mid w : Machine) → Writes v mid → FinishesIf b first r mid w → Writes v w
+finishes_write true first r v mid w h on =
+    let cleared : Machine = record mid { tracked = [] } in
+    writes_then v mid w h (writes_then mid cleared w (writes_nothing mid cleared (record { output = refl; closed = refl; failure = refl })) (cancels_write (invocation_ids mid.tracked) r cleared w on))
+finishes_write false first r v mid w h on = subst (Writes v) (sym on.1) h
+
+-- the whole call of an await
+pub whole_writes : (t : Tree) (r : Result (Result AwaitResponse Error) Error) (v w : Machine) → AwaitsWhole t r v w → Writes v w
+whole_writes t r v w (first, mid, does, fin) = finishes_write (sends_cancels first) first r v mid w (does_by_writes (CalledBy (Awaits t v) v) first v mid (λ o. awaited_writes t v o) does) fin
 
 pub await_stays : (future : UnresolvedFuture) (r : Result AwaitResponse Error) (old new : View) → CallsFlatAwait future r old new → StaysSo old new
-await_stays future r old new c = stays old new (does_by_writes (FlatBy (CalledBy (Awaits (tree_of future) old.machine) old.machine)) r old.machine new.machine (await_at (tree_of future) old.machine) c.0)
+await_stays future r old new (answered, (whole, u), is) = stays old new (whole_writes (tree_of future) answered old.machine new.machine whole)
 
 -- ---- what comes in
 

@@ -1,5 +1,5 @@
 -- What a sleep does in Processing, and what each call does to a VM that has failed.
-use Rattle.std.proofs.Common.{◌≡◌, inl, inr, ℕ, ◌<◌, Option, Some, None, List, false, min, refl, sym, ap, ◌∙◌, arith}
+use Rattle.std.proofs.Common.{◌≡◌, inl, inr, ℕ, ◌<◌, Option, Some, None, List, false, min, refl, sym, ap, ◌∙◌, subst, arith}
 use Rattle.std.specs.Prelude.{if◌then◌else◌, Result, Ok, Err}
 use Rattle.std.proofs.lemmas.Bool.{lt-ltb}
 use Rattle.std.specs.declared.alloc.AllocError.{AllocError}
@@ -11,6 +11,8 @@ use Rattle.await_trees.specs.declared.handle.NotificationHandle.{NotificationHan
 use Rattle.await_trees.specs.declared.tree.UnresolvedFuture.{UnresolvedFuture}
 use Rattle.await_trees.specs.Tree.{tree_of}
 use Rattle.vm_machine.specs.Awaits.{Awaits}
+use Rattle.vm_machine.specs.Cancels.{Finishes}
+use Rattle.journal_errors.specs.Errors.{no_memory}
 use Rattle.vm_parts.specs.declared.types.AwaitResponse.{AwaitResponse}
 use Rattle.journal_messages.specs.declared.message.Message.{Message}
 use Rattle.journal_messages.specs.declared.message.Message.TheVariants as message
@@ -19,7 +21,7 @@ use Rattle.vm_machine.specs.declared.machine.Machine.{Machine}
 use Rattle.vm_machine.specs.declared.phase.Phase.{Phase}
 use Rattle.vm_machine.specs.declared.phase.Phase.TheVariants.{Processing}
 use Rattle.vm_machine.specs.Commands.{carried_out, commanded, commanded_unless, counted, entered, ignores_payloads, issued, prepared, replayed, written}
-use Rattle.vm_machine.specs.Outcomes.{Outcome, Done, Failed, ◌>>=◌, CalledAt, CalledBy, Does, DoesBy, FlatBy, IsStarved, about_last, called, called_at, flat}
+use Rattle.vm_machine.specs.Outcomes.{Outcome, Done, Failed, ◌>>=◌, CalledAt, CalledBy, Does, DoesBy, IsStarved, about_last, called, called_at, flattened}
 use Rattle.vm_machine.specs.Phases.{is_processing, is_running, state_fault}
 use Rattle.vm_machine.specs.Requests.{shown_type, with_ids}
 use Rattle.vm_machine.proofs.Replaying.{answers_first}
@@ -118,9 +120,6 @@ awaited_at : {A : Type 0} (f : Option Error) (R : Outcome A → Type 0) (e : Err
 awaited_at None R e v o is h = absurd (let z : None ≡ Some e = is in cc)
 awaited_at (Some d) R e v o is h = h ∙ ap (λ x. Failed x v) (let z : Some d ≡ Some e = is in cc)
 
-flat_first : {A : Type 0} (R : Outcome (Result A Error) → Type 0) (e : Error) (v : Machine) (o : Outcome A) → v.failure ≡ Some e → FlatBy (CalledBy R v) o → o ≡ Failed e v
-flat_first {A = A} R e v o is (answered, called, flattened) = flattened ∙ ap (λ (x : Outcome (Result A Error)). flat x) (awaited_at v.failure R e v answered is called)
-
 first_by : {A : Type 0} (R : Outcome A → Type 0) (r : Result A Error) (e : Error) (old new : View) → old.machine.failure ≡ Some e → ((o : Outcome A) → R o → o ≡ Failed e old.machine) → DoesBy R r old.machine new.machine → new.undecoded ≡ old.undecoded → AnswersFirst e r old new
 first_by R (Ok a) e old new is h d u = first_at (Done a new.machine) (Ok a) e old new is (h (Done a new.machine) d) refl u
 first_by {A = A} R (Err x) e old new is h d u =
@@ -130,6 +129,12 @@ first_by {A = A} R (Err x) e old new is h d u =
     ]
 
 pub first_awaited : (future : UnresolvedFuture) (r : Result AwaitResponse Error) (e : Error) (old new : View) → old.machine.failure ≡ Some e → CallsFlatAwait future r old new → AnswersFirst e r old new
-first_awaited future r e old new is c =
+first_awaited future r e old new is (answered, (whole, u), flat) =
     let R = Awaits (tree_of future) old.machine in
-    first_by (FlatBy (CalledBy R old.machine)) r e old new is (λ o. flat_first R e old.machine o is) c.0 c.1
+    let mid : View = record old { machine = whole.1 } in
+    let first = first_by (CalledBy R old.machine) whole.0 e old mid is (λ o. awaited_at old.machine.failure R e old.machine o is) whole.2 refl in
+    let stays : (d : Error) → whole.0 ≡ Err d → (answered ≡ Err d) × (new.machine ≡ whole.1) = λ d h. subst (λ x. Finishes x answered whole.1 new.machine) h whole.3 in
+    elim first.0 as (λ _. AnswersFirst e r old new) [
+      | inl x ↦ (inl (flat ∙ ap flattened (stays e x).0), viewed old new old.machine ((stays e x).1 ∙ ap (λ (v : View). v.machine) first.1) u)
+      | inr x ↦ (inr (flat ∙ ap flattened (stays no_memory x).0), viewed old new old.machine ((stays no_memory x).1 ∙ ap (λ (v : View). v.machine) first.1) u)
+    ]

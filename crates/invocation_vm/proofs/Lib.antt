@@ -1,4 +1,5 @@
 pub mod Calls
+pub mod Cancelling
 pub mod Endings
 pub mod Cuts
 pub mod Feeds

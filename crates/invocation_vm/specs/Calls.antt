@@ -1,5 +1,5 @@
 -- The calls of a VM, as events of its machine.
-use Rattle.std.specs.Prelude.{ℕ, Bool, true, false, if◌then◌else◌, List, [], Option, Some, None, Result, Ok, Err, IfOk, OnOk, string_bytes}
+use Rattle.std.specs.Prelude.{◌≡◌, ℕ, Bool, true, false, if◌then◌else◌, List, [], Option, Some, None, Result, Ok, Err, IfOk, OnOk, string_bytes}
 use Rattle.std.proofs.Common.{Global}
 use Rattle.std.specs.declared.string.String.{String}
 use Rattle.journal_errors.specs.declared.error.Error.{Error}
@@ -13,13 +13,14 @@ use Rattle.await_trees.specs.declared.tree.UnresolvedFuture.{UnresolvedFuture}
 use Rattle.vm_machine.specs.declared.asks.Command.{Command}
 use Rattle.vm_machine.specs.declared.machine.Machine.{Machine}
 use Rattle.vm_machine.specs.Awaits.{Awaits}
+use Rattle.vm_machine.specs.Cancels.{AwaitsWhole}
 use Rattle.vm_machine.specs.Commands.{CanBeRead, Fits, answered_by, commanded}
-use Rattle.vm_machine.specs.Outcomes.{Outcome, refused}
+use Rattle.vm_machine.specs.Outcomes.{Outcome, flattened, refused}
 use Rattle.vm_machine.specs.declared.reads.StateRead.{StateRead}
 use Rattle.vm_machine.specs.Reads.{ReadCanBeRead, read_step}
 use Rattle.vm_machine.specs.Signals.{awakeable_step}
 use Rattle.await_trees.specs.Tree.{tree_of}
-use Rattle.invocation_vm.specs.Views.{View, Calls, CallsBy, CallsFlatBy}
+use Rattle.invocation_vm.specs.Views.{View, Calls, CallsBy}
 
 -- A call that has a command: it is answered by its first handle; what it wrote can be read back, and its handles fit.
 abbrev pub CallsCommand : Command → Result NotificationHandle Error → View → View → Type 0
@@ -56,10 +57,14 @@ abbrev pub name_or_empty : Option (String Global) → List ℕ
 name_or_empty None = []
 name_or_empty (Some name) = string_bytes name
 
+-- The first part of an await of a future: notifications are used, and the ids are read of the invocations that are to be cancelled.
+abbrev pub CallsTry : UnresolvedFuture → Result (Result AwaitResponse Error) Error → View → View → Type 0
+CallsTry future r old new = CallsBy (Awaits (tree_of future)) r old new
+
 -- An await of a future, where an error by which the VM doesn't fail is an answer.
 abbrev pub CallsAwait : UnresolvedFuture → Result (Result AwaitResponse Error) Error → View → View → Type 0
-CallsAwait future r old new = CallsBy (Awaits (tree_of future)) r old new
+CallsAwait future r old new = AwaitsWhole (tree_of future) r old.machine new.machine × (new.undecoded ≡ old.undecoded)
 
 -- An await of a future.
 abbrev pub CallsFlatAwait : UnresolvedFuture → Result AwaitResponse Error → View → View → Type 0
-CallsFlatAwait future r old new = CallsFlatBy (Awaits (tree_of future)) r old new
+CallsFlatAwait future r old new = (answered : Result (Result AwaitResponse Error) Error) × CallsAwait future answered old new × (r ≡ flattened answered)

@@ -9,7 +9,7 @@ use Rattle.vm_parts.specs.declared.command_type.CommandRelationship.{CommandRela
 use Rattle.vm_parts.specs.Outboxes.{WholeStream}
 use Rattle.vm_machine.specs.declared.machine.Machine.{Machine}
 use Rattle.vm_machine.specs.Inputs.{message_step, malformed_step, close_step}
-use Rattle.vm_machine.specs.Outcomes.{CalledBy, Does, DoesBy, Done, Failed, FlatBy, IsStarved, Outcome, called}
+use Rattle.vm_machine.specs.Outcomes.{CalledBy, Does, DoesBy, Done, Failed, IsStarved, Outcome, called}
 use Rattle.vm_machine.specs.Reports.{report_step}
 use Rattle.invocation_vm.specs.Frames.{Tail, Rest, Garbage, frames_of}
 
@@ -97,11 +97,6 @@ Calls step r old new =
 abbrev pub CallsBy : {A : Type 0} → (Machine → Outcome A → Type 0) → Result A Error → View → View → Type 0
 CallsBy R r old new =
     DoesBy (CalledBy (R old.machine) old.machine) r old.machine new.machine × (new.undecoded ≡ old.undecoded)
-
--- the same of one that may answer an error by which the VM doesn't fail
-abbrev pub CallsFlatBy : {A : Type 0} → (Machine → Outcome (Result A Error) → Type 0) → Result A Error → View → View → Type 0
-CallsFlatBy R r old new =
-    DoesBy (FlatBy (CalledBy (R old.machine) old.machine)) r old.machine new.machine × (new.undecoded ≡ old.undecoded)
 
 -- one frame was taken: there may be more, or this is the end
 abbrev pub Goes : Bool → View → View → Type 0

@@ -4,12 +4,16 @@ ghost use Rattle.std.specs.List.{concat};
 ghost use Rattle.vm_parts.specs.Outboxes.{WholeFrames, WholeStream, len_of};
 ghost use Rattle.vm_machine.specs.Asks.{ask_of, call_handles, send_handle};
 ghost use Rattle.vm_machine.specs.Requests.{ids_of};
+ghost use Rattle.vm_machine.specs.Cancels.{Cancels};
 ghost use Rattle.vm_machine.specs.Outcomes.{Lives};
-ghost use Rattle.invocation_vm.specs.Calls.{CallsAwait, CallsCommand, CallsFor, CallsRead, CallsUnit};
+ghost use Rattle.vm_parts.specs.Tracked.{invocation_ids};
+ghost use Rattle.invocation_vm.specs.Calls.{CallsAwait, CallsCommand, CallsFor, CallsRead, CallsTry, CallsUnit};
 ghost use Rattle.invocation_vm.specs.Seen.{seen};
 ghost use Rattle.invocation_vm.specs.Views.{Calls};
 
-use crate::shared::{both_handles, id_handle, make_awakeable, name_text, unanswered};
+use crate::shared::{
+    both_handles, id_handle, make_awakeable, name_text, sends_cancels, unanswered,
+};
 use crate::versions::{response_head, version_in};
 use crate::vm::VM;
 use bytes::Bytes;
@@ -23,7 +27,7 @@ use vm_machine::{Ask, Command, Machine, StateRead, asks};
 use vm_parts::{
     AttachInvocationTarget, AwaitResponse, AwakeableHandle, CallHandle, CommandRelationship, Input,
     NonEmptyValue, NotificationHandle, PayloadOptions, ResponseHead, SendHandle, State, Step,
-    Target, UnresolvedFuture, VMOptions, VMResult, Value,
+    Target, TrackedCall, UnresolvedFuture, VMOptions, VMResult, Value,
 };
 use wire::Text;
 
@@ -128,8 +132,9 @@ impl CoreVM {
         id_handle(self.command(command))
     }
 
-    fn await_tree(&mut self, future: &UnresolvedFuture) -> VMResult<VMResult<AwaitResponse>>
-        ensures { CallsAwait future.now result (seen self.old) (seen self.new) }
+    /// The first part of an await: notifications are used, and the ids are read of the invocations that are to be cancelled.
+    fn await_tree(&mut self, future: UnresolvedFuture) -> VMResult<VMResult<AwaitResponse>>
+        ensures { CallsTry future result (seen self.old) (seen self.new) }
     {
         if let Err(error) = self.machine.live() {
             return Err(error);
@@ -139,13 +144,32 @@ impl CoreVM {
         self.machine.settle(before, given)
     }
 
+    /// The second part of a cancelled await: each of these invocations is sent the cancel signal.
+    fn cancel_all(&mut self, calls: Vec<TrackedCall>) -> VMResult<VMResult<AwaitResponse>>
+        ensures does { Cancels (invocation_ids calls.items) result (seen self.old).machine (seen self.new).machine }
+        ensures same { (seen self.new).undecoded ≡ (seen self.old).undecoded }
+    {
+        for call in calls {
+            if let Some(id) = call.invocation_id {
+                if let Err(error) = self.command(asks::cancel_invocation(id)) {
+                    return Err(error);
+                }
+            }
+        }
+        self.machine.drop_cancel();
+        Ok(Ok(AwaitResponse::CancelSignalReceived))
+    }
+
     /// As `do_await`, where an error by which the VM doesn't fail is an answer.
     pub fn try_await(&mut self, future: UnresolvedFuture) -> VMResult<VMResult<AwaitResponse>>
         ensures { CallsAwait future result (seen self.old) (seen self.new) }
     {
-        let given = self.await_tree(&future);
-        drop(future);
-        given
+        let given = self.await_tree(future);
+        if !sends_cancels(&given) {
+            return given;
+        }
+        let calls = self.machine.tracked.take_all();
+        self.cancel_all(calls)
     }
 
     /// The bytes that wait to be sent, which stay there: whole frames.

@@ -1,6 +1,7 @@
-//! What the calls share that have a command, and what is checked of the call that makes an awakeable.
+//! What the calls share that have a command, what is checked of the call that makes an awakeable, and of an await.
 ghost use Rattle.std.specs.Prelude.{◌≡◌, ◌+◌, ◌<◌, ◌^◌, IfOk};
 ghost use Rattle.vm_machine.specs.Asks.{call_handles, send_handle};
+ghost use Rattle.vm_machine.specs.Cancels.{sends_cancels};
 ghost use Rattle.vm_machine.specs.Outcomes.{Gives};
 ghost use Rattle.invocation_vm.specs.Calls.{name_or_empty, new_awakeable_step, result_by, skips_replay};
 
@@ -11,7 +12,8 @@ use vm_machine::fault::refuse;
 use vm_machine::machine::empty_text;
 use vm_machine::{Fault, Machine};
 use vm_parts::{
-    AwakeableHandle, CallHandle, JournalReplay, NotificationHandle, SendHandle, VMResult,
+    AwaitResponse, AwakeableHandle, CallHandle, JournalReplay, NotificationHandle, SendHandle,
+    VMResult,
 };
 use wire::Text;
 
@@ -68,4 +70,11 @@ pub(crate) fn make_awakeable(machine: &mut Machine) -> Result<AwakeableHandle, F
         return Err(refuse(NamedFault::UnsupportedFeature));
     }
     machine.awakeable()
+}
+
+/// Whether an await sends cancel signals next.
+pub(crate) fn sends_cancels(given: &VMResult<VMResult<AwaitResponse>>) -> bool
+    ensures { result ≡ sends_cancels given.now }
+{
+    matches!(given, Ok(Ok(AwaitResponse::CancelSignalReceived)))
 }

@@ -72,7 +72,8 @@ pub trait VM: Sized {
 
     /// Uses notifications in order of arrival until the future is done. Where it stays pending: in replay the VM
     /// fails; with open input the caller is to wait; with closed input the invocation is suspended, the VM is closed
-    /// and answers the error 599.
+    /// and answers the error 599. By the options the cancel signal ends it too: once the ids are there of all invocations that
+    /// are cancelled with the handler's, each is sent the cancel signal, by a command each, and `CancelSignalReceived` is answered.
     fn do_await(&mut self, future: UnresolvedFuture) -> VMResult<AwaitResponse>
         ensures { CallsFlatAwait future result (view self.old) (view self.new) };
 

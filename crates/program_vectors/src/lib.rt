@@ -2,6 +2,10 @@
 #![tactic(auto)]
 
 #[cfg(test)]
+mod children;
+#[cfg(test)]
+mod children_frames;
+#[cfg(test)]
 mod counts;
 #[cfg(test)]
 mod runs;

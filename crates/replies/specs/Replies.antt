@@ -43,6 +43,7 @@ head_text head = decimal head.status_code ++ codes " " ++ version_text head.vers
 -- what an await answered: whether input, and whether a run's result is waited for
 abbrev pub awaited_text : AwaitResponse → List ℕ
 awaited_text response.AnyCompleted = codes "any"
+awaited_text response.CancelSignalReceived = codes "cancelled"
 awaited_text (response.WaitingExternalProgress input run) = codes "wait " ++ flag_text input ++ codes " " ++ flag_text run
 
 -- a number that may be below 0

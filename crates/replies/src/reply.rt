@@ -92,6 +92,7 @@ impl Shown for AwaitResponse {
     fn show(&self, line: &mut Line) -> Result<(), AllocError> {
         match self {
             AwaitResponse::AnyCompleted => line.word("any"),
+            AwaitResponse::CancelSignalReceived => line.word("cancelled"),
             AwaitResponse::WaitingExternalProgress {
                 waiting_input,
                 waiting_run_proposal,

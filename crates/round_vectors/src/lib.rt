@@ -4,6 +4,8 @@
 #[cfg(test)]
 mod bench;
 #[cfg(test)]
+mod children;
+#[cfg(test)]
 mod counts;
 #[cfg(test)]
 mod faults;

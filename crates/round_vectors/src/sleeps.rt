@@ -83,7 +83,7 @@ round 1
 answer input id="abc" seed=0 key="" headers=[] value="" scope=- limit=- idem=-
 answer handle 17
 output Sleep wake_up_time=1000 result_completion_id=1
-output Suspension future=(kind=FirstCompleted completions=[1])
+output Suspension future=(kind=FirstCompleted completions=[1] signals=[1])
 entries 2
 journal
 Input

@@ -10,6 +10,8 @@ mod awakeables;
 #[cfg(test)]
 mod calls_and_sends;
 #[cfg(test)]
+mod cancelled;
+#[cfg(test)]
 mod commands;
 #[cfg(test)]
 mod journals;

@@ -113,7 +113,7 @@ pub fn frame_of(name: &str) -> Result<&'static [u8], Fail> {
     Err("no such frame")?
 }
 
-static TYPES: [(&str, u8); 12] = [
+static TYPES: [(&str, u8); 13] = [
     ("Suspension", 2),
     ("Error", 3),
     ("End", 4),
@@ -122,6 +122,7 @@ static TYPES: [(&str, u8); 12] = [
     ("ClearState", 16),
     ("ClearAllState", 17),
     ("Sleep", 18),
+    ("Call", 19),
     ("OneWayCall", 20),
     ("CompleteAwakeable", 21),
     ("SendSignal", 22),

@@ -160,7 +160,7 @@ sleep "" 1000                                                        => ok 18
 sleep "" 1000                                                        => ok 19
 output                                                               => frames Sleep Sleep Sleep
 await 17                                                             => ok wait true false
-output                                                               => ok <awaiting_on_1>
+output                                                               => ok 0x000700000000000000260000000000000000010000000100000000000000000000000000000000000000000000000000
 await fc(ac(18,19),17)                                               => ok wait true false
 output                                                               => ok 0x0007000000000000004f00000000000000000100000001000000000000000000000000000000000000000000000001010000000000000002000000020000000300000000000000000000000000000000000000000000000000
 
@@ -212,7 +212,7 @@ sleep "" 1000                                                        => ok 18
 sleep "" 1000                                                        => ok 19
 output                                                               => frames Sleep Sleep Sleep
 await 17                                                             => ok wait true false
-output                                                               => ok <awaiting_on_1>
+output                                                               => ok 0x000700000000000000260000000000000000010000000100000000000000000000000000000000000000000000000000
 
 vm "application/vnd.restate.invocation.v6" cancel=off                => ok V6
 input <start_1 input_till>                                           => ok
@@ -232,7 +232,7 @@ sleep "" 1000                                                        => ok 18
 sleep "" 1000                                                        => ok 19
 output                                                               => frames Sleep Sleep Sleep
 await 17                                                             => ok wait true false
-output                                                               => ok <awaiting_on_1>
+output                                                               => ok 0x000700000000000000260000000000000000010000000100000000000000000000000000000000000000000000000000
 
 # A suspension says it in its own frame.
 vm "application/vnd.restate.invocation.v7" cancel=off                => ok V7
@@ -244,7 +244,7 @@ sleep "" 1000                                                        => ok 19
 output                                                               => frames Sleep Sleep Sleep
 close                                                                => ok
 await 17                                                             => err 599 "SUSPENDED"
-output                                                               => ok <suspension_on_1>
+output                                                               => ok 0x0002000000000000002500000000000000000100000001000000000000000000000000000000000000000000000000
 "#;
 
 const WORDS: &str = r#"

@@ -6,10 +6,9 @@ use Rattle.journal_messages.specs.declared.message.RawMessage.{RawMessage}
 use Rattle.vm_parts.specs.declared.types.AwaitResponse.{AwaitResponse}
 use Rattle.await_trees.specs.declared.tree.UnresolvedFuture.{UnresolvedFuture}
 use Rattle.vm_machine.specs.declared.machine.Machine.{Machine}
-use Rattle.await_trees.specs.Tree.{tree_of}
-use Rattle.vm_machine.specs.Awaits.{Awaits}
-use Rattle.vm_machine.specs.Outcomes.{CalledBy, Does, DoesBy, FlatBy, Outcome, called}
+use Rattle.vm_machine.specs.Outcomes.{Does, Outcome, called}
 use Rattle.invocation_vm.specs.declared.core_vm.CoreVM.{CoreVM}
+use Rattle.invocation_vm.specs.Calls.{CallsFlatAwait}
 use Rattle.invocation_vm.specs.Views.{View, Leaves, TakesOutput}
 use Rattle.replies.specs.declared.reply.Reply.{Reply}
 use Rattle.replies.specs.declared.reply.Reply.TheVariants as reply
@@ -24,8 +23,8 @@ use Rattle.scripts.specs.Called.{Answers, Feeds, Drains, reply_of, reply_or_memo
 pub answers : {A : Type 0} (f : A → Reply) (step : Machine → Outcome A) (given : Result A Error) (answer : Reply) (old new : View) → Does (called (step old.machine) old.machine) given old.machine new.machine → new.undecoded ≡ old.undecoded → answer ≡ reply_of f given → Answers f step answer old new
 answers f step given answer old new does undecoded told = record { given = given; calls = (does, undecoded); told = told }
 
-pub awaits : (future : UnresolvedFuture) (given : Result AwaitResponse Error) (answer : Reply) (old new : View) → DoesBy (FlatBy (CalledBy (Awaits (tree_of future) old.machine) old.machine)) given old.machine new.machine → new.undecoded ≡ old.undecoded → answer ≡ reply_of reply.Awaited given → tells.Awaits future answer old new
-awaits future given answer old new does undecoded told = record { given = given; calls = (does, undecoded); told = told }
+pub awaits : (future : UnresolvedFuture) (given : Result AwaitResponse Error) (answer : Reply) (old new : View) → CallsFlatAwait future given old new → answer ≡ reply_of reply.Awaited given → tells.Awaits future answer old new
+awaits future given answer old new calls told = record { given = given; calls = calls; told = told }
 
 pub feeds : (raws : List RawMessage) (after : View) (given : Result Unit AllocError) (answer : Reply) (old new : View) → Leaves raws after given old new → answer ≡ reply_or_memory (λ _. reply.Done) given → Feeds raws after answer old new
 feeds raws after given answer old new leaves told = record { given = given; leaves = leaves; told = told }

@@ -198,19 +198,19 @@ pub const SIGNAL_A_2: &[u8] = b"\0\x1e\0\0\0\0\0\0\0\x14\
 pub const NO_NOTIFICATION: &[u8] = b"\0\x1e\0\0\0\0\0\0\0\x01\
     \x07";
 
-/// The invocation waits for id 1.
-pub const SUSPENSION_ON_1: &[u8] = b"\0\x02\0\0\0\0\0\0\0\x25\
+/// The invocation waits for id 1, or the cancel signal.
+pub const SUSPENSION_ON_1: &[u8] = b"\0\x02\0\0\0\0\0\0\0\x29\
     \0\
     \0\0\0\0\0\0\0\x01\0\0\0\x01\
-    \0\0\0\0\0\0\0\0\
+    \0\0\0\0\0\0\0\x01\0\0\0\x01\
     \0\0\0\0\0\0\0\0\
     \0\0\0\0\0\0\0\0";
 
 /// The same wait while the input is open, and no run is executing.
-pub const AWAITING_ON_1: &[u8] = b"\0\x07\0\0\0\0\0\0\0\x26\
+pub const AWAITING_ON_1: &[u8] = b"\0\x07\0\0\0\0\0\0\0\x2a\
     \0\
     \0\0\0\0\0\0\0\x01\0\0\0\x01\
-    \0\0\0\0\0\0\0\0\
+    \0\0\0\0\0\0\0\x01\0\0\0\x01\
     \0\0\0\0\0\0\0\0\
     \0\0\0\0\0\0\0\0\
     \0";

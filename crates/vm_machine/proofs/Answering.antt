@@ -1,11 +1,11 @@
 -- How a command is answered, and how many handles that needs.
-use Rattle.std.proofs.Common.{◌≡◌, ℕ, zero, suc, ◌+◌, ◌<◌, ◌^◌, refl, arith}
+use Rattle.std.proofs.Common.{◌≡◌, ℕ, ◌+◌, ◌<◌, ◌^◌, refl, arith}
 use Rattle.journal_messages.specs.declared.message.Message.{Message}
 use Rattle.journal_messages.specs.declared.message.Message.TheVariants as message
 use Rattle.await_trees.specs.declared.handle.NotificationHandle.{NotificationHandle}
 use Rattle.vm_machine.specs.declared.asks.AnswerKind.{AnswerKind}
 use Rattle.vm_machine.specs.declared.asks.AnswerKind.TheVariants as kind
-use Rattle.vm_machine.specs.Asks.{HandlesFit, answer_kind, kind_by_ids}
+use Rattle.vm_machine.specs.Asks.{HandlesFit, answer_kind}
 use Rattle.vm_machine.specs.Commands.{Fits}
 use Rattle.vm_machine.specs.Requests.{ids_of}
 

@@ -17,7 +17,7 @@ use Rattle.journal_attempt.specs.declared.start.Start.{Start}
 use Rattle.journal_errors.specs.declared.types.MessageType.TheVariants as type
 use Rattle.journal_errors.specs.Errors.{error_message, named_error}
 use Rattle.journal_attempt.specs.declared.future.Future.{Future}
-use Rattle.await_trees.specs.Tree.{Tree}
+use Rattle.await_trees.specs.Tree.{Tree, leaf}
 use Rattle.await_trees.specs.Wires.{sent}
 use Rattle.await_tries.specs.Message.{ids}
 use Rattle.journal_equality.specs.HeaderEqual.{header_equal}
@@ -26,7 +26,7 @@ use Rattle.journal_messages.specs.Reading.{input_in, message_in, notification_in
 use Rattle.journal_errors.specs.Types.{type_number}
 use Rattle.vm_parts.specs.declared.command_type.CommandRelationship.{CommandRelationship}
 use Rattle.vm_parts.specs.declared.types.AwaitResponse.{AwaitResponse}
-use Rattle.vm_parts.specs.declared.types.AwaitResponse.TheVariants.{AnyCompleted, WaitingExternalProgress}
+use Rattle.vm_parts.specs.declared.types.AwaitResponse.TheVariants.{AnyCompleted, CancelSignalReceived, WaitingExternalProgress}
 use Rattle.await_trees.specs.declared.handle.NotificationHandle.{NotificationHandle}
 use Rattle.vm_parts.specs.declared.values.Value.{Value}
 use Rattle.vm_parts.specs.Deliveries.{id_at, present_for, taken_by}
@@ -42,7 +42,7 @@ use Rattle.vm_machine.specs.declared.asks.Ask.{Ask}
 use Rattle.vm_machine.specs.declared.asks.Ask.TheVariants as ask
 use Rattle.vm_machine.specs.declared.asks.Command.{Command}
 use Rattle.vm_machine.specs.Asks.{ask_of}
-use Rattle.vm_machine.specs.Takes.{result_taken, take_step, taken_at, value_taken}
+use Rattle.vm_machine.specs.Takes.{result_taken, take_step, taken_at, value_noted, value_taken}
 use Rattle.vm_machine.specs.Inputs.{close_step, closed_at, counted_entry, end_at, end_step, ended, enqueued, entries_in, entry_step, input_at, input_counted, input_read, input_step, malformed_step, message_step, notification_step, queued, start_step, started, started_with}
 use Rattle.vm_machine.specs.Reports.{is_retry, related_to, report_step}
 use Rattle.journal_values.specs.declared.notification.NotificationResult.{NotificationResult}
@@ -60,7 +60,12 @@ use Rattle.vm_machine.specs.Outcomes.{Outcome, Done, Failed, ◌>>=◌, CalledBy
 use Rattle.vm_machine.specs.Phases.{is_closed, is_from_v7, is_processing, is_replaying, is_running, state_fault}
 use Rattle.vm_machine.specs.Requests.{ids_of, name_of, shown_type, with_ids}
 use Rattle.vm_machine.proofs.Calling.{called_from}
-use Rattle.vm_machine.specs.Awaits.{Awaits, AwaitsAt, Ends, StaysPending, said_waiting, says_so, suspended, waiting, with_used}
+use Rattle.vm_machine.specs.Awaits.{Awaits, AwaitsAt, AwaitsBy, Behind, Ends, EndsBy, Gathers, ReadsId, StaysPending, Tries, id_read, is_cancelled, or_cancelled, result_at, said_waiting, says_so, suspended, waiting, with_used}
+use Rattle.vm_machine.proofs.Cancelling.{Keeps, woken_keeps, read_keeps}
+use Rattle.vm_parts.specs.Options.{ends_awaits}
+use Rattle.vm_parts.specs.Tracked.{id_of_result, id_of_value, noted, unresolved, with_next_id}
+use Rattle.vm_parts.specs.declared.run_state.TrackedCall.{TrackedCall}
+use Rattle.std.specs.Option.{option_and_then}
 
 -- ---- nothing is written
 
@@ -403,13 +408,72 @@ pending_so left v u true b s goes = s
 pending_so left v u false true s goes = suspended_so v u (sent (ids u.results) left) s goes
 pending_so left v u false false s goes = waiting_so v u left s goes
 
-await_so : (t : Tree) (v : Machine) (o : Outcome (Result AwaitResponse Error)) (b : Bool) → is_running v.phase ≡ b → v.failure ≡ None → AwaitsAt b t v o → Event v o
-await_so t v o true e live comes = ⊎_elim
+-- one try of a tree
+tries_so : (t : Tree) (v : Machine) (o : Outcome (Result AwaitResponse Error)) → is_running v.phase ≡ true → v.failure ≡ None → Tries t v o → Event v o
+tries_so t v o runs live comes = ⊎_elim
     (λ (x : Ends t v o). subst (Event v) (sym x.2) (writes_nothing v (with_used x.0 v) (record { output = refl; closed = refl; failure = refl })))
     (λ (x : StaysPending t v o).
     let u = with_used (length v.results.queued) v in
-    subst (Event v) (sym x.2) (pending_so x.0 v u (is_replaying u.phase) u.input_closed (record { output = refl; closed = refl; failure = refl }) (goes_on v live e)))
+    subst (Event v) (sym x.2) (pending_so x.0 v u (is_replaying u.phase) u.input_closed (record { output = refl; closed = refl; failure = refl }) (goes_on v live runs)))
     comes
+
+-- an await that has woken has written nothing
+kept_same : (v w : Machine) → Keeps v w → Same v w
+kept_same v w k = record { output = ap (λ l. l.output) k.0; closed = ap is_closed k.1; failure = ap (λ l. l.failure) k.0 }
+
+-- what it writes next
+event_behind : {A : Type 0} (v w : Machine) (o : Outcome A) → Keeps v w → Event w o → Event v o
+event_behind v w (Done a x) k h =
+    let s = kept_same v w k in
+    record {
+      messages = h.messages;
+      output = h.output ∙ ap (λ o. o ++ map encoding h.messages) s.output;
+      ends_once = subst (λ b. EndsOnce b h.messages (is_over x)) (over_same v w s) h.ends_once;
+    }
+event_behind v w (Failed e x) k h =
+    let s = kept_same v w k in
+    record { output = h.output ∙ s.output; closed = h.closed ∙ s.closed; failure = h.failure ∙ s.failure }
+
+-- what comes behind an await that has woken
+behind_so : (v : Machine) (Next : Machine → Outcome (Result AwaitResponse Error) → Type 0) (first o : Outcome (Result AwaitResponse Error)) → Event v first
+    → ((w : Machine) → first ≡ Done (Ok AnyCompleted) w → Next w o → Event v o) → Behind Next first o → Event v o
+behind_so v Next (Done (Ok AnyCompleted) w) o h f on = f w refl on
+behind_so v Next (Done (Ok CancelSignalReceived) w) o h f on = subst (Event v) (sym on) h
+behind_so v Next (Done (Ok (WaitingExternalProgress input run)) w) o h f on = subst (Event v) (sym on) h
+behind_so v Next (Done (Err e) w) o h f on = subst (Event v) (sym on) h
+behind_so v Next (Failed e w) o h f on = subst (Event v) (sym on) h
+
+id_read_so : (id : Option (List ℕ)) (v : Machine) → Event v (id_read id v)
+id_read_so None v = same v
+id_read_so (Some id) v = writes_nothing v (record v { tracked = with_next_id id v.tracked }) (record { output = refl; closed = refl; failure = refl })
+
+reads_so : (handle : ℕ) (v : Machine) (o : Outcome (Result AwaitResponse Error)) → is_running v.phase ≡ true → v.failure ≡ None → ReadsId handle v o → Event v o
+reads_so handle v o runs live (first, tries, on) =
+    behind_so v (λ w p. p ≡ id_read (option_and_then id_of_result (result_at handle w)) w) first o (tries_so (leaf handle) v first runs live tries)
+    (λ w is next. event_behind v w o (woken_keeps (leaf handle) v w (subst (Tries (leaf handle) v) is tries)) (subst (Event w) (sym next) (id_read_so (option_and_then id_of_result (result_at handle w)) w))) on
+
+gathers_so : (handles : List ℕ) (v : Machine) (o : Outcome (Result AwaitResponse Error)) → is_running v.phase ≡ true → v.failure ≡ None → Gathers handles v o → Event v o
+gathers_so [] v o runs live comes = subst (Event v) (sym comes) (writes_nothing v v (same v))
+gathers_so (handle ∷ handles) v o runs live (first, reads, on) =
+    behind_so v (Gathers handles) first o (reads_so handle v first runs live reads)
+    (λ w is next.
+    let k = read_keeps handle v w (subst (ReadsId handle v) is reads) in
+    event_behind v w o k (gathers_so handles w o (ap is_running k.1 ∙ runs) (ap (λ l. l.failure) k.0 ∙ live) next)) on
+
+ends_so : (b : Bool) (v : Machine) (o : Outcome (Result AwaitResponse Error)) → is_running v.phase ≡ true → v.failure ≡ None → EndsBy b v o → Event v o
+ends_so true v o runs live comes = gathers_so (unresolved v.tracked) v o runs live comes
+ends_so false v o runs live comes = subst (Event v) (sym comes) (writes_nothing v v (same v))
+
+cancels_so : (b : Bool) (t : Tree) (v : Machine) (o : Outcome (Result AwaitResponse Error)) → is_running v.phase ≡ true → v.failure ≡ None → AwaitsBy b t v o → Event v o
+cancels_so true t v o runs live (first, tries, on) =
+    behind_so v (λ w p. EndsBy (is_cancelled w) w p) first o (tries_so (or_cancelled t) v first runs live tries)
+    (λ w is next.
+    let k = woken_keeps (or_cancelled t) v w (subst (Tries (or_cancelled t) v) is tries) in
+    event_behind v w o k (ends_so (is_cancelled w) w o (ap is_running k.1 ∙ runs) (ap (λ l. l.failure) k.0 ∙ live) next)) on
+cancels_so false t v o runs live comes = tries_so t v o runs live comes
+
+await_so : (t : Tree) (v : Machine) (o : Outcome (Result AwaitResponse Error)) (b : Bool) → is_running v.phase ≡ b → v.failure ≡ None → AwaitsAt b t v o → Event v o
+await_so t v o true e live comes = cancels_so (ends_awaits v.options.implicit_cancellation) t v o e live comes
 await_so t v o false e live comes = subst (Event v) (sym comes) (same v)
 
 pub await_writes : (t : Tree) (v : Machine) (o : Outcome (Result AwaitResponse Error)) → Awaits t v o → EventWrites v (called o v)
@@ -421,18 +485,22 @@ awaited_writes t v o h =
     let from = called_from (Awaits t v) v o h in
     subst (EventWrites v) (sym from.2) (called_writes v from.0 (λ live. await_so t v from.0 (is_running v.phase) refl live (from.1 live)))
 
-value_so : (value : Option Value) (v u : Machine) → Same v u → Quiet v (value_taken value u)
-value_so None v u s = s
-value_so (Some value) v u s = s
+noted_so : (value : Value) (tracked : Option (List TrackedCall)) (v u : Machine) → Same v u → Quiet v (value_noted value tracked u)
+noted_so value None v u s = s
+noted_so value (Some tracked) v u s = record { output = s.output; closed = s.closed; failure = s.failure }
 
-result_so : (result : Option NotificationResult) (v u : Machine) → Same v u → Quiet v (result_taken result u)
-result_so None v u s = s
-result_so (Some result) v u s = value_so (value_of result) v u s
+value_so : (handle : ℕ) (value : Option Value) (v u : Machine) → Same v u → Quiet v (value_taken handle value u)
+value_so handle None v u s = s
+value_so handle (Some value) v u s = noted_so value (noted handle (id_of_value value) u.tracked) v u s
+
+result_so : (handle : ℕ) (result : Option NotificationResult) (v u : Machine) → Same v u → Quiet v (result_taken handle result u)
+result_so handle None v u s = s
+result_so handle (Some result) v u s = value_so handle (value_of result) v u s
 
 taken_so : (handle : ℕ) (id : Option NotificationId) (v : Machine) → Quiet v (taken_at handle id v)
 taken_so handle id v =
     let found = present_for v.options.signal_delivery id v.results.ready in
-    result_so found v (record v { results = taken_by v.options.signal_delivery handle id found v.results }) (record { output = refl; closed = refl; failure = refl })
+    result_so handle found v (record v { results = taken_by v.options.signal_delivery handle id found v.results }) (record { output = refl; closed = refl; failure = refl })
 
 take_so : (handle : ℕ) (v : Machine) (b : Bool) → Quiet v (if b then taken_at handle (id_at handle v.results.handles) v else refused (state_fault v.phase) v)
 take_so handle v true = taken_so handle (id_at handle v.results.handles) v

@@ -1,5 +1,6 @@
 pub mod Answering
 pub mod Calling
+pub mod Cancelling
 pub mod Carried
 pub mod Endings
 pub mod Preparing

@@ -1,12 +1,15 @@
--- Awaits of trees: notifications are used in order of arrival until the tree is awake.
-use Rattle.std.specs.Prelude.{◌≡◌, ◌⊎◌, ℕ, Bool, true, false, ◌&&◌, if◌then◌else◌, List, [], ◌∷◌, ◌++◌, length, map, Option, None, Result, Ok, Err}
+-- Awaits of trees: notifications are used in order of arrival until the tree is awake. Where the cancel signal ends awaits, one that it
+-- ends first reads the ids of the invocations that are cancelled with the handler's.
+use Rattle.std.specs.Prelude.{◌≡◌, ◌⊎◌, MatchBool, ℕ, Bool, true, false, ◌&&◌, if◌then◌else◌, List, [], ◌∷◌, ◌++◌, length, map, Option, Some, None, is_some, Result, Ok, Err}
+use Rattle.std.specs.Option.{option_and_then}
 use Rattle.await_trees.specs.Handles.{has_leaf}
-use Rattle.await_trees.specs.Tree.{Tree}
+use Rattle.await_trees.specs.Tree.{Tree, leaf, node, none, more}
 use Rattle.await_trees.specs.Wires.{sent}
 use Rattle.await_tries.specs.Await.{LeastAwake, LeftPending}
 use Rattle.await_tries.specs.Message.{ids}
 use Rattle.await_tries.specs.Used.{used}
 use Rattle.journal_attempt.specs.declared.future.Future.{Future}
+use Rattle.journal_attempt.specs.declared.future.FutureKind.TheVariants.{FirstCompleted}
 use Rattle.journal_errors.specs.declared.error.Error.{Error}
 use Rattle.journal_errors.specs.declared.faults.NamedFault.TheVariants as fault
 use Rattle.journal_errors.specs.declared.version.Version.{Version}
@@ -15,13 +18,17 @@ use Rattle.journal_messages.specs.declared.message.Message.{Message}
 use Rattle.journal_messages.specs.declared.message.Message.TheVariants as message
 use Rattle.journal_messages.specs.Message.{encoding}
 use Rattle.journal_values.specs.declared.notification.NotificationId.{NotificationId}
+use Rattle.journal_values.specs.declared.notification.NotificationResult.{NotificationResult}
 use Rattle.vm_parts.specs.declared.options.AwaitingOnPolicy.{AwaitingOnPolicy}
 use Rattle.vm_parts.specs.declared.options.AwaitingOnPolicy.TheVariants as policy
 use Rattle.vm_parts.specs.declared.types.AwaitResponse.{AwaitResponse}
-use Rattle.vm_parts.specs.declared.types.AwaitResponse.TheVariants.{AnyCompleted, WaitingExternalProgress}
+use Rattle.vm_parts.specs.declared.types.AwaitResponse.TheVariants.{AnyCompleted, CancelSignalReceived, WaitingExternalProgress}
+use Rattle.vm_parts.specs.Deliveries.{id_at, present_for}
+use Rattle.vm_parts.specs.Options.{ends_awaits}
+use Rattle.vm_parts.specs.Tracked.{id_of_result, unresolved, with_next_id}
 use Rattle.vm_machine.specs.declared.machine.Machine.{Machine}
 use Rattle.vm_machine.specs.declared.phase.Phase.TheVariants.{Closed}
-use Rattle.vm_machine.specs.Outcomes.{Outcome, Done, refused}
+use Rattle.vm_machine.specs.Outcomes.{Outcome, Done, Failed, refused}
 use Rattle.vm_machine.specs.Phases.{is_from_v7, is_running, is_replaying, state_fault}
 
 -- the first n notifications that wait are used
@@ -69,9 +76,77 @@ StaysPending t v o =
     (left : Tree) × LeftPending v.options.signal_delivery v.results t left
     × (o ≡ pending_on left (with_used (length v.results.queued) v))
 
+-- what an await of a tree may come to by the notifications alone
+abbrev pub Tries : Tree → Machine → Outcome (Result AwaitResponse Error) → Type 0
+Tries t v o = Ends t v o ⊎ StaysPending t v o
+
+-- ---- the cancel signal
+
+-- the first of none, which never ends
+abbrev pub is_first_of_none : Tree → Bool
+is_first_of_none (node FirstCompleted none) = true
+is_first_of_none t = false
+
+-- a tree that the cancel signal ends too: the first of both, or the cancel signal alone
+abbrev pub or_cancelled : Tree → Tree
+or_cancelled t = if is_first_of_none t then node FirstCompleted (more (leaf 1) none) else node FirstCompleted (more t (more (leaf 1) none))
+
+-- the present result of a handle
+abbrev pub result_at : ℕ → Machine → Option NotificationResult
+result_at handle v = present_for v.options.signal_delivery (id_at handle v.results.handles) v.results.ready
+
+-- the cancel signal is there
+abbrev pub is_cancelled : Machine → Bool
+is_cancelled v = is_some (result_at 1 v)
+
+-- an await has woken
+abbrev pub has_woken : Result AwaitResponse Error → Bool
+has_woken (Ok AnyCompleted) = true
+has_woken (Ok CancelSignalReceived) = false
+has_woken (Ok (WaitingExternalProgress input run)) = false
+has_woken (Err e) = false
+
+-- what comes behind an await that has woken; each other outcome stays
+abbrev pub Behind : (Machine → Outcome (Result AwaitResponse Error) → Type 0) → Outcome (Result AwaitResponse Error) → Outcome (Result AwaitResponse Error) → Type 0
+Behind Next (Done answer w) o = MatchBool (has_woken answer) (Next w o) (o ≡ Done answer w)
+Behind Next (Failed e w) o = o ≡ Failed e w
+
+-- The first id of a tracked call that isn't known is known now: the result has to be one.
+abbrev pub id_read : Option (List ℕ) → Machine → Outcome (Result AwaitResponse Error)
+id_read None v = refused fault.UnexpectedInvocationIdResult v
+id_read (Some id) v = Done (Ok AnyCompleted) (record v { tracked = with_next_id id v.tracked })
+
+-- the handle of the first tracked call whose id isn't known is awaited by itself, and the id is read
+abbrev pub ReadsId : ℕ → Machine → Outcome (Result AwaitResponse Error) → Type 0
+ReadsId handle v o =
+    (first : Outcome (Result AwaitResponse Error)) × Tries (leaf handle) v first
+    × Behind (λ w p. p ≡ id_read (option_and_then id_of_result (result_at handle w)) w) first o
+
+-- So it is done with each of these handles, in order; then all ids are known.
+abbrev pub Gathers : List ℕ → Machine → Outcome (Result AwaitResponse Error) → Type 0
+Gathers [] v o = o ≡ Done (Ok CancelSignalReceived) v
+Gathers (handle ∷ handles) v o = (first : Outcome (Result AwaitResponse Error)) × ReadsId handle v first × Behind (Gathers handles) first o
+
+-- an await that has woken, by whether the cancel signal is there
+abbrev pub EndsBy : Bool → Machine → Outcome (Result AwaitResponse Error) → Type 0
+EndsBy true v o = Gathers (unresolved v.tracked) v o
+EndsBy false v o = o ≡ Done (Ok AnyCompleted) v
+
+-- a tree is awaited, or the cancel signal
+abbrev pub TriesOrCancels : Tree → Machine → Outcome (Result AwaitResponse Error) → Type 0
+TriesOrCancels t v o =
+    (first : Outcome (Result AwaitResponse Error)) × Tries (or_cancelled t) v first × Behind (λ w p. EndsBy (is_cancelled w) w p) first o
+
+-- ---- what an await comes to
+
+-- by whether the cancel signal ends awaits
+abbrev pub AwaitsBy : Bool → Tree → Machine → Outcome (Result AwaitResponse Error) → Type 0
+AwaitsBy true t v o = TriesOrCancels t v o
+AwaitsBy false t v o = Tries t v o
+
 -- by whether the handler may run
 abbrev pub AwaitsAt : Bool → Tree → Machine → Outcome (Result AwaitResponse Error) → Type 0
-AwaitsAt true t v o = Ends t v o ⊎ StaysPending t v o
+AwaitsAt true t v o = AwaitsBy (ends_awaits v.options.implicit_cancellation) t v o
 AwaitsAt false t v o = o ≡ refused (state_fault v.phase) v
 
 -- what an await of a tree may come to

@@ -1,5 +1,6 @@
 pub mod Asks
 pub mod Awaits
+pub mod Cancels
 pub mod Commands
 pub mod Endings
 pub mod Inputs

@@ -154,16 +154,6 @@ Settles before (Err fault.Memory) r old new = (r ≡ Err no_memory) × (new ≡ 
 Settles before (Err (fault.Refused e)) r old new =
     ((r ≡ Err (ruled old e)) × (new ≡ failed (ruled old e) old)) ⊎ ((r ≡ Err no_memory) × (new ≡ starved before old))
 
--- an answer that is an error, though the machine didn't fail
-abbrev pub flat : {A : Type 0} → Outcome (Result A Error) → Outcome A
-flat (Done (Ok a) v) = Done a v
-flat (Done (Err e) v) = Failed e v
-flat (Failed e v) = Failed e v
-
--- the same of a call that may come to several outcomes
-abbrev pub FlatBy : {A : Type 0} → (Outcome (Result A Error) → Type 0) → Outcome A → Type 0
-FlatBy {A} R o = (answered : Outcome (Result A Error)) × R answered × (o ≡ flat answered)
-
 -- an answer that is an error, as an error
 abbrev pub flattened : {A : Type 0} → Result (Result A Error) Error → Result A Error
 flattened (Ok r) = r

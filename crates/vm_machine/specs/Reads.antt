@@ -1,5 +1,5 @@
 -- State reads: eager where the state is known, lazy where it isn't; in replay the recorded form decides.
-use Rattle.std.specs.Prelude.{◌≡◌, ℕ, Bool, true, ◌==◌, if◌then◌else◌, List, [], ◌∷◌, ◌++◌, Option, Some, None, Result, Ok, Err, OnOk}
+use Rattle.std.specs.Prelude.{◌≡◌, ℕ, true, ◌==◌, if◌then◌else◌, List, [], ◌∷◌, Option, Some, None, Result, Ok, Err, OnOk}
 use Rattle.journal_errors.specs.declared.faults.NamedFault.{NamedFault}
 use Rattle.journal_errors.specs.declared.faults.NamedFault.TheVariants as fault
 use Rattle.journal_messages.specs.declared.message.Message.{Message}
@@ -30,7 +30,6 @@ use Rattle.vm_machine.specs.declared.reads.StateRead.TheVariants as reads
 use Rattle.vm_machine.specs.Commands.{about_next, entered, handed_out, phase_after, written}
 use Rattle.vm_machine.specs.Outcomes.{Outcome, Done, Failed, Gives, about_last}
 use Rattle.vm_machine.specs.Phases.{is_processing, is_running, state_fault}
-use Rattle.vm_machine.specs.Requests.{name_of}
 
 -- ---- the two forms of a read
 

@@ -1,13 +1,17 @@
 -- What a message asks for as a command: how errors show it, its numbers, and what it changes. One table over messages for
 -- all calls; a message that isn't named in one takes no part in it.
-use Rattle.std.specs.Prelude.{ℕ, ◌+◌, List, []}
+use Rattle.std.specs.Prelude.{ℕ, ◌+◌, Bool, false, if◌then◌else◌, List, []}
 use Rattle.journal_messages.specs.declared.message.Message.{Message}
 use Rattle.journal_messages.specs.declared.message.Message.TheVariants as message
 use Rattle.journal_errors.specs.declared.types.MessageType.{MessageType}
 use Rattle.journal_errors.specs.declared.types.MessageType.TheVariants as type
 use Rattle.journal_messages.specs.Message.{type_of}
 use Rattle.vm_parts.specs.declared.context.StateMap.{StateMap}
+use Rattle.vm_parts.specs.declared.options.ImplicitCancellationOption.{ImplicitCancellationOption}
+use Rattle.vm_parts.specs.declared.run_state.TrackedCall.{TrackedCall}
+use Rattle.vm_parts.specs.Options.{cancels_calls, cancels_sends}
 use Rattle.vm_parts.specs.States.{state_set, state_cleared, all_cleared}
+use Rattle.vm_parts.specs.Tracked.{with_call}
 
 -- the type that errors show: a state read is shown as its lazy form
 abbrev pub shown_type : Message → MessageType
@@ -66,3 +70,13 @@ changed (message.SetState c) state = state_set c.key c.value state
 changed (message.ClearState c) state = state_cleared c.key state
 changed (message.ClearAllState c) state = all_cleared state
 changed m state = state
+
+-- by these options the invocation that it asks for is cancelled with the handler's
+abbrev pub is_cancelled_with : ImplicitCancellationOption → Message → Bool
+is_cancelled_with option (message.Call c) = cancels_calls option
+is_cancelled_with option (message.OneWayCall c) = cancels_sends option
+is_cancelled_with option m = false
+
+-- the tracked calls after it, by its first handle
+abbrev pub tracked_after : ImplicitCancellationOption → Message → ℕ → List TrackedCall → List TrackedCall
+tracked_after option m handle tracked = if is_cancelled_with option m then with_call handle tracked else tracked

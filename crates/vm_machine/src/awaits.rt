@@ -1,5 +1,7 @@
-//! Awaits of trees: notifications are used until the tree is awake; else the machine waits for what is left of it.
+//! Awaits of trees: notifications are used until the tree is awake, or the cancel signal is there; else the machine waits for what is
+//! left of the tree.
 ghost use Rattle.std.specs.Prelude.{◌≡◌, ◌∷◌, ◌++◌, [], IfOk, OnOk, OnErr};
+ghost use Rattle.std.specs.Option.{option_and_then};
 ghost use Rattle.await_trees.specs.Tree.{tree_of};
 ghost use Rattle.await_trees.specs.Wires.{sent};
 ghost use Rattle.await_tries.specs.Left.{tree_left};
@@ -7,7 +9,10 @@ ghost use Rattle.await_tries.specs.Message.{ids};
 ghost use Rattle.journal_messages.specs.Message.{encoding};
 ghost use Rattle.journal_messages.specs.declared.message.Message.TheVariants as message;
 ghost use Rattle.vm_machine.specs.Outcomes.{Gives, GivesBy};
-ghost use Rattle.vm_machine.specs.Awaits.{Awaits, allows, pending_on, says_so, waiting};
+ghost use Rattle.vm_parts.specs.Options.{ends_awaits};
+ghost use Rattle.vm_parts.specs.Tracked.{id_of_result, unresolved};
+ghost use Rattle.vm_machine.specs.Awaits.{Awaits, Gathers, ReadsId, Tries, TriesOrCancels, allows, has_woken, is_cancelled, is_first_of_none, or_cancelled, pending_on, result_at, says_so, waiting};
+ghost use Rattle.vm_machine.specs.Cancels.{cancel_taken};
 
 use crate::fault::{Fault, refuse};
 use crate::machine::Machine;
@@ -17,8 +22,13 @@ use await_tries::{Residue, Resolution, future_of, has_leaf, try_future};
 use journal_attempt::{AwaitingOn, Suspension};
 use journal_errors::{Error, NamedFault, Version};
 use journal_messages::Message;
-use std::alloc::AllocError;
-use vm_parts::{AwaitResponse, AwaitingOnPolicy};
+use journal_values::NotificationResult;
+use std::alloc::{AllocError, Global};
+use vm_parts::{
+    AwaitResponse, AwaitingOnPolicy, CANCEL_NOTIFICATION_HANDLE, ImplicitCancellationOption,
+    NotificationHandle,
+};
+use wire::{Items, Text, copy_of};
 
 /// Whether an await that waits may say what for. No run is executing.
 fn allows(policy: AwaitingOnPolicy) -> bool
@@ -28,6 +38,44 @@ fn allows(policy: AwaitingOnPolicy) -> bool
         AwaitingOnPolicy::SendAlways | AwaitingOnPolicy::DontSendWhenExecutingRun => true,
         AwaitingOnPolicy::DontSend => false,
     }
+}
+
+/// Whether the cancel signal ends awaits.
+fn ends_awaits(option: ImplicitCancellationOption) -> bool
+    ensures { result ≡ ends_awaits option }
+{
+    matches!(option, ImplicitCancellationOption::Enabled { .. })
+}
+
+/// Whether an await has woken.
+fn has_woken(answer: &Result<AwaitResponse, Error>) -> bool
+    ensures { result ≡ has_woken answer.now }
+{
+    matches!(answer, Ok(AwaitResponse::AnyCompleted))
+}
+
+/// Whether it is the first of none.
+fn is_first_of_none(future: &UnresolvedFuture) -> bool
+    ensures { result ≡ is_first_of_none (tree_of future.now) }
+{
+    match future {
+        UnresolvedFuture::FirstCompleted(children) => children.is_empty(),
+        _ => false,
+    }
+}
+
+/// A future that the cancel signal ends too.
+fn or_cancelled(alloc: Global, future: UnresolvedFuture) -> Result<UnresolvedFuture, AllocError>
+    ensures { IfOk result (λ both. tree_of both ≡ or_cancelled (tree_of future)) }
+{
+    let mut children = Vec::with_capacity(alloc, 2)?;
+    if is_first_of_none(&future) {
+        drop(future);
+    } else {
+        children.push(future)?;
+    }
+    children.push(UnresolvedFuture::Single(CANCEL_NOTIFICATION_HANDLE))?;
+    Ok(UnresolvedFuture::FirstCompleted(Items::from_vec(children)))
 }
 
 impl Machine {
@@ -91,20 +139,115 @@ impl Machine {
         Ok(Err(Error::named(NamedFault::Suspended, None)))
     }
 
-    /// The handler awaits a tree. The inner error is an answer by which the machine doesn't fail.
-    pub fn await_tree(
+    /// One try of a future by the notifications alone; it may stay pending.
+    #[tactic(auto, using(crate::proofs::Resolving::stays_pending))]
+    fn try_future(
         &mut self,
         future: &UnresolvedFuture,
     ) -> Result<Result<AwaitResponse, Error>, Fault>
-        ensures { GivesBy (Awaits (tree_of future.now) self.old) result self.old self.new }
+        ensures { GivesBy (Tries (tree_of future.now) self.old) result self.old self.new }
     {
-        if !self.phase.is_running() {
-            return Err(refuse(self.phase.fault()));
-        }
         let delivery = self.options.signal_delivery;
         match try_future(self.alloc, &mut self.results, delivery, future)? {
             Resolution::AnyCompleted => Ok(Ok(AwaitResponse::AnyCompleted)),
             Resolution::Pending(left) => self.pend_on(&left),
         }
+    }
+
+    /// Whether the cancel signal is there.
+    fn is_cancelled(&self) -> bool
+        ensures { result ≡ is_cancelled self.now }
+    {
+        let delivery = self.options.signal_delivery;
+        self.results
+            .present(delivery, CANCEL_NOTIFICATION_HANDLE.0)
+            .is_some()
+    }
+
+    /// The invocation's id that the present result of a handle is.
+    fn id_at(&self, handle: u32) -> Result<Option<Text>, AllocError>
+        ensures { IfOk result (λ id. id ≡ option_and_then id_of_result (result_at handle self.now)) }
+    {
+        match self.results.present(self.options.signal_delivery, handle) {
+            Some(NotificationResult::InvocationId(id)) => Ok(Some(copy_of(id)?)),
+            _ => Ok(None),
+        }
+    }
+
+    /// Awaits the handle of a tracked call's id by itself, the first whose id isn't known, and reads the id.
+    fn read_id(&mut self, handle: u32) -> Result<Result<AwaitResponse, Error>, Fault>
+        ensures { GivesBy (ReadsId handle self.old) result self.old self.new }
+    {
+        let future = UnresolvedFuture::Single(NotificationHandle(handle));
+        let given = self.try_future(&future);
+        drop(future);
+        let answer = given?;
+        if !has_woken(&answer) {
+            return Ok(answer);
+        }
+        match self.id_at(handle)? {
+            Some(id) => self.tracked.resolve_first(id),
+            None => return Err(refuse(NamedFault::UnexpectedInvocationIdResult)),
+        }
+        Ok(Ok(AwaitResponse::AnyCompleted))
+    }
+
+    /// Reads the ids of tracked calls that aren't known, as they come.
+    fn gather_ids(&mut self) -> Result<Result<AwaitResponse, Error>, Fault>
+        ensures { GivesBy (Gathers (unresolved self.old.tracked) self.old) result self.old self.new }
+    {
+        while let Some(handle) = self.tracked.first_unresolved() {
+            let answer = self.read_id(handle)?;
+            if !has_woken(&answer) {
+                return Ok(answer);
+            }
+        }
+        Ok(Ok(AwaitResponse::CancelSignalReceived))
+    }
+
+    /// Awaits a future, or the cancel signal.
+    fn try_or_cancel(
+        &mut self,
+        future: UnresolvedFuture,
+    ) -> Result<Result<AwaitResponse, Error>, Fault>
+        ensures { GivesBy (TriesOrCancels (tree_of future) self.old) result self.old self.new }
+    {
+        let future = or_cancelled(self.alloc, future)?;
+        let given = self.try_future(&future);
+        drop(future);
+        let answer = given?;
+        if !has_woken(&answer) {
+            return Ok(answer);
+        }
+        if !self.is_cancelled() {
+            return Ok(Ok(AwaitResponse::AnyCompleted));
+        }
+        self.gather_ids()
+    }
+
+    /// The handler awaits a tree. The inner error is an answer by which the machine doesn't fail.
+    pub fn await_tree(
+        &mut self,
+        future: UnresolvedFuture,
+    ) -> Result<Result<AwaitResponse, Error>, Fault>
+        ensures { GivesBy (Awaits (tree_of future) self.old) result self.old self.new }
+    {
+        if !self.phase.is_running() {
+            return Err(refuse(self.phase.fault()));
+        }
+        if ends_awaits(self.options.implicit_cancellation) {
+            return self.try_or_cancel(future);
+        }
+        let given = self.try_future(&future);
+        drop(future);
+        given
+    }
+
+    /// Takes one result of the cancel handle.
+    pub fn drop_cancel(&mut self)
+        ensures { self.new ≡ cancel_taken self.old }
+    {
+        let delivery = self.options.signal_delivery;
+        let _ = self.results.take(delivery, CANCEL_NOTIFICATION_HANDLE);
     }
 }

@@ -5,13 +5,13 @@ ghost use Rattle.journal_messages.specs.Message.{IsWhole};
 ghost use Rattle.vm_machine.specs.Outcomes.{Gives, about_last, last_related, lasting};
 ghost use Rattle.vm_machine.specs.Commands.{entered, phase_after, written, popped, replayed, carried_out, handed_out, checks_are_off, Carries, Issues};
 ghost use Rattle.vm_machine.specs.Phases.{is_processing};
-ghost use Rattle.vm_machine.specs.Requests.{changed, ids_of};
+ghost use Rattle.vm_machine.specs.Requests.{changed, ids_of, tracked_after};
 
 use crate::asks::Command;
 use crate::fault::{Fault, refuse};
 use crate::machine::Machine;
 use crate::phase::Phase;
-use crate::request::{give_ids, ids_of, name_of, shown_type};
+use crate::request::{give_ids, ids_of, is_cancelled_with, name_of, shown_type};
 use journal_equality::header_eq;
 use journal_errors::{Error, MessageType, NamedFault, RelatedCommand};
 use journal_messages::{Message, RawMessage};
@@ -147,6 +147,17 @@ impl Machine {
         Ok(())
     }
 
+    /// Keeps the first handle of a command whose invocation is cancelled with the handler's.
+    fn track(&mut self, command: &Message, handle: NotificationHandle) -> Result<(), AllocError>
+        ensures ok { OnOk result (self.new ≡ record self.old { tracked = tracked_after self.old.options.implicit_cancellation command.now handle.0 self.old.tracked }) }
+        ensures err { OnErr result (lasting self.new ≡ lasting self.old) }
+    {
+        if is_cancelled_with(self.options.implicit_cancellation, command) {
+            self.tracked.push(handle.0)?;
+        }
+        Ok(())
+    }
+
     /// What a command changes of the state.
     fn change(&mut self, command: &Message) -> Result<(), AllocError>
         ensures ok { OnOk result (self.new ≡ record self.old { state = changed command.now self.old.state }) }
@@ -185,6 +196,7 @@ impl Machine {
             return Err(Fault::Refused(about_next(fault, index, ty, name)));
         }
         let handle = NotificationHandle(self.counters.handle);
+        self.track(message, handle)?;
         give_ids(message, self.counters.completion);
         self.enter(ty, name);
         self.hand_out(ids)?;

@@ -9,7 +9,7 @@ use journal_messages::RawMessage;
 use std::alloc::{AllocError, Global};
 use vm_parts::{
     AsyncResults, Counters, EphemeralCommand, KeptProposal, LastCommand, Outbox, PendingRun, Queue,
-    StartInfo, StateCoverage, StateMap, TrackedCall, VMOptions,
+    StartInfo, StateCoverage, StateMap, TrackedCalls, VMOptions,
 };
 use wire::{Items, Text};
 
@@ -36,7 +36,8 @@ pub struct Machine {
     pub state: StateMap,
     pub runs: Items<PendingRun>,
     pub proposals: Items<KeptProposal>,
-    pub tracked: Items<TrackedCall>,
+    /// The calls whose invocations are cancelled with the handler's.
+    pub tracked: TrackedCalls,
     pub ephemeral: Items<EphemeralCommand>,
     /// The frames that wait to be taken.
     pub output: Outbox,
@@ -95,7 +96,7 @@ impl Machine {
             state: StateMap::new(alloc, StateCoverage::Partial),
             runs: Items::new(alloc),
             proposals: Items::new(alloc),
-            tracked: Items::new(alloc),
+            tracked: TrackedCalls::new(alloc),
             ephemeral: Items::new(alloc),
             output: Outbox::new(alloc),
             output_ended: false,

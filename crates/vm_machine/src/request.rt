@@ -1,11 +1,12 @@
 //! What a message asks for as a command: how errors show it, and its numbers. One table over messages for all calls.
 ghost use Rattle.std.specs.Prelude.{◌≡◌, ◌<◌, ◌+◌, ◌^◌, IfOk};
-ghost use Rattle.vm_machine.specs.Requests.{ids_of, name_of, shown_type, with_ids};
+ghost use Rattle.vm_machine.specs.Requests.{ids_of, is_cancelled_with, name_of, shown_type, with_ids};
 
 use crate::machine::empty_text;
 use journal_errors::MessageType;
 use journal_messages::Message;
 use std::alloc::{AllocError, Global};
+use vm_parts::ImplicitCancellationOption;
 use wire::{Text, copy_of};
 
 /// The type that errors show: a state read is shown as its lazy form.
@@ -80,5 +81,28 @@ pub fn give_ids(message: &mut Message, id: u32)
         Message::AttachInvocation(command) => command.result_completion_id = id,
         Message::GetInvocationOutput(command) => command.result_completion_id = id,
         _ => {}
+    }
+}
+
+/// Whether by these options the invocation that it asks for is cancelled with the handler's.
+pub fn is_cancelled_with(option: ImplicitCancellationOption, message: &Message) -> bool
+    ensures { result ≡ is_cancelled_with option message.now }
+{
+    match (option, message) {
+        (
+            ImplicitCancellationOption::Enabled {
+                cancel_children_calls,
+                ..
+            },
+            Message::Call(_),
+        ) => { cancel_children_calls }
+        (
+            ImplicitCancellationOption::Enabled {
+                cancel_children_one_way_calls,
+                ..
+            },
+            Message::OneWayCall(_),
+        ) => cancel_children_one_way_calls,
+        _ => false,
     }
 }

@@ -1,6 +1,8 @@
 //! Takes of a handle's present result, and whether it has one.
 ghost use Rattle.vm_machine.specs.Outcomes.{Gives};
 ghost use Rattle.std.specs.Prelude.{◌≡◌};
+ghost use Rattle.std.specs.Option.{option_copied};
+ghost use Rattle.vm_parts.specs.Tracked.{id_of_value};
 ghost use Rattle.vm_machine.specs.Takes.{take_step, is_completed, value_taken};
 
 use crate::fault::{Fault, refuse};
@@ -8,6 +10,17 @@ use crate::machine::Machine;
 use journal_errors::NamedFault;
 use vm_parts::values::read_result;
 use vm_parts::{NotificationHandle, Value};
+use wire::Text;
+
+/// The invocation's id that a value is.
+fn id_of_value(value: &Value) -> Option<&Text>
+    ensures { option_copied result ≡ id_of_value value.now }
+{
+    match value {
+        Value::InvocationId(id) => Some(id),
+        _ => None,
+    }
+}
 
 impl Machine {
     /// The handler takes the present result of a handle.
@@ -21,10 +34,13 @@ impl Machine {
         let Some(found) = self.results.take(self.options.signal_delivery, handle) else {
             return Ok(None);
         };
-        match read_result(self.alloc, found)? {
-            Some(value) => Ok(Some(value)),
-            None => Err(refuse(NamedFault::StateKeyIsNotUtf8)),
+        let Some(value) = read_result(self.alloc, found)? else {
+            return Err(refuse(NamedFault::StateKeyIsNotUtf8));
+        };
+        if !self.tracked.note(handle.0, id_of_value(&value))? {
+            return Err(refuse(NamedFault::UnexpectedInvocationIdResult));
         }
+        Ok(Some(value))
     }
 
     pub fn is_completed(&self, handle: NotificationHandle) -> bool

@@ -27,20 +27,23 @@ use Rattle.journal_values.specs.declared.notification.NotificationId.TheVariants
 use Rattle.journal_values.specs.declared.notification.NotificationResult.{NotificationResult}
 use Rattle.vm_parts.specs.declared.steps.Answer.{Answer}
 use Rattle.await_trees.specs.declared.handle.NotificationHandle.{NotificationHandle}
+use Rattle.await_trees.specs.declared.tree.UnresolvedFuture.{UnresolvedFuture}
+use Rattle.vm_parts.specs.declared.run_state.TrackedCall.{TrackedCall}
 use Rattle.vm_parts.specs.declared.values.Value.{Value}
 use Rattle.vm_parts.specs.Counting.{missing, missing_signals}
 use Rattle.vm_parts.specs.Deliveries.{id_at, present_for, same_id}
+use Rattle.vm_parts.specs.Tracked.{id_of_result, id_of_value, invocation_ids, noted, unresolved}
 use Rattle.vm_parts.specs.Values.{value_of}
 use Rattle.vm_machine.specs.declared.asks.Ask.{Ask}
 use Rattle.vm_machine.specs.declared.asks.Ask.TheVariants as ask
 use Rattle.vm_machine.specs.declared.asks.Command.{Command}
 use Rattle.vm_machine.specs.declared.reads.StateRead.{StateRead}
 use Rattle.vm_machine.specs.declared.reads.StateRead.TheVariants as reads
-use Rattle.vm_machine.specs.Asks.{ask_of}
+use Rattle.vm_machine.specs.Asks.{ask_of, cancel_invocation_command}
 use Rattle.vm_machine.specs.Reads.{eager_form, eager_type, lazy_form, lazy_type, read_as, read_by, recorded_as, result_in}
 use Rattle.vm_machine.specs.Requests.{ids_of, with_ids}
 use Rattle.invocation_vm.specs.Calls.{skips_replay}
-use Rattle.vm_model.specs.Calls.{Derived, Demand, Meaning, Move, Setup, Usage, asked, awakeable_made, awaiting, commanding, is_awake, making_awakeable, numbered, reading, ready_in, result_taken, signal_made, value_taken}
+use Rattle.vm_model.specs.Calls.{Derived, Demand, Meaning, Move, Setup, Usage, asked, awaited, awakeable_made, awaiting, cancel_sent, cancel_taken, cancelled, cancelling, commanding, id_awaited, id_read, is_awake, is_cancelled_in, making_awakeable, numbered, reading, ready_in, result_taken, signal_made, value_noted, value_taken}
 use Rattle.vm_model.specs.Calls.Demand.{Exactly, Reads}
 use Rattle.vm_model.specs.Calls.Move.{Answers, Needs, Awaits, Ends, Refuses}
 use Rattle.vm_model.specs.Calls.Usage.{Used, Read, Taken}
@@ -273,10 +276,43 @@ module _ (i : ℕ) where
   awaiting_none true d = (refl, omega arith)
   awaiting_none false d = tt
 
-  value_none : (handle : NotificationHandle) (id : NotificationId) (o : Option Value) (d : Derived) → ReadsNone i d (value_taken handle id o d)
+  taken_none : (o : Option NotificationId) (d e : Derived) → reads_at i e.usage ≡ reads_at i d.usage → d.counters.completion ≤ e.counters.completion → (reads_at i (cancel_taken o e).usage ≡ reads_at i d.usage) × (d.counters.completion ≤ (cancel_taken o e).counters.completion)
   unfolding reads_at
+  taken_none None d e same more = (same, more)
+  taken_none (Some id) d e same more = (same, more)
+
+  read_none : (o : Option (List ℕ)) (d : Derived) → ReadsNone i d (id_read o d)
+  read_none None d = tt
+  read_none (Some id) d = (refl, omega arith)
+
+  id_none : (o : Option NotificationResult) (d : Derived) → ReadsNone i d (id_awaited o d)
+  id_none None d = tt
+  id_none (Some result) d = read_none (id_of_result result) d
+
+  sent_none : (s : Setup) (id : List ℕ) (o : Option NamedFault) (d : Derived) → ReadsNone i d (cancel_sent s id o d)
+  sent_none s id (Some name) d = tt
+  sent_none s id None d = (refl, ((cancel_invocation_command id).message, refl, refl))
+
+  cancelling_none : (s : Setup) (ids : List (List ℕ)) (d : Derived) → ReadsNone i d (cancelling s ids d)
+  cancelling_none s [] d = taken_none (id_at 1 d.handles) d (record d { tracked = [] }) refl (omega arith)
+  cancelling_none s (id ∷ ids) d = sent_none s id (missing 0 0 0 d.counters) d
+
+  cancelled_none : (s : Setup) (handles : List ℕ) (d : Derived) → ReadsNone i d (cancelled s handles d)
+  cancelled_none s [] d = cancelling_none s (invocation_ids d.tracked) d
+  cancelled_none s (handle ∷ handles) d = id_none (present_for s.options.signal_delivery (id_at handle d.handles) (ready_in s d)) d
+
+  awaited_none : (s : Setup) (b : Bool) (future : UnresolvedFuture) (d : Derived) → ReadsNone i d (awaited s b future d)
+  awaited_none s true future d = cancelled_none s (unresolved d.tracked) d
+  awaited_none s false future d = awaiting_none (is_awake s future d) d
+
+  noted_none : (handle : NotificationHandle) (id : NotificationId) (value : Value) (o : Option (List TrackedCall)) (d : Derived) → ReadsNone i d (value_noted handle id value o d)
+  unfolding reads_at
+  noted_none handle id value None d = tt
+  noted_none handle id value (Some tracked) d = (refl, omega arith)
+
+  value_none : (handle : NotificationHandle) (id : NotificationId) (o : Option Value) (d : Derived) → ReadsNone i d (value_taken handle id o d)
   value_none handle id None d = tt
-  value_none handle id (Some value) d = (refl, omega arith)
+  value_none handle id (Some value) d = noted_none handle id value (noted handle.0 (id_of_value value) d.tracked) d
 
   result_none : (handle : NotificationHandle) (id : Option NotificationId) (o : Option NotificationResult) (d : Derived) → ReadsNone i d (result_taken handle id o d)
   result_none handle (Some id) (Some result) d = value_none handle id (value_of result) d
@@ -288,7 +324,7 @@ module _ (i : ℕ) where
   asked_none s (ask.Read r) d = reading_none r (missing 1 0 1 d.counters) d
   asked_none s ask.Awakeable d = making_none s (skips_replay s.options.journal_replay) d
   asked_none s (ask.Signal name) d = signal_none name (missing_signals 0 1 d.counters) d
-  asked_none s (ask.Await future) d = awaiting_none (is_awake s future d) d
+  asked_none s (ask.Await future) d = awaited_none s (is_cancelled_in s d) future d
   asked_none s (ask.Take handle) d = result_none handle (id_at handle.0 d.handles) (present_for s.options.signal_delivery (id_at handle.0 d.handles) (ready_in s d)) d
   asked_none s (ask.Completed handle) d = (refl, omega arith)
   asked_none s ask.End d = tt

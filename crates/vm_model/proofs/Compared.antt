@@ -50,7 +50,7 @@ after_answers s m (suc n) p q h =
     let x = and_then_some (next s m p) (after s m n) q h in
     prefix_trans p.answers x.0.answers q.answers (moved_answers (move_at s m p) p x.0 x.1) (after_answers s m n x.0 q x.2)
 
-after_compare : (s : Setup) (m : Meaning) (n k : ℕ) (p a b : Point) → after s m n p ≡ Some a → after s m k p ≡ Some b → OneBegins a.answers b.answers
+pub after_compare : (s : Setup) (m : Meaning) (n k : ℕ) (p a b : Point) → after s m n p ≡ Some a → after s m k p ≡ Some b → OneBegins a.answers b.answers
 after_compare s m zero k p a b h e = inl (subst (λ z. IsPrefix z.answers b.answers) (same_Some _ _ h) (after_answers s m k p b e))
 after_compare s m (suc n) zero p a b h e = inr (subst (λ z. IsPrefix z.answers a.answers) (same_Some _ _ e) (after_answers s m (suc n) p a h))
 after_compare s m (suc n) (suc k) p a b h e =

@@ -20,9 +20,12 @@ use Rattle.vm_parts.specs.declared.context.StateMap.{StateMap}
 use Rattle.vm_parts.specs.declared.steps.Step.{Step}
 use Rattle.vm_parts.specs.declared.steps.Step.TheVariants as step
 use Rattle.await_trees.specs.declared.handle.NotificationHandle.{NotificationHandle}
+use Rattle.await_trees.specs.declared.tree.UnresolvedFuture.{UnresolvedFuture}
+use Rattle.vm_parts.specs.declared.run_state.TrackedCall.{TrackedCall}
 use Rattle.vm_parts.specs.declared.values.Value.{Value}
 use Rattle.vm_parts.specs.Counting.{missing, missing_signals}
 use Rattle.vm_parts.specs.Deliveries.{id_at, present_for}
+use Rattle.vm_parts.specs.Tracked.{id_of_result, id_of_value, invocation_ids, noted, unresolved}
 use Rattle.vm_parts.specs.Values.{value_of}
 use Rattle.vm_machine.specs.declared.asks.Ask.{Ask}
 use Rattle.vm_machine.specs.declared.asks.Ask.TheVariants as ask
@@ -32,7 +35,7 @@ use Rattle.vm_machine.specs.Asks.{ask_of}
 use Rattle.vm_machine.specs.Requests.{ids_of}
 use Rattle.vm_machine.proofs.Endings.{same_type}
 use Rattle.invocation_vm.specs.Calls.{skips_replay}
-use Rattle.vm_model.specs.Calls.{Setup, Meaning, Derived, Move, asked, awakeable_made, awaiting, commanding, is_awake, making_awakeable, numbered, reading, ready_in, result_taken, signal_made, value_taken}
+use Rattle.vm_model.specs.Calls.{Setup, Meaning, Derived, Move, asked, awaited, awakeable_made, awaiting, cancel_sent, cancelled, cancelling, commanding, id_awaited, id_read, is_awake, is_cancelled_in, making_awakeable, numbered, reading, ready_in, result_taken, signal_made, value_noted, value_taken}
 use Rattle.vm_model.specs.Calls.Move.{Answers, Needs, Awaits, Ends, Refuses}
 use Rattle.vm_model.specs.Histories.{EagerFrom, Fits, Honest, IsTrueOf, Knowledge, Made, recorded_value}
 use Rattle.vm_model.specs.Journal.{messages_in, read_before}
@@ -126,9 +129,37 @@ awaiting_plain : (b : Bool) (d : Derived) → PlainMove (awaiting b d)
 awaiting_plain true d = tt
 awaiting_plain false d = tt
 
+read_plain : (o : Option (List ℕ)) (d : Derived) → PlainMove (id_read o d)
+read_plain None d = tt
+read_plain (Some id) d = tt
+
+id_plain : (o : Option NotificationResult) (d : Derived) → PlainMove (id_awaited o d)
+id_plain None d = tt
+id_plain (Some result) d = read_plain (id_of_result result) d
+
+sent_plain : (s : Setup) (id : List ℕ) (o : Option NamedFault) (d : Derived) → PlainMove (cancel_sent s id o d)
+sent_plain s id (Some fault) d = tt
+sent_plain s id None d = refl
+
+cancelling_plain : (s : Setup) (ids : List (List ℕ)) (d : Derived) → PlainMove (cancelling s ids d)
+cancelling_plain s [] d = tt
+cancelling_plain s (id ∷ ids) d = sent_plain s id (missing 0 0 0 d.counters) d
+
+cancelled_plain : (s : Setup) (handles : List ℕ) (d : Derived) → PlainMove (cancelled s handles d)
+cancelled_plain s [] d = cancelling_plain s (invocation_ids d.tracked) d
+cancelled_plain s (handle ∷ handles) d = id_plain (present_for s.options.signal_delivery (id_at handle d.handles) (ready_in s d)) d
+
+awaited_plain : (s : Setup) (b : Bool) (future : UnresolvedFuture) (d : Derived) → PlainMove (awaited s b future d)
+awaited_plain s true future d = cancelled_plain s (unresolved d.tracked) d
+awaited_plain s false future d = awaiting_plain (is_awake s future d) d
+
+noted_plain : (handle : NotificationHandle) (id : NotificationId) (value : Value) (o : Option (List TrackedCall)) (d : Derived) → PlainMove (value_noted handle id value o d)
+noted_plain handle id value None d = tt
+noted_plain handle id value (Some tracked) d = tt
+
 value_plain : (handle : NotificationHandle) (id : NotificationId) (o : Option Value) (d : Derived) → PlainMove (value_taken handle id o d)
 value_plain handle id None d = tt
-value_plain handle id (Some value) d = tt
+value_plain handle id (Some value) d = noted_plain handle id value (noted handle.0 (id_of_value value) d.tracked) d
 
 result_plain : (handle : NotificationHandle) (id : Option NotificationId) (o : Option NotificationResult) (d : Derived) → PlainMove (result_taken handle id o d)
 result_plain handle (Some id) (Some result) d = value_plain handle id (value_of result) d
@@ -140,7 +171,7 @@ asked_plain s (ask.Command c) d h = commanding_plain s c c.refusal d h
 asked_plain s (ask.Read r) d h = reading_plain r (missing 1 0 1 d.counters) d
 asked_plain s ask.Awakeable d h = making_plain s (skips_replay s.options.journal_replay) d
 asked_plain s (ask.Signal name) d h = signal_plain name (missing_signals 0 1 d.counters) d
-asked_plain s (ask.Await future) d h = awaiting_plain (is_awake s future d) d
+asked_plain s (ask.Await future) d h = awaited_plain s (is_cancelled_in s d) future d
 asked_plain s (ask.Take handle) d h = result_plain handle (id_at handle.0 d.handles) (present_for s.options.signal_delivery (id_at handle.0 d.handles) (ready_in s d)) d
 asked_plain s (ask.Completed handle) d h = tt
 asked_plain s ask.End d h = tt

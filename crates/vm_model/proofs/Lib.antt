@@ -10,10 +10,13 @@ pub mod Honesty
 pub mod Once
 pub mod Order
 pub mod Compared
+pub mod Cancelling
 pub mod Waking
 pub mod Results
 pub mod Took
 pub mod Trees
+pub mod Staying
+pub mod Cancels
 pub mod Sums
 pub mod Uses
 pub mod Carried

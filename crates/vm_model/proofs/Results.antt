@@ -87,7 +87,7 @@ all_gone id (n ∷ ns) = by_test (same_id n.id id) refl (all_gone id ns)
     by_test true t ih = ih
     by_test false t ih = rw t ih
 
-newest_behind : {A : Type 0} (found : Option A) (xs : List A) (x : A) → newest_after found (xs ++ x ∷ []) ≡ Some x
+pub newest_behind : {A : Type 0} (found : Option A) (xs : List A) (x : A) → newest_after found (xs ++ x ∷ []) ≡ Some x
 newest_behind found [] x = refl
 newest_behind found (y ∷ ys) x = newest_behind (Some y) ys x
 

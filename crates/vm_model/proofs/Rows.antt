@@ -1,4 +1,4 @@
--- Runs of two handlers, computed.
+-- Runs of some handlers, computed.
 use Rattle.std.proofs.Common.{◌≡◌, ℕ, suc, true, false, List, [], ◌∷◌, ◌++◌, Option, Some, None, refl, ap, ◌∙◌}
 use Rattle.std.specs.Prelude.{◌||◌}
 use Rattle.std.specs.Prelude.{codes, option_map}
@@ -17,6 +17,8 @@ use Rattle.journal_state.specs.Choices.{read_void_or_value}
 use Rattle.journal_equality.specs.HeaderEqual.{header_equal}
 use Rattle.journal_messages.specs.Reading.{body_as, message_in}
 use Rattle.journal_state.specs.Encoding.{clear_state, get_eager_state}
+use Rattle.journal_calls.specs.Choices.{read_signal, read_signal_result}
+use Rattle.journal_calls.specs.Encoding.{send_signal}
 use Rattle.journal_values.specs.Encoding.{failure}
 use Rattle.journal_attempt.specs.Encoding.{output, sleep}
 use Rattle.journal_values.specs.Parts.{read_value}
@@ -25,14 +27,17 @@ use Rattle.vm_parts.specs.declared.steps.Answer.TheVariants as answer
 use Rattle.vm_parts.specs.declared.steps.Step.TheVariants as step
 use Rattle.await_trees.specs.declared.handle.NotificationHandle.{NotificationHandle}
 use Rattle.await_trees.specs.declared.tree.UnresolvedFuture.TheVariants.{Single}
+use Rattle.vm_parts.specs.declared.types.CallHandle.{CallHandle}
 use Rattle.vm_parts.specs.declared.values.NonEmptyValue.TheVariants.{Success, Failure}
 use Rattle.vm_parts.specs.declared.values.Value.TheVariants as value
 use Rattle.vm_parts.specs.Options.{default_options}
+use Rattle.vm_parts.specs.Tracked.{unresolved_call}
+use Rattle.vm_machine.specs.Asks.{cancel_invocation_command}
 use Rattle.vm_parts.specs.CommandTypes.{message_type}
 use Rattle.wire.specs.Format.{bytes, list, option, read_byte, read_bytes, read_flag, read_items, read_list, read_option, read_pair, read_text, read_u16, read_u32, read_u64, u16s, u32s, u64s}
 use Rattle.await_trees.specs.Outcomes.{awake, is_done}
 use Rattle.await_trees.proofs.TreeOf.{tree_of-Single}
-use Rattle.vm_model.specs.Calls.{Derived, Setup, Meaning, is_awake, leaf_in}
+use Rattle.vm_model.specs.Calls.{Derived, Setup, Meaning, counted, is_awake, is_cancelled_in, leaf_in}
 use Rattle.vm_model.specs.Histories.{IsAwaiting}
 use Rattle.vm_model.proofs.Waking.{waits_next, wakes_next}
 use Rattle.vm_model.specs.Journal.{stored_form}
@@ -74,16 +79,16 @@ point_in (Some p) = p
 wakes_by : (h : NotificationHandle) (d : Derived) → is_awake setup (Single h) d ≡ is_done (leaf_in setup d h.0) || false
 wakes_by h d = ap (awake (leaf_in setup d)) (tree_of-Single h)
 
--- An await of a handle whose result is the next arrival: that is used, and the await is answered.
+-- An await of a handle whose result is the next arrival, where the handler isn't cancelled: that is used, and the await is answered.
 abbrev awoken : Notification → List Notification → Point → Point
 awoken n queue p = record p { answers = p.answers ++ answer.Awake ∷ []; derived = arrival_used n p.derived; queue = queue }
 
-awaits_one : (m : Meaning) (h : NotificationHandle) (p : Point) (n : Notification) (queue : List Notification) (more : ℕ) → IsAwaiting m p (Single h) → p.queue ≡ n ∷ queue → is_done (leaf_in setup p.derived h.0) ≡ false → is_done (leaf_in setup (arrival_used n p.derived) h.0) ≡ true
+awaits_one : (m : Meaning) (h : NotificationHandle) (p : Point) (n : Notification) (queue : List Notification) (more : ℕ) → IsAwaiting m p (Single h) → p.queue ≡ n ∷ queue → is_cancelled_in setup p.derived ≡ false → is_cancelled_in setup (arrival_used n p.derived) ≡ false → is_done (leaf_in setup p.derived h.0) ≡ false → is_done (leaf_in setup (arrival_used n p.derived) h.0) ≡ true
     → after setup m (suc (suc more)) p ≡ after setup m more (awoken n queue p)
-awaits_one m h p n queue more is e before then =
+awaits_one m h p n queue more is e c c' before then =
     let there : Point = record p { derived = arrival_used n p.derived; queue = queue } in
-    let uses : next setup m p ≡ Some there = waits_next setup m (Single h) p is (wakes_by h p.derived ∙ ap (λ b. b || false) before) ∙ ap (λ q. uses_arrival q p) e in
-    let wakes : next setup m there ≡ Some (awoken n queue p) = wakes_next setup m (Single h) there is (wakes_by h there.derived ∙ ap (λ b. b || false) then) in
+    let uses : next setup m p ≡ Some there = waits_next setup m (Single h) p is (ap (λ b. b || is_awake setup (Single h) p.derived) c ∙ wakes_by h p.derived ∙ ap (λ b. b || false) before) ∙ ap (λ q. uses_arrival q p) e in
+    let wakes : next setup m there ≡ Some (awoken n queue p) = wakes_next setup m (Single h) there is c' (wakes_by h there.derived ∙ ap (λ b. b || false) then) in
     ap (λ o. and_then o (after setup m (suc more))) uses ∙ ap (λ o. and_then o (after setup m more)) wakes
 
 slept : RawMessage
@@ -99,7 +104,7 @@ asleep = point_in (after setup sleeper 1 (start setup input (void 1 ∷ []) (sle
 -- the calls behind the input go through both recorded commands and the arrival
 told_two : told_by sleeper 5 (void 1 ∷ []) (slept ∷ done ∷ []) ≡ Some (told ∷ answer.Handle (handle 17) ∷ answer.Awake ∷ answer.Taken (Some value.Void) ∷ answer.Unit ∷ [], [])
 unfolding told_by point_in asleep slept done setup sleeper void told handle is_utf8 chars header_equal message_in body_as sleep output read_value bytes read_byte read_bytes read_text read_pair read_u16 read_u32 read_u64 u16s u32s u64s
-told_two = ap (option_map (λ p. (p.answers, p.left))) (awaits_one sleeper (handle 17) asleep (void 1) [] 2 refl refl refl refl)
+told_two = ap (option_map (λ p. (p.answers, p.left))) (awaits_one sleeper (handle 17) asleep (void 1) [] 2 refl refl refl refl refl refl)
 
 cleared : RawMessage
 cleared = stored_form (message.ClearState (record { name = []; key = codes "k" }))
@@ -127,14 +132,14 @@ waiting r cs = point_in (after setup chooser 1 (start setup input (sent r ∷ []
 
 completed : option_map (λ a. a.1) (told_by chooser 5 (sent (came.Value (codes "x")) ∷ []) (cleared ∷ [])) ≡ Some []
 unfolding told_by point_in waiting setup chooser sent cleared is_utf8 chars header_equal message_in body_as clear_state bytes read_byte read_bytes read_text read_pair read_u16 read_u32 read_u64 u16s u32s u64s lib.Utf8.encode
-completed = ap (λ o. option_map (λ (a : List Answer × List RawMessage). a.1) (option_map (λ (p : Point). (p.answers, p.left)) o)) (awaits_one chooser (record { 0 = 17 }) (waiting (came.Value (codes "x")) (cleared ∷ [])) (sent (came.Value (codes "x"))) [] 2 refl refl refl refl)
+completed = ap (λ o. option_map (λ (a : List Answer × List RawMessage). a.1) (option_map (λ (p : Point). (p.answers, p.left)) o)) (awaits_one chooser (record { 0 = 17 }) (waiting (came.Value (codes "x")) (cleared ∷ [])) (sent (came.Value (codes "x"))) [] 2 refl refl refl refl refl refl)
 
 refused : RawMessage
 refused = stored_form (message.Output (record { result = given.Failure (record { code = 409; message = codes "no"; metadata = [] }) }))
 
 failed : option_map (λ a. a.1) (told_by chooser 5 (sent (came.Failure (record { code = 65945; message = codes "no"; metadata = [] })) ∷ []) (refused ∷ [])) ≡ Some []
 unfolding told_by point_in waiting setup chooser sent refused is_utf8 chars header_equal message_in body_as output failure list option read_value read_items read_list bytes read_byte read_bytes read_text read_pair read_u16 read_u32 read_u64 u16s u32s u64s lib.Utf8.encode
-failed = ap (λ o. option_map (λ (a : List Answer × List RawMessage). a.1) (option_map (λ (p : Point). (p.answers, p.left)) o)) (awaits_one chooser (record { 0 = 17 }) (waiting (came.Failure (record { code = 65945; message = codes "no"; metadata = [] })) (refused ∷ [])) (sent (came.Failure (record { code = 65945; message = codes "no"; metadata = [] }))) [] 2 refl refl refl refl)
+failed = ap (λ o. option_map (λ (a : List Answer × List RawMessage). a.1) (option_map (λ (p : Point). (p.answers, p.left)) o)) (awaits_one chooser (record { 0 = 17 }) (waiting (came.Failure (record { code = 65945; message = codes "no"; metadata = [] })) (refused ∷ [])) (sent (came.Failure (record { code = 65945; message = codes "no"; metadata = [] }))) [] 2 refl refl refl refl refl refl)
 
 -- it reads a key, takes the result at once and ends
 reader : Meaning
@@ -150,3 +155,50 @@ read_eagerly = stored_form (message.GetEagerState (record { name = []; key = cod
 told_read : told_by reader 2 [] (read_eagerly ∷ []) ≡ Some (told ∷ answer.Handle (handle 17) ∷ answer.Taken (Some (value.Success (codes "v"))) ∷ [], [])
 unfolding told_by setup reader read_eagerly told handle is_utf8 chars header_equal message_in body_as get_eager_state option read_value read_option read_flag bytes read_byte read_bytes read_text read_pair read_u16 read_u32 read_u64 u16s u32s u64s read_void_or_value lib.Utf8.encode
 told_read = refl
+
+-- ---- a handler that is cancelled
+
+-- it calls, awaits the result and ends, cancelled or not
+caller : Meaning
+caller (i ∷ []) = step.Call (record { service = codes "s"; handler = codes "h"; key = None; idempotency_key = None; scope = None; limit_key = None; headers = [] }) [] None (record { unstable_serialization = false })
+caller (i ∷ answer.Call c ∷ []) = step.Await (Single c.call_notification_handle)
+caller _ = step.End
+
+child_cancelled : RawMessage
+child_cancelled = stored_form (cancel_invocation_command (codes "c")).message
+
+both_handles : CallHandle
+both_handles = record { invocation_id_notification_handle = handle 17; call_notification_handle = handle 18 }
+
+-- the invocation's id of the call, and the cancel signal
+child : Notification
+child = record { id = CompletionId 1; result = came.InvocationId (codes "c") }
+
+cancel : Notification
+cancel = record { id = SignalId 1; result = came.Void }
+
+-- one more arrival is used, where the handler isn't cancelled and its handle has no result
+waits_one : (m : Meaning) (h : NotificationHandle) (p : Point) (n : Notification) (queue : List Notification) (more : ℕ) → IsAwaiting m p (Single h) → p.queue ≡ n ∷ queue → is_cancelled_in setup p.derived ≡ false → is_done (leaf_in setup p.derived h.0) ≡ false
+    → after setup m (suc more) p ≡ after setup m more (record p { derived = arrival_used n p.derived; queue = queue })
+waits_one m h p n queue more is e c before =
+    ap (λ o. and_then o (after setup m more)) (waits_next setup m (Single h) p is (ap (λ b. b || is_awake setup (Single h) p.derived) c ∙ wakes_by h p.derived ∙ ap (λ b. b || false) before) ∙ ap (λ q. uses_arrival q p) e)
+
+-- the point behind the call: its handles are 17 and 18, and its invocation is cancelled with the handler's
+behind_call : Point
+behind_call = record (start setup input (child ∷ cancel ∷ []) (child_cancelled ∷ [])) {
+  answers = told ∷ answer.Call both_handles ∷ [];
+  derived = record (counted 2 (start setup input [] []).derived) { tracked = unresolved_call 17 ∷ [] };
+}
+
+-- its answers, and the recorded commands that are left
+told_at : Option Point → Option (List Answer × List RawMessage)
+told_at o = option_map (λ p. (p.answers, p.left)) o
+
+-- Once the signal is there, the child's id is read, the child is sent the cancel signal, and the await is answered.
+told_cancelled : told_at (after setup caller 5 behind_call) ≡ Some (told ∷ answer.Call both_handles ∷ answer.Cancelled ∷ [], [])
+unfolding told_at behind_call child_cancelled setup caller child cancel told handle both_handles is_utf8 chars header_equal message_in body_as send_signal read_signal read_signal_result bytes read_byte read_bytes read_text read_pair read_u16 read_u32 read_u64 u16s u32s u64s lib.Utf8.encode
+told_cancelled =
+    ap told_at
+    (waits_one caller (handle 18) behind_call child (cancel ∷ []) 4 refl refl refl refl
+    ∙ waits_one caller (handle 18) (record behind_call { derived = arrival_used child behind_call.derived; queue = cancel ∷ [] }) cancel [] 3 refl refl refl refl)
+    ∙ refl

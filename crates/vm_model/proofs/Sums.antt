@@ -12,9 +12,12 @@ use Rattle.journal_values.specs.declared.notification.NotificationResult.{Notifi
 use Rattle.vm_parts.specs.declared.steps.Answer.{Answer}
 use Rattle.vm_parts.specs.declared.steps.Step.{Step}
 use Rattle.await_trees.specs.declared.handle.NotificationHandle.{NotificationHandle}
+use Rattle.await_trees.specs.declared.tree.UnresolvedFuture.{UnresolvedFuture}
+use Rattle.vm_parts.specs.declared.run_state.TrackedCall.{TrackedCall}
 use Rattle.vm_parts.specs.declared.values.Value.{Value}
 use Rattle.vm_parts.specs.Counting.{missing, missing_signals}
 use Rattle.vm_parts.specs.Deliveries.{id_at, present_for}
+use Rattle.vm_parts.specs.Tracked.{id_of_result, id_of_value, invocation_ids, noted, unresolved}
 use Rattle.vm_parts.specs.Values.{value_of}
 use Rattle.vm_machine.specs.declared.asks.Ask.{Ask}
 use Rattle.vm_machine.specs.declared.asks.Ask.TheVariants as ask
@@ -23,7 +26,7 @@ use Rattle.vm_machine.specs.declared.reads.StateRead.{StateRead}
 use Rattle.vm_machine.specs.Asks.{ask_of}
 use Rattle.vm_machine.specs.Requests.{ids_of}
 use Rattle.invocation_vm.specs.Calls.{skips_replay}
-use Rattle.vm_model.specs.Calls.{Setup, Meaning, Derived, Demand, Move, asked, awakeable_made, awaiting, call_of, commanding, counted, is_awake, making_awakeable, numbered, reading, ready_in, result_taken, signal_made, value_taken}
+use Rattle.vm_model.specs.Calls.{Setup, Meaning, Derived, Demand, Move, asked, awaited, awakeable_made, awaiting, call_of, cancel_sent, cancel_taken, cancelled, cancelling, commanding, counted, id_awaited, id_read, is_awake, is_cancelled_in, making_awakeable, numbered, reading, ready_in, result_taken, signal_made, value_noted, value_taken}
 use Rattle.vm_model.specs.Calls.Move.{Answers, Needs, Awaits, Ends, Refuses}
 use Rattle.vm_model.specs.Moves.{Point, after, brought, command_used, move_at, moved, next, found, start, uses_arrival, uses_command}
 use Rattle.vm_model.specs.Sums.{calls_after, calls_for, completion_ids, completion_ids_in, handles, signal_ids, signal_ids_in, handles_in, total}
@@ -35,20 +38,24 @@ pub record Given (ids signals numbers : ℕ) (d e : Derived) : Type 0 where
   pub signal : e.counters.signal ≡ d.counters.signal + signals
   pub handle : e.counters.handle ≡ d.counters.handle + numbers
 
--- a move that answers gives one answer and so many numbers
+-- one answer comes and so many numbers are given, or none
+abbrev pub GivenBy : ℕ → ℕ → ℕ → Derived → List Answer → Derived → Type 0
+GivenBy ids signals numbers d gives e = ((a : Answer) × (gives ≡ a ∷ []) × Given ids signals numbers d e) ⊎ ((gives ≡ []) × Given 0 0 0 d e)
+
+-- a move gives one answer and so many numbers, or none
 abbrev pub GivenAfter : ℕ → ℕ → ℕ → Derived → Move → Type 0
-GivenAfter ids signals numbers d (Answers gives e) = (a : Answer) × (gives ≡ a ∷ []) × Given ids signals numbers d e
-GivenAfter ids signals numbers d (Needs demand gives e) = (a : Answer) × (gives ≡ a ∷ []) × Given ids signals numbers d e
+GivenAfter ids signals numbers d (Answers gives e) = GivenBy ids signals numbers d gives e
+GivenAfter ids signals numbers d (Needs demand gives e) = GivenBy ids signals numbers d gives e
 GivenAfter ids signals numbers d Awaits = Unit {0}
 GivenAfter ids signals numbers d Ends = Unit {0}
 GivenAfter ids signals numbers d (Refuses name) = Unit {0}
 
-counted_given : (ids : ℕ) (d : Derived) → Given ids 0 ids d (counted ids d)
-counted_given ids d = record { completion = refl; signal = sym (add-zero d.counters.signal); handle = refl }
+counted_given : (ids : ℕ) (d : Derived) (tracked : List TrackedCall) → Given ids 0 ids d (record (counted ids d) { tracked = tracked })
+counted_given ids d tracked = record { completion = refl; signal = sym (add-zero d.counters.signal); handle = refl }
 
 numbered_given : (s : Setup) (c : Command) (o : Option NamedFault) (d : Derived) → GivenAfter (ids_of c.message) 0 (ids_of c.message) d (numbered s c o d)
 numbered_given s c (Some fault) d = tt
-numbered_given s c None d = (_, refl, counted_given (ids_of c.message) d)
+numbered_given s c None d = inl (_, refl, counted_given (ids_of c.message) d _)
 
 commanding_given : (s : Setup) (c : Command) (o : Option NamedFault) (d : Derived) → GivenAfter (ids_of c.message) 0 (ids_of c.message) d (commanding s c o d)
 commanding_given s c (Some fault) d = tt
@@ -56,11 +63,11 @@ commanding_given s c None d = numbered_given s c (missing (ids_of c.message) 0 (
 
 reading_given : (r : StateRead) (o : Option NamedFault) (d : Derived) → GivenAfter 1 0 1 d (reading r o d)
 reading_given r (Some fault) d = tt
-reading_given r None d = (_, refl, counted_given 1 d)
+reading_given r None d = inl (_, refl, counted_given 1 d d.tracked)
 
 awakeable_given : (s : Setup) (o : Option NamedFault) (d : Derived) → GivenAfter 0 1 1 d (awakeable_made s o d)
 awakeable_given s (Some fault) d = tt
-awakeable_given s None d = (_, refl, record { completion = sym (add-zero d.counters.completion); signal = refl; handle = refl })
+awakeable_given s None d = inl (_, refl, record { completion = sym (add-zero d.counters.completion); signal = refl; handle = refl })
 
 making_given : (s : Setup) (b : Bool) (d : Derived) → GivenAfter 0 1 1 d (making_awakeable s b d)
 making_given s true d = tt
@@ -68,32 +75,65 @@ making_given s false d = awakeable_given s (missing_signals 1 1 d.counters) d
 
 signal_given : (name : List ℕ) (o : Option NamedFault) (d : Derived) → GivenAfter 0 0 1 d (signal_made name o d)
 signal_given name (Some fault) d = tt
-signal_given name None d = (_, refl, record { completion = sym (add-zero d.counters.completion); signal = sym (add-zero d.counters.signal); handle = refl })
+signal_given name None d = inl (_, refl, record { completion = sym (add-zero d.counters.completion); signal = sym (add-zero d.counters.signal); handle = refl })
 
-nothing_given : (d e : Derived) → e.counters ≡ d.counters → Given 0 0 0 d e
+pub nothing_given : (d e : Derived) → e.counters ≡ d.counters → Given 0 0 0 d e
 nothing_given d e is = record { completion = ap (λ c. c.completion) is ∙ sym (add-zero d.counters.completion); signal = ap (λ c. c.signal) is ∙ sym (add-zero d.counters.signal); handle = ap (λ c. c.handle) is ∙ sym (add-zero d.counters.handle) }
 
 awaiting_given : (b : Bool) (d : Derived) → GivenAfter 0 0 0 d (awaiting b d)
-awaiting_given true d = (_, refl, nothing_given d d refl)
+awaiting_given true d = inl (_, refl, nothing_given d d refl)
 awaiting_given false d = tt
+
+-- a take of the cancel signal leaves the numbers
+pub taken_counters : (o : Option NotificationId) (d : Derived) → (cancel_taken o d).counters ≡ d.counters
+taken_counters None d = refl
+taken_counters (Some id) d = refl
+
+read_given : (o : Option (List ℕ)) (d : Derived) → GivenAfter 0 0 0 d (id_read o d)
+read_given None d = tt
+read_given (Some id) d = inr (refl, nothing_given d _ refl)
+
+id_given : (o : Option NotificationResult) (d : Derived) → GivenAfter 0 0 0 d (id_awaited o d)
+id_given None d = tt
+id_given (Some result) d = read_given (id_of_result result) d
+
+sent_given : (s : Setup) (id : List ℕ) (o : Option NamedFault) (d : Derived) → GivenAfter 0 0 0 d (cancel_sent s id o d)
+sent_given s id (Some fault) d = tt
+sent_given s id None d = inr (refl, counted_given 0 d _)
+
+cancelling_given : (s : Setup) (ids : List (List ℕ)) (d : Derived) → GivenAfter 0 0 0 d (cancelling s ids d)
+cancelling_given s [] d = inl (_, refl, nothing_given d _ (taken_counters (id_at 1 d.handles) _))
+cancelling_given s (id ∷ ids) d = sent_given s id (missing 0 0 0 d.counters) d
+
+cancelled_given : (s : Setup) (handles : List ℕ) (d : Derived) → GivenAfter 0 0 0 d (cancelled s handles d)
+cancelled_given s [] d = cancelling_given s (invocation_ids d.tracked) d
+cancelled_given s (handle ∷ handles) d = id_given (present_for s.options.signal_delivery (id_at handle d.handles) (ready_in s d)) d
+
+awaited_given : (s : Setup) (b : Bool) (future : UnresolvedFuture) (d : Derived) → GivenAfter 0 0 0 d (awaited s b future d)
+awaited_given s true future d = cancelled_given s (unresolved d.tracked) d
+awaited_given s false future d = awaiting_given (is_awake s future d) d
+
+noted_given : (handle : NotificationHandle) (id : NotificationId) (value : Value) (o : Option (List TrackedCall)) (d : Derived) → GivenAfter 0 0 0 d (value_noted handle id value o d)
+noted_given handle id value None d = tt
+noted_given handle id value (Some tracked) d = inl (_, refl, nothing_given d _ refl)
 
 value_given : (handle : NotificationHandle) (id : NotificationId) (o : Option Value) (d : Derived) → GivenAfter 0 0 0 d (value_taken handle id o d)
 value_given handle id None d = tt
-value_given handle id (Some value) d = (_, refl, nothing_given d _ refl)
+value_given handle id (Some value) d = noted_given handle id value (noted handle.0 (id_of_value value) d.tracked) d
 
 result_given : (handle : NotificationHandle) (id : Option NotificationId) (o : Option NotificationResult) (d : Derived) → GivenAfter 0 0 0 d (result_taken handle id o d)
 result_given handle (Some id) (Some result) d = value_given handle id (value_of result) d
-result_given handle (Some id) None d = (_, refl, nothing_given d d refl)
-result_given handle None o d = (_, refl, nothing_given d d refl)
+result_given handle (Some id) None d = inl (_, refl, nothing_given d d refl)
+result_given handle None o d = inl (_, refl, nothing_given d d refl)
 
 asked_given : (s : Setup) (a : Ask) (d : Derived) → GivenAfter (completion_ids_in a) (signal_ids_in a) (handles_in a) d (asked s a d)
 asked_given s (ask.Command c) d = commanding_given s c c.refusal d
 asked_given s (ask.Read r) d = reading_given r (missing 1 0 1 d.counters) d
 asked_given s ask.Awakeable d = making_given s (skips_replay s.options.journal_replay) d
 asked_given s (ask.Signal name) d = signal_given name (missing_signals 0 1 d.counters) d
-asked_given s (ask.Await future) d = awaiting_given (is_awake s future d) d
+asked_given s (ask.Await future) d = awaited_given s (is_cancelled_in s d) future d
 asked_given s (ask.Take handle) d = result_given handle (id_at handle.0 d.handles) (present_for s.options.signal_delivery (id_at handle.0 d.handles) (ready_in s d)) d
-asked_given s (ask.Completed handle) d = (_, refl, nothing_given d d refl)
+asked_given s (ask.Completed handle) d = inl (_, refl, nothing_given d d refl)
 asked_given s ask.End d = tt
 
 pub call_given : (s : Setup) (st : Step) (d : Derived) → GivenAfter (completion_ids s.version st) (signal_ids s.version st) (handles s.version st) d (call_of s st d)
@@ -101,35 +141,45 @@ call_given s st d = asked_given s (ask_of s.version st) d
 
 -- ---- one move
 
--- one answer came and so many numbers were given, or nothing changed but what was used
+-- one answer came and so many numbers were given, or none
 Moves : ℕ → ℕ → ℕ → Point → Point → Type 0
-Moves ids signals numbers p q = ((a : Answer) × (q.answers ≡ p.answers ++ a ∷ []) × Given ids signals numbers p.derived q.derived) ⊎ ((q.answers ≡ p.answers) × (q.derived.counters ≡ p.derived.counters))
+Moves ids signals numbers p q = ((a : Answer) × (q.answers ≡ p.answers ++ a ∷ []) × Given ids signals numbers p.derived q.derived) ⊎ ((q.answers ≡ p.answers) × Given 0 0 0 p.derived q.derived)
+
+-- a move by what it gives
+given_moves : (ids signals numbers : ℕ) (gives : List Answer) (e : Derived) (p q : Point) → GivenBy ids signals numbers p.derived gives e → q.answers ≡ p.answers ++ gives → e ≡ q.derived → Moves ids signals numbers p q
+unfolding Moves
+given_moves ids signals numbers gives e p q (inl (a, one, g)) answers now = inl (a, answers ∙ ap (λ l. p.answers ++ l) one, subst (Given ids signals numbers p.derived) now g)
+given_moves ids signals numbers gives e p q (inr (none, g)) answers now = inr (answers ∙ ap (λ l. p.answers ++ l) none ∙ append-nil p.answers, subst (Given 0 0 0 p.derived) now g)
 
 pub brought_given : (ids signals numbers id : ℕ) (result : Option NotificationResult) (d e : Derived) → Given ids signals numbers d e → Given ids signals numbers d (brought id result e)
 brought_given ids signals numbers id None d e g = g
 brought_given ids signals numbers id (Some result) d e g = record { completion = g.completion; signal = g.signal; handle = g.handle }
 
-command_moves : (ids signals numbers : ℕ) (o : Result (Option NotificationResult) NamedFault) (e : Demand) (gives : List Answer) (d : Derived) (left : List RawMessage) (p q : Point) → (a : Answer) × (gives ≡ a ∷ []) × Given ids signals numbers p.derived d → command_used o e gives d left p ≡ Some q → Moves ids signals numbers p q
-unfolding Moves
+-- a result that a command brings leaves the numbers
+brought_by : (ids signals numbers id : ℕ) (result : Option NotificationResult) (d : Derived) (gives : List Answer) (e : Derived) → GivenBy ids signals numbers d gives e → GivenBy ids signals numbers d gives (brought id result e)
+brought_by ids signals numbers id result d gives e (inl (a, one, g)) = inl (a, one, brought_given ids signals numbers id result d e g)
+brought_by ids signals numbers id result d gives e (inr (none, g)) = inr (none, brought_given 0 0 0 id result d e g)
+
+command_moves : (ids signals numbers : ℕ) (o : Result (Option NotificationResult) NamedFault) (e : Demand) (gives : List Answer) (d : Derived) (left : List RawMessage) (p q : Point) → GivenBy ids signals numbers p.derived gives d → command_used o e gives d left p ≡ Some q → Moves ids signals numbers p q
 command_moves ids signals numbers (Err name) e gives d left p q g m = none_some m
 command_moves ids signals numbers (Ok result) e gives d left p q g m =
     let is = same_Some _ q m in
-    inl (g.0, ap (λ z. z.answers) (sym is) ∙ ap (λ l. p.answers ++ l) g.1, subst (λ z. Given ids signals numbers p.derived z.derived) is (brought_given ids signals numbers p.derived.counters.completion result p.derived d g.2))
+    let id = p.derived.counters.completion in
+    given_moves ids signals numbers gives (brought id result d) p q (brought_by ids signals numbers id result p.derived gives d g) (ap (λ z. z.answers) (sym is)) (ap (λ z. z.derived) is)
 
-uses_moves : (ids signals numbers : ℕ) (e : Demand) (gives : List Answer) (d : Derived) (left : List RawMessage) (p q : Point) → (a : Answer) × (gives ≡ a ∷ []) × Given ids signals numbers p.derived d → uses_command e gives d left p ≡ Some q → Moves ids signals numbers p q
+uses_moves : (ids signals numbers : ℕ) (e : Demand) (gives : List Answer) (d : Derived) (left : List RawMessage) (p q : Point) → GivenBy ids signals numbers p.derived gives d → uses_command e gives d left p ≡ Some q → Moves ids signals numbers p q
 uses_moves ids signals numbers e gives d [] p q g m = none_some m
 uses_moves ids signals numbers e gives d (c ∷ left) p q g m = command_moves ids signals numbers (found e c) e gives d left p q g m
 
 arrival_moves : (ids signals numbers : ℕ) (queue : List Notification) (p q : Point) → uses_arrival queue p ≡ Some q → Moves ids signals numbers p q
 unfolding Moves
 arrival_moves ids signals numbers [] p q m = none_some m
-arrival_moves ids signals numbers (n ∷ queue) p q m = let is = same_Some _ q m in inr (ap (λ z. z.answers) (sym is), ap (λ z. z.derived.counters) (sym is))
+arrival_moves ids signals numbers (n ∷ queue) p q m = let is = same_Some _ q m in inr (ap (λ z. z.answers) (sym is), nothing_given p.derived q.derived (ap (λ z. z.derived.counters) (sym is)))
 
 moved_moves : (ids signals numbers : ℕ) (mv : Move) (p q : Point) → GivenAfter ids signals numbers p.derived mv → moved mv p ≡ Some q → Moves ids signals numbers p q
-unfolding Moves
 moved_moves ids signals numbers (Answers gives d) p q g m =
     let is = same_Some _ q m in
-    inl (g.0, ap (λ z. z.answers) (sym is) ∙ ap (λ l. p.answers ++ l) g.1, subst (λ z. Given ids signals numbers p.derived z.derived) is g.2)
+    given_moves ids signals numbers gives d p q g (ap (λ z. z.answers) (sym is)) (ap (λ z. z.derived) is)
 moved_moves ids signals numbers (Needs e gives d) p q g m = uses_moves ids signals numbers e gives d p.left p q g m
 moved_moves ids signals numbers Awaits p q g m = arrival_moves ids signals numbers p.queue p q m
 moved_moves ids signals numbers Ends p q g m = none_some m
@@ -161,17 +211,19 @@ sums_answer s m p r q a is g t =
       numbers = record { completion = omega (arith, c1, c2); signal = omega (arith, s1, s2); handle = omega (arith, h1, h2) };
     }
 
-sums_arrival : (s : Setup) (m : Meaning) (p r q : Point) → r.answers ≡ p.answers → r.derived.counters ≡ p.derived.counters → Sums s m r q → Sums s m p q
-sums_arrival s m p r q is same t =
+sums_still : (s : Setup) (m : Meaning) (p r q : Point) → r.answers ≡ p.answers → Given 0 0 0 p.derived r.derived → Sums s m r q → Sums s m p q
+sums_still s m p r q is g t =
     let n = subst (λ l. Given (total (completion_ids s.version) (calls_after m l t.gained)) (total (signal_ids s.version) (calls_after m l t.gained)) (total (handles s.version) (calls_after m l t.gained)) r.derived q.derived) is t.numbers in
+    let c1 = n.completion in
+    let c2 = g.completion in
+    let s1 = n.signal in
+    let s2 = g.signal in
+    let h1 = n.handle in
+    let h2 = g.handle in
     record {
       gained = t.gained;
       answers = t.answers ∙ ap (λ l. l ++ t.gained) is;
-      numbers = record {
-        completion = n.completion ∙ ap (λ c. c.completion + total (completion_ids s.version) (calls_after m p.answers t.gained)) same;
-        signal = n.signal ∙ ap (λ c. c.signal + total (signal_ids s.version) (calls_after m p.answers t.gained)) same;
-        handle = n.handle ∙ ap (λ c. c.handle + total (handles s.version) (calls_after m p.answers t.gained)) same;
-      };
+      numbers = record { completion = omega (arith, c1, c2); signal = omega (arith, s1, s2); handle = omega (arith, h1, h2) };
     }
 
 after_sums : (s : Setup) (m : Meaning) (n : ℕ) (p q : Point) → after s m n p ≡ Some q → Sums s m p q
@@ -181,7 +233,7 @@ after_sums s m (suc n) p q e =
     let x = and_then_some (next s m p) (after s m n) q e in
     ⊎_elim
     (λ (y : (a : Answer) × (x.0.answers ≡ p.answers ++ a ∷ []) × Given (completion_ids s.version (m p.answers)) (signal_ids s.version (m p.answers)) (handles s.version (m p.answers)) p.derived x.0.derived). sums_answer s m p x.0 q y.0 y.1 y.2 (after_sums s m n x.0 q x.2))
-    (λ (y : (x.0.answers ≡ p.answers) × (x.0.derived.counters ≡ p.derived.counters)). sums_arrival s m p x.0 q y.0 y.1 (after_sums s m n x.0 q x.2))
+    (λ (y : (x.0.answers ≡ p.answers) × Given 0 0 0 p.derived x.0.derived). sums_still s m p x.0 q y.0 y.1 (after_sums s m n x.0 q x.2))
     (moved_moves (completion_ids s.version (m p.answers)) (signal_ids s.version (m p.answers)) (handles s.version (m p.answers)) (move_at s m p) p x.0 (call_given s (m p.answers) p.derived) x.1)
 
 -- in a run that a journal tells: completion ids from 1, signal ids and handles from 17

@@ -59,7 +59,7 @@ ready_came (Read j result ∷ us) i = rw (results_behind (CompletionId i) (ready
 ready_came (Taken id ∷ us) i = omega (arith, ready_came us i, fewer_left i id (ready_after Queued us).delivered, fewer_left i id (ready_after Queued us).eager)
 
 -- the results at a point come once each
-come_once : (s : Setup) (p : Point) → s.options.signal_delivery ≡ Queued → HasNoTwo p → EachOnce s.options.signal_delivery (arrived_at s p)
+pub come_once : (s : Setup) (p : Point) → s.options.signal_delivery ≡ Queued → HasNoTwo p → EachOnce s.options.signal_delivery (arrived_at s p)
 come_once s p queued two = record {
   queued = queued;
   once = λ i. rw (queued, results-append) (once i);
@@ -71,11 +71,11 @@ come_once s p queued two = record {
 
 -- ---- arrivals are used
 
-ready_more : (s : Setup) (ns : List Notification) (d : Derived) → ready_in s (arrivals_used ns d) ≡ record (ready_in s d) { delivered = (ready_in s d).delivered ++ ns }
+pub ready_more : (s : Setup) (ns : List Notification) (d : Derived) → ready_in s (arrivals_used ns d) ≡ record (ready_in s d) { delivered = (ready_in s d).delivered ++ ns }
 ready_more s [] d = λ i. record (ready_in s d) { delivered = sym (append-nil (ready_in s d).delivered) i }
 ready_more s (n ∷ ns) d = ready_more s ns (arrival_used n d) ∙ (λ i. record (ready_in s d) { delivered = append_assoc (ready_in s d).delivered (n ∷ []) ns i })
 
-handles_more : (ns : List Notification) (d : Derived) → (arrivals_used ns d).handles ≡ d.handles
+pub handles_more : (ns : List Notification) (d : Derived) → (arrivals_used ns d).handles ≡ d.handles
 handles_more [] d = refl
 handles_more (n ∷ ns) d = handles_more ns (arrival_used n d)
 

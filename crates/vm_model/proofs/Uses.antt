@@ -25,9 +25,12 @@ use Rattle.vm_parts.specs.declared.steps.Answer.TheVariants as answer
 use Rattle.vm_parts.specs.declared.steps.Step.{Step}
 use Rattle.vm_parts.specs.declared.steps.Step.TheVariants as step
 use Rattle.await_trees.specs.declared.handle.NotificationHandle.{NotificationHandle}
+use Rattle.await_trees.specs.declared.tree.UnresolvedFuture.{UnresolvedFuture}
+use Rattle.vm_parts.specs.declared.run_state.TrackedCall.{TrackedCall}
 use Rattle.vm_parts.specs.declared.values.Value.{Value}
 use Rattle.vm_parts.specs.Counting.{missing, missing_signals}
 use Rattle.vm_parts.specs.Deliveries.{id_at, present_for, unmapped}
+use Rattle.vm_parts.specs.Tracked.{id_of_value, noted}
 use Rattle.vm_parts.specs.Values.{value_of}
 use Rattle.vm_machine.specs.declared.asks.Ask.{Ask}
 use Rattle.vm_machine.specs.declared.asks.Ask.TheVariants as ask
@@ -37,14 +40,18 @@ use Rattle.vm_machine.specs.Asks.{ask_of}
 use Rattle.vm_machine.specs.Commands.{mapped_from}
 use Rattle.vm_machine.specs.Requests.{ids_of}
 use Rattle.invocation_vm.specs.Calls.{skips_replay}
-use Rattle.vm_model.specs.Calls.{Setup, Meaning, Derived, Demand, Move, asked, awakeable_made, awaiting, commanding, is_awake, making_awakeable, numbered, reading, ready_in, result_taken, signal_made, value_taken}
+use Rattle.vm_model.specs.Calls.{Setup, Meaning, Derived, Demand, Move, asked, awaited, awakeable_made, awaiting, cancel_taken, commanding, is_awake, is_cancelled_in, making_awakeable, numbered, reading, ready_in, result_taken, signal_made, value_noted, value_taken}
 use Rattle.vm_model.specs.Calls.Demand.{Exactly, Reads}
 use Rattle.vm_model.specs.Calls.Move.{Answers, Needs, Awaits, Ends, Refuses}
 use Rattle.vm_model.specs.Moves.{Point, after, brought, command_used, found, move_at, moved, next, reads_as, start, uses_arrival, uses_command}
+use Rattle.vm_model.specs.Histories.{IsAwaiting, behind}
 use Rattle.vm_model.specs.Sums.{calls_after, calls_for, completion_ids, handles, handles_in, signal_ids}
-use Rattle.vm_model.specs.Uses.{IsGiven, StandFor, Stands, WasTaken, arrivals_in, given_for, ids_from, ids_given, item, needed, needed_by}
+use Rattle.vm_model.specs.Uses.{AreSentBy, IsGiven, IsSentBy, IsSentFor, StandFor, Stands, WasTaken, arrivals_in, cancels_needed, given_for, ids_from, ids_given, item, needed, needed_by}
+use Rattle.vm_model.proofs.Cancelling.{CancelMove, Sent, cancel_demand, cancel_move}
+use Rattle.vm_model.proofs.Cancelling.CancelMove.{Arrives, Learns, Sends, Finishes}
+use Rattle.vm_model.proofs.Cancels.{cancelled_ends}
 use Rattle.vm_model.proofs.Runs.{and_then_some, none_some}
-use Rattle.vm_model.proofs.Sums.{Given, GivenAfter, brought_given, call_given}
+use Rattle.vm_model.proofs.Sums.{Given, GivenAfter, GivenBy, brought_given, call_given, nothing_given, taken_counters}
 
 -- ---- ids that were given
 
@@ -240,6 +247,7 @@ held_changed version m answers ids gives d held given (inr (handle, value, is_ta
 
 -- what a call needs, gives and uses
 record Uses (s : Setup) (a : Ask) (gives : List Answer) (d e : Derived) (demands : List Demand) : Type 0 where
+  one : (given : Answer) × (gives ≡ given ∷ [])
   needs : needed_by s d.counters.completion a ≡ demands
   change : Change a (given_for d.counters.completion d.counters.signal a) gives d e.handles
   usage : arrivals_in e.usage ≡ arrivals_in d.usage
@@ -265,7 +273,7 @@ counted_change a n gives d = inl (ap (λ l. d.handles ++ l) (mapped_ids n d.coun
 
 numbered_uses : (s : Setup) (c : Command) (o : Option NamedFault) (d : Derived) → UsesAfter s (ask.Command c) d (numbered s c o d)
 numbered_uses s c (Some name) d = tt
-numbered_uses s c None d = record { needs = refl; change = counted_change (ask.Command c) (ids_of c.message) _ d; usage = refl }
+numbered_uses s c None d = record { one = (_, refl); needs = refl; change = counted_change (ask.Command c) (ids_of c.message) _ d; usage = refl }
 
 commanding_uses : (s : Setup) (c : Command) (o : Option NamedFault) (d : Derived) → UsesAfter s (ask.Command c) d (commanding s c o d)
 commanding_uses s c (Some name) d = tt
@@ -273,11 +281,11 @@ commanding_uses s c None d = numbered_uses s c (missing (ids_of c.message) 0 (id
 
 reading_uses : (s : Setup) (r : StateRead) (o : Option NamedFault) (d : Derived) → UsesAfter s (ask.Read r) d (reading r o d)
 reading_uses s r (Some name) d = tt
-reading_uses s r None d = record { needs = refl; change = counted_change (ask.Read r) 1 _ d; usage = refl }
+reading_uses s r None d = record { one = (_, refl); needs = refl; change = counted_change (ask.Read r) 1 _ d; usage = refl }
 
 awakeable_uses : (s : Setup) (o : Option NamedFault) (d : Derived) → UsesAfter s ask.Awakeable d (awakeable_made s o d)
 awakeable_uses s (Some name) d = tt
-awakeable_uses s None d = record { needs = refl; change = one_change ask.Awakeable (SignalId d.counters.signal) _ d; usage = refl }
+awakeable_uses s None d = record { one = (_, refl); needs = refl; change = one_change ask.Awakeable (SignalId d.counters.signal) _ d; usage = refl }
 
 making_uses : (s : Setup) (b : Bool) (d : Derived) → UsesAfter s ask.Awakeable d (making_awakeable s b d)
 making_uses s true d = tt
@@ -285,30 +293,48 @@ making_uses s false d = awakeable_uses s (missing_signals 1 1 d.counters) d
 
 signal_uses : (s : Setup) (name : List ℕ) (o : Option NamedFault) (d : Derived) → UsesAfter s (ask.Signal name) d (signal_made name o d)
 signal_uses s name (Some why) d = tt
-signal_uses s name None d = record { needs = refl; change = one_change (ask.Signal name) (SignalName name) _ d; usage = refl }
+signal_uses s name None d = record { one = (_, refl); needs = refl; change = one_change (ask.Signal name) (SignalName name) _ d; usage = refl }
 
 awaiting_uses : (s : Setup) (a : Ask) (b : Bool) (d : Derived) → needed_by s d.counters.completion a ≡ [] → given_for d.counters.completion d.counters.signal a ≡ [] → UsesAfter s a d (awaiting b d)
 awaiting_uses s a false d needs gives = tt
-awaiting_uses s a true d needs gives = record { needs = needs; change = subst (λ l. Change a l (answer.Awake ∷ []) d d.handles) (sym gives) (no_change a (answer.Awake ∷ []) d); usage = refl }
+awaiting_uses s a true d needs gives = record { one = (_, refl); needs = needs; change = subst (λ l. Change a l (answer.Awake ∷ []) d d.handles) (sym gives) (no_change a (answer.Awake ∷ []) d); usage = refl }
+
+noted_uses : (s : Setup) (handle : NotificationHandle) (id : NotificationId) (value : Value) (o : Option (List TrackedCall)) (d : Derived) → UsesAfter s (ask.Take handle) d (value_noted handle id value o d)
+noted_uses s handle id value None d = tt
+noted_uses s handle id value (Some tracked) d = record { one = (_, refl); needs = refl; change = inr (handle, value, refl, refl, refl, refl); usage = refl }
 
 value_uses : (s : Setup) (handle : NotificationHandle) (id : NotificationId) (o : Option Value) (d : Derived) → UsesAfter s (ask.Take handle) d (value_taken handle id o d)
 value_uses s handle id None d = tt
-value_uses s handle id (Some value) d = record { needs = refl; change = inr (handle, value, refl, refl, refl, refl); usage = refl }
+value_uses s handle id (Some value) d = noted_uses s handle id value (noted handle.0 (id_of_value value) d.tracked) d
 
 result_uses : (s : Setup) (handle : NotificationHandle) (id : Option NotificationId) (o : Option NotificationResult) (d : Derived) → UsesAfter s (ask.Take handle) d (result_taken handle id o d)
 result_uses s handle (Some id) (Some result) d = value_uses s handle id (value_of result) d
-result_uses s handle (Some id) None d = record { needs = refl; change = no_change (ask.Take handle) (answer.Taken None ∷ []) d; usage = refl }
-result_uses s handle None o d = record { needs = refl; change = no_change (ask.Take handle) (answer.Taken None ∷ []) d; usage = refl }
+result_uses s handle (Some id) None d = record { one = (_, refl); needs = refl; change = no_change (ask.Take handle) (answer.Taken None ∷ []) d; usage = refl }
+result_uses s handle None o d = record { one = (_, refl); needs = refl; change = no_change (ask.Take handle) (answer.Taken None ∷ []) d; usage = refl }
 
-asked_uses : (s : Setup) (a : Ask) (d : Derived) → UsesAfter s a d (asked s a d)
-asked_uses s (ask.Command c) d = commanding_uses s c c.refusal d
-asked_uses s (ask.Read r) d = reading_uses s r (missing 1 0 1 d.counters) d
-asked_uses s ask.Awakeable d = making_uses s (skips_replay s.options.journal_replay) d
-asked_uses s (ask.Signal name) d = signal_uses s name (missing_signals 0 1 d.counters) d
-asked_uses s (ask.Await future) d = awaiting_uses s (ask.Await future) (is_awake s future d) d refl refl
-asked_uses s (ask.Take handle) d = result_uses s handle (id_at handle.0 d.handles) (present_for s.options.signal_delivery (id_at handle.0 d.handles) (ready_in s d)) d
-asked_uses s (ask.Completed handle) d = record { needs = refl; change = no_change (ask.Completed handle) _ d; usage = refl }
-asked_uses s ask.End d = tt
+-- no await of a cancelled handler is asked for
+abbrev IsUncancelled : Setup → Ask → Derived → Type 0
+IsUncancelled s (ask.Await future) d = is_cancelled_in s d ≡ false
+IsUncancelled s a d = Unit {0}
+
+asked_uses : (s : Setup) (a : Ask) (d : Derived) → IsUncancelled s a d → UsesAfter s a d (asked s a d)
+asked_uses s (ask.Command c) d h = commanding_uses s c c.refusal d
+asked_uses s (ask.Read r) d h = reading_uses s r (missing 1 0 1 d.counters) d
+asked_uses s ask.Awakeable d h = making_uses s (skips_replay s.options.journal_replay) d
+asked_uses s (ask.Signal name) d h = signal_uses s name (missing_signals 0 1 d.counters) d
+asked_uses s (ask.Await future) d h = subst (λ b. UsesAfter s (ask.Await future) d (awaited s b future d)) (sym h) (awaiting_uses s (ask.Await future) (is_awake s future d) d refl refl)
+asked_uses s (ask.Take handle) d h = result_uses s handle (id_at handle.0 d.handles) (present_for s.options.signal_delivery (id_at handle.0 d.handles) (ready_in s d)) d
+asked_uses s (ask.Completed handle) d h = record { one = (_, refl); needs = refl; change = no_change (ask.Completed handle) _ d; usage = refl }
+asked_uses s ask.End d h = tt
+
+-- a step is an await of a cancelled handler or not
+await_or_other : (s : Setup) (d : Derived) (st : Step) → IsUncancelled s (ask_of s.version st) d ⊎ ((future : UnresolvedFuture) × (st ≡ step.Await future) × (is_cancelled_in s d ≡ true))
+await_or_other s d (step.Await future) = by_test (is_cancelled_in s d) refl
+  where
+    by_test : (b : Bool) → is_cancelled_in s d ≡ b → (is_cancelled_in s d ≡ false) ⊎ ((other : UnresolvedFuture) × (step.Await future ≡ step.Await other) × (is_cancelled_in s d ≡ true))
+    by_test true is = inr (future, refl, is)
+    by_test false is = inl is
+await_or_other s d st = inl tt
 
 -- ---- recorded commands
 
@@ -348,22 +374,40 @@ record OneCall (s : Setup) (m : Meaning) (p r : Point) : Type 0 where
   change : Change (ask_of s.version (m p.answers)) (given_for p.derived.counters.completion p.derived.counters.signal (ask_of s.version (m p.answers))) (given ∷ []) p.derived r.derived.handles
   numbers : Given (completion_ids s.version (m p.answers)) (signal_ids s.version (m p.answers)) (handles s.version (m p.answers)) p.derived r.derived
 
--- an arrival was used
-record OneArrival (p r : Point) : Type 0 where
+-- no call was answered: some arrivals were used, or none
+record Unanswered (p r : Point) : Type 0 where
   answers : r.answers ≡ p.answers
   left : r.left ≡ p.left
-  came : Notification
-  queue : p.queue ≡ came ∷ r.queue
-  usage : arrivals_in r.derived.usage ≡ arrivals_in p.derived.usage ++ came ∷ []
-  counters : r.derived.counters ≡ p.derived.counters
+  came : List Notification
+  queue : p.queue ≡ came ++ r.queue
+  usage : arrivals_in r.derived.usage ≡ arrivals_in p.derived.usage ++ came
+  numbers : Given 0 0 0 p.derived r.derived
   handles : r.derived.handles ≡ p.derived.handles
 
-abbrev Moves : Setup → Meaning → Point → Point → Type 0
-Moves s m p r = OneCall s m p r ⊎ OneArrival p r
+-- a call was answered; or none was; or an await of a cancelled handler used a cancel command
+data Moves (s : Setup) (m : Meaning) (p r : Point) : Type 0 where
+  Calls : OneCall s m p r → Moves s m p r
+  Waits : Unanswered p r → Moves s m p r
+  Cancels : (future : UnresolvedFuture) (id : List ℕ) → IsAwaiting m p future → is_cancelled_in s p.derived ≡ true → Sent s id p r → Moves s m p r
 
 brought_same : (id : ℕ) (result : Option NotificationResult) (d : Derived) → (arrivals_in (brought id result d).usage ≡ arrivals_in d.usage) × ((brought id result d).handles ≡ d.handles)
 brought_same id None d = (refl, refl)
 brought_same id (Some result) d = (refl, refl)
+
+-- a call with one answer gives so many numbers
+one_given : (ids signals numbers : ℕ) (d : Derived) (gives : List Answer) (e : Derived) → (a : Answer) × (gives ≡ a ∷ []) → GivenBy ids signals numbers d gives e → (a : Answer) × (gives ≡ a ∷ []) × Given ids signals numbers d e
+one_given ids signals numbers d gives e one (inl g) = g
+one_given ids signals numbers d gives e (a, is) (inr (none, g)) = absurd (cc)
+
+-- a take of the cancel signal leaves the handles
+taken_handles : (o : Option NotificationId) (d : Derived) → (cancel_taken o d).handles ≡ d.handles
+taken_handles None d = refl
+taken_handles (Some id) d = refl
+
+-- and the arrivals that were used
+taken_arrivals : (o : Option NotificationId) (d : Derived) → arrivals_in (cancel_taken o d).usage ≡ arrivals_in d.usage
+taken_arrivals None d = refl
+taken_arrivals (Some id) d = refl
 
 module _ (s : Setup) (m : Meaning) (p r : Point) where
   abbrev A : Ask
@@ -372,13 +416,13 @@ module _ (s : Setup) (m : Meaning) (p r : Point) where
   abbrev Numbers : Derived → Type 0
   Numbers e = Given (completion_ids s.version (m p.answers)) (signal_ids s.version (m p.answers)) (handles s.version (m p.answers)) p.derived e
 
-  command_moves : (o : Result (Option NotificationResult) NamedFault) (demand : Demand) (c : RawMessage) (gives : List Answer) (e : Derived) (left : List RawMessage) → found demand c ≡ o → p.left ≡ c ∷ left → (a : Answer) × (gives ≡ a ∷ []) × Numbers e → Uses s A gives p.derived e (demand ∷ []) → command_used o demand gives e left p ≡ Some r → Moves s m p r
+  command_moves : (o : Result (Option NotificationResult) NamedFault) (demand : Demand) (c : RawMessage) (gives : List Answer) (e : Derived) (left : List RawMessage) → found demand c ≡ o → p.left ≡ c ∷ left → (a : Answer) × (gives ≡ a ∷ []) × Numbers e → Uses s A gives p.derived e (demand ∷ []) → command_used o demand gives e left p ≡ Some r → OneCall s m p r
   command_moves (Err name) demand c gives e left is at g u moves = none_some moves
   command_moves (Ok result) demand c gives e left is at g u moves =
       let id = p.derived.counters.completion in
       let now = same_Some _ r moves in
       let same = brought_same id result e in
-      inl (record {
+      record {
         given = g.0;
         answers = ap (λ z. z.answers) (sym now) ∙ ap (λ l. p.answers ++ l) g.1;
         used = c ∷ [];
@@ -388,47 +432,91 @@ module _ (s : Setup) (m : Meaning) (p r : Point) where
         usage = ap (λ z. arrivals_in z.derived.usage) (sym now) ∙ same.0 ∙ u.usage;
         change = subst (λ (x : List Answer × List Mapping). Change A (given_for p.derived.counters.completion p.derived.counters.signal A) x.0 p.derived x.1) (λ i. (g.1 i, (sym same.1 ∙ ap (λ z. z.derived.handles) now) i)) u.change;
         numbers = subst (λ z. Numbers z.derived) now (brought_given _ _ _ id result p.derived e g.2);
-      })
+      }
 
-  uses_moves : (demand : Demand) (gives : List Answer) (e : Derived) (left : List RawMessage) → p.left ≡ left → (a : Answer) × (gives ≡ a ∷ []) × Numbers e → Uses s A gives p.derived e (demand ∷ []) → uses_command demand gives e left p ≡ Some r → Moves s m p r
+  uses_moves : (demand : Demand) (gives : List Answer) (e : Derived) (left : List RawMessage) → p.left ≡ left → (a : Answer) × (gives ≡ a ∷ []) × Numbers e → Uses s A gives p.derived e (demand ∷ []) → uses_command demand gives e left p ≡ Some r → OneCall s m p r
   uses_moves demand gives e [] at g u moves = none_some moves
   uses_moves demand gives e (c ∷ left) at g u moves = command_moves (found demand c) demand c gives e left refl at g u moves
 
-  arrival_moves : (queue : List Notification) → p.queue ≡ queue → uses_arrival queue p ≡ Some r → Moves s m p r
+  arrival_moves : (queue : List Notification) → p.queue ≡ queue → uses_arrival queue p ≡ Some r → Unanswered p r
   arrival_moves [] at moves = none_some moves
   arrival_moves (n ∷ queue) at moves =
       let now = same_Some _ r moves in
-      inr (record {
+      record {
         answers = ap (λ z. z.answers) (sym now);
         left = ap (λ z. z.left) (sym now);
-        came = n;
+        came = n ∷ [];
         queue = at ∙ ap (λ z. n ∷ z.queue) now;
         usage = ap (λ z. arrivals_in z.derived.usage) (sym now);
-        counters = ap (λ z. z.derived.counters) (sym now);
+        numbers = nothing_given p.derived r.derived (ap (λ z. z.derived.counters) (sym now));
         handles = ap (λ z. z.derived.handles) (sym now);
-      })
+      }
 
   moves_are : (mv : Move) → GivenAfter (completion_ids s.version (m p.answers)) (signal_ids s.version (m p.answers)) (handles s.version (m p.answers)) p.derived mv → UsesAfter s A p.derived mv → moved mv p ≡ Some r → Moves s m p r
   moves_are (Answers gives e) g u moves =
       let now = same_Some _ r moves in
-      inl (record {
-        given = g.0;
-        answers = ap (λ z. z.answers) (sym now) ∙ ap (λ l. p.answers ++ l) g.1;
+      let one = one_given _ _ _ p.derived gives e u.one g in
+      Calls (record {
+        given = one.0;
+        answers = ap (λ z. z.answers) (sym now) ∙ ap (λ l. p.answers ++ l) one.1;
         used = [];
         left = ap (λ z. z.left) now;
         stand = subst (λ l. StandFor l []) (sym u.needs) tt;
         queue = ap (λ z. z.queue) (sym now);
         usage = ap (λ z. arrivals_in z.derived.usage) (sym now) ∙ u.usage;
-        change = subst (λ (x : List Answer × List Mapping). Change A (given_for p.derived.counters.completion p.derived.counters.signal A) x.0 p.derived x.1) (λ i. (g.1 i, ap (λ z. z.derived.handles) now i)) u.change;
-        numbers = subst (λ z. Numbers z.derived) now g.2;
+        change = subst (λ (x : List Answer × List Mapping). Change A (given_for p.derived.counters.completion p.derived.counters.signal A) x.0 p.derived x.1) (λ i. (one.1 i, ap (λ z. z.derived.handles) now i)) u.change;
+        numbers = subst (λ z. Numbers z.derived) now one.2;
       })
-  moves_are (Needs demand gives e) g u moves = uses_moves demand gives e p.left refl g u moves
-  moves_are Awaits g u moves = arrival_moves p.queue refl moves
+  moves_are (Needs demand gives e) g u moves = Calls (uses_moves demand gives e p.left refl (one_given _ _ _ p.derived gives e u.one g) u moves)
+  moves_are Awaits g u moves = Waits (arrival_moves p.queue refl moves)
   moves_are Ends g u moves = none_some moves
   moves_are (Refuses name) g u moves = none_some moves
 
+  cancel_moves : (future : UnresolvedFuture) → IsAwaiting m p future → is_cancelled_in s p.derived ≡ true → CancelMove s p r → Moves s m p r
+  cancel_moves future at cancelled (Arrives handle handles n queue first none is now) = Waits (record {
+    answers = ap (λ z. z.answers) (sym now);
+    left = ap (λ z. z.left) (sym now);
+    came = n ∷ [];
+    queue = is ∙ ap (λ z. n ∷ z.queue) now;
+    usage = ap (λ z. arrivals_in z.derived.usage) (sym now);
+    numbers = nothing_given p.derived r.derived (ap (λ z. z.derived.counters) (sym now));
+    handles = ap (λ z. z.derived.handles) (sym now);
+  })
+  cancel_moves future at cancelled (Learns handle handles id first is now) = Waits (record {
+    answers = ap (λ z. z.answers) (sym now);
+    left = ap (λ z. z.left) (sym now);
+    came = [];
+    queue = ap (λ z. z.queue) now;
+    usage = ap (λ z. arrivals_in z.derived.usage) (sym now) ∙ sym (append-nil (arrivals_in p.derived.usage));
+    numbers = nothing_given p.derived r.derived (ap (λ z. z.derived.counters) (sym now));
+    handles = ap (λ z. z.derived.handles) (sym now);
+  })
+  cancel_moves future at cancelled (Sends id ids known is sent) = Cancels future id at cancelled sent
+  cancel_moves future at cancelled (Finishes known is now) =
+      let o = id_at 1 p.derived.handles in
+      let e : Derived = record p.derived { tracked = [] } in
+      let gives = answer.Cancelled ∷ [] in
+      let held : r.derived.handles ≡ p.derived.handles = ap (λ z. z.derived.handles) (sym now) ∙ taken_handles o e in
+      let counters : r.derived.counters ≡ p.derived.counters = ap (λ z. z.derived.counters) (sym now) ∙ taken_counters o e in
+      let ids = λ (st : Step). given_for p.derived.counters.completion p.derived.counters.signal (ask_of s.version st) in
+      Calls (record {
+        given = answer.Cancelled;
+        answers = ap (λ z. z.answers) (sym now);
+        used = [];
+        left = ap (λ z. z.left) now;
+        stand = subst (λ st. StandFor (needed_by s p.derived.counters.completion (ask_of s.version st)) []) (sym at) tt;
+        queue = ap (λ z. z.queue) (sym now);
+        usage = ap (λ z. arrivals_in z.derived.usage) (sym now) ∙ taken_arrivals o e;
+        change = subst (λ st. Change (ask_of s.version st) (ids st) gives p.derived r.derived.handles) (sym at) (subst (Change (ask.Await future) [] gives p.derived) (sym held) (no_change (ask.Await future) gives p.derived));
+        numbers = subst (λ st. Given (completion_ids s.version st) (signal_ids s.version st) (handles s.version st) p.derived r.derived) (sym at) (nothing_given p.derived r.derived counters);
+      })
+
   next_moves : next s m p ≡ Some r → Moves s m p r
-  next_moves e = moves_are (move_at s m p) (call_given s (m p.answers) p.derived) (asked_uses s A p.derived) e
+  next_moves e =
+      ⊎_elim
+      (λ (h : IsUncancelled s A p.derived). moves_are (move_at s m p) (call_given s (m p.answers) p.derived) (asked_uses s A p.derived h) e)
+      (λ (h : (future : UnresolvedFuture) × IsAwaiting m p future × (is_cancelled_in s p.derived ≡ true)). cancel_moves h.0 h.1 h.2 (cancel_move s m p r h.0 h.1 h.2 e))
+      (await_or_other s p.derived (m p.answers))
 
 -- ---- so many moves
 
@@ -440,13 +528,52 @@ record Stood (m : Meaning) (completions signals : ℕ) (given : List Notificatio
   all : AllGiven given d.handles
   held : Held m given answers d.handles
 
+-- These commands stand for what the calls with these answers need, and for the cancel commands of the call that comes next.
+abbrev Accounts : Setup → Meaning → ℕ → List Answer → List Answer → Step → List RawMessage → Type 0
+Accounts s m completions before gained st used =
+    (cancels : List (List (List ℕ))) × (sent : List (List ℕ)) × AreSentBy gained cancels × IsSentFor st sent × StandFor (needed s completions (calls_after m before gained) cancels ++ cancels_needed s sent) used
+
+-- a call may send the cancel signal to none
+none_by : (a : Answer) → IsSentBy a []
+none_by answer.Cancelled = tt
+none_by a = refl
+
+-- so may the call that comes next
+none_for : (st : Step) → IsSentFor st []
+none_for (step.Await future) = tt
+none_for st = refl
+
+-- a call that sends no cancel signal is answered
+call_accounts : (s : Setup) (m : Meaning) (completions : ℕ) (before : List Answer) (a : Answer) (gained : List Answer) (st : Step) (us vs : List RawMessage) → StandFor (needed_by s (1 + completions) (ask_of s.version (m before))) us → Accounts s m (completions + completion_ids s.version (m before)) (before ++ a ∷ []) gained st vs
+    → Accounts s m completions before (a ∷ gained) st (us ++ vs)
+call_accounts s m completions before a gained st us vs own (cancels, sent, by, for, stand) =
+    let first = needed_by s (1 + completions) (ask_of s.version (m before)) in
+    let others = needed s (completions + completion_ids s.version (m before)) (calls_after m (before ++ a ∷ []) gained) cancels in
+    ([] ∷ cancels, sent, (none_by a, by), for, subst (λ l. StandFor l (us ++ vs)) (sym (append_assoc first others (cancels_needed s sent))) (stand_both first (others ++ cancels_needed s sent) us vs own stand))
+
+-- an await sends the cancel signal once more before
+cancel_accounts : (s : Setup) (m : Meaning) (completions : ℕ) (before gained : List Answer) (future : UnresolvedFuture) (st : Step) (id : List ℕ) (c : RawMessage) (used : List RawMessage) → m before ≡ step.Await future → (gained ≡ [] → st ≡ step.Await future) → ((a : Answer) (more : List Answer) → gained ≡ a ∷ more → a ≡ answer.Cancelled) → Stands (cancel_demand s id) c
+    → Accounts s m completions before gained st used → Accounts s m completions before gained st (c ∷ used)
+cancel_accounts s m completions before [] future st id c used at next cancelled stands (cancels, sent, by, for, stand) = (cancels, id ∷ sent, by, subst (λ x. IsSentFor x (id ∷ sent)) (sym (next refl)) tt, (stands, stand))
+cancel_accounts s m completions before (a ∷ gained) future st id c used at next cancelled stands ([], sent, by, for, stand) = absurd by
+cancel_accounts s m completions before (a ∷ gained) future st id c used at next cancelled stands (others ∷ cancels, sent, (one, by), for, stand) =
+    let more = needed s (completions + completion_ids s.version (m before)) (calls_after m (before ++ a ∷ []) gained) cancels in
+    let own = λ (x : Step). needed_by s (1 + completions) (ask_of s.version x) in
+    let stand' : StandFor ((cancels_needed s others ++ more) ++ cancels_needed s sent) used = subst (λ x. StandFor ((own x ++ (cancels_needed s others ++ more)) ++ cancels_needed s sent) used) at stand in (
+      (id ∷ others) ∷ cancels,
+      sent,
+      (subst (λ x. IsSentBy x (id ∷ others)) (sym (cancelled a gained refl)) tt, by),
+      for,
+      subst (λ x. StandFor ((own x ++ (cancels_needed s (id ∷ others) ++ more)) ++ cancels_needed s sent) (c ∷ used)) (sym at) (stands, stand'),
+    )
+
 -- what was used between two points, and what the handles stand for
 record Used (s : Setup) (m : Meaning) (completions signals : ℕ) (given : List NotificationId) (p q : Point) : Type 0 where
   gained : List Answer
   answers : q.answers ≡ p.answers ++ gained
   used : List RawMessage
   left : p.left ≡ used ++ q.left
-  stand : StandFor (needed s completions (calls_after m p.answers gained)) used
+  accounts : Accounts s m completions p.answers gained (m q.answers) used
   came : List Notification
   queue : p.queue ≡ came ++ q.queue
   usage : arrivals_in q.derived.usage ≡ arrivals_in p.derived.usage ++ came
@@ -459,7 +586,7 @@ used_none s m completions signals given p h = record {
   answers = sym (append-nil p.answers);
   used = [];
   left = refl;
-  stand = tt;
+  accounts = ([], [], refl, none_for (m p.answers), tt);
   came = [];
   queue = refl;
   usage = sym (append-nil (arrivals_in p.derived.usage));
@@ -498,8 +625,7 @@ module _ (s : Setup) (m : Meaning) (completions signals : ℕ) (given : List Not
   used_call q o t =
       let steps = calls_after m r.answers t.gained in
       let same : steps ≡ calls_after m (p.answers ++ o.given ∷ []) t.gained = ap (λ l. calls_after m l t.gained) o.answers in
-      let stand : StandFor (needed_by s (1 + completions) call ++ needed s (completions + completion_ids s.version (m p.answers)) steps) (o.used ++ t.used) =
-      stand_both (needed_by s (1 + completions) call) (needed s (completions + completion_ids s.version (m p.answers)) steps) o.used t.used (subst (λ k. StandFor (needed_by s k call) o.used) h.completion o.stand) t.stand in
+      let accounts = subst (λ l. Accounts s m (completions + completion_ids s.version (m p.answers)) l t.gained (m q.answers) t.used) o.answers t.accounts in
       let all = subst (λ l. AllGiven l q.derived.handles) (append_assoc given more (ids_given s.version (completions + completion_ids s.version (m p.answers)) (signals + signal_ids s.version (m p.answers)) steps)) t.all in
       let held = subst (λ l. Held m l q.answers q.derived.handles) (append_assoc given more (ids_given s.version (completions + completion_ids s.version (m p.answers)) (signals + signal_ids s.version (m p.answers)) steps)) t.held in
       record {
@@ -507,7 +633,7 @@ module _ (s : Setup) (m : Meaning) (completions signals : ℕ) (given : List Not
         answers = t.answers ∙ ap (λ l. l ++ t.gained) o.answers ∙ append_assoc p.answers (o.given ∷ []) t.gained;
         used = o.used ++ t.used;
         left = o.left ∙ ap (λ l. o.used ++ l) t.left ∙ sym (append_assoc o.used t.used q.left);
-        stand = subst (λ l. StandFor (needed_by s (1 + completions) call ++ needed s (completions + completion_ids s.version (m p.answers)) l) (o.used ++ t.used)) same stand;
+        accounts = call_accounts s m completions p.answers o.given t.gained (m q.answers) o.used t.used (subst (λ k. StandFor (needed_by s k call) o.used) h.completion o.stand) accounts;
         came = t.came;
         queue = sym o.queue ∙ t.queue;
         usage = t.usage ∙ ap (λ l. l ++ t.came) o.usage;
@@ -515,27 +641,56 @@ module _ (s : Setup) (m : Meaning) (completions signals : ℕ) (given : List Not
         held = subst (λ l. Held m (given ++ (more ++ ids_given s.version (completions + completion_ids s.version (m p.answers)) (signals + signal_ids s.version (m p.answers)) l)) q.answers q.derived.handles) same held;
       }
 
-  stood_still : OneArrival p r → Stood m completions signals given r.answers r.derived
-  stood_still o = record {
-    completion = ap (λ c. c.completion) o.counters ∙ h.completion;
-    signal = ap (λ c. c.signal) o.counters ∙ h.signal;
-    handle = ap (λ c. c.handle) o.counters ∙ h.handle;
-    all = subst (AllGiven given) (sym o.handles) h.all;
-    held = subst (λ (x : List Answer × List Mapping). Held m given x.0 x.1) (λ i. (sym o.answers i, sym o.handles i)) h.held;
-  }
+  -- the numbers and handles stay
+  stood_still : r.answers ≡ p.answers → Given 0 0 0 p.derived r.derived → r.derived.handles ≡ p.derived.handles → Stood m completions signals given r.answers r.derived
+  stood_still answers n held =
+      let c0 = h.completion in
+      let c1 = n.completion in
+      let s0 = h.signal in
+      let s1 = n.signal in
+      let h0 = h.handle in
+      let h1 = n.handle in
+      record {
+        completion = omega (arith, c0, c1);
+        signal = omega (arith, s0, s1);
+        handle = omega (arith, h0, h1);
+        all = subst (AllGiven given) (sym held) h.all;
+        held = subst (λ (x : List Answer × List Mapping). Held m given x.0 x.1) (λ i. (sym answers i, sym held i)) h.held;
+      }
 
-  used_arrival : (q : Point) → (o : OneArrival p r) → Used s m completions signals given r q → Used s m completions signals given p q
-  used_arrival q o t =
+  used_unanswered : (q : Point) → (o : Unanswered p r) → Used s m completions signals given r q → Used s m completions signals given p q
+  used_unanswered q o t =
       let same : calls_after m r.answers t.gained ≡ calls_after m p.answers t.gained = ap (λ l. calls_after m l t.gained) o.answers in
       record {
         gained = t.gained;
         answers = t.answers ∙ ap (λ l. l ++ t.gained) o.answers;
         used = t.used;
         left = sym o.left ∙ t.left;
-        stand = subst (λ l. StandFor (needed s completions l) t.used) same t.stand;
-        came = o.came ∷ t.came;
-        queue = o.queue ∙ ap (λ l. o.came ∷ l) t.queue;
-        usage = t.usage ∙ ap (λ l. l ++ t.came) o.usage ∙ append_assoc (arrivals_in p.derived.usage) (o.came ∷ []) t.came;
+        accounts = subst (λ l. Accounts s m completions l t.gained (m q.answers) t.used) o.answers t.accounts;
+        came = o.came ++ t.came;
+        queue = o.queue ∙ ap (λ l. o.came ++ l) t.queue ∙ sym (append_assoc o.came t.came q.queue);
+        usage = t.usage ∙ ap (λ l. l ++ t.came) o.usage ∙ append_assoc (arrivals_in p.derived.usage) o.came t.came;
+        all = subst (λ l. AllGiven (given ++ ids_given s.version completions signals l) q.derived.handles) same t.all;
+        held = subst (λ l. Held m (given ++ ids_given s.version completions signals l) q.answers q.derived.handles) same t.held;
+      }
+
+  used_cancel : (q : Point) (future : UnresolvedFuture) (id : List ℕ) → IsAwaiting m p future → (o : Sent s id p r) → ((a : Answer) (more : List Answer) → q.answers ≡ p.answers ++ a ∷ more → a ≡ answer.Cancelled) → Used s m completions signals given r q → Used s m completions signals given p q
+  used_cancel q future id at o cancelled t =
+      let same : calls_after m r.answers t.gained ≡ calls_after m p.answers t.gained = ap (λ l. calls_after m l t.gained) o.answers in
+      let answers : q.answers ≡ p.answers ++ t.gained = t.answers ∙ ap (λ l. l ++ t.gained) o.answers in
+      record {
+        gained = t.gained;
+        answers = answers;
+        used = o.used ∷ t.used;
+        left = o.left ∙ ap (λ l. o.used ∷ l) t.left;
+        accounts = cancel_accounts s m completions p.answers t.gained future (m q.answers) id o.used t.used at
+            (λ none. ap m (answers ∙ ap (λ l. p.answers ++ l) none ∙ append-nil p.answers) ∙ at)
+            (λ a more is. cancelled a more (answers ∙ ap (λ l. p.answers ++ l) is))
+            (found_stands (cancel_demand s id) o.used None o.stands)
+            (subst (λ l. Accounts s m completions l t.gained (m q.answers) t.used) o.answers t.accounts);
+        came = t.came;
+        queue = sym o.queue ∙ t.queue;
+        usage = t.usage ∙ ap (λ us. arrivals_in us ++ t.came) o.usage;
         all = subst (λ l. AllGiven (given ++ ids_given s.version completions signals l) q.derived.handles) same t.all;
         held = subst (λ l. Held m (given ++ ids_given s.version completions signals l) q.answers q.derived.handles) same t.held;
       }
@@ -544,20 +699,26 @@ after_used : (s : Setup) (m : Meaning) (n completions signals : ℕ) (given : Li
 after_used s m zero completions signals given p q h e = subst (λ z. Used s m completions signals given p z) (same_Some _ q e) (used_none s m completions signals given p h)
 after_used s m (suc n) completions signals given p q h e =
     let x = and_then_some (next s m p) (after s m n) q e in
-    ⊎_elim
-    (λ (o : OneCall s m p x.0). used_call s m completions signals given p x.0 h q o (after_used s m n _ _ _ x.0 q (stood_on s m completions signals given p x.0 h o) x.2))
-    (λ (o : OneArrival p x.0). used_arrival s m completions signals given p x.0 h q o (after_used s m n completions signals given x.0 q (stood_still s m completions signals given p x.0 h o) x.2))
-    (next_moves s m p x.0 x.1)
+    by_move x.0 (next_moves s m p x.0 x.1) (λ c g l k. after_used s m n c g l x.0 q k x.2)
+  where
+    by_move : (r : Point) → Moves s m p r → ((c g : ℕ) (l : List NotificationId) → Stood m c g l r.answers r.derived → Used s m c g l r q) → Used s m completions signals given p q
+    by_move r (Calls o) ih = used_call s m completions signals given p r h q o (ih _ _ _ (stood_on s m completions signals given p r h o))
+    by_move r (Waits o) ih = used_unanswered s m completions signals given p r h q o (ih completions signals given (stood_still s m completions signals given p r h o.answers o.numbers o.handles))
+    by_move r (Cancels future id at cancelled o) ih =
+        used_cancel s m completions signals given p r h q future id at o (λ a more is. (cancelled_ends s m future (suc n) p q a more at cancelled e is).answered)
+        (ih completions signals given (stood_still s m completions signals given p r h o.answers o.numbers o.handles))
 
 -- ---- the laws
 
 first_stood : (s : Setup) (m : Meaning) (input : InputCommand) (ns : List Notification) (cs : List RawMessage) → Stood m 0 0 [] (start s input ns cs).answers (start s input ns cs).derived
 first_stood s m input ns cs = record { completion = refl; signal = refl; handle = refl; all = (inl (refl, refl), tt); held = λ k id e. absurd (cc) }
 
-pub commands_used : (s : Setup) (m : Meaning) (n : ℕ) (input : InputCommand) (ns : List Notification) (cs : List RawMessage) (q : Point) → after s m n (start s input ns cs) ≡ Some q → (used : List RawMessage) × (cs ≡ used ++ q.left) × StandFor (needed s 0 (calls_for m q.answers)) used
+pub commands_used : (s : Setup) (m : Meaning) (n : ℕ) (input : InputCommand) (ns : List Notification) (cs : List RawMessage) (q : Point) → after s m n (start s input ns cs) ≡ Some q
+    → (used : List RawMessage) × (cancels : List (List (List ℕ))) × (sent : List (List ℕ)) × (cs ≡ used ++ q.left) × AreSentBy (behind q.answers) cancels × IsSentFor (m q.answers) sent × StandFor (needed s 0 (calls_for m q.answers) cancels ++ cancels_needed s sent) used
 commands_used s m n input ns cs q e =
     let u = after_used s m n 0 0 [] (start s input ns cs) q (first_stood s m input ns cs) e in
-    (u.used, u.left, subst (λ l. StandFor (needed s 0 (calls_for m l)) u.used) (sym u.answers) u.stand)
+    let a = u.accounts in
+    (u.used, a.0, a.1, u.left, subst (λ l. AreSentBy (behind l) a.0) (sym u.answers) a.2, a.3, subst (λ l. StandFor (needed s 0 (calls_for m l) a.0 ++ cancels_needed s a.1) u.used) (sym u.answers) a.4)
 
 pub arrivals_used : (s : Setup) (m : Meaning) (n : ℕ) (input : InputCommand) (ns : List Notification) (cs : List RawMessage) (q : Point) → after s m n (start s input ns cs) ≡ Some q → ns ≡ arrivals_in q.derived.usage ++ q.queue
 arrivals_used s m n input ns cs q e =

@@ -1,5 +1,5 @@
 -- What comes of each step of a handler, from what is known so far: one row a kind of what steps ask for.
-use Rattle.std.specs.Prelude.{ℕ, ◌+◌, ◌==◌, Bool, true, false, cond, List, [], ◌∷◌, ◌++◌, Option, Some, None}
+use Rattle.std.specs.Prelude.{ℕ, ◌+◌, ◌==◌, Bool, true, false, ◌&&◌, cond, List, [], ◌∷◌, ◌++◌, Option, Some, None, is_some}
 use Rattle.journal_errors.specs.declared.faults.NamedFault.{NamedFault}
 use Rattle.journal_errors.specs.declared.faults.NamedFault.TheVariants as fault
 use Rattle.journal_messages.specs.declared.message.Message.{Message}
@@ -26,14 +26,17 @@ use Rattle.vm_parts.specs.declared.values.Value.{Value}
 use Rattle.vm_parts.specs.Arrived.{Ready}
 use Rattle.vm_parts.specs.Counting.{missing, missing_signals, next_index}
 use Rattle.vm_parts.specs.Deliveries.{has_result_for, id_at, left_ready, none_ready, present_for, unmapped, with_delivered, with_eager}
+use Rattle.vm_parts.specs.declared.run_state.TrackedCall.{TrackedCall}
+use Rattle.vm_parts.specs.Options.{ends_awaits}
+use Rattle.vm_parts.specs.Tracked.{id_of_result, id_of_value, invocation_ids, noted, unresolved, with_next_id, without_first_call}
 use Rattle.vm_parts.specs.Values.{value_of}
 use Rattle.vm_machine.specs.declared.asks.Ask.{Ask}
 use Rattle.vm_machine.specs.declared.asks.Ask.TheVariants as ask
 use Rattle.vm_machine.specs.declared.asks.Command.{Command}
 use Rattle.vm_machine.specs.declared.reads.StateRead.{StateRead}
-use Rattle.vm_machine.specs.Asks.{ask_of, command_answer}
+use Rattle.vm_machine.specs.Asks.{ask_of, cancel_invocation_command, command_answer}
 use Rattle.vm_machine.specs.Commands.{given_on, ignores_payloads, mapped_from}
-use Rattle.vm_machine.specs.Requests.{ids_of, with_ids}
+use Rattle.vm_machine.specs.Requests.{ids_of, tracked_after, with_ids}
 use Rattle.vm_machine.specs.Signals.{awakeable_id}
 use Rattle.invocation_vm.specs.Calls.{skips_replay}
 
@@ -69,11 +72,13 @@ pub data Usage : Type 0 where
   Read : ℕ → NotificationResult → Usage
   Taken : NotificationId → Usage
 
--- The next numbers, the id that each handle stands for, and what was used and taken, the newest first.
+-- The next numbers, the id that each handle stands for, what was used and taken, the newest first, and the calls whose invocations
+-- are cancelled with the handler's.
 pub record Derived : Type 0 where
   pub counters : Counters
   pub handles : List Mapping
   pub usage : List Usage
+  pub tracked : List TrackedCall
 
 -- the results that are ready: those that were used or read, and not taken
 abbrev pub ready_after : SignalDelivery → List Usage → Ready
@@ -139,7 +144,7 @@ answer_of c d = command_answer c.message (record { 0 = d.counters.handle })
 -- a call with a command, by the first kind of number that is missing
 abbrev pub numbered : Setup → Command → Option NamedFault → Derived → Move
 numbered s c (Some name) d = Refuses name
-numbered s c None d = Needs (demand_of s c d) (answer_of c d ∷ []) (counted (ids_of c.message) d)
+numbered s c None d = Needs (demand_of s c d) (answer_of c d ∷ []) (record (counted (ids_of c.message) d) { tracked = tracked_after s.options.implicit_cancellation c.message d.counters.handle d.tracked })
 
 -- a call with a command, where its numbers are left
 abbrev pub requested : Setup → Command → Derived → Move
@@ -185,14 +190,63 @@ abbrev pub awaiting : Bool → Derived → Move
 awaiting true d = Answers (answer.Awake ∷ []) d
 awaiting false d = Awaits
 
--- a taken result leaves, and its handle with it, but for the cancel handle; a state key has to be a text
-abbrev pub value_taken : NotificationHandle → NotificationId → Option Value → Derived → Move
-value_taken handle id None d = Refuses fault.StateKeyIsNotUtf8
-value_taken handle id (Some value) d =
+-- ---- cancelled awaits
+
+-- the handler is cancelled: the cancel signal ends awaits, and one is there
+abbrev pub is_cancelled_in : Setup → Derived → Bool
+is_cancelled_in s d = ends_awaits s.options.implicit_cancellation && is_some (present_for s.options.signal_delivery (id_at 1 d.handles) (ready_in s d))
+
+-- a tracked call's result was read: it has to be its invocation's id, which is then known
+abbrev pub id_read : Option (List ℕ) → Derived → Move
+id_read None d = Refuses fault.UnexpectedInvocationIdResult
+id_read (Some id) d = Answers [] (record d { tracked = with_next_id id d.tracked })
+
+-- the present result of a tracked call is read, once there is one
+abbrev pub id_awaited : Option NotificationResult → Derived → Move
+id_awaited None d = Awaits
+id_awaited (Some result) d = id_read (id_of_result result) d
+
+-- the cancel signal is sent to the invocation of the first tracked call, which then isn't tracked any more
+abbrev pub cancel_sent : Setup → List ℕ → Option NamedFault → Derived → Move
+cancel_sent s id (Some name) d = Refuses name
+cancel_sent s id None d = Needs (demand_of s (cancel_invocation_command id) d) [] (record (counted 0 d) { tracked = without_first_call d.tracked })
+
+-- one result of the cancel handle is taken
+abbrev pub cancel_taken : Option NotificationId → Derived → Derived
+cancel_taken None d = d
+cancel_taken (Some id) d = record d { usage = Taken id ∷ d.usage }
+
+-- the cancel signal is sent to these invocations, one after another; then the await is answered
+abbrev pub cancelling : Setup → List (List ℕ) → Derived → Move
+cancelling s [] d = Answers (answer.Cancelled ∷ []) (cancel_taken (id_at 1 d.handles) (record d { tracked = [] }))
+cancelling s (id ∷ ids) d = cancel_sent s id (missing 0 0 0 d.counters) d
+
+-- an await of a cancelled handler, by the handles of the tracked calls whose ids aren't known: these are read first
+abbrev pub cancelled : Setup → List ℕ → Derived → Move
+cancelled s [] d = cancelling s (invocation_ids d.tracked) d
+cancelled s (handle ∷ handles) d = id_awaited (present_for s.options.signal_delivery (id_at handle d.handles) (ready_in s d)) d
+
+-- an await, by whether the handler is cancelled
+abbrev pub awaited : Setup → Bool → UnresolvedFuture → Derived → Move
+awaited s true future d = cancelled s (unresolved d.tracked) d
+awaited s false future d = awaiting (is_awake s future d) d
+
+-- ---- takes
+
+-- a taken result leaves, and its handle with it, but for the cancel handle, by what is then known of the tracked calls
+abbrev pub value_noted : NotificationHandle → NotificationId → Value → Option (List TrackedCall) → Derived → Move
+value_noted handle id value None d = Refuses fault.UnexpectedInvocationIdResult
+value_noted handle id value (Some tracked) d =
     Answers (answer.Taken (Some value) ∷ []) (record d {
       handles = cond (handle.0 == 1) d.handles (unmapped handle.0 d.handles);
       usage = Taken id ∷ d.usage;
+      tracked = tracked;
     })
+
+-- a taken result: a state key has to be a text, and a tracked call's result its invocation's id
+abbrev pub value_taken : NotificationHandle → NotificationId → Option Value → Derived → Move
+value_taken handle id None d = Refuses fault.StateKeyIsNotUtf8
+value_taken handle id (Some value) d = value_noted handle id value (noted handle.0 (id_of_value value) d.tracked) d
 
 -- a take, by the id of its handle and its present result
 abbrev pub result_taken : NotificationHandle → Option NotificationId → Option NotificationResult → Derived → Move
@@ -212,7 +266,7 @@ asked s (ask.Command c) d = commanding s c c.refusal d
 asked s (ask.Read r) d = reading r (missing 1 0 1 d.counters) d
 asked s ask.Awakeable d = making_awakeable s (skips_replay s.options.journal_replay) d
 asked s (ask.Signal name) d = signal_made name (missing_signals 0 1 d.counters) d
-asked s (ask.Await future) d = awaiting (is_awake s future d) d
+asked s (ask.Await future) d = awaited s (is_cancelled_in s d) future d
 asked s (ask.Take handle) d = taking s handle (id_at handle.0 d.handles) d
 asked s (ask.Completed handle) d = Answers (answer.Completed (has_result_in s handle d) ∷ []) d
 asked s ask.End d = Ends

@@ -1,5 +1,5 @@
 -- What a journal tells of a handler's run, and what an attempt writes.
-use Rattle.std.specs.Prelude.{◌≡◌, ◌⊎◌, ◌<◌, ◌≤◌, length, take, ℕ, zero, suc, Bool, true, false, List, [], ◌∷◌, ◌++◌, Option, Some, None}
+use Rattle.std.specs.Prelude.{◌≡◌, ◌⊎◌, ◌<◌, ◌≤◌, length, take, ℕ, zero, suc, Bool, true, false, ◌||◌, List, [], ◌∷◌, ◌++◌, Option, Some, None}
 use Rattle.journal_attempt.specs.declared.commands.InputCommand.{InputCommand}
 use Rattle.journal_messages.specs.declared.message.Message.{Message}
 use Rattle.journal_messages.specs.declared.message.Message.TheVariants as message
@@ -17,7 +17,7 @@ use Rattle.vm_parts.specs.Entries.{IsInOrder}
 use Rattle.vm_parts.specs.States.{known, known_keys}
 use Rattle.vm_machine.specs.declared.reads.StateRead.TheVariants as reads
 use Rattle.vm_machine.specs.Reads.{own_form}
-use Rattle.vm_model.specs.Calls.{Setup, Meaning, Derived}
+use Rattle.vm_model.specs.Calls.{Setup, Meaning, Derived, is_awake, is_cancelled_in}
 use Rattle.vm_model.specs.Journal.{Entry, commands_in, notifications_in, input_read_from, messages_in, stored_form}
 use Rattle.vm_model.specs.Moves.{Point, after, next, start, supplied, longer, arrival_used, changed_by}
 
@@ -135,3 +135,7 @@ pub record IsLeast (test : Derived → Bool) (d : Derived) (queue : List Notific
 -- the handler awaits this future
 abbrev pub IsAwaiting : Meaning → Point → UnresolvedFuture → Type 0
 IsAwaiting m p future = m p.answers ≡ step.Await future
+
+-- what ends an await: the handler is cancelled, or the future is awake
+abbrev pub ends_await : Setup → UnresolvedFuture → Derived → Bool
+ends_await s future d = is_cancelled_in s d || is_awake s future d

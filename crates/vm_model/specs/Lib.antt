@@ -5,6 +5,7 @@ pub mod Histories
 pub mod Deliveries
 pub mod Sums
 pub mod Uses
+pub mod Cancels
 pub mod Carried
 pub mod Refusals
 pub mod HonestRounds

@@ -127,6 +127,7 @@ first_derived = record {
   counters = record fresh_counters { command = Some 0 };
   handles = no_results.handles;
   usage = [];
+  tracked = [];
 }
 
 -- the point after the input, which is the journal's first command

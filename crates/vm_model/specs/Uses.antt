@@ -18,7 +18,7 @@ use Rattle.vm_parts.specs.declared.steps.Step.TheVariants as step
 use Rattle.vm_parts.specs.declared.values.Value.{Value}
 use Rattle.vm_machine.specs.declared.asks.Ask.{Ask}
 use Rattle.vm_machine.specs.declared.asks.Ask.TheVariants as ask
-use Rattle.vm_machine.specs.Asks.{ask_of}
+use Rattle.vm_machine.specs.Asks.{ask_of, cancel_invocation_command}
 use Rattle.vm_machine.specs.Commands.{ignores_payloads}
 use Rattle.vm_machine.specs.Reads.{recorded_as}
 use Rattle.vm_machine.specs.Requests.{ids_of, with_ids}
@@ -35,10 +35,33 @@ needed_by s id (ask.Command c) = Exactly (with_ids id c.message) (ignores_payloa
 needed_by s id (ask.Read r) = Reads r id ∷ []
 needed_by s id a = []
 
--- What calls need recorded, in order: the completion ids of each stand behind so many, and behind those of the calls before it.
-abbrev pub needed : Setup → ℕ → List Step → List Demand
-needed s before [] = []
-needed s before (st ∷ steps) = needed_by s (1 + before) (ask_of s.version st) ++ needed s (before + completion_ids s.version st) steps
+-- what is needed recorded where the cancel signal is sent to these invocations, in order
+abbrev pub cancels_needed : Setup → List (List ℕ) → List Demand
+cancels_needed s [] = []
+cancels_needed s (id ∷ ids) = Exactly (cancel_invocation_command id).message (ignores_payloads s.options.non_determinism_checks (cancel_invocation_command id).unstable) ∷ cancels_needed s ids
+
+-- What calls need recorded, in order, where for each of them the cancel signal is sent to such invocations: the completion ids of
+-- each stand behind so many, and behind those of the calls before it.
+abbrev pub needed : Setup → ℕ → List Step → List (List (List ℕ)) → List Demand
+needed s before [] cancels = []
+needed s before (st ∷ steps) [] = needed_by s (1 + before) (ask_of s.version st) ++ needed s (before + completion_ids s.version st) steps []
+needed s before (st ∷ steps) (sent ∷ cancels) = needed_by s (1 + before) (ask_of s.version st) ++ (cancels_needed s sent ++ needed s (before + completion_ids s.version st) steps cancels)
+
+-- a call with this answer sends the cancel signal to these invocations: to none but where it is answered Cancelled
+abbrev pub IsSentBy : Answer → List (List ℕ) → Type 0
+IsSentBy answer.Cancelled sent = Unit {0}
+IsSentBy a sent = sent ≡ []
+
+-- the calls with these answers send the cancel signal to such invocations, one list a call
+abbrev pub AreSentBy : List Answer → List (List (List ℕ)) → Type 0
+AreSentBy [] cancels = cancels ≡ []
+AreSentBy (a ∷ answers) [] = ⊥
+AreSentBy (a ∷ answers) (sent ∷ cancels) = IsSentBy a sent × AreSentBy answers cancels
+
+-- the cancel signal was sent to these invocations by the call that comes next: to none but where that is an await
+abbrev pub IsSentFor : Step → List (List ℕ) → Type 0
+IsSentFor (step.Await future) sent = Unit {0}
+IsSentFor st sent = sent ≡ []
 
 -- a recorded command stands for what is needed: it has the type of the command and is header-equal to it, or is a form of the read
 abbrev pub Stands : Demand → RawMessage → Type 0

@@ -1,5 +1,5 @@
 //! Laws of awaits and takes.
-ghost use Rattle.std.specs.Prelude.{◌≡◌, ◌≤◌, ◌∷◌, ◌++◌, [], List, ℕ, Some, drop, false, length, take};
+ghost use Rattle.std.specs.Prelude.{◌≡◌, ◌≤◌, ◌∷◌, ◌++◌, [], List, ℕ, Some, drop, false, length, take, true};
 ghost use Rattle.journal_attempt.specs.declared.commands.InputCommand.{InputCommand};
 ghost use Rattle.journal_messages.specs.declared.message.RawMessage.{RawMessage};
 ghost use Rattle.journal_values.specs.declared.notification.Notification.{Notification};
@@ -7,25 +7,35 @@ ghost use Rattle.journal_values.specs.declared.notification.NotificationId.{Noti
 ghost use Rattle.journal_values.specs.declared.notification.NotificationId.TheVariants.{CompletionId};
 ghost use Rattle.vm_parts.specs.declared.options.SignalDelivery.{SignalDelivery};
 ghost use Rattle.vm_parts.specs.declared.steps.Answer.{Answer};
+ghost use Rattle.vm_parts.specs.declared.steps.Answer.TheVariants as answer;
 ghost use Rattle.vm_parts.specs.declared.steps.Step.TheVariants as step;
 ghost use Rattle.await_trees.specs.declared.handle.NotificationHandle.{NotificationHandle};
 ghost use Rattle.await_trees.specs.declared.tree.UnresolvedFuture.{UnresolvedFuture};
 ghost use Rattle.vm_parts.specs.Deliveries.{newest, present};
-ghost use Rattle.vm_model.specs.Calls.{Setup, Meaning, Usage, is_awake, ready_after, tree_wakes};
+ghost use Rattle.vm_model.specs.Calls.{Setup, Meaning, Usage, is_cancelled_in, ready_after, tree_wakes};
 ghost use Rattle.vm_model.specs.Moves.{Point, after, next, start};
-ghost use Rattle.vm_model.specs.Histories.{IsAwaiting, IsLeast, arrivals_used};
+ghost use Rattle.vm_model.specs.Histories.{IsAwaiting, IsLeast, arrivals_used, ends_await};
 ghost use Rattle.await_trees.specs.Tree.{Tree};
 ghost use Rattle.await_tries.specs.Await.{LeastAwake, NeverAwake};
 ghost use Rattle.vm_parts.specs.declared.options.SignalDelivery.TheVariants.{Queued};
+ghost use Rattle.vm_model.specs.Cancels.{CancelledAwait};
 ghost use Rattle.vm_model.specs.Deliveries.{EachTookAResult, HasNoTwo, TakeIsAnswered, arrived_at, deliveries, next_taken, takes};
 
-/// An await that was answered had a least prefix of the arrivals by which its future is awake, and the run uses just
-/// those. Where all arrivals are used and the future isn't awake, no number of them wakes it: it is awake at no point of the
-/// run with these answers.
+/// An await that was answered had a least prefix of the arrivals by which it ends: by which the handler is cancelled or its future
+/// is awake; and the run uses just those. Where the handler isn't cancelled by them, the answer is Awake. Where all arrivals are
+/// used and the await doesn't end, no number of them ends it: it ends at no point of the run with these answers.
 pub fn awaits_wake()
-    ensures only { (s : Setup) (m : Meaning) (future : UnresolvedFuture) (n : ℕ) (p q : Point) (a : Answer) (more : List Answer) → IsAwaiting m p future → after s m n p ≡ Some q → q.answers ≡ p.answers ++ a ∷ more → (j : ℕ) × IsLeast (is_awake s future) p.derived p.queue j }
-    ensures uses { (s : Setup) (m : Meaning) (future : UnresolvedFuture) (j : ℕ) (p : Point) → IsAwaiting m p future → IsLeast (is_awake s future) p.derived p.queue j → after s m j p ≡ Some (record p { derived = arrivals_used (take j p.queue) p.derived; queue = drop j p.queue }) }
-    ensures none { (s : Setup) (m : Meaning) (future : UnresolvedFuture) (n k : ℕ) (first p q : Point) → after s m n first ≡ Some p → after s m k first ≡ Some q → q.answers ≡ p.answers → IsAwaiting m q future → is_awake s future q.derived ≡ false → q.queue ≡ [] → is_awake s future p.derived ≡ false }
+    ensures only { (s : Setup) (m : Meaning) (future : UnresolvedFuture) (n : ℕ) (p q : Point) (a : Answer) (more : List Answer) → IsAwaiting m p future → after s m n p ≡ Some q → q.answers ≡ p.answers ++ a ∷ more → (j : ℕ) × IsLeast (ends_await s future) p.derived p.queue j }
+    ensures uses { (s : Setup) (m : Meaning) (future : UnresolvedFuture) (j : ℕ) (p : Point) → IsAwaiting m p future → IsLeast (ends_await s future) p.derived p.queue j → after s m j p ≡ Some (record p { derived = arrivals_used (take j p.queue) p.derived; queue = drop j p.queue }) }
+    ensures awake { (s : Setup) (m : Meaning) (future : UnresolvedFuture) (n j : ℕ) (p q : Point) (a : Answer) (more : List Answer) → IsAwaiting m p future → after s m n p ≡ Some q → q.answers ≡ p.answers ++ a ∷ more → IsLeast (ends_await s future) p.derived p.queue j → is_cancelled_in s (arrivals_used (take j p.queue) p.derived) ≡ false → a ≡ answer.Awake }
+    ensures none { (s : Setup) (m : Meaning) (future : UnresolvedFuture) (n k : ℕ) (first p q : Point) → after s m n first ≡ Some p → after s m k first ≡ Some q → q.answers ≡ p.answers → IsAwaiting m q future → ends_await s future q.derived ≡ false → q.queue ≡ [] → ends_await s future p.derived ≡ false }
+{}
+
+/// An await of a cancelled handler that was answered used the least prefix of the arrivals by which each tracked call whose
+/// invocation's id isn't known has a result, sent the cancel signal to the invocation of each tracked call, in order, and was
+/// answered Cancelled.
+pub fn cancelled_awaits()
+    ensures { (s : Setup) (m : Meaning) (future : UnresolvedFuture) (n : ℕ) (p q : Point) (a : Answer) (more : List Answer) → IsAwaiting m p future → is_cancelled_in s p.derived ≡ true → after s m n p ≡ Some q → q.answers ≡ p.answers ++ a ∷ more → CancelledAwait s m p a }
 {}
 
 /// Where signals are queued and no completion id has two results, an await of a tree ends in a machine after the least prefix of the

@@ -9,7 +9,7 @@ mod numbers;
 mod reads;
 mod told;
 
-pub use awaits::{awaits_wake, results_are_present, trees_wake};
+pub use awaits::{awaits_wake, cancelled_awaits, results_are_present, trees_wake};
 pub use honest::{
     attempts_agree, commands_stand_behind, honest_rounds, one_undisturbed, whole_rounds,
 };

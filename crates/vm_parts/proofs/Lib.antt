@@ -5,3 +5,4 @@ pub mod Outboxes
 pub mod Places
 pub mod Results
 pub mod Texts
+pub mod Tracking

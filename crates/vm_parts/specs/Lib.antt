@@ -8,3 +8,4 @@ pub mod Options
 pub mod Outboxes
 pub mod Values
 pub mod States
+pub mod Tracked

@@ -1,7 +1,8 @@
 -- What a VM does where nothing else is asked for.
-use Rattle.std.specs.Prelude.{true, false}
+use Rattle.std.specs.Prelude.{Bool, true, false}
 use Rattle.vm_parts.specs.declared.options.VMOptions.{VMOptions}
 use Rattle.vm_parts.specs.declared.options.AwaitingOnPolicy.TheVariants as awaiting
+use Rattle.vm_parts.specs.declared.options.ImplicitCancellationOption.{ImplicitCancellationOption}
 use Rattle.vm_parts.specs.declared.options.ImplicitCancellationOption.TheVariants as cancellation
 use Rattle.vm_parts.specs.declared.options.JournalMismatchRetryBehavior.TheVariants as mismatch
 use Rattle.vm_parts.specs.declared.options.JournalReplay.TheVariants as replay
@@ -19,3 +20,18 @@ default_options = record {
   signal_delivery = delivery.Queued;
   fallback_random_seed = 0;
 }
+
+-- the cancel signal ends awaits
+abbrev pub ends_awaits : ImplicitCancellationOption → Bool
+ends_awaits cancellation.Disabled = false
+ends_awaits (cancellation.Enabled calls sends) = true
+
+-- the invocations of calls are cancelled with the handler's
+abbrev pub cancels_calls : ImplicitCancellationOption → Bool
+cancels_calls cancellation.Disabled = false
+cancels_calls (cancellation.Enabled calls sends) = calls
+
+-- those of calls whose result nobody waits for are
+abbrev pub cancels_sends : ImplicitCancellationOption → Bool
+cancels_sends cancellation.Disabled = false
+cancels_sends (cancellation.Enabled calls sends) = sends

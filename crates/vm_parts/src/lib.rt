@@ -13,6 +13,7 @@ pub mod outbox;
 pub mod queue;
 pub mod run_state;
 pub mod steps;
+pub mod tracked;
 pub mod types;
 pub mod values;
 
@@ -31,6 +32,7 @@ pub use outbox::Outbox;
 pub use queue::Queue;
 pub use run_state::{KeptProposal, PendingRun, RunExecution, TrackedCall};
 pub use steps::{Answer, Step};
+pub use tracked::TrackedCalls;
 pub use types::{
     AwaitResponse, AwakeableHandle, CallHandle, EphemeralCompletionId, SendHandle, State,
 };

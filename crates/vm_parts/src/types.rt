@@ -55,6 +55,8 @@ pub enum AwaitResponse {
         waiting_input: bool,
         waiting_run_proposal: bool,
     },
+    /// The handler is cancelled: the cancel signal came, and each invocation that is cancelled with it was sent one.
+    CancelSignalReceived,
 }
 
 /// How far a VM is, as a handler's runner sees it.

@@ -1,9 +1,7 @@
 -- What came and what was written, over each call of an attempt: whatever the options are and whatever comes.
 use Rattle.std.proofs.Common.{◌≡◌, ◌≢◌, ◌⊎◌, ℕ, true, List, [], ◌∷◌, ◌++◌, Option, Some, None, Result, Ok, Err, sym, ap, ◌∙◌, subst, inl, inr, Global}
-use Rattle.std.specs.List.{AllByRecursion}
 use Rattle.std.specs.declared.alloc.AllocError.{AllocError}
 use Rattle.journal_errors.specs.declared.error.Error.{Error}
-use Rattle.journal_messages.specs.declared.message.RawMessage.{RawMessage}
 use Rattle.journal_errors.specs.declared.version.Version.{Version}
 use Rattle.vm_parts.specs.declared.options.VMOptions.{VMOptions}
 use Rattle.vm_parts.specs.declared.steps.Answer.{Answer}

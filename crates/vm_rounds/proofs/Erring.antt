@@ -34,7 +34,7 @@ use Rattle.vm_rounds.specs.declared.progress.Progress.{Progress}
 use Rattle.vm_rounds.specs.declared.progress.Progress.TheVariants as progress
 use Rattle.vm_rounds.specs.declared.progress.Reply.{Reply}
 use Rattle.vm_rounds.specs.declared.progress.Reply.TheVariants as reply
-use Rattle.vm_rounds.specs.Agreement.{IsRefused}
+use Rattle.vm_rounds.specs.Agreement.{IsCutShort, IsRefused}
 use Rattle.vm_rounds.specs.Blames.{Blame, BlamedAt, IfError, IsBlamed, LacksInput, RefusedCall, first_input}
 use Rattle.vm_rounds.specs.Blames.Blame.{Memory, NoInput, Call}
 use Rattle.vm_rounds.specs.Journals.{BeginsOrFails, HasAll, StillWaits, commands_among, machine_fed, missing, notifications_among, setup_for}
@@ -186,10 +186,10 @@ module _ (m : Meaning) (version : Version) (options : VMOptions) (r : Record) (u
       let a = k.agrees live in
       record {
         journal = k.journal;
-        written = k.written ++ [];
+        written = k.written ++ g.made;
         at = g.at;
         moves = k.moves + g.moves.moves;
-        made = made_add (setup_for version options k.journal.start) m (Handed (handed_out k.journal)) k.moves g.moves.moves (begun version options k.journal) k.written k.at [] g.at k.run g.moves.run;
+        made = made_add (setup_for version options k.journal.start) m (Handed (handed_out k.journal)) k.moves g.moves.moves (begun version options k.journal) k.written k.at g.made g.at k.run g.moves.run;
         answers = g.moves.answers ∙ append-nil k.at.answers ∙ k.answers;
         why = g.why;
         reason = g.reason;
@@ -197,11 +197,14 @@ module _ (m : Meaning) (version : Version) (options : VMOptions) (r : Record) (u
         error = g.error ∙ ap (λ (z : Machine). ruled z (named_error g.why g.related)) a.machine;
       }
 
-  -- the handler's call was refused
-  call_refused : (e : Error) → Performs (step_asked m r) r.vm.machine (Failed e w.machine) → RefusedCall m version options r.fed r.answers e
+  -- the handler's call was refused, or memory was lacking
+  call_refused : (e : Error) → Performs (step_asked m r) r.vm.machine (Failed e w.machine) → (e ≡ no_memory) ⊎ RefusedCall m version options r.fed r.answers e
   call_refused e does =
       let same : step_asked m r ≡ m k.at.answers = asks_next m k.at r.answers r.waiting k.answers k.awaits in
-      refused_call e (agreeing_follows (setup_for version options k.journal.start) m (handed_out k.journal) k.written r.vm.machine k.at (Failed e w.machine) (λ future _. (under.queues, under.once k.journal k.moves k.written k.at k.run)) (k.agrees live) (subst (λ q. Performs q r.vm.machine (Failed e w.machine)) same does) (tt {0}))
+      ⊎_elim
+      (λ (x : IsRefused (setup_for version options k.journal.start) m (handed_out k.journal) k.at r.vm.machine e w.machine). inr (refused_call e x))
+      (λ (x : IsCutShort (setup_for version options k.journal.start) m (handed_out k.journal) k.at r.vm.machine e w.machine). inl x.error)
+      (agreeing_follows (setup_for version options k.journal.start) m (handed_out k.journal) k.written r.vm.machine k.at (Failed e w.machine) (λ future _. (under.queues, under.once k.journal k.moves k.written k.at k.run)) (k.agrees live) (subst (λ q. Performs q r.vm.machine (Failed e w.machine)) same does) (tt {0}))
 
 asks_blamed : (m : Meaning) (version : Version) (options : VMOptions) (old : Record) (result : Result Progress Error) (new : Record) → (Premises m version options old.fed → Runs m version options old.fed old.answers old.waiting old.taken old.vm) → IsLive old.vm.machine → Asks m old result new → IsBlamed m version options new
 asks_blamed m version options old result new runs live (x, w, does, is, made) = subst (IsBlamed m version options) (sym is) (by_reply x (step_leaves (step_asked m old) old.vm.machine live x w.machine does.0.0) does.0.0)

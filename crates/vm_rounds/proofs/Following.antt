@@ -1,5 +1,5 @@
 -- Each call of a handler, in a machine that agrees with a point, does what the moves from there lead to.
-use Rattle.std.proofs.Common.{◌≡◌, ℕ, ◌+◌, Bool, true, false, cond, List, [], ◌∷◌, ◌++◌, Option, Some, None, refl, sym, ap, ◌∙◌, subst, append-nil}
+use Rattle.std.proofs.Common.{◌≡◌, ℕ, ◌+◌, Bool, true, false, cond, List, [], ◌∷◌, ◌++◌, Option, Some, None, refl, sym, ap, subst, inl}
 use Rattle.std.specs.Prelude.{if◌then◌else◌, ◌==◌}
 use Rattle.journal_errors.specs.declared.faults.NamedFault.{NamedFault}
 use Rattle.journal_errors.specs.declared.faults.NamedFault.TheVariants as fault
@@ -8,7 +8,6 @@ use Rattle.journal_values.specs.declared.notification.NotificationId.{Notificati
 use Rattle.journal_values.specs.declared.notification.NotificationResult.{NotificationResult}
 use Rattle.journal_errors.specs.Errors.{named_error}
 use Rattle.vm_parts.specs.declared.context.StateMap.{StateMap}
-use Rattle.vm_parts.specs.declared.steps.Answer.{Answer}
 use Rattle.vm_parts.specs.declared.steps.Answer.TheVariants as answer
 use Rattle.vm_parts.specs.declared.steps.Step.{Step}
 use Rattle.vm_parts.specs.declared.steps.Step.TheVariants as step
@@ -17,66 +16,60 @@ use Rattle.vm_parts.specs.declared.values.Value.{Value}
 use Rattle.vm_parts.specs.Counting.{missing_signals}
 use Rattle.vm_parts.specs.Deliveries.{id_at, present_for, taken_by, unmapped}
 use Rattle.journal_values.specs.declared.notification.NotificationId.TheVariants.{SignalId, SignalName}
+use Rattle.vm_parts.specs.Tracked.{id_of_value, noted}
 use Rattle.vm_parts.specs.Values.{value_of}
+use Rattle.vm_parts.specs.declared.run_state.TrackedCall.{TrackedCall}
 use Rattle.vm_machine.specs.declared.machine.Machine.{Machine}
 use Rattle.journal_errors.specs.declared.version.Version.{Version}
 use Rattle.await_trees.specs.declared.tree.UnresolvedFuture.{UnresolvedFuture}
 use Rattle.vm_machine.specs.declared.asks.Ask.{Ask}
 use Rattle.vm_machine.specs.declared.asks.Ask.TheVariants as ask
-use Rattle.vm_machine.specs.declared.asks.Command.{Command}
 use Rattle.vm_machine.specs.Asks.{ask_of, command_answer}
 use Rattle.vm_machine.specs.Takes.{take_step}
 use Rattle.vm_machine.specs.Takes as takes
-use Rattle.vm_machine.specs.Commands.{CanBeRead, commanded_unless, phase_after}
+use Rattle.vm_machine.specs.Commands.{phase_after}
 use Rattle.vm_machine.specs.Inputs.{end_at}
-use Rattle.vm_machine.specs.Outcomes.{Outcome, Done, Failed, called, refused, ruled}
-use Rattle.vm_machine.specs.Phases.{is_closed, is_processing, state_fault}
+use Rattle.vm_machine.specs.Outcomes.{Outcome, Done, called, refused, ruled}
+use Rattle.vm_machine.specs.Phases.{state_fault}
 use Rattle.vm_machine.specs.Signals.{awakeable_counted, awakeable_id, awakeable_step, signal_counted, signal_step}
 use Rattle.invocation_vm.specs.Calls.{skips_replay}
-use Rattle.vm_model.specs.Calls.{Setup, Meaning, Derived, Move, asked, awakeable_made, call_of, commanding, making_awakeable, has_result_in, identity_of, ready_in, result_taken, signal_made, taking, value_taken}
+use Rattle.vm_model.specs.Calls.{Setup, Meaning, Derived, Move, asked, awakeable_made, call_of, making_awakeable, has_result_in, identity_of, ready_in, result_taken, signal_made, taking, value_noted, value_taken}
 use Rattle.vm_model.specs.Calls.Usage.{Taken}
-use Rattle.vm_model.specs.Calls.Move.{Answers, Ends, Refuses}
+use Rattle.vm_model.specs.Calls.Move.{Ends}
 use Rattle.vm_model.specs.Refusals.{IsRefusedFor}
 use Rattle.vm_model.specs.Deliveries.{HasNoTwo}
 use Rattle.vm_parts.specs.declared.options.SignalDelivery.TheVariants.{Queued}
 use Rattle.vm_model.specs.Histories.{IsAwaiting}
-use Rattle.vm_model.specs.Moves.{Point, longer, move_at, moved, supply}
+use Rattle.vm_model.specs.Moves.{Point, move_at}
 use Rattle.vm_rounds.specs.declared.progress.Reply.{Reply}
 use Rattle.vm_rounds.specs.declared.progress.Reply.TheVariants as reply
 use Rattle.vm_rounds.specs.Agreement.{Agrees, Aside, Follows, machine_at}
 use Rattle.vm_rounds.specs.Steps.{IfDone, IsReadable, Performs, PerformsBy, ReadsBack, awakeable_made as made_awakeable, carried, completed, ended, mapped, read_made, signalled, taken}
-use Rattle.vm_rounds.proofs.Leading.{Leads, error_written, follows_from, no_move, open_after, state_at}
-use Rattle.journal_messages.specs.Commands.{IsCommand}
-use Rattle.vm_rounds.proofs.Own.{AsksCommand, asks_command, stands_for_itself}
+use Rattle.vm_rounds.proofs.Leading.{error_written, follows_from, no_move, open_after}
+use Rattle.vm_rounds.proofs.Own.{AsksCommand, asks_command}
 use Rattle.vm_rounds.proofs.Reading.{reads_follow}
-use Rattle.vm_rounds.proofs.Requesting.{issues, runs_at}
-use Rattle.vm_rounds.proofs.Waiting.{awaits_follow}
-
--- a move that brings no command of its own leads where it leads
-abbrev LeadsOn : {A : Type 0} → Setup → StateMap → List RawMessage → Aside → Point → (A → Answer) → Move → Outcome A → Type 0
-LeadsOn s given written aside p gives mv o = Leads s given written aside p mv p.left (supply (state_at given p) mv p.left) (λ a. gives a ∷ []) (moved mv (longer (supply (state_at given p) mv p.left) p)) o
-
--- an answer with nothing used
-answers : {A : Type 0} (s : Setup) (given : StateMap) (written : List RawMessage) (aside : Aside) (p : Point) (gives : A → Answer) (a : A) (d : Derived) → LeadsOn s given written aside p gives (Answers (gives a ∷ []) d) (Done a (machine_at s given written aside (record p { derived = d })))
-answers s given written aside p gives a d = (refl, (aside.last, λ i. record (machine_at s given (sym (append-nil written) i) (record aside { output = sym (append-nil aside.output) i }) (record p { derived = d })) { commands = sym (append-nil p.left) i; phase = phase_after (sym (append-nil p.left) i) }))
-
--- a refusal for the call's own reason
-refuses : {A : Type 0} (s : Setup) (given : StateMap) (written : List RawMessage) (aside : Aside) (p : Point) (gives : A → Answer) (name : NamedFault) (w : Machine) → w.output ≡ aside.output → w.phase ≡ phase_after p.left → w.version ≡ s.version → w.options ≡ s.options → LeadsOn s given written aside p gives (Refuses name) (refused name w)
-refuses s given written aside p gives name w output phase version options = record { why = name; related = None; reason = refl; error = refl; output = output; open_yet = ap is_closed phase ∙ open_after p.left; version = version; options = options }
-
--- it is refused at once
-refuses_here : {A : Type 0} (s : Setup) (given : StateMap) (written : List RawMessage) (aside : Aside) (p : Point) (gives : A → Answer) (name : NamedFault) → LeadsOn s given written aside p gives (Refuses name) (refused name (machine_at s given written aside p))
-refuses_here s given written aside p gives name = refuses s given written aside p gives name (machine_at s given written aside p) refl refl refl refl
+use Rattle.vm_rounds.proofs.Requesting.{runs_at}
+use Rattle.vm_rounds.proofs.Cancelling.{awaits_follow}
+use Rattle.vm_rounds.proofs.Commanding.{LeadsOn, answers, commands_follow, event_done, refuses, refuses_here}
 
 -- ---- takes
 
+-- the machine once a result was taken
+abbrev taken_machine : Setup → StateMap → List RawMessage → Aside → Point → NotificationHandle → NotificationId → NotificationResult → Machine
+taken_machine s given written aside p h id result = record (machine_at s given written aside p) { results = taken_by s.options.signal_delivery h.0 (Some id) (Some result) (machine_at s given written aside p).results }
+
+takes_noted : (s : Setup) (given : StateMap) (written : List RawMessage) (aside : Aside) (p : Point) (h : NotificationHandle) (id : NotificationId) (result : NotificationResult) (value : Value) (o : Option (List TrackedCall))
+    → LeadsOn s given written aside p answer.Taken (value_noted h id value o p.derived) (takes.value_noted value o (taken_machine s given written aside p h id result))
+takes_noted s given written aside p h id result value None = refuses s given written aside p answer.Taken fault.UnexpectedInvocationIdResult (taken_machine s given written aside p h id result) refl refl refl refl
+takes_noted s given written aside p h id result value (Some tracked) = answers s given written aside p answer.Taken (Some value) (record p.derived { handles = cond (h.0 == 1) p.derived.handles (unmapped h.0 p.derived.handles); usage = Taken id ∷ p.derived.usage; tracked = tracked })
+
 takes_value : (s : Setup) (given : StateMap) (written : List RawMessage) (aside : Aside) (p : Point) (h : NotificationHandle) (id : NotificationId) (result : NotificationResult) (o : Option Value)
-    → LeadsOn s given written aside p answer.Taken (value_taken h id o p.derived) (takes.value_taken o (record (machine_at s given written aside p) { results = taken_by s.options.signal_delivery h.0 (Some id) (Some result) (machine_at s given written aside p).results }))
-takes_value s given written aside p h id result None = refuses s given written aside p answer.Taken fault.StateKeyIsNotUtf8 (record (machine_at s given written aside p) { results = taken_by s.options.signal_delivery h.0 (Some id) (Some result) (machine_at s given written aside p).results }) refl refl refl refl
-takes_value s given written aside p h id result (Some value) = answers s given written aside p answer.Taken (Some value) (record p.derived { handles = cond (h.0 == 1) p.derived.handles (unmapped h.0 p.derived.handles); usage = Taken id ∷ p.derived.usage })
+    → LeadsOn s given written aside p answer.Taken (value_taken h id o p.derived) (takes.value_taken h.0 o (taken_machine s given written aside p h id result))
+takes_value s given written aside p h id result None = refuses s given written aside p answer.Taken fault.StateKeyIsNotUtf8 (taken_machine s given written aside p h id result) refl refl refl refl
+takes_value s given written aside p h id result (Some value) = takes_noted s given written aside p h id result value (noted h.0 (id_of_value value) p.derived.tracked)
 
 takes_result : (s : Setup) (given : StateMap) (written : List RawMessage) (aside : Aside) (p : Point) (h : NotificationHandle) (id : Option NotificationId) (o : Option NotificationResult) → (id ≡ None → o ≡ None)
-    → LeadsOn s given written aside p answer.Taken (result_taken h id o p.derived) (takes.result_taken o (record (machine_at s given written aside p) { results = taken_by s.options.signal_delivery h.0 id o (machine_at s given written aside p).results }))
+    → LeadsOn s given written aside p answer.Taken (result_taken h id o p.derived) (takes.result_taken h.0 o (record (machine_at s given written aside p) { results = taken_by s.options.signal_delivery h.0 id o (machine_at s given written aside p).results }))
 takes_result s given written aside p h (Some id) (Some result) none = takes_value s given written aside p h id result (value_of result)
 takes_result s given written aside p h (Some id) None none = answers s given written aside p answer.Taken None p.derived
 takes_result s given written aside p h None None none = answers s given written aside p answer.Taken None p.derived
@@ -121,25 +114,6 @@ makes_signal : (s : Setup) (given : StateMap) (written : List RawMessage) (aside
 unfolding signal_step
 makes_signal s given written aside p name = rw (runs_at p.left) (signals_follow s given written aside p name (missing_signals 0 1 p.derived.counters))
 
--- ---- calls with a command
-
--- what holds where an event is done, holds where its call is
-event_done : {A B : Type 0} (P : Type 0) (f : A → B) (s : Setup) (given : StateMap) (written : List RawMessage) (aside : Aside) (p : Point) (o : Outcome A) → IfDone (mapped f (called o (machine_at s given written aside p))) P → IfDone o P
-unfolding called
-event_done P f s given written aside p (Done a w) h = h
-event_done P f s given written aside p (Failed e w) h = tt
-
--- a command, where what it writes can be read back
-abbrev Reads : Setup → StateMap → List RawMessage → Aside → Command → Point → Type 0
-Reads s given written aside c p = CanBeRead c.message (machine_at s given written aside p)
-
--- a call with a command, by why its arguments refuse it
-commands_follow : (s : Setup) (given : StateMap) (written : List RawMessage) (aside : Aside) (p : Point) (c : Command) → IsCommand c.message → (o : Option NamedFault) → IfDone (commanded_unless o c.message c.unstable (machine_at s given written aside p)) (Reads s given written aside c p)
-    → LeadsOn s given written aside p (command_answer c.message) (commanding s c o p.derived) (commanded_unless o c.message c.unstable (machine_at s given written aside p))
-commands_follow s given written aside p c command (Some name) own = refuses_here s given written aside p (command_answer c.message) name
-commands_follow s given written aside p c command None own =
-    issues s given written aside c p (λ h. command_answer c.message h ∷ []) refl (Reads s given written aside c p) (λ (whole : Reads s given written aside c p) spent. stands_for_itself s c p.derived (whole (ap (λ l. is_processing (phase_after l)) spent))) own
-
 -- ---- the end
 
 ends : (s : Setup) (m : Meaning) (given : StateMap) (written : List RawMessage) (aside : Aside) (p : Point) → m p.answers ≡ step.End → (left : List RawMessage) → p.left ≡ left → Follows s m given written p (machine_at s given written aside p) (mapped (λ _. reply.Ended) (called (end_at (phase_after left) (machine_at s given written aside p)) (machine_at s given written aside p)))
@@ -148,17 +122,18 @@ ends s m given written aside p is [] e = record { step = is; no_command = e; out
 ends s m given written aside p is (c ∷ left) e =
     let v = machine_at s given written aside p in
     let ends_here : move_at s m p ≡ Ends = ap (λ st. call_of s st p.derived) is in
-    record {
+    inl (record {
       at = p;
       moves = no_move s m given p;
       why = fault.UnexpectedState;
       reason = subst (λ (x : Move × List RawMessage). IsRefusedFor x.0 x.1 p.queue fault.UnexpectedState) (λ i. (sym ends_here i, sym e i)) refl;
       related = None;
       error = refl;
-      none_used = refl;
+      made = [];
+      none_before = inl refl;
       output = error_written (ruled v (named_error (state_fault (phase_after (c ∷ left))) None)) v aside.output refl (open_after p.left);
       failure = refl;
-    }
+    })
 
 -- ---- all calls
 

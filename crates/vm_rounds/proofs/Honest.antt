@@ -1,6 +1,6 @@
 -- What an honest runtime feeds has its place, frame by frame, and its journal is the history.
 use Rattle.vm_parts.specs.declared.context.StateMap.{StateMap}
-use Rattle.std.proofs.Common.{◌≡◌, ◌≢◌, ℕ, suc, ◌+◌, ◌<◌, ◌≤◌, ◌^◌, Bool, true, false, cond, length, List, [], ◌∷◌, ◌++◌, map, Some, None, Option, refl, sym, ap, ◌∙◌, subst, append_assoc, arith}
+use Rattle.std.proofs.Common.{◌≡◌, ◌≢◌, ℕ, suc, ◌+◌, ◌<◌, ◌≤◌, Bool, true, false, cond, length, List, [], ◌∷◌, ◌++◌, map, Some, None, Option, refl, sym, ap, ◌∙◌, subst, append_assoc, arith}
 use Rattle.std.specs.Prelude.{◌==◌, ◌&&◌, if◌then◌else◌, nat_le, nat_lt}
 use Rattle.std.specs.List.{AllByRecursion, flat_map}
 use Rattle.std.proofs.lemmas.Bool.Decides.{nat_tests}
@@ -14,15 +14,14 @@ use Rattle.journal_errors.specs.declared.version.Version.{Version}
 use Rattle.journal_messages.specs.Reading.{body_as, notification_in, start_in}
 use Rattle.journal_messages.specs.Message.{IsWhole}
 use Rattle.journal_errors.specs.Types.{type_number}
-use Rattle.journal_streams.proofs.Cuts.{whole_spelled}
 use Rattle.wire.proofs.Read.{all_read}
 use Rattle.journal_values.specs.Bodies.{notification_format}
 use Rattle.journal_attempt.specs.Bodies.{start_format}
 use Rattle.vm_parts.specs.declared.options.VMOptions.{VMOptions}
 use Rattle.vm_machine.specs.declared.phase.Phase.{Phase}
 use Rattle.vm_machine.specs.declared.phase.Phase.TheVariants.{WaitingStart, WaitingReplayEntries, Replaying, Processing, Closed}
-use Rattle.invocation_vm.specs.Frames.{Tail, Rest, Garbage, frames_from, frames_of, joined}
-use Rattle.invocation_vm.proofs.Cuts.{frames_of-append, frames_of-next}
+use Rattle.invocation_vm.specs.Frames.{Tail, Rest, Garbage, frames_of, joined}
+use Rattle.invocation_vm.proofs.Cuts.{frames_of-append}
 use Rattle.vm_model.specs.Calls.{Meaning}
 use Rattle.vm_machine.specs.Inputs.{coverage_of, entries_in}
 use Rattle.vm_model.specs.Histories.{Handed, History, Made}

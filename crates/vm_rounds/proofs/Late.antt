@@ -19,15 +19,14 @@ use Rattle.vm_machine.specs.declared.phase.Phase.TheVariants.{WaitingStart, Wait
 use Rattle.vm_machine.specs.Outcomes.{IsStarved, ruled_by}
 use Rattle.vm_machine.specs.Phases.{is_running}
 use Rattle.invocation_vm.specs.Frames.{Tail, Rest, Garbage, frames_of}
-use Rattle.invocation_vm.specs.Views.{StarvesAmong, View, after_closing, after_input, all_received, brought, consumed, left_by, left_over}
+use Rattle.invocation_vm.specs.Views.{StarvesAmong, View, after_closing, after_input, all_received, brought, consumed, left_over}
 use Rattle.vm_model.specs.Calls.{Meaning}
 use Rattle.vm_rounds.specs.declared.progress.Fed.{Fed}
 use Rattle.vm_rounds.specs.declared.progress.Progress.{Progress}
-use Rattle.vm_rounds.specs.declared.progress.Progress.TheVariants as progress
 use Rattle.vm_rounds.specs.declared.progress.Reply.{Reply}
 use Rattle.vm_rounds.specs.declared.progress.Reply.TheVariants as reply
 use Rattle.vm_rounds.specs.Blames.{BadFrame, Began, BehindEnd, Blame, FailsAt, IfError, IsBlamed, IsLate, LateBy, fault_by, frame_fault}
-use Rattle.vm_rounds.specs.Blames.Blame.{Memory, Frame, NoFrame, ClosedEarly, NoInput, Call}
+use Rattle.vm_rounds.specs.Blames.Blame.{Memory, Frame, NoFrame}
 use Rattle.vm_rounds.specs.Journals.{is_command, is_notification}
 use Rattle.vm_rounds.specs.Record.{Record, all_fed}
 use Rattle.vm_rounds.specs.Stepping.{Advances, Asks, CloseDoes, Closes, FeedDoes, Feeds, LacksMemory, Reads, StepAt, StepDoes, StepFrom, StepUnless, Takes, fed_now, future_in, kept, kept_at, replied, step_asked, taken_from, with_vm}

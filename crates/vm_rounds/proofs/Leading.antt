@@ -1,6 +1,6 @@
 -- An event of a machine that agrees with a point does what the next move does.
 use Rattle.vm_parts.specs.declared.context.LastCommand.{LastCommand}
-use Rattle.std.proofs.Common.{◌≡◌, ◌⊎◌, ℕ, false, List, [], ◌∷◌, ◌++◌, Option, Some, None, refl, sym, ap, ◌∙◌, subst, inl, inr, append-nil}
+use Rattle.std.proofs.Common.{◌≡◌, ◌⊎◌, ⊎_elim, ℕ, zero, suc, false, List, [], ◌∷◌, ◌++◌, Option, Some, None, refl, sym, ap, ◌∙◌, subst, inl, inr, append-nil}
 use Rattle.journal_errors.specs.declared.error.Error.{Error}
 use Rattle.journal_errors.specs.declared.error.RelatedCommand.{RelatedCommand}
 use Rattle.journal_errors.specs.declared.faults.NamedFault.{NamedFault}
@@ -18,7 +18,8 @@ use Rattle.vm_machine.specs.Commands.{phase_after}
 use Rattle.vm_model.specs.Calls.{Setup, Meaning, Move, identity_of}
 use Rattle.vm_model.specs.Calls.Move.{Answers, Needs, Awaits, Ends, Refuses}
 use Rattle.vm_model.specs.Moves.{Point, longer, move_at, moved, next, supplied, supply, changed_by}
-use Rattle.vm_model.specs.Histories.{Made, Handed}
+use Rattle.vm_model.specs.Histories.{Made, Handed, Knowledge}
+use Rattle.vm_model.proofs.Runs.{made_spent, next_spent}
 use Rattle.vm_model.specs.Refusals.{IsRefusedFor}
 use Rattle.vm_rounds.specs.declared.progress.Reply.TheVariants as reply
 use Rattle.vm_rounds.specs.Agreement.{Aside, Follows, MovesOn, command_frames, machine_at}
@@ -84,6 +85,17 @@ supplies_behind state Awaits (c ∷ left) = inl refl
 supplies_behind state Ends (c ∷ left) = inl refl
 supplies_behind state (Refuses name) (c ∷ left) = inl refl
 
+-- commands are made only where no recorded one is left
+pub none_or_spent : (s : Setup) (m : Meaning) (state : StateMap) (p q : Point) → next s m (longer (supplied s m state p) p) ≡ Some q → (supplied s m state p ≡ []) ⊎ (q.left ≡ [])
+none_or_spent s m state p q h = ⊎_elim (λ (none : supplied s m state p ≡ []). inl none) (λ (spent : p.left ≡ []). inr (next_spent s m state p q spent h)) (supplies_behind state (move_at s m p) p.left)
+
+pub made_or_spent : (s : Setup) (m : Meaning) (K : Knowledge) (n : ℕ) (p : Point) (made : List RawMessage) (q : Point) → Made s m K n p made q → (made ≡ []) ⊎ (q.left ≡ [])
+made_or_spent s m K zero p made q h = inl h.0
+made_or_spent s m K (suc n) p made q (state, r, rest, knows, is, moves, further) = ⊎_elim
+    (λ (none : supplied s m state p ≡ []). ⊎_elim (λ (x : rest ≡ []). inl (is ∙ (λ i. none i ++ x i))) (λ (x : q.left ≡ []). inr x) (made_or_spent s m K n r rest q further))
+    (λ (spent : r.left ≡ []). inr (made_spent s m K n r rest q spent further))
+    (none_or_spent s m state p r moves)
+
 -- a call whose outcome is what its move leads to
 pub follows_from : {A : Type 0} (s : Setup) (m : Meaning) (given : StateMap) (written : List RawMessage) (aside : Aside) (p : Point) (gives : A → Answer) (mv : Move) (o : Outcome A) → s.identity ≡ identity_of aside.start → move_at s m p ≡ mv
     → Leads s given written aside p mv p.left (supply (state_at given p) mv p.left) (λ a. gives a ∷ []) (moved mv (longer (supply (state_at given p) mv p.left) p)) o → Follows s m given written p (machine_at s given written aside p) (mapped (λ a. reply.Answer (gives a)) (called o (machine_at s given written aside p)))
@@ -101,22 +113,23 @@ follows_from s m given written aside p gives mv o identity is h = by_cases (move
         record {
           at = q;
           made = supply (state_at given p) mv p.left;
-          none_before = supplies_behind (state_at given p) mv p.left;
+          none_before = subst (λ l. (l ≡ []) ⊎ (q.left ≡ [])) supplies (none_or_spent s m (state_at given p) p q (leads (Some q) e));
           moves = record { moves = 1; run = subst (λ l. Made s m (Handed given) 1 p l q) supplies (one_move s m given p q (leads (Some q) e)); answers = g.0 };
           agrees = record { aside = with_last g.1.0 (with_frames (supply (state_at given p) mv p.left) aside); machine = g.1.1; identity = identity };
           output = ap (λ w. w.output) g.1.1;
         }
     by_cases None e (Failed f w) g =
-        record {
+        inl (record {
           at = p;
+          made = [];
+          none_before = inl refl;
           moves = no_move s m given p;
           why = g.why;
           reason = subst (λ x. IsRefusedFor x p.left p.queue g.why) (sym is) g.reason;
           related = g.related;
           error = same_rule (machine_at s given written aside p) w f g.version g.options ∙ ap (ruled (machine_at s given written aside p)) g.error;
-          none_used = refl;
           output = error_written (ruled w f) w aside.output g.output g.open_yet;
           failure = refl;
-        }
+        })
     by_cases (Some q) e (Failed f w) g = absurd g
     by_cases None e (Done a w) g = absurd g

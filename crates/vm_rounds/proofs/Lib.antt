@@ -6,6 +6,9 @@ pub mod Own
 pub mod Requesting
 pub mod Reading
 pub mod Waiting
+pub mod Commanding
+pub mod Awaiting
+pub mod Cancelling
 pub mod Following
 pub mod Arriving
 pub mod Beginning

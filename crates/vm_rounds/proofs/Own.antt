@@ -1,14 +1,10 @@
 -- A command that can be encoded stands for itself once it is stored.
-use Rattle.std.proofs.Common.{◌≡◌, ℕ, true, false, ◌&&◌, refl, ap, ◌∙◌}
-use Rattle.std.specs.Prelude.{◌==◌, nat_le, nat_lt, if◌then◌else◌}
+use Rattle.std.proofs.Common.{◌≡◌, ℕ, true, ◌&&◌, refl, ap, ◌∙◌}
+use Rattle.std.specs.Prelude.{◌==◌, nat_le, nat_lt}
 use Rattle.std.proofs.lemmas.Bool.{eq-eqb}
 use Rattle.journal_messages.specs.Commands.{IsCommand}
-use Rattle.journal_messages.specs.Message.{body, type_of}
-use Rattle.journal_messages.specs.Reading.{message_in}
 use Rattle.journal_messages.specs.Message.{IsWhole}
 use Rattle.journal_errors.specs.Types.{type_number}
-use Rattle.journal_streams.proofs.Alone.{read_back}
-use Rattle.journal_equality.proofs.SameHeader.{same_header}
 use Rattle.journal_messages.specs.declared.message.Message.{Message}
 use Rattle.journal_errors.specs.declared.version.Version.{Version}
 use Rattle.vm_parts.specs.declared.steps.Step.{Step}

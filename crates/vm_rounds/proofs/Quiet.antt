@@ -1,9 +1,6 @@
 -- Input writes no command: what it writes is one Error at most.
 use Rattle.std.proofs.Common.{◌≡◌, ℕ, Bool, true, false, cond, List, [], ◌∷◌, ◌++◌, map, Option, Some, None, refl, sym, ap, ◌∙◌, subst, append_assoc, append-nil}
 use Rattle.std.specs.Prelude.{◌==◌, ◌&&◌, if◌then◌else◌, nat_le, nat_lt}
-use Rattle.std.specs.List.{concat, flat_map}
-use Rattle.std.proofs.lemmas.List.Folds.{concat-append}
-use Rattle.std.proofs.lemmas.Grind.{flat_map-append}
 use Rattle.journal_errors.specs.declared.error.Error.{Error}
 use Rattle.journal_errors.specs.declared.faults.NamedFault.TheVariants as fault
 use Rattle.journal_messages.specs.declared.message.Message.{Message}

@@ -1,8 +1,7 @@
 -- The state reads, in a machine that agrees with a point.
-use Rattle.std.proofs.Common.{◌≡◌, Bool, true, false, List, [], ◌∷◌, ◌++◌, Option, Some, None, refl, sym, ap, ◌∙◌, subst, append-nil}
+use Rattle.std.proofs.Common.{◌≡◌, true, List, [], ◌∷◌, ◌++◌, Option, Some, None, refl, sym, ap, ◌∙◌, subst, append-nil}
 use Rattle.std.specs.Prelude.{if◌then◌else◌, ℕ, Result, Ok, Err}
 use Rattle.journal_errors.specs.declared.faults.NamedFault.{NamedFault}
-use Rattle.journal_errors.specs.declared.faults.NamedFault.TheVariants as fault
 use Rattle.journal_messages.specs.declared.message.Message.{Message}
 use Rattle.journal_messages.specs.declared.message.RawMessage.{RawMessage}
 use Rattle.journal_values.specs.declared.notification.NotificationResult.{NotificationResult}
@@ -17,7 +16,7 @@ use Rattle.vm_machine.specs.declared.machine.Machine.{Machine}
 use Rattle.vm_machine.specs.declared.reads.StateRead.{StateRead}
 use Rattle.vm_machine.specs.declared.reads.StateRead.TheVariants as reads
 use Rattle.vm_machine.specs.Commands.{about_next, entered, handed_out, phase_after, written as wrote}
-use Rattle.vm_machine.specs.Outcomes.{Outcome, Done, Failed, about_last, last_related}
+use Rattle.vm_machine.specs.Outcomes.{Done, Failed, last_related}
 use Rattle.vm_machine.specs.Phases.{is_processing, state_fault}
 use Rattle.vm_machine.specs.Reads.{ReadCanBeRead, eager_type, lazy_form, lazy_type, name_read, own_form, own_result, read_back, read_counted, read_numbered, read_popped, read_step, read_written, recorded_as, recorded_type, result_in, with_result}
 use Rattle.vm_machine.specs.Requests.{changed}
@@ -29,7 +28,7 @@ use Rattle.vm_model.specs.Moves.{Point, brought, changed_by, command_used, found
 use Rattle.vm_model.proofs.Standing.{read_stands}
 use Rattle.vm_rounds.specs.Agreement.{Aside, machine_at}
 use Rattle.vm_rounds.specs.Steps.{IfDone}
-use Rattle.vm_rounds.proofs.Leading.{Leads, Refusing, open_after, state_at, with_frames, with_last}
+use Rattle.vm_rounds.proofs.Leading.{Leads, open_after, state_at, with_frames, with_last}
 use Rattle.vm_rounds.proofs.Requesting.{changed_behind, runs_at, some_behind, uses_next, uses_own}
 
 -- what a read needs, and what it is answered

@@ -1,9 +1,10 @@
 -- The frames of a journal as its entries, and a history that is replayed.
 use Rattle.vm_parts.specs.declared.context.StateMap.{StateMap}
-use Rattle.std.proofs.Common.{◌≡◌, ℕ, inl, inr, Bool, true, false, cond, List, [], ◌∷◌, ◌++◌, Option, Some, None, refl, sym, ap, ◌∙◌, subst}
+use Rattle.std.proofs.Common.{◌≡◌, ℕ, inl, inr, ⊎_elim, Bool, true, false, cond, List, [], ◌∷◌, ◌++◌, Option, Some, None, refl, sym, ap, ◌∙◌, subst}
 use Rattle.std.proofs.lemmas.Option.{same_Some}
 use Rattle.journal_errors.specs.declared.error.Error.{Error}
 use Rattle.journal_errors.specs.declared.faults.NamedFault.{NamedFault}
+use Rattle.journal_errors.specs.Errors.{no_memory}
 use Rattle.journal_messages.specs.declared.message.RawMessage.{RawMessage}
 use Rattle.journal_values.specs.declared.notification.Notification.{Notification}
 use Rattle.journal_errors.specs.declared.version.Version.{Version}
@@ -19,7 +20,6 @@ use Rattle.vm_model.proofs.Compared.{none_refused}
 use Rattle.vm_model.proofs.Refusals.{own_reason, refused_stuck}
 use Rattle.vm_model.specs.Refusals.{IsRefusedFor}
 use Rattle.std.specs.Prelude.{Result, Ok, Err}
-use Rattle.vm_rounds.specs.Record.{Record}
 use Rattle.vm_rounds.specs.declared.progress.Progress.{Progress}
 use Rattle.vm_rounds.specs.Blames.{RefusedCall, Blame, IfError, IsHonest, IsOwnError, first_input}
 use Rattle.vm_rounds.specs.Blames.Blame.{Memory, Frame, NoFrame, ClosedEarly, NoInput, Call}
@@ -83,8 +83,8 @@ history_refuses m version options fed j base moves written at run c further left
     let made : Made s m (Handed (handed_out j)) moves (start s h.input (notifications_in (as_entries j.entries) ++ notifications_among j.others) h.rest) written at = subst (λ p. Made s m (Handed (handed_out j)) moves p written at) (λ i. start s (sym input i) (sym notes i) (sym rest i)) run in
     none_refused s m base (handed_out j) base (as_entries j.entries) (notifications_among j.others) moves written further c at h made left (refused_stuck s m base at why reason)
 
-pub history_replayed : (m : Meaning) (version : Version) (options : VMOptions) (fed : List Fed) (answers : List Answer) (e : Error) (old new : Machine) (x : RefusesReplay m version options fed answers e old new) (base : StateMap) → History (setup_for version options x.journal.start) m base (as_entries x.journal.entries) → ⊥
-history_replayed m version options fed answers e old new x base h = history_refuses m version options fed x.journal base x.moves [] x.at x.made x.recorded x.further x.left x.why x.reason h
+pub history_replayed : (m : Meaning) (version : Version) (options : VMOptions) (fed : List Fed) (answers : List Answer) (e : Error) (old new : Machine) (x : RefusesReplay m version options fed answers e old new) (c : RawMessage) (further : List RawMessage) → x.at.left ≡ c ∷ further → (base : StateMap) → History (setup_for version options x.journal.start) m base (as_entries x.journal.entries) → ⊥
+history_replayed m version options fed answers e old new x c further left base h = history_refuses m version options fed x.journal base x.moves x.written x.at x.made c further left x.why x.reason h
 
 -- ---- honest attempts
 
@@ -93,6 +93,20 @@ no_input s m base entries h none =
     let z : Some h.input ≡ None = sym h.reads ∙ ap first_input (sym h.begins ∙ commands_same entries) ∙ none in
     absurd (cc)
 
+-- a call of an honest attempt that was refused
+honest_refused : (m : Meaning) (version : Version) (options : VMOptions) (fed : List Fed) (closed : Bool) (answers : List Answer) (e : Error) → IsHonest m version options fed → (x : RefusedCall m version options fed answers e) → (left : List RawMessage) → x.at.left ≡ left → IsOwnError m version options fed closed answers e
+honest_refused m version options fed closed answers e honest x [] is = inr (inr (record {
+  journal = x.journal;
+  at = x.at;
+  answers = x.answers;
+  none_recorded = is;
+  why = x.why;
+  reason = own_reason (move_at (setup_for version options x.journal.start) m x.at) x.at.queue x.why (subst (λ l. IsRefusedFor (move_at (setup_for version options x.journal.start) m x.at) l x.at.queue x.why) is x.reason);
+  related = x.related;
+  error = x.error;
+}))
+honest_refused m version options fed closed answers e honest x (c ∷ further) is = absurd (let h = honest.history x.journal.first_frame x.journal.entries x.journal.others x.journal.start x.journal.frames x.journal.reads_start x.journal.count in history_refuses m version options fed x.journal h.0 x.moves x.written x.at x.made c further is x.why x.reason h.1)
+
 -- an honest attempt fails for nothing but a reason of its own
 pub honest_fails : (m : Meaning) (version : Version) (options : VMOptions) (fed : List Fed) (closed : Bool) (answers : List Answer) (e : Error) → IsHonest m version options fed → Blame m version options fed closed answers e → IsOwnError m version options fed closed answers e
 honest_fails m version options fed closed answers e honest (Memory x) = inl x
@@ -100,23 +114,10 @@ honest_fails m version options fed closed answers e honest (Frame x) = absurd (l
 honest_fails m version options fed closed answers e honest (NoFrame x y) = absurd (honest.whole x)
 honest_fails m version options fed closed answers e honest (ClosedEarly x y z) = inr (inl (x, y, z))
 honest_fails m version options fed closed answers e honest (NoInput x) = absurd (let h = honest.history x.first x.entries x.others x.start x.is x.reads x.count in no_input (setup_for version options x.start) m h.0 x.entries h.1 x.none)
-honest_fails m version options fed closed answers e honest (Call refuses) = by_left x.at.left refl
-  where
-    x : RefusedCall m version options fed answers e
-    x = refuses honest.premises
-
-    by_left : (left : List RawMessage) → x.at.left ≡ left → IsOwnError m version options fed closed answers e
-    by_left [] is = inr (inr (record {
-      journal = x.journal;
-      at = x.at;
-      answers = x.answers;
-      none_recorded = is;
-      why = x.why;
-      reason = own_reason (move_at (setup_for version options x.journal.start) m x.at) x.at.queue x.why (subst (λ l. IsRefusedFor (move_at (setup_for version options x.journal.start) m x.at) l x.at.queue x.why) is x.reason);
-      related = x.related;
-      error = x.error;
-    }))
-    by_left (c ∷ further) is = absurd (let h = honest.history x.journal.first_frame x.journal.entries x.journal.others x.journal.start x.journal.frames x.journal.reads_start x.journal.count in history_refuses m version options fed x.journal h.0 x.moves x.written x.at x.made c further is x.why x.reason h.1)
+honest_fails m version options fed closed answers e honest (Call refuses) = ⊎_elim
+    (λ (y : e ≡ no_memory). inl y)
+    (λ (y : RefusedCall m version options fed answers e). honest_refused m version options fed closed answers e honest y y.at.left refl)
+    (refuses honest.premises)
 
 -- the error of a step of an honest attempt
 pub honest_errs : (m : Meaning) (version : Version) (options : VMOptions) (all : List Fed) (closed : Bool) (answers : List Answer) (result : Result Progress Error) → IsHonest m version options all → IfError result (λ e. Blame m version options all closed answers e) → IfError result (λ e. IsOwnError m version options all closed answers e)

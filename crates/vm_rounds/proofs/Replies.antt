@@ -7,8 +7,8 @@ use Rattle.journal_messages.specs.declared.message.Message.{Message}
 use Rattle.vm_machine.specs.Commands.{CanBeRead}
 use Rattle.vm_machine.specs.declared.reads.StateRead.{StateRead}
 use Rattle.vm_machine.specs.Reads.{ReadCanBeRead}
-use Rattle.vm_machine.specs.Awaits.{Awaits}
-use Rattle.vm_machine.specs.Outcomes.{CalledBy, Does, DoesBy, Done, Failed, IsStarved, Outcome, called}
+use Rattle.vm_machine.specs.Cancels.{AwaitsWhole}
+use Rattle.vm_machine.specs.Outcomes.{Does, DoesBy, Failed, IsStarved, Outcome, called}
 use Rattle.vm_parts.specs.declared.types.AwaitResponse.{AwaitResponse}
 use Rattle.await_trees.specs.declared.tree.UnresolvedFuture.{UnresolvedFuture}
 use Rattle.await_trees.specs.Tree.{tree_of}
@@ -19,10 +19,10 @@ pub replies : {A : Type 0} (f : A → Reply) (step : Machine → Outcome A) (r :
 replies f step (Ok a) old new h = ap (mapped f) (sym h)
 replies f step (Err e) old new h = ⊎_elim (λ (x : called (step old) old ≡ Failed e new). inl (ap (mapped f) (sym x))) (λ (x : IsStarved old e new). inr x) h
 
--- an await that may come to what was answered
-pub awaits_reply : (future : UnresolvedFuture) (r : Result (Result AwaitResponse Error) Error) (old new : Machine) → DoesBy (CalledBy (Awaits (tree_of future) old) old) r old new → DoesBy (Awaited future old) (result_mapped await_reply r) old new
-awaits_reply future (Ok a) old new h = (Done a new, h, refl)
-awaits_reply future (Err e) old new h = ⊎_elim (λ (x : CalledBy (Awaits (tree_of future) old) old (Failed e new)). inl (Failed e new, x, refl)) (λ (x : IsStarved old e new). inr x) h
+-- what the whole call of an await came to
+pub awaits_reply : (future : UnresolvedFuture) (r : Result (Result AwaitResponse Error) Error) (old new : Machine) → AwaitsWhole (tree_of future) r old new → DoesBy (Awaited future old) (result_mapped await_reply r) old new
+awaits_reply future (Ok a) old new h = (a, h, refl)
+awaits_reply future (Err e) old new h = inl h
 
 -- where a reply is an answer, its call was answered
 pub replies_sent : {A B : Type 0} (q : Message) (v : Machine) (f : A → B) (r : Result A Error) → OnOk r (CanBeRead q v) → OnOk (result_mapped f r) (CanBeRead q v)

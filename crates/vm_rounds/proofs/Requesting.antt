@@ -21,7 +21,7 @@ use Rattle.vm_machine.specs.declared.phase.Phase.TheVariants.{Replaying, Process
 use Rattle.vm_machine.specs.Commands.{carried_out, compared, counted as counted_event, entered, ignores_payloads, issued, phase_after, popped, popped_from, prepared, replayed, typed, written as wrote}
 use Rattle.vm_machine.specs.Phases.{is_processing, is_running, state_fault}
 use Rattle.vm_machine.specs.Outcomes.{Outcome, Done, Failed, ◌>>=◌, about_last, last_related}
-use Rattle.vm_machine.specs.Requests.{changed, ids_of, name_of, shown_type, with_ids}
+use Rattle.vm_machine.specs.Requests.{changed, ids_of, name_of, shown_type, tracked_after, with_ids}
 use Rattle.vm_model.specs.Calls.{Setup, Demand, Derived, Move, answer_of, counted, demand_of, numbered, requested}
 use Rattle.vm_model.specs.Calls.Demand.{Exactly}
 use Rattle.vm_model.specs.Calls.Move.{Needs}
@@ -62,19 +62,23 @@ shown r = record { ty = shown_type r.message; name = name_of r.message }
 abbrev noted : Command → Aside → Aside
 noted r aside = with_last (shown r) aside
 
+-- what follows behind a command: it is counted, and tracked where its invocation is cancelled with the handler's
+abbrev after : Setup → Command → Point → Derived
+after s r p = record (counted (ids_of r.message) p.derived) { tracked = tracked_after s.options.implicit_cancellation r.message p.derived.counters.handle p.derived.tracked }
+
 -- the point of a call whose command is counted and said, but neither used nor answered
-abbrev said_by : Command → Point → Point
-said_by r p = record p { derived = counted (ids_of r.message) p.derived; said = p.said ++ with_ids p.derived.counters.completion r.message ∷ [] }
+abbrev said_by : Setup → Command → Point → Point
+said_by s r p = record p { derived = after s r p; said = p.said ++ with_ids p.derived.counters.completion r.message ∷ [] }
 
 -- and the point behind it
-abbrev past : Command → List Answer → List RawMessage → Point → Point
-past r gives left p = record { answers = p.answers ++ gives; derived = counted (ids_of r.message) p.derived; said = p.said ++ with_ids p.derived.counters.completion r.message ∷ []; queue = p.queue; left = left }
+abbrev past : Setup → Command → List Answer → List RawMessage → Point → Point
+past s r gives left p = record { answers = p.answers ++ gives; derived = after s r p; said = p.said ++ with_ids p.derived.counters.completion r.message ∷ []; queue = p.queue; left = left }
 
 abbrev state_said : Setup → StateMap → List RawMessage → Aside → Command → Point → StateMap → Machine
-state_said s given written aside r p state = record (machine_at s given written (noted r aside) (said_by r p)) { state = state }
+state_said s given written aside r p state = record (machine_at s given written (noted r aside) (said_by s r p)) { state = state }
 
 -- what a call changes before its command
-prepares : (s : Setup) (given : StateMap) (written : List RawMessage) (aside : Aside) (r : Command) (p : Point) → prepared r.message (machine_at s given written aside p) ≡ machine_at s given written (noted r aside) (said_by r p)
+prepares : (s : Setup) (given : StateMap) (written : List RawMessage) (aside : Aside) (r : Command) (p : Point) → prepared r.message (machine_at s given written aside p) ≡ machine_at s given written (noted r aside) (said_by s r p)
 prepares s given written aside r p = ap (state_said s given written aside r p) (sym (changed_behind p.said (with_ids p.derived.counters.completion r.message) given))
 
 -- the outcome of a call whose command was carried out
@@ -83,7 +87,7 @@ handed p o = o >>= λ _ w. Done (record { 0 = p.derived.counters.handle }) w
 
 -- the move of a call with a command
 abbrev needing : Setup → Command → Point → Move
-needing s r p = Needs (demand_of s r p.derived) (answer_of r p.derived ∷ []) (counted (ids_of r.message) p.derived)
+needing s r p = Needs (demand_of s r p.derived) (answer_of r p.derived ∷ []) (after s r p)
 
 -- whether payloads are left out
 abbrev ignores : Setup → Command → Bool
@@ -93,7 +97,7 @@ ignores s r = ignores_payloads s.options.non_determinism_checks r.unstable
 
 writes : (s : Setup) (given : StateMap) (written : List RawMessage) (aside : Aside) (r : Command) (p : Point) (gives : NotificationHandle → List Answer) → gives (record { 0 = p.derived.counters.handle }) ≡ answer_of r p.derived ∷ [] → p.left ≡ []
     → (o : Result (Option NotificationResult) NamedFault) → o ≡ Ok None
-    → Leads s given written aside p (needing s r p) [] (stored_form (with_ids p.derived.counters.completion r.message) ∷ []) gives (command_used o (demand_of s r p.derived) (answer_of r p.derived ∷ []) (counted (ids_of r.message) p.derived) [] p) (handed p (Done tt (wrote (with_ids p.derived.counters.completion r.message) (machine_at s given written (noted r aside) (said_by r p)))))
+    → Leads s given written aside p (needing s r p) [] (stored_form (with_ids p.derived.counters.completion r.message) ∷ []) gives (command_used o (demand_of s r p.derived) (answer_of r p.derived ∷ []) (after s r p) [] p) (handed p (Done tt (wrote (with_ids p.derived.counters.completion r.message) (machine_at s given written (noted r aside) (said_by s r p)))))
 writes s given written aside r p gives answer spent (Err name) e = absurd (cc)
 writes s given written aside r p gives answer spent (Ok (Some x)) e = absurd (cc)
 writes s given written aside r p gives answer spent (Ok None) e =
@@ -101,7 +105,7 @@ writes s given written aside r p gives answer spent (Ok None) e =
       ap (λ l. p.answers ++ l) (sym answer),
       (
         shown r,
-        λ i. record (machine_at s given written (with_frames (stored_form m ∷ []) (noted r aside)) (past r (answer_of r p.derived ∷ []) [] p)) { commands = spent i; phase = phase_after (spent i); wrote_command = sym (some_behind written (stored_form m)) i },
+        λ i. record (machine_at s given written (with_frames (stored_form m ∷ []) (noted r aside)) (past s r (answer_of r p.derived ∷ []) [] p)) { commands = spent i; phase = phase_after (spent i); wrote_command = sym (some_behind written (stored_form m)) i },
       ),
     )
 
@@ -109,7 +113,7 @@ writes s given written aside r p gives answer spent (Ok None) e =
 
 -- what the machine is once it has popped a command
 abbrev popped_to : Setup → StateMap → List RawMessage → Aside → Command → List RawMessage → Point → Machine
-popped_to s given written aside r left p = record (machine_at s given written (noted r aside) (said_by r p)) { commands = left; phase = phase_after left }
+popped_to s given written aside r left p = record (machine_at s given written (noted r aside) (said_by s r p)) { commands = left; phase = phase_after left }
 
 -- the next recorded command doesn't stand for the call's
 unlike : (s : Setup) (given : StateMap) (written : List RawMessage) (aside : Aside) (r : Command) (p : Point) (c : RawMessage) (left : List RawMessage) (name : NamedFault) → found (demand_of s r p.derived) c ≡ Err name
@@ -122,7 +126,7 @@ found_same command ignore c same = ap (λ b. if b then reads_as ignore command (
 
 reads : (s : Setup) (given : StateMap) (written : List RawMessage) (aside : Aside) (r : Command) (p : Point) (c : RawMessage) (left : List RawMessage) (gives : NotificationHandle → List Answer) → gives (record { 0 = p.derived.counters.handle }) ≡ answer_of r p.derived ∷ []
     → (type_number c.ty == type_number (type_of (with_ids p.derived.counters.completion r.message))) ≡ true
-    → (o : Option Message) → message_in c.ty c.body ≡ o → Leads s given written aside p (needing s r p) (c ∷ left) [] gives (command_used (reads_as (ignores s r) (with_ids p.derived.counters.completion r.message) o) (demand_of s r p.derived) (answer_of r p.derived ∷ []) (counted (ids_of r.message) p.derived) left p) (handed p (compared (with_ids p.derived.counters.completion r.message) (ignores s r) o (popped_to s given written aside r left p)))
+    → (o : Option Message) → message_in c.ty c.body ≡ o → Leads s given written aside p (needing s r p) (c ∷ left) [] gives (command_used (reads_as (ignores s r) (with_ids p.derived.counters.completion r.message) o) (demand_of s r p.derived) (answer_of r p.derived ∷ []) (after s r p) left p) (handed p (compared (with_ids p.derived.counters.completion r.message) (ignores s r) o (popped_to s given written aside r left p)))
 reads s given written aside r p c left gives answer same None is =
     let m = with_ids p.derived.counters.completion r.message in
     unlike s given written aside r p c left fault.BadMessage (found_same m (ignores s r) c same ∙ ap (reads_as (ignores s r) m) is)
@@ -131,14 +135,14 @@ reads s given written aside r p c left gives answer same (Some recorded) is = by
     m : Message
     m = with_ids p.derived.counters.completion r.message
 
-    by_test : (b : Bool) → header_equal recorded m (ignores s r) ≡ b → Leads s given written aside p (needing s r p) (c ∷ left) [] gives (command_used (if b then Ok None else Err fault.CommandMismatch) (demand_of s r p.derived) (answer_of r p.derived ∷ []) (counted (ids_of r.message) p.derived) left p) (handed p (if b then Done tt (popped_to s given written aside r left p) else Failed (about_last fault.CommandMismatch (popped_to s given written aside r left p)) (popped_to s given written aside r left p)))
+    by_test : (b : Bool) → header_equal recorded m (ignores s r) ≡ b → Leads s given written aside p (needing s r p) (c ∷ left) [] gives (command_used (if b then Ok None else Err fault.CommandMismatch) (demand_of s r p.derived) (answer_of r p.derived ∷ []) (after s r p) left p) (handed p (if b then Done tt (popped_to s given written aside r left p) else Failed (about_last fault.CommandMismatch (popped_to s given written aside r left p)) (popped_to s given written aside r left p)))
     by_test false other =
         unlike s given written aside r p c left fault.CommandMismatch
         (found_same m (ignores s r) c same ∙ ap (reads_as (ignores s r) m) is ∙ ap (λ b. if b then Ok None else Err fault.CommandMismatch) other)
-    by_test true equal = (ap (λ l. p.answers ++ l) (sym answer), (shown r, λ i. machine_at s given (sym (append-nil written) i) (record (noted r aside) { output = sym (append-nil aside.output) i }) (past r (answer_of r p.derived ∷ []) left p)))
+    by_test true equal = (ap (λ l. p.answers ++ l) (sym answer), (shown r, λ i. machine_at s given (sym (append-nil written) i) (record (noted r aside) { output = sym (append-nil aside.output) i }) (past s r (answer_of r p.derived ∷ []) left p)))
 
 replays : (s : Setup) (given : StateMap) (written : List RawMessage) (aside : Aside) (r : Command) (p : Point) (c : RawMessage) (left : List RawMessage) (gives : NotificationHandle → List Answer) → gives (record { 0 = p.derived.counters.handle }) ≡ answer_of r p.derived ∷ []
-    → Leads s given written aside p (needing s r p) (c ∷ left) [] gives (command_used (found (demand_of s r p.derived) c) (demand_of s r p.derived) (answer_of r p.derived ∷ []) (counted (ids_of r.message) p.derived) left p)
+    → Leads s given written aside p (needing s r p) (c ∷ left) [] gives (command_used (found (demand_of s r p.derived) c) (demand_of s r p.derived) (answer_of r p.derived ∷ []) (after s r p) left p)
     (handed p (typed c (type_of (with_ids p.derived.counters.completion r.message)) (popped_to s given written aside r left p) >>= λ raw z. compared (with_ids p.derived.counters.completion r.message) (ignores s r) (message_in raw.ty raw.body) z))
 replays s given written aside r p c left gives answer = by_test (type_number c.ty == type_number (type_of m)) refl
   where
@@ -151,7 +155,7 @@ replays s given written aside r p c left gives answer = by_test (type_number c.t
     w : Machine
     w = popped_to s given written aside r left p
 
-    by_test : (b : Bool) → (type_number c.ty == type_number (type_of m)) ≡ b → Leads s given written aside p (needing s r p) (c ∷ left) [] gives (command_used (if b then reads_as (ignores s r) m (message_in c.ty c.body) else Err fault.CommandTypeMismatch) e (answer_of r p.derived ∷ []) (counted (ids_of r.message) p.derived) left p) (handed p ((if b then Done c w else Failed (about_last fault.CommandTypeMismatch w) w) >>= λ raw z. compared m (ignores s r) (message_in raw.ty raw.body) z))
+    by_test : (b : Bool) → (type_number c.ty == type_number (type_of m)) ≡ b → Leads s given written aside p (needing s r p) (c ∷ left) [] gives (command_used (if b then reads_as (ignores s r) m (message_in c.ty c.body) else Err fault.CommandTypeMismatch) e (answer_of r p.derived ∷ []) (after s r p) left p) (handed p ((if b then Done c w else Failed (about_last fault.CommandTypeMismatch w) w) >>= λ raw z. compared m (ignores s r) (message_in raw.ty raw.body) z))
     by_test true same = reads s given written aside r p c left gives answer same (message_in c.ty c.body) refl
     by_test false other = unlike s given written aside r p c left fault.CommandTypeMismatch (ap (λ b. if b then reads_as (ignores s r) m (message_in c.ty c.body) else Err fault.CommandTypeMismatch) other)
 
@@ -173,22 +177,22 @@ uses_next e gives d c left p is = ap (moved (Needs e gives d)) (longer_nothing p
 -- the counters suffice: the command is written or popped
 carries : (s : Setup) (given : StateMap) (written : List RawMessage) (aside : Aside) (r : Command) (p : Point) (gives : NotificationHandle → List Answer) → gives (record { 0 = p.derived.counters.handle }) ≡ answer_of r p.derived ∷ []
     → (P : Type 0) → (P → p.left ≡ [] → found (demand_of s r p.derived) (stored_form (with_ids p.derived.counters.completion r.message)) ≡ Ok None)
-    → IfDone (handed p (carried_out (with_ids p.derived.counters.completion r.message) (ignores s r) (machine_at s given written (noted r aside) (said_by r p)))) P
+    → IfDone (handed p (carried_out (with_ids p.derived.counters.completion r.message) (ignores s r) (machine_at s given written (noted r aside) (said_by s r p)))) P
     → (left : List RawMessage) → p.left ≡ left
     → Leads s given written aside p (needing s r p) left (supply (state_at given p) (needing s r p) left) gives (moved (needing s r p) (longer (supply (state_at given p) (needing s r p) left) p))
-    (handed p (carried_out (with_ids p.derived.counters.completion r.message) (ignores s r) (machine_at s given written (noted r aside) (said_by r p))))
+    (handed p (carried_out (with_ids p.derived.counters.completion r.message) (ignores s r) (machine_at s given written (noted r aside) (said_by s r p))))
 carries s given written aside r p gives answer P own whole [] is =
     let m = with_ids p.derived.counters.completion r.message in
     let e = demand_of s r p.derived in
-    let w = machine_at s given written (noted r aside) (said_by r p) in
-    let next : moved (needing s r p) (longer (stored_form m ∷ []) p) ≡ command_used (found e (stored_form m)) e (answer_of r p.derived ∷ []) (counted (ids_of r.message) p.derived) [] p = uses_own e (answer_of r p.derived ∷ []) (counted (ids_of r.message) p.derived) (stored_form m) p is in
+    let w = machine_at s given written (noted r aside) (said_by s r p) in
+    let next : moved (needing s r p) (longer (stored_form m ∷ []) p) ≡ command_used (found e (stored_form m)) e (answer_of r p.derived ∷ []) (after s r p) [] p = uses_own e (answer_of r p.derived ∷ []) (after s r p) (stored_form m) p is in
     let spent = carries_spent m (ignores s r) w (ap phase_after is) in
     rw (next, spent) (writes s given written aside r p gives answer is (found e (stored_form m)) (own (subst (λ o. IfDone (handed p o) P) spent whole) is))
 carries s given written aside r p gives answer P own whole (c ∷ left) is =
     let m = with_ids p.derived.counters.completion r.message in
     let e = demand_of s r p.derived in
-    let w = machine_at s given written (noted r aside) (said_by r p) in
-    let next : moved (needing s r p) (longer [] p) ≡ command_used (found e c) e (answer_of r p.derived ∷ []) (counted (ids_of r.message) p.derived) left p = uses_next e (answer_of r p.derived ∷ []) (counted (ids_of r.message) p.derived) c left p is in
+    let w = machine_at s given written (noted r aside) (said_by s r p) in
+    let next : moved (needing s r p) (longer [] p) ≡ command_used (found e c) e (answer_of r p.derived ∷ []) (after s r p) left p = uses_next e (answer_of r p.derived ∷ []) (after s r p) c left p is in
     rw (next, carries_recorded m (ignores s r) w (ap phase_after is), replays_next m (ignores s r) c left w is) (replays s given written aside r p c left gives answer)
 
 counts : (s : Setup) (given : StateMap) (written : List RawMessage) (aside : Aside) (r : Command) (p : Point) (gives : NotificationHandle → List Answer) → gives (record { 0 = p.derived.counters.handle }) ≡ answer_of r p.derived ∷ []

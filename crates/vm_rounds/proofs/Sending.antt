@@ -1,9 +1,8 @@
 -- What a call of a step writes and leaves, whatever came before it: frames of messages, and a VM that runs, is closed or has failed.
 use Rattle.vm_machine.specs.declared.reads.StateRead.{StateRead}
 use Rattle.vm_machine.specs.Reads.{eager_type, lazy_type, name_read, own_form, own_result, read_back, read_counted, read_numbered, read_popped, read_step, read_written, recorded_as, recorded_type, result_in, with_result}
-use Rattle.std.proofs.Common.{◌≡◌, inl, inr, length, ℕ, Bool, true, false, cond, List, [], ◌∷◌, ◌++◌, map, Option, Some, None, Result, Ok, Err, refl, sym, ap, ◌∙◌, subst, ⊎_elim, append-nil}
-use Rattle.std.specs.Prelude.{◌==◌, if◌then◌else◌, unwrap_or, OnOk}
-use Rattle.std.specs.List.{AllByRecursion}
+use Rattle.std.proofs.Common.{◌≡◌, length, ℕ, Bool, true, false, List, [], ◌∷◌, ◌++◌, map, Option, Some, None, Result, Ok, Err, refl, sym, ap, ◌∙◌, subst, ⊎_elim, append_assoc, append-nil}
+use Rattle.std.specs.Prelude.{◌==◌, if◌then◌else◌, unwrap_or}
 use Rattle.journal_errors.specs.declared.error.Error.{Error}
 use Rattle.journal_errors.specs.declared.faults.NamedFault.{NamedFault}
 use Rattle.journal_errors.specs.declared.faults.NamedFault.TheVariants as fault
@@ -17,12 +16,12 @@ use Rattle.journal_messages.specs.Message.{encoding, type_of}
 use Rattle.journal_messages.specs.Reading.{message_in}
 use Rattle.journal_errors.specs.Types.{type_number}
 use Rattle.vm_parts.specs.declared.types.AwaitResponse.{AwaitResponse}
-use Rattle.vm_parts.specs.declared.types.AwaitResponse.TheVariants.{AnyCompleted, WaitingExternalProgress}
+use Rattle.vm_parts.specs.declared.types.AwaitResponse.TheVariants.{AnyCompleted, CancelSignalReceived, WaitingExternalProgress}
 use Rattle.vm_parts.specs.declared.types.AwakeableHandle.{AwakeableHandle}
 use Rattle.await_trees.specs.declared.handle.NotificationHandle.{NotificationHandle}
-use Rattle.await_trees.specs.Tree.{Tree, tree_of}
+use Rattle.await_trees.specs.declared.tree.UnresolvedFuture.{UnresolvedFuture}
+use Rattle.await_trees.specs.Tree.{Tree, leaf, tree_of}
 use Rattle.await_trees.specs.Wires.{sent}
-use Rattle.await_tries.specs.Message.{ids}
 use Rattle.await_tries.specs.Message.{ids}
 use Rattle.vm_parts.specs.declared.values.Value.{Value}
 use Rattle.vm_parts.specs.declared.steps.Step.{Step}
@@ -34,22 +33,27 @@ use Rattle.vm_machine.specs.declared.asks.Ask.TheVariants as ask
 use Rattle.vm_machine.specs.declared.machine.Machine.{Machine}
 use Rattle.vm_machine.specs.declared.phase.Phase.{Phase}
 use Rattle.vm_machine.specs.declared.phase.Phase.TheVariants.{WaitingStart, WaitingReplayEntries, Replaying, Processing, Closed}
-use Rattle.vm_machine.specs.Asks.{ask_of}
-use Rattle.vm_machine.specs.Awaits.{Awaits, AwaitsAt, pending_on, said_waiting, suspended, waiting, with_used}
-use Rattle.vm_machine.specs.Takes.{result_taken, take_step, taken_at, value_taken}
-use Rattle.vm_machine.specs.Commands.{CanBeRead, carried_out, commanded, commanded_unless, compared, counted, entered, ignores_payloads, issued, phase_after, popped, popped_from, prepared, replayed, written, about_next, handed_out}
+use Rattle.vm_machine.specs.Asks.{ask_of, cancel_invocation_command}
+use Rattle.vm_machine.specs.Awaits.{Awaits, AwaitsAt, AwaitsBy, Behind, Ends, EndsBy, Gathers, ReadsId, StaysPending, Tries, id_read, is_cancelled, or_cancelled, pending_on, result_at, said_waiting, suspended, waiting, with_used}
+use Rattle.vm_machine.specs.Cancels.{AwaitsWhole, Cancels, FinishesIf, Onward, SendsCancel, cancel_taken, sends_cancels}
+use Rattle.vm_machine.proofs.Cancelling.{Keeps, read_keeps, woken_keeps}
+use Rattle.vm_parts.specs.Options.{ends_awaits}
+use Rattle.vm_parts.specs.Tracked.{id_of_result, id_of_value, invocation_ids, noted, unresolved, with_next_id}
+use Rattle.vm_parts.specs.declared.run_state.TrackedCall.{TrackedCall}
+use Rattle.std.specs.Option.{option_and_then}
+use Rattle.vm_rounds.proofs.Quiet.{map_append}
+use Rattle.vm_machine.specs.Takes.{result_taken, take_step, taken_at, value_noted, value_taken}
+use Rattle.vm_machine.specs.Commands.{carried_out, commanded, commanded_unless, compared, counted, entered, ignores_payloads, issued, phase_after, popped, popped_from, prepared, replayed, written, about_next, handed_out}
 use Rattle.vm_machine.specs.Inputs.{end_at, end_step}
-use Rattle.vm_machine.specs.Outcomes.{DoesBy, IsStarved, Outcome, Done, Failed, ◌>>=◌, about_last, called, called_at, failed, refused, ruled, settled}
+use Rattle.vm_machine.specs.Outcomes.{CalledBy, Does, DoesBy, IsStarved, Outcome, Done, Failed, ◌>>=◌, about_last, called, called_at, failed, refused, ruled, settled}
 use Rattle.vm_machine.proofs.Calling.{called_from}
 use Rattle.vm_machine.specs.Phases.{is_closed, is_processing, is_replaying, is_running, state_fault}
 use Rattle.vm_machine.specs.Requests.{ids_of, name_of, shown_type, with_ids}
 use Rattle.vm_machine.specs.Signals.{awakeable_counted, awakeable_step, signal_counted, signal_step}
 use Rattle.invocation_vm.specs.Calls.{new_awakeable_step, skips_replay}
-use Rattle.vm_model.specs.Journal.{stored_form}
 use Rattle.vm_rounds.specs.declared.progress.Reply.{Reply}
 use Rattle.vm_rounds.specs.declared.progress.Reply.TheVariants as reply
-use Rattle.vm_rounds.specs.Journals.{is_command}
-use Rattle.vm_rounds.specs.Steps.{Performs, PerformsBy, await_reply, mapped}
+use Rattle.vm_rounds.specs.Steps.{Awaited, Performs, PerformsBy, await_reply, mapped}
 use Rattle.vm_rounds.specs.Told.{IsLive}
 
 -- ---- what is left
@@ -70,6 +74,15 @@ pub record Leaves {A : Type 0} (Left : A → Machine → Type 0) (v : Machine) (
 -- nothing was written
 abbrev Stays : Machine → Machine → Type 0
 Stays v w = (w.output ≡ v.output) × (w.version ≡ v.version) × (w.options ≡ v.options)
+
+-- messages, and more behind them
+sends_then : (u v w : Machine) → Sends u v → Sends v w → Sends u w
+sends_then u v w a b = record {
+  messages = a.messages ++ b.messages;
+  output = b.output ∙ ap (λ l. l ++ map encoding b.messages) a.output ∙ append_assoc u.output (map encoding a.messages) (map encoding b.messages) ∙ ap (λ l. u.output ++ l) (sym (map_append a.messages b.messages));
+  version = b.version ∙ a.version;
+  options = b.options ∙ a.options;
+}
 
 stays_sends : (v w : Machine) → Stays v w → Sends v w
 stays_sends v w s = record { messages = []; output = s.0 ∙ sym (append-nil v.output); version = s.1; options = s.2 }
@@ -278,23 +291,80 @@ module _ (left : Tree) (v u : Machine) (same : Stays v u) (failure : u.failure �
       by_tests false true = suspends
       by_tests false false = waits
 
+tries : (t : Tree) (v : Machine) (x : Outcome (Result AwaitResponse Error)) → is_running v.phase ≡ true → Tries t v x → Happens AwaitLeaves v x
+tries t v x runs comes = ⊎_elim
+    (λ (y : Ends t v x). subst (Happens AwaitLeaves v) (sym y.2) (record { sends = stays_sends v (with_used y.0 v) (refl, refl, refl); failure = refl; left = runs }))
+    (λ (y : StaysPending t v x). subst (Happens AwaitLeaves v) (sym y.2) (pends y.0 v (with_used (length v.results.queued) v) (refl, refl, refl) refl runs))
+    comes
+
+-- an await that has woken has written nothing
+kept : (v w : Machine) → Keeps v w → Stays v w
+kept v w k = (ap (λ l. l.output) k.0, ap (λ l. l.version) k.0, ap (λ l. l.options) k.0)
+
+-- what it comes to next
+happens_behind : (v w : Machine) (o : Outcome (Result AwaitResponse Error)) → Keeps v w → Happens AwaitLeaves w o → Happens AwaitLeaves v o
+happens_behind v w (Done a x) k h = record { sends = sends_then v w x (stays_sends v w (kept v w k)) h.sends; failure = h.failure ∙ ap (λ l. l.failure) k.0; left = h.left }
+happens_behind v w (Failed e x) k h =
+    let s = kept v w k in
+    (h.0 ∙ s.0, h.1 ∙ s.1, h.2 ∙ s.2)
+
+behind : (v : Machine) (Next : Machine → Outcome (Result AwaitResponse Error) → Type 0) (first o : Outcome (Result AwaitResponse Error)) → Happens AwaitLeaves v first
+    → ((w : Machine) → first ≡ Done (Ok AnyCompleted) w → Next w o → Happens AwaitLeaves v o) → Behind Next first o → Happens AwaitLeaves v o
+behind v Next (Done (Ok AnyCompleted) w) o h f on = f w refl on
+behind v Next (Done (Ok CancelSignalReceived) w) o h f on = subst (Happens AwaitLeaves v) (sym on) h
+behind v Next (Done (Ok (WaitingExternalProgress input run)) w) o h f on = subst (Happens AwaitLeaves v) (sym on) h
+behind v Next (Done (Err e) w) o h f on = subst (Happens AwaitLeaves v) (sym on) h
+behind v Next (Failed e w) o h f on = subst (Happens AwaitLeaves v) (sym on) h
+
+id_reads : (id : Option (List ℕ)) (v : Machine) → is_running v.phase ≡ true → Happens AwaitLeaves v (id_read id v)
+id_reads None v runs = (refl, refl, refl)
+id_reads (Some id) v runs = record { sends = stays_sends v (record v { tracked = with_next_id id v.tracked }) (refl, refl, refl); failure = refl; left = runs }
+
+reads_id : (handle : ℕ) (v : Machine) (o : Outcome (Result AwaitResponse Error)) → is_running v.phase ≡ true → ReadsId handle v o → Happens AwaitLeaves v o
+reads_id handle v o runs (first, tried, on) =
+    behind v (λ w p. p ≡ id_read (option_and_then id_of_result (result_at handle w)) w) first o (tries (leaf handle) v first runs tried)
+    (λ w is next.
+    let k = woken_keeps (leaf handle) v w (subst (Tries (leaf handle) v) is tried) in
+    happens_behind v w o k (subst (Happens AwaitLeaves w) (sym next) (id_reads (option_and_then id_of_result (result_at handle w)) w (ap is_running k.1 ∙ runs)))) on
+
+gathers : (handles : List ℕ) (v : Machine) (o : Outcome (Result AwaitResponse Error)) → is_running v.phase ≡ true → Gathers handles v o → Happens AwaitLeaves v o
+gathers [] v o runs comes = subst (Happens AwaitLeaves v) (sym comes) (record { sends = stays_sends v v (refl, refl, refl); failure = refl; left = runs })
+gathers (handle ∷ handles) v o runs (first, reads, on) =
+    behind v (Gathers handles) first o (reads_id handle v first runs reads)
+    (λ w is next.
+    let k = read_keeps handle v w (subst (ReadsId handle v) is reads) in
+    happens_behind v w o k (gathers handles w o (ap is_running k.1 ∙ runs) next)) on
+
+ends_by : (b : Bool) (v : Machine) (o : Outcome (Result AwaitResponse Error)) → is_running v.phase ≡ true → EndsBy b v o → Happens AwaitLeaves v o
+ends_by true v o runs comes = gathers (unresolved v.tracked) v o runs comes
+ends_by false v o runs comes = subst (Happens AwaitLeaves v) (sym comes) (record { sends = stays_sends v v (refl, refl, refl); failure = refl; left = runs })
+
+awaits_by : (b : Bool) (t : Tree) (v : Machine) (o : Outcome (Result AwaitResponse Error)) → is_running v.phase ≡ true → AwaitsBy b t v o → Happens AwaitLeaves v o
+awaits_by true t v o runs (first, tried, on) =
+    behind v (λ w p. EndsBy (is_cancelled w) w p) first o (tries (or_cancelled t) v first runs tried)
+    (λ w is next.
+    let k = woken_keeps (or_cancelled t) v w (subst (Tries (or_cancelled t) v) is tried) in
+    happens_behind v w o k (ends_by (is_cancelled w) w o (ap is_running k.1 ∙ runs) next)) on
+awaits_by false t v o runs comes = tries t v o runs comes
+
 awaits : (t : Tree) (v : Machine) (x : Outcome (Result AwaitResponse Error)) → Awaits t v x → Happens AwaitLeaves v x
 awaits t v x comes = by_test (is_running v.phase) refl comes
   where
     by_test : (b : Bool) → is_running v.phase ≡ b → AwaitsAt b t v x → Happens AwaitLeaves v x
-    by_test true e (inl (n, least, is)) = subst (Happens AwaitLeaves v) (sym is) (record { sends = stays_sends v (with_used n v) (refl, refl, refl); failure = refl; left = e })
-    by_test true e (inr (left, pending, is)) =
-        let n = length v.results.queued in
-        subst (Happens AwaitLeaves v) (sym is) (pends left v (with_used n v) (refl, refl, refl) refl e)
+    by_test true e comes = awaits_by (ends_awaits v.options.implicit_cancellation) t v x e comes
     by_test false e is = subst (Happens AwaitLeaves v) (sym is) (refl, refl, refl)
 
-values : (o : Option Value) (v u : Machine) → Stays v u → u.failure ≡ v.failure → is_running u.phase ≡ true → Happens RunsOn v (value_taken o u)
-values None v u s f runs = s
-values (Some value) v u s f runs = record { sends = stays_sends v u s; failure = f; left = runs }
+noted_values : (value : Value) (tracked : Option (List TrackedCall)) (v u : Machine) → Stays v u → u.failure ≡ v.failure → is_running u.phase ≡ true → Happens RunsOn v (value_noted value tracked u)
+noted_values value None v u s f runs = s
+noted_values value (Some tracked) v u s f runs = record { sends = stays_sends v (record u { tracked = tracked }) s; failure = f; left = runs }
 
-results : (o : Option NotificationResult) (v u : Machine) → Stays v u → u.failure ≡ v.failure → is_running u.phase ≡ true → Happens RunsOn v (result_taken o u)
-results None v u s f runs = record { sends = stays_sends v u s; failure = f; left = runs }
-results (Some result) v u s f runs = values (value_of result) v u s f runs
+values : (handle : ℕ) (o : Option Value) (v u : Machine) → Stays v u → u.failure ≡ v.failure → is_running u.phase ≡ true → Happens RunsOn v (value_taken handle o u)
+values handle None v u s f runs = s
+values handle (Some value) v u s f runs = noted_values value (noted handle (id_of_value value) u.tracked) v u s f runs
+
+results : (handle : ℕ) (o : Option NotificationResult) (v u : Machine) → Stays v u → u.failure ≡ v.failure → is_running u.phase ≡ true → Happens RunsOn v (result_taken handle o u)
+results handle None v u s f runs = record { sends = stays_sends v u s; failure = f; left = runs }
+results handle (Some result) v u s f runs = values handle (value_of result) v u s f runs
 
 takes : (handle : ℕ) (v : Machine) → Happens RunsOn v (take_step handle v)
 unfolding take_step
@@ -303,7 +373,7 @@ takes handle v = by_test (is_running v.phase) refl
     by_test : (b : Bool) → is_running v.phase ≡ b → Happens RunsOn v (if b then taken_at handle (id_at handle v.results.handles) v else refused (state_fault v.phase) v)
     by_test true e =
         let found = present_for v.options.signal_delivery (id_at handle v.results.handles) v.results.ready in
-        results found v (record v { results = taken_by v.options.signal_delivery handle (id_at handle v.results.handles) found v.results }) (refl, refl, refl) refl e
+        results handle found v (record v { results = taken_by v.options.signal_delivery handle (id_at handle v.results.handles) found v.results }) (refl, refl, refl) refl e
     by_test false e = (refl, refl, refl)
 
 -- the handler has ended
@@ -332,17 +402,90 @@ StandsBy reply.Ended w = w.phase ≡ Closed
 
 await_stands : (a : Result AwaitResponse Error) (w : Machine) → AwaitLeaves a w → StandsBy (await_reply a) w
 await_stands (Ok AnyCompleted) w h = h
+await_stands (Ok CancelSignalReceived) w h = h
 await_stands (Ok (WaitingExternalProgress input run)) w h = h
 await_stands (Err e) w h = h
+
+-- what a call of an await leaves
+abbrev AwaitIs : Machine → Result (Result AwaitResponse Error) Error → Machine → Type 0
+AwaitIs v (Ok a) w = Leaves AwaitLeaves v a w
+AwaitIs v (Err e) w = Sends v w × (w.failure ≡ Some e)
+
+starving : (v : Machine) (e : Error) (w : Machine) → v.failure ≡ None → IsStarved v e w → Sends v w × (w.failure ≡ Some e)
+starving v e w live s = (stays_sends v w (s.output, s.version, s.options), s.failure ∙ ap (λ (f : Option Error). Some (unwrap_or f no_memory)) live ∙ ap (λ x. Some x) (sym s.error))
+
+-- what comes behind commands of the await
+await_behind : (v mid : Machine) (r : Result (Result AwaitResponse Error) Error) (w : Machine) → Sends v mid → mid.failure ≡ v.failure → AwaitIs mid r w → AwaitIs v r w
+await_behind v mid (Ok a) w s f h = record { sends = sends_then v mid w s h.sends; failure = h.failure ∙ f; left = h.left }
+await_behind v mid (Err e) w s f h = (sends_then v mid w s h.0, h.1)
+
+-- one cancel signal
+abbrev SentIs : Machine → Result NotificationHandle Error → Machine → Type 0
+SentIs v (Ok handle) w = Leaves RunsOn v handle w
+SentIs v (Err e) w = Sends v w × (w.failure ≡ Some e)
+
+sends_cancel : (id : List ℕ) (sent : Result NotificationHandle Error) (v w : Machine) → v.failure ≡ None → SendsCancel id sent v w → SentIs v sent w
+sends_cancel id sent v w live (does, readable) = by_sent sent does
+  where
+    leaves : CallLeaves RunsOn v (called (commanded (cancel_invocation_command id) v) v)
+    leaves = calling RunsOn v (commanded (cancel_invocation_command id) v) live (commands None (cancel_invocation_command id).message false v)
+
+    by_sent : (sent : Result NotificationHandle Error) → Does (called (commanded (cancel_invocation_command id) v) v) sent v w → SentIs v sent w
+    by_sent (Ok handle) h = subst (CallLeaves RunsOn v) h leaves
+    by_sent (Err e) h = ⊎_elim
+        (λ (x : called (commanded (cancel_invocation_command id) v) v ≡ Failed e w). subst (CallLeaves RunsOn v) x leaves)
+        (λ (x : IsStarved v e w). starving v e w live x)
+        h
+
+cancels : (ids : List (List ℕ)) (r : Result (Result AwaitResponse Error) Error) (v w : Machine) → v.failure ≡ None → is_running v.phase ≡ true → Cancels ids r v w → AwaitIs v r w
+cancels [] r v w live runs (answered, machine) = subst (λ (z : Result (Result AwaitResponse Error) Error × Machine). AwaitIs v z.0 z.1) (λ i. (sym answered i, sym machine i)) (record { sends = stays_sends v (cancel_taken v) (refl, refl, refl); failure = refl; left = runs })
+cancels (id ∷ ids) r v w live runs (sent, mid, sends, on) = by_sent (cancels ids r mid w) sent (sends_cancel id sent v mid live sends) on
+  where
+    by_sent : (mid.failure ≡ None → is_running mid.phase ≡ true → Cancels ids r mid w → AwaitIs mid r w) → (sent : Result NotificationHandle Error) → SentIs v sent mid → Onward (Cancels ids) sent r mid w → AwaitIs v r w
+    by_sent more (Ok handle) h on = await_behind v mid r w h.sends h.failure (more (h.failure ∙ live) h.left on)
+    by_sent more (Err e) h on = subst (λ (z : Result (Result AwaitResponse Error) Error × Machine). AwaitIs v z.0 z.1) (λ i. (sym on.0 i, sym on.1 i)) h
+
+-- the first part of an await
+first_part : (t : Tree) (v : Machine) → v.failure ≡ None → (first : Result (Result AwaitResponse Error) Error) (mid : Machine) → DoesBy (CalledBy (Awaits t v) v) first v mid → AwaitIs v first mid
+first_part t v live first mid does = by_first first does
+  where
+    leaves : (o : Outcome (Result AwaitResponse Error)) → CalledBy (Awaits t v) v o → CallLeaves AwaitLeaves v o
+    leaves o h =
+        let from = called_from (Awaits t v) v o h in
+        subst (CallLeaves AwaitLeaves v) (sym from.2) (calling AwaitLeaves v from.0 live (awaits t v from.0 (from.1 live)))
+
+    by_first : (first : Result (Result AwaitResponse Error) Error) → DoesBy (CalledBy (Awaits t v) v) first v mid → AwaitIs v first mid
+    by_first (Ok a) h = leaves (Done a mid) h
+    by_first (Err e) h = ⊎_elim (λ (x : CalledBy (Awaits t v) v (Failed e mid)). leaves (Failed e mid) x) (λ (x : IsStarved v e mid). starving v e mid live x) h
+
+-- the whole call
+await_whole : (t : Tree) (v : Machine) → v.failure ≡ None → (r : Result (Result AwaitResponse Error) Error) (w : Machine) → AwaitsWhole t r v w → AwaitIs v r w
+await_whole t v live r w (first, mid, does, fin) = by_first first (first_part t v live first mid does) fin
+  where
+    stays_so : (first : Result (Result AwaitResponse Error) Error) → AwaitIs v first mid → (r ≡ first) × (w ≡ mid) → AwaitIs v r w
+    stays_so first h same = subst (λ (z : Result (Result AwaitResponse Error) Error × Machine). AwaitIs v z.0 z.1) (λ i. (sym same.0 i, sym same.1 i)) h
+
+    by_first : (first : Result (Result AwaitResponse Error) Error) → AwaitIs v first mid → FinishesIf (sends_cancels first) first r mid w → AwaitIs v r w
+    by_first (Ok (Ok AnyCompleted)) h on = stays_so (Ok (Ok AnyCompleted)) h on
+    by_first (Ok (Ok (WaitingExternalProgress input run))) h on = stays_so (Ok (Ok (WaitingExternalProgress input run))) h on
+    by_first (Ok (Err e)) h on = stays_so (Ok (Err e)) h on
+    by_first (Err e) h on = stays_so (Err e) h on
+    by_first (Ok (Ok CancelSignalReceived)) h on =
+        let cleared : Machine = record mid { tracked = [] } in
+        await_behind v cleared r w (sends_then v mid cleared h.sends (stays_sends mid cleared (refl, refl, refl))) h.failure (cancels (invocation_ids mid.tracked) r cleared w (h.failure ∙ live) h.left on)
+
+await_leaves : (future : UnresolvedFuture) (v : Machine) → v.failure ≡ None → (o : Outcome Reply) → Awaited future v o → CallLeaves StandsBy v o
+await_leaves future v live (Done given w) (a, whole, replied) =
+    let h : Leaves AwaitLeaves v a w = await_whole (tree_of future) v live (Ok a) w whole in
+    subst (λ (x : Reply). Leaves StandsBy v x w) (sym replied) (record { sends = h.sends; failure = h.failure; left = await_stands a w h.left })
+await_leaves future v live (Failed e w) whole = await_whole (tree_of future) v live (Err e) w whole
 
 asked_leaves : (a : Ask) (v : Machine) → IsLive v → (o : Outcome Reply) → PerformsBy a v o → CallLeaves StandsBy v o
 asked_leaves (ask.Command c) v live o does = subst (CallLeaves StandsBy v) (sym does) (mapping RunsOn StandsBy _ (λ h w runs. runs) v (called (commanded c v) v) (calling RunsOn v (commanded c v) live.failure (commands c.refusal c.message c.unstable v)))
 asked_leaves ask.Awakeable v live o does = subst (CallLeaves StandsBy v) (sym does) (mapping RunsOn StandsBy _ (λ h w runs. runs) v (called (new_awakeable_step v) v) (calling RunsOn v (new_awakeable_step v) live.failure (new_awakeables (skips_replay v.options.journal_replay) v)))
 asked_leaves (ask.Read r) v live o does = subst (CallLeaves StandsBy v) (sym does) (mapping RunsOn StandsBy _ (λ h w runs. runs) v (called (read_step r v) v) (calling RunsOn v (read_step r v) live.failure (state_reads r v)))
 asked_leaves (ask.Signal name) v live o does = subst (CallLeaves StandsBy v) (sym does) (mapping RunsOn StandsBy _ (λ h w runs. runs) v (called (signal_step name v) v) (calling RunsOn v (signal_step name v) live.failure (signals name v)))
-asked_leaves (ask.Await future) v live o (x, comes, does) =
-    let from = called_from (Awaits (tree_of future) v) v x comes in
-    subst (CallLeaves StandsBy v) (sym (does ∙ ap (mapped await_reply) from.2)) (mapping AwaitLeaves StandsBy await_reply await_stands v (called from.0 v) (calling AwaitLeaves v from.0 live.failure (awaits (tree_of future) v from.0 (from.1 live.failure))))
+asked_leaves (ask.Await future) v live o does = await_leaves future v live.failure o does
 asked_leaves (ask.Take handle) v live o does = subst (CallLeaves StandsBy v) (sym does) (mapping RunsOn StandsBy _ (λ h w runs. runs) v (called (take_step handle.0 v) v) (calling RunsOn v (take_step handle.0 v) live.failure (takes handle.0 v)))
 asked_leaves (ask.Completed handle) v live o does = subst (CallLeaves StandsBy v) (sym does) (record { sends = stays_sends v v (refl, refl, refl); failure = refl; left = live.phase })
 asked_leaves ask.End v live o does = subst (CallLeaves StandsBy v) (sym does) (mapping HasClosed StandsBy _ (λ h w closed. closed) v (called (end_step v) v) (calling HasClosed v (end_step v) live.failure (ends v.phase v refl)))
@@ -351,9 +494,6 @@ asked_leaves ask.End v live o does = subst (CallLeaves StandsBy v) (sym does) (m
 abbrev pub IsLeft : Machine → Result Reply Error → Machine → Type 0
 IsLeft v (Ok a) w = Leaves StandsBy v a w
 IsLeft v (Err e) w = Sends v w × (w.failure ≡ Some e)
-
-starving : (v : Machine) (e : Error) (w : Machine) → v.failure ≡ None → IsStarved v e w → Sends v w × (w.failure ≡ Some e)
-starving v e w live s = (stays_sends v w (s.output, s.version, s.options), s.failure ∙ ap (λ (f : Option Error). Some (unwrap_or f no_memory)) live ∙ ap (λ x. Some x) (sym s.error))
 
 pub step_leaves : (st : Step) (v : Machine) → IsLive v → (x : Result Reply Error) (w : Machine) → DoesBy (Performs st v) x v w → IsLeft v x w
 step_leaves st v live (Ok a) w does = asked_leaves (ask_of v.version st) v live (Done a w) does

@@ -1,16 +1,14 @@
 -- An attempt whose await was rightly suspended stays so, whatever comes behind it.
-use Rattle.std.proofs.Common.{◌≡◌, ◌≢◌, ℕ, Bool, true, false, List, [], ◌∷◌, ◌++◌, Option, Some, None, Result, Ok, Err, refl, sym, ap, ◌∙◌, subst, inl, inr, ⊎_elim}
+use Rattle.std.proofs.Common.{◌≡◌, ◌≢◌, ℕ, Bool, true, false, List, [], Option, Some, None, Result, Ok, Err, refl, sym, ap, ◌∙◌, subst, inl, inr, ⊎_elim}
 use Rattle.std.specs.Prelude.{◌⊎◌}
 use Rattle.std.proofs.lemmas.Option.{same_Some}
 use Rattle.std.specs.declared.alloc.AllocError.{AllocError}
 use Rattle.journal_errors.specs.declared.error.Error.{Error}
-use Rattle.journal_messages.specs.declared.message.RawMessage.{RawMessage}
 use Rattle.journal_errors.specs.declared.version.Version.{Version}
 use Rattle.journal_errors.specs.Errors.{no_memory}
 use Rattle.vm_parts.specs.declared.options.VMOptions.{VMOptions}
 use Rattle.vm_parts.specs.declared.steps.Answer.{Answer}
 use Rattle.vm_parts.specs.Outboxes.{WholeFrames}
-use Rattle.vm_machine.specs.declared.machine.Machine.{Machine}
 use Rattle.vm_machine.specs.declared.phase.Phase.{Phase}
 use Rattle.vm_machine.specs.declared.phase.Phase.TheVariants.{WaitingStart, WaitingReplayEntries, Replaying, Processing, Closed}
 use Rattle.invocation_vm.specs.Views.{StarvesAmong, View, after_closing, after_input, brought}
@@ -22,11 +20,10 @@ use Rattle.vm_rounds.specs.declared.progress.Reply.{Reply}
 use Rattle.vm_rounds.specs.declared.progress.Reply.TheVariants as reply
 use Rattle.vm_rounds.specs.Blames.{IsLate, LateBy}
 use Rattle.vm_rounds.specs.Record.{Record}
-use Rattle.vm_rounds.specs.Stepping.{Advances, Asks, CloseDoes, Closes, FeedDoes, Feeds, IfWaits, LacksMemory, Reads, StepAt, StepDoes, StepFrom, StepUnless, Takes, emptied, future_in, kept, kept_at, progress_of, replied, step_asked, taken_from, with_vm}
-use Rattle.vm_rounds.specs.Told.{IsAsleep, IsKeptUnder, NothingWakes, Premises, Quiet, Sleeps, StillSleeps, Wrote}
+use Rattle.vm_rounds.specs.Stepping.{Advances, Asks, CloseDoes, Closes, FeedDoes, Feeds, IfWaits, LacksMemory, Reads, StepAt, StepDoes, StepFrom, StepUnless, Takes, future_in, kept, kept_at, progress_of, replied, step_asked, taken_from, with_vm}
+use Rattle.vm_rounds.specs.Told.{IsKeptUnder, NothingWakes, Premises, Quiet, Sleeps, StillSleeps}
 use Rattle.vm_rounds.proofs.Advanced.{asleep_waits, step_waits}
 use Rattle.invocation_vm.proofs.Feeds.{among_output}
-use Rattle.vm_rounds.proofs.Late.{feeds_over}
 use Rattle.vm_rounds.proofs.Quiet.{closing_quiet, input_quiet, quiet_same, wrote_quiet}
 use Rattle.vm_rounds.proofs.Under.{step_fed}
 use Rattle.vm_rounds.proofs.Written.{takes_wrote}

@@ -1,8 +1,8 @@
 -- A step keeps what is kept of an attempt.
 use Rattle.vm_machine.specs.declared.reads.StateRead.{StateRead}
 use Rattle.vm_parts.specs.declared.context.StateMap.{StateMap}
-use Rattle.std.proofs.Common.{◌≡◌, ◌≢◌, ◌⊎◌, ℕ, zero, suc, ◌+◌, Bool, true, false, cond, List, [], ◌∷◌, ◌++◌, map, Option, Some, None, Result, Ok, Err, refl, sym, ap, ◌∙◌, subst, inl, inr, ⊎_elim, append-nil}
-use Rattle.std.specs.Prelude.{if◌then◌else◌, is_some, OnOk}
+use Rattle.std.proofs.Common.{◌≡◌, ◌⊎◌, ℕ, zero, suc, ◌+◌, Bool, true, false, cond, List, [], ◌∷◌, ◌++◌, map, Option, Some, None, Result, Ok, Err, refl, sym, ap, ◌∙◌, subst, inl, inr, ⊎_elim, append-nil}
+use Rattle.std.specs.Prelude.{if◌then◌else◌, OnOk}
 use Rattle.journal_errors.specs.declared.error.Error.{Error}
 use Rattle.journal_errors.specs.declared.faults.NamedFault.{NamedFault}
 use Rattle.journal_messages.specs.declared.message.Message.{Message}
@@ -24,13 +24,15 @@ use Rattle.await_trees.specs.Wires.{sent}
 use Rattle.vm_parts.specs.declared.values.Value.{Value}
 use Rattle.vm_parts.specs.Counting.{missing, missing_signals}
 use Rattle.vm_parts.specs.Deliveries.{id_at, present_for}
+use Rattle.vm_parts.specs.Tracked.{id_of_result, id_of_value, invocation_ids, noted, unresolved}
 use Rattle.vm_parts.specs.Values.{value_of}
+use Rattle.vm_parts.specs.declared.run_state.TrackedCall.{TrackedCall}
 use Rattle.vm_machine.specs.declared.machine.Machine.{Machine}
 use Rattle.vm_machine.specs.declared.phase.Phase.TheVariants.{Closed, Processing, Replaying}
 use Rattle.vm_machine.specs.declared.asks.Ask.{Ask}
 use Rattle.vm_machine.specs.declared.asks.Ask.TheVariants as ask
 use Rattle.vm_machine.specs.declared.asks.Command.{Command}
-use Rattle.vm_machine.specs.Asks.{ask_of}
+use Rattle.vm_machine.specs.Asks.{ask_of, cancel_invocation_command}
 use Rattle.journal_messages.specs.Commands.{IsCommand}
 use Rattle.vm_rounds.proofs.Own.{AsksCommand, asks_command, numbered_is, own_is}
 use Rattle.vm_machine.specs.Awaits.{says_so}
@@ -41,24 +43,24 @@ use Rattle.vm_machine.specs.Requests.{ids_of}
 use Rattle.invocation_vm.specs.Calls.{skips_replay}
 use Rattle.invocation_vm.specs.Frames.{Rest}
 use Rattle.invocation_vm.specs.Views.{View}
-use Rattle.vm_model.specs.Calls.{Setup, Meaning, Derived, Move, asked as asked_move, awakeable_made, awaiting, call_of, commanding, is_awake, making_awakeable, numbered, reading, signal_made, ready_in, result_taken, value_taken}
+use Rattle.vm_model.specs.Calls.{Setup, Meaning, Derived, Move, asked as asked_move, awakeable_made, awaiting, call_of, commanding, is_awake, awaited, cancel_sent, cancelled, cancelling, id_awaited, id_read, is_cancelled_in, making_awakeable, numbered, reading, signal_made, ready_in, result_taken, value_noted, value_taken}
 use Rattle.vm_model.specs.Calls.Move.{Answers, Needs, Awaits, Ends, Refuses}
 use Rattle.vm_model.specs.Journal.{stored_form}
-use Rattle.vm_model.specs.Moves.{Point, move_at, own, start, supplied, supply}
-use Rattle.vm_model.specs.Histories.{Made, Handed, Knowledge}
-use Rattle.vm_model.proofs.Compared.{attempt_is_told}
-use Rattle.vm_model.proofs.Runs.{made_add}
-use Rattle.vm_model.proofs.Waking.{none_wakes}
+use Rattle.vm_model.specs.Moves.{Point, after, and_then, move_at, moved, next, own, start, supplied, supply, uses_arrival}
+use Rattle.vm_model.specs.Histories.{IsPrefix, Made, Handed, Knowledge}
+use Rattle.vm_model.proofs.Compared.{after_answers, attempt_is_told}
+use Rattle.std.proofs.lemmas.Option.{same_Some}
+use Rattle.vm_model.proofs.Runs.{and_then_some, made_add, none_some}
 use Rattle.vm_rounds.specs.declared.progress.Fed.{Fed}
 use Rattle.vm_rounds.specs.declared.progress.Progress.{Progress}
 use Rattle.vm_rounds.specs.declared.progress.Reply.{Reply}
 use Rattle.vm_rounds.specs.declared.progress.Reply.TheVariants as reply
-use Rattle.vm_rounds.specs.Agreement.{Agrees, Answered, Follows, HasEnded, IsRefused, IsSuspended, MovesOn, StillAgrees, Waits, command_frames, suspended_on, waiting_on}
+use Rattle.vm_rounds.specs.Agreement.{Agrees, Answered, Follows, HasEnded, IsCutShort, IsRefused, IsSuspended, MovesOn, StillAgrees, Waits, command_frames, suspended_on, waiting_on}
 use Rattle.vm_rounds.specs.Journals.{is_command, setup_for}
 use Rattle.vm_rounds.specs.Record.{Record}
 use Rattle.vm_rounds.specs.Stepping.{Asks, IfWaits, step_asked, asked_from, future_in, progress_of, replied, with_vm}
 use Rattle.vm_rounds.specs.Steps.{IfDone, Performs, ReadsBack, StepMade}
-use Rattle.vm_rounds.specs.Told.{IsKept, IsLive, Premises, RefusesReplay, Replays, Runs, Sleeps, StillAwaits, Wrote, arrivals, commands_of, handed_out}
+use Rattle.vm_rounds.specs.Told.{IsKept, IsLive, Premises, RefusesReplay, Replays, Runs, Sleeps, StarvesReplay, StillAwaits, Wrote, arrivals, commands_of, handed_out}
 use Rattle.vm_rounds.proofs.Following.{agreeing_follows}
 use Rattle.vm_rounds.proofs.Kept.{dead_same, not_live}
 use Rattle.vm_rounds.proofs.Lasting.{runs_last}
@@ -103,9 +105,37 @@ awaiting_needs : (b : Bool) (d : Derived) → NeedsCommand (awaiting b d)
 awaiting_needs true d = tt
 awaiting_needs false d = tt
 
+cancel_needs : (s : Setup) (id : List ℕ) (o : Option NamedFault) (d : Derived) → NeedsCommand (cancel_sent s id o d)
+cancel_needs s id (Some fault) d = tt
+cancel_needs s id None d = λ state. numbered_is (cancel_invocation_command id).message d.counters.completion refl
+
+cancelling_needs : (s : Setup) (ids : List (List ℕ)) (d : Derived) → NeedsCommand (cancelling s ids d)
+cancelling_needs s [] d = tt
+cancelling_needs s (id ∷ ids) d = cancel_needs s id (missing 0 0 0 d.counters) d
+
+id_needs : (id : Option (List ℕ)) (d : Derived) → NeedsCommand (id_read id d)
+id_needs None d = tt
+id_needs (Some id) d = tt
+
+id_awaited_needs : (o : Option NotificationResult) (d : Derived) → NeedsCommand (id_awaited o d)
+id_awaited_needs None d = tt
+id_awaited_needs (Some result) d = id_needs (id_of_result result) d
+
+cancelled_needs : (s : Setup) (handles : List ℕ) (d : Derived) → NeedsCommand (cancelled s handles d)
+cancelled_needs s [] d = cancelling_needs s (invocation_ids d.tracked) d
+cancelled_needs s (handle ∷ handles) d = id_awaited_needs (present_for s.options.signal_delivery (id_at handle d.handles) (ready_in s d)) d
+
+awaited_needs : (s : Setup) (b : Bool) (future : UnresolvedFuture) (d : Derived) → NeedsCommand (awaited s b future d)
+awaited_needs s true future d = cancelled_needs s (unresolved d.tracked) d
+awaited_needs s false future d = awaiting_needs (is_awake s future d) d
+
+noted_needs : (h : NotificationHandle) (id : NotificationId) (value : Value) (o : Option (List TrackedCall)) (d : Derived) → NeedsCommand (value_noted h id value o d)
+noted_needs h id value None d = tt
+noted_needs h id value (Some tracked) d = tt
+
 value_needs : (h : NotificationHandle) (id : NotificationId) (o : Option Value) (d : Derived) → NeedsCommand (value_taken h id o d)
 value_needs h id None d = tt
-value_needs h id (Some value) d = tt
+value_needs h id (Some value) d = noted_needs h id value (noted h.0 (id_of_value value) d.tracked) d
 
 result_needs : (h : NotificationHandle) (id : Option NotificationId) (o : Option NotificationResult) (d : Derived) → NeedsCommand (result_taken h id o d)
 result_needs h (Some id) (Some result) d = value_needs h id (value_of result) d
@@ -117,7 +147,7 @@ asked_needs s (ask.Command c) d is = commanding_needs s c c.refusal d is
 asked_needs s ask.Awakeable d is = making_needs s (skips_replay s.options.journal_replay) d
 asked_needs s (ask.Read r) d is = reading_needs r (missing 1 0 1 d.counters) d
 asked_needs s (ask.Signal name) d is = signal_needs name (missing_signals 0 1 d.counters) d
-asked_needs s (ask.Await future) d is = awaiting_needs (is_awake s future d) d
+asked_needs s (ask.Await future) d is = awaited_needs s (is_cancelled_in s d) future d
 asked_needs s (ask.Take handle) d is = result_needs handle (id_at handle.0 d.handles) (present_for s.options.signal_delivery (id_at handle.0 d.handles) (ready_in s d)) d
 asked_needs s (ask.Completed handle) d is = tt
 asked_needs s ask.End d is = tt
@@ -176,6 +206,22 @@ runs_on m version options fed answers waiting to_wait taken v w k live und to gi
   tail = λ alive. k.tail live ∙ ap Rest (sym und);
 }
 
+-- an await that asks for one more arrival stays, where there is none
+waits_still : (s : Setup) (m : Meaning) (q : Point) → move_at s m q ≡ Awaits → q.queue ≡ [] → next s m q ≡ None
+waits_still s m q asks none = ap (λ mv. moved mv q) asks ∙ ap (λ l. uses_arrival l q) none
+
+-- behind a point from which no move leads on no answer comes
+stuck_last : (s : Setup) (m : Meaning) (n k : ℕ) (first p q : Point) → after s m n first ≡ Some p → after s m k first ≡ Some q → next s m q ≡ None → IsPrefix p.answers q.answers
+stuck_last s m zero k first p q h j stuck = subst (λ (x : Point). IsPrefix x.answers q.answers) (same_Some first p h) (after_answers s m k first q j)
+stuck_last s m (suc n) zero first p q h j stuck =
+    let none : next s m first ≡ None = ap (next s m) (same_Some first q j) ∙ stuck in
+    none_some (sym (ap (λ o. and_then o (after s m n)) none) ∙ h)
+stuck_last s m (suc n) (suc k) first p q h j stuck =
+    let a = and_then_some (next s m first) (after s m n) p h in
+    let b = and_then_some (next s m first) (after s m k) q j in
+    let same : b.0 ≡ a.0 = same_Some b.0 a.0 (sym b.1 ∙ a.1) in
+    stuck_last s m n k a.0 p q a.2 (subst (λ x. after s m k x ≡ Some q) same b.2) stuck
+
 -- the step that is asked is the handler's
 pub asks_next : (m : Meaning) (p : Point) (answers : List Answer) (waiting : Option UnresolvedFuture) → p.answers ≡ answers → StillAwaits m p waiting → asked_from waiting (m answers) ≡ m p.answers
 asks_next m p answers None is awaits = ap m (sym is)
@@ -230,8 +276,23 @@ module _ (m : Meaning) (version : Version) (options : VMOptions) (r : Record) (k
       no_answer r.waiting
       (runs_on m version options r.fed r.answers r.waiting r.waiting r.taken r.vm w k live und k.at [] [] (no_move s m (handed_out k.journal) k.at) (message.End ∷ []) refl f.output k.awaits (λ alive. not_live w.machine f.closed alive) (λ _. inr f.closed))
 
+  -- what a call that failed has made is kept
+  failed_keeps : (e : Error) (at : Point) (made : List RawMessage) → MovesOn s m (handed_out k.journal) k.at [] made at → (behind : List Message) → commands_of behind ≡ [] → w.machine.output ≡ r.vm.machine.output ++ (command_frames made ++ map encoding behind) → w.machine.failure ≡ Some e → IsKept m version options (with_vm w r)
+  failed_keeps e at made mo behind quiet output failure =
+      let ms = made_made s m (Handed (handed_out k.journal)) mo.moves k.at made at mo.run in
+      let commands : commands_of (ms.0 ++ behind) ≡ made = commands_append ms.0 behind ∙ (λ i. ms.1.commands i ++ quiet i) ∙ append-nil made in
+      let frames : w.machine.output ≡ r.vm.machine.output ++ map encoding (ms.0 ++ behind) = output ∙ ap (λ l. r.vm.machine.output ++ l) (ap (λ l. l ++ map encoding behind) (sym ms.1.frames) ∙ sym (map_append ms.0 behind)) in
+      inr
+      (no_answer r.waiting
+      (runs_on m version options r.fed r.answers r.waiting r.waiting r.taken r.vm w k live und at [] made mo (ms.0 ++ behind) commands frames (same_awaits m k.at at r.waiting mo.answers k.awaits)
+      (λ alive. absurd (let z : None ≡ Some e = sym alive.failure ∙ failure in cc))
+      (λ none. absurd (let z : None ≡ Some e = sym none ∙ failure in cc))))
+
   refused_keeps : (e : Error) → IsRefused s m (handed_out k.journal) k.at r.vm.machine e w.machine → IsKept m version options (with_vm w r)
-  refused_keeps e f = dead_same (Runs m version options) (runs_last m version options) version options r w (inr k) (record { messages = message.Error (error_message e) ∷ []; output = f.output; commands = refl }) (ap is_some f.failure)
+  refused_keeps e f = failed_keeps e f.at f.made f.moves (message.Error (error_message e) ∷ []) refl f.output f.failure
+
+  cut_keeps : (e : Error) → IsCutShort s m (handed_out k.journal) k.at r.vm.machine e w.machine → IsKept m version options (with_vm w r)
+  cut_keeps e f = failed_keeps e f.at f.made f.moves [] refl (f.output ∙ ap (λ l. r.vm.machine.output ++ l) (sym (append-nil (command_frames f.made)))) f.failure
 
   abbrev Following : Outcome Reply → Type 0
   Following = Follows s m (handed_out k.journal) k.written k.at r.vm.machine
@@ -247,7 +308,9 @@ module _ (m : Meaning) (version : Version) (options : VMOptions) (r : Record) (k
   replied_keeps P st is (Ok reply.Ended) R f does h = inr (ended_keeps (f (Done reply.Ended w.machine) does h))
   replied_keeps P st is (Err e) R f does h =
       ⊎_elim
-      (λ (x : R (Failed e w.machine)). refused_keeps e (f (Failed e w.machine) x (tt {0})))
+      (λ (x : R (Failed e w.machine)).
+      let g : IsRefused s m (handed_out k.journal) k.at r.vm.machine e w.machine ⊎ IsCutShort s m (handed_out k.journal) k.at r.vm.machine e w.machine = f (Failed e w.machine) x (tt {0}) in
+      ⊎_elim (λ (y : IsRefused s m (handed_out k.journal) k.at r.vm.machine e w.machine). refused_keeps e y) (λ (y : IsCutShort s m (handed_out k.journal) k.at r.vm.machine e w.machine). cut_keeps e y) g)
       (λ (x : IsStarved r.vm.machine e w.machine). dead_same (Runs m version options) (runs_last m version options) version options r w (inr k) (quiet_same r.vm.machine w.machine x.output) (rw x.failure refl))
       does
 
@@ -266,12 +329,13 @@ module _ (m : Meaning) (version : Version) (options : VMOptions) (r : Record) (k
           journal = k.journal;
           future = ws.future;
           awaits = ap m (sym same) ∙ ws.awaits;
-          asleep = λ p tell is. none_wakes s m ws.future tell.0 told.0.0 (start s k.journal.input (arrivals k.journal) (k.journal.rest ++ written)) p q tell.1 told.0.1 (same ∙ sym is) ws.awaits ws.asleep ws.no_arrival;
+          asleep = λ p tell. subst (IsPrefix p.answers) same (stuck_last s m tell.0 told.0.0 (start s k.journal.input (arrivals k.journal) (k.journal.rest ++ written)) p q tell.1 told.0.1 (waits_still s m q ws.asks ws.no_arrival));
           at = q;
           told = told.0;
           answers = same;
           no_arrival = ws.no_arrival;
           no_command = ws.no_command;
+          asks = ws.asks;
         },
       )
 
@@ -288,43 +352,63 @@ module _ (m : Meaning) (version : Version) (options : VMOptions) (r : Record) (k
 
   -- ---- what is replayed
 
-  nothing_made : k.at.left ≢ [] → (a : Answer) → Answered s m (handed_out k.journal) k.written k.at r.vm.machine a w.machine → w.machine.output ≡ r.vm.machine.output
-  nothing_made some a g =
+  nothing_made : (a : Answer) → Answered s m (handed_out k.journal) k.written k.at r.vm.machine a w.machine → (w.machine.output ≡ r.vm.machine.output) ⊎ (w.machine.phase ≡ Processing)
+  nothing_made a g =
       ⊎_elim
-      (λ (none : g.made ≡ []). g.output ∙ ap (λ l. r.vm.machine.output ++ command_frames l) none ∙ append-nil r.vm.machine.output)
-      (λ (none : k.at.left ≡ []). absurd (some none))
+      (λ (none : g.made ≡ []). inl (g.output ∙ ap (λ l. r.vm.machine.output ++ command_frames l) none ∙ append-nil r.vm.machine.output))
+      (λ (none : g.at.left ≡ []). inr (ap (λ (v : Machine). v.phase) g.agrees.machine ∙ ap phase_after none))
       g.none_before
 
-  -- a refusal, at the point that the run comes to
-  refuses_there : (e : Error) (c : RawMessage) (further : List RawMessage) → k.at.left ≡ c ∷ further → IsRefused s m (handed_out k.journal) k.at r.vm.machine e w.machine → RefusesReplay m version options r.fed r.answers e r.vm.machine w.machine
-  refuses_there e c further some g =
-      let first = start s k.journal.input (arrivals k.journal) k.journal.rest in
-      let run : Made s m (Handed (handed_out k.journal)) (k.moves + g.moves.moves) first (k.written ++ []) g.at = made_add s m (Handed (handed_out k.journal)) k.moves g.moves.moves first k.written k.at [] g.at k.run g.moves.run in
-      let none : k.written ≡ [] =
-      ⊎_elim
+  -- no command was written before
+  none_written : (c : RawMessage) (further : List RawMessage) → k.at.left ≡ c ∷ further → k.written ≡ []
+  none_written c further some = ⊎_elim
       (λ (x : k.written ≡ []). x)
       (λ (x : k.at.left ≡ []). absurd (let z : [] ≡ c ∷ further = sym x ∙ some in cc))
       (attempt_is_told s m (handed_out k.journal) k.journal.input k.moves (arrivals k.journal) k.journal.rest k.written k.at k.run).1
-      in
-      record {
-        journal = k.journal;
-        at = g.at;
-        moves = k.moves + g.moves.moves;
-        made = subst (λ l. Made s m (Handed (handed_out k.journal)) (k.moves + g.moves.moves) first l g.at) (append-nil k.written ∙ none) run;
-        answers = g.moves.answers ∙ append-nil k.at.answers ∙ k.answers;
-        recorded = c;
-        further = further;
-        left = g.none_used ∙ some;
-        why = g.why;
-        reason = g.reason;
-        related = g.related;
-        error = g.error;
-        output = g.output;
-        failure = g.failure;
-      }
+
+  -- the run to where a call failed
+  run_there : (c : RawMessage) (further : List RawMessage) → k.at.left ≡ c ∷ further → (at : Point) (made : List RawMessage) (mo : MovesOn s m (handed_out k.journal) k.at [] made at) → Made s m (Handed (handed_out k.journal)) (k.moves + mo.moves) (start s k.journal.input (arrivals k.journal) k.journal.rest) made at
+  run_there c further some at made mo =
+      let first = start s k.journal.input (arrivals k.journal) k.journal.rest in
+      subst (λ l. Made s m (Handed (handed_out k.journal)) (k.moves + mo.moves) first (l ++ made) at) (none_written c further some) (made_add s m (Handed (handed_out k.journal)) k.moves mo.moves first k.written k.at made at k.run mo.run)
+
+  -- a refusal, at the point that the run comes to
+  refuses_there : (e : Error) (c : RawMessage) (further : List RawMessage) → k.at.left ≡ c ∷ further → IsRefused s m (handed_out k.journal) k.at r.vm.machine e w.machine → RefusesReplay m version options r.fed r.answers e r.vm.machine w.machine
+  refuses_there e c further some g = record {
+    journal = k.journal;
+    at = g.at;
+    moves = k.moves + g.moves.moves;
+    written = g.made;
+    none_before = g.none_before;
+    made = run_there c further some g.at g.made g.moves;
+    answers = g.moves.answers ∙ append-nil k.at.answers ∙ k.answers;
+    why = g.why;
+    reason = g.reason;
+    related = g.related;
+    error = g.error;
+    output = g.output;
+    failure = g.failure;
+  }
+
+  -- and want of memory
+  starves_there : (e : Error) (c : RawMessage) (further : List RawMessage) → k.at.left ≡ c ∷ further → IsCutShort s m (handed_out k.journal) k.at r.vm.machine e w.machine → StarvesReplay m version options r.fed r.answers e r.vm.machine w.machine
+  starves_there e c further some g = record {
+    journal = k.journal;
+    at = g.at;
+    moves = k.moves + g.moves.moves;
+    written = g.made;
+    none_before = g.none_before;
+    made = run_there c further some g.at g.made g.moves;
+    answers = g.moves.answers ∙ append-nil k.at.answers ∙ k.answers;
+    future = g.future;
+    awaits = g.awaits;
+    error = g.error;
+    output = g.output;
+    failure = g.failure;
+  }
 
   replied_replays : (P : Type 0) (future : Option UnresolvedFuture) (c : RawMessage) (further : List RawMessage) → k.at.left ≡ c ∷ further → (x : Result Reply Error) → (R : Outcome Reply → Type 0) → AllFollow P R → DoesBy R x r.vm.machine w.machine → OnOk x P → Replays m version options r (progress_of x) (replied r future x w)
-  replied_replays P future c further some (Ok (reply.Answer a)) R f does h = nothing_made (λ none. let z : [] ≡ c ∷ further = sym none ∙ some in cc) a (f (Done (reply.Answer a) w.machine) does h)
+  replied_replays P future c further some (Ok (reply.Answer a)) R f does h = nothing_made a (f (Done (reply.Answer a) w.machine) does h)
   replied_replays P future c further some (Ok (reply.Waiting input run)) R f does h =
       let g : StillAgrees s m (handed_out k.journal) k.written k.at r.vm.machine w.machine = f (Done (reply.Waiting input run) w.machine) does h in
       let z : [] ≡ c ∷ further = sym g.waits.none_recorded ∙ some in
@@ -339,7 +423,14 @@ module _ (m : Meaning) (version : Version) (options : VMOptions) (r : Record) (k
       cc
   replied_replays P future c further some (Err e) R f does h =
       ⊎_elim
-      (λ (x : R (Failed e w.machine)). inr (inr (refuses_there e c further some (f (Failed e w.machine) x (tt {0})))))
+      (λ (x : R (Failed e w.machine)).
+      let g : IsRefused s m (handed_out k.journal) k.at r.vm.machine e w.machine ⊎ IsCutShort s m (handed_out k.journal) k.at r.vm.machine e w.machine = f (Failed e w.machine) x (tt {0}) in
+      inr
+      (inr
+      (⊎_elim
+      (λ (y : IsRefused s m (handed_out k.journal) k.at r.vm.machine e w.machine). inr (refuses_there e c further some y))
+      (λ (y : IsCutShort s m (handed_out k.journal) k.at r.vm.machine e w.machine). inl (starves_there e c further some y))
+      g)))
       (λ (x : IsStarved r.vm.machine e w.machine). inr (inl x))
       does
 

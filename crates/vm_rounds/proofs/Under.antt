@@ -2,7 +2,6 @@
 use Rattle.std.proofs.Common.{◌≡◌, ◌≢◌, ◌⊎◌, ◌≤◌, ◌+◌, length, length-append, arith, ℕ, Bool, true, false, List, [], ◌∷◌, ◌++◌, Option, Some, None, Result, Ok, Err, refl, sym, ap, ◌∙◌, subst, inl, inr, ⊎_elim}
 use Rattle.std.specs.declared.alloc.AllocError.{AllocError}
 use Rattle.journal_errors.specs.declared.error.Error.{Error}
-use Rattle.journal_messages.specs.declared.message.RawMessage.{RawMessage}
 use Rattle.journal_values.specs.declared.notification.Notification.{Notification}
 use Rattle.arrivals.specs.Results.{results_of}
 use Rattle.await_tries.proofs.LaterArrivals.{results-append}

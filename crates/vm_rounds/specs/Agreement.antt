@@ -1,5 +1,5 @@
 -- When the machine of an attempt agrees with a point of the handler's run, and what a call then does.
-use Rattle.std.specs.Prelude.{◌≡◌, ◌⊎◌, ℕ, Bool, true, false, List, [], ◌∷◌, ◌++◌, map, Option, Some, None}
+use Rattle.std.specs.Prelude.{◌≡◌, ◌⊎◌, ℕ, Bool, true, false, if◌then◌else◌, List, [], ◌∷◌, ◌++◌, map, Option, Some, None}
 use Rattle.std.proofs.Common.{Global}
 use Rattle.journal_attempt.specs.declared.control.Suspension.{Suspension}
 use Rattle.journal_errors.specs.declared.error.Error.{Error}
@@ -8,7 +8,7 @@ use Rattle.journal_errors.specs.declared.faults.NamedFault.{NamedFault}
 use Rattle.journal_messages.specs.declared.message.Message.{Message}
 use Rattle.journal_messages.specs.declared.message.Message.TheVariants as message
 use Rattle.journal_messages.specs.declared.message.RawMessage.{RawMessage}
-use Rattle.journal_errors.specs.Errors.{error_message, named_error}
+use Rattle.journal_errors.specs.Errors.{error_message, named_error, no_memory}
 use Rattle.journal_messages.specs.Message.{encoding, frame}
 use Rattle.vm_parts.specs.declared.context.LastCommand.{LastCommand}
 use Rattle.vm_parts.specs.declared.context.StartInfo.{StartInfo}
@@ -17,16 +17,19 @@ use Rattle.vm_parts.specs.declared.steps.Answer.{Answer}
 use Rattle.vm_parts.specs.declared.steps.Step.TheVariants as step
 use Rattle.await_trees.specs.declared.tree.UnresolvedFuture.{UnresolvedFuture}
 use Rattle.await_trees.specs.Residual.{Residual}
-use Rattle.await_trees.specs.Tree.{Tree, tree_of}
+use Rattle.await_trees.specs.Tree.{Tree, leaf, tree_of}
 use Rattle.await_trees.specs.Wires.{sent}
 use Rattle.await_tries.specs.Await.{AwakeAlike}
 use Rattle.vm_parts.specs.Deliveries.{id_at}
+use Rattle.vm_parts.specs.Options.{ends_awaits}
+use Rattle.vm_parts.specs.Tracked.{unresolved}
 use Rattle.vm_machine.specs.declared.machine.Machine.{Machine}
 use Rattle.vm_machine.specs.declared.phase.Phase.TheVariants.{Closed}
-use Rattle.vm_machine.specs.Awaits.{said_waiting}
+use Rattle.vm_machine.specs.Awaits.{or_cancelled, said_waiting}
 use Rattle.vm_machine.specs.Commands.{phase_after}
 use Rattle.vm_machine.specs.Outcomes.{Outcome, Done, Failed, ruled}
-use Rattle.vm_model.specs.Calls.{Setup, Meaning, Derived, identity_of, is_awake, leaf_in, ready_in}
+use Rattle.vm_model.specs.Calls.{Setup, Meaning, Derived, identity_of, is_cancelled_in, leaf_in, ready_in}
+use Rattle.vm_model.specs.Calls.Move.{Awaits}
 use Rattle.vm_model.specs.Moves.{Point, changed_by, move_at}
 use Rattle.vm_model.specs.Histories.{Handed, IsAwaiting, Made}
 use Rattle.vm_model.specs.Refusals.{IsRefusedFor}
@@ -66,7 +69,7 @@ machine_at s given written aside p = record {
   state = changed_by p.said given;
   runs = [];
   proposals = [];
-  tracked = [];
+  tracked = p.derived.tracked;
   ephemeral = [];
   output = aside.output;
   output_ended = false;
@@ -89,41 +92,54 @@ pub record MovesOn (s : Setup) (m : Meaning) (given : StateMap) (p : Point) (giv
   pub answers : q.answers ≡ p.answers ++ gives
 
 -- A call was answered: the run moves on by that answer, the machine agrees with where that leads, what was made is what
--- was written, and nothing was made while recorded commands were left.
+-- was written, and nothing was made, or no recorded command is left there.
 pub record Answered (s : Setup) (m : Meaning) (given : StateMap) (written : List RawMessage) (p : Point) (v : Machine) (a : Answer) (w : Machine) : Type 0 where
   pub at : Point
   pub made : List RawMessage
-  pub none_before : (made ≡ []) ⊎ (p.left ≡ [])
+  pub none_before : (made ≡ []) ⊎ (at.left ≡ [])
   pub moves : MovesOn s m given p (a ∷ []) made at
   pub agrees : Agrees s given (written ++ made) w at
   pub output : w.output ≡ v.output ++ command_frames made
 
--- An await waits: no recorded command was left, and with all arrivals used the future isn't awake.
+-- An await waits: no recorded command was left, and with all arrivals used it asks for one more.
 pub record Waits (s : Setup) (m : Meaning) (given : StateMap) (p q : Point) : Type 0 where
   pub moves : MovesOn s m given p [] [] q
   pub future : UnresolvedFuture
   pub awaits : IsAwaiting m q future
-  pub asleep : is_awake s future q.derived ≡ false
+  pub asks : move_at s m q ≡ Awaits
   pub no_arrival : q.queue ≡ []
   pub none_recorded : p.left ≡ []
   pub no_command : q.left ≡ []
 
--- This is left of a future: of each node the children that have no outcome yet; whatever the leaves come to later, the two are awake
+-- the first of these handles, or a tree
+abbrev pub first_or : List ℕ → Tree → Tree
+first_or [] t = t
+first_or (handle ∷ handles) t = leaf handle
+
+-- What an await of a future waits for: its tree, which the cancel signal ends too where it ends awaits; once that is there, the id of the
+-- first call that is cancelled with the handler and whose id isn't known.
+abbrev pub awaited_tree : Setup → UnresolvedFuture → Derived → Tree
+awaited_tree s future d =
+    if is_cancelled_in s d then first_or (unresolved d.tracked) (tree_of future)
+    else if ends_awaits s.options.implicit_cancellation then or_cancelled (tree_of future)
+    else tree_of future
+
+-- This is left of a tree: of each node the children that have no outcome yet; whatever the leaves come to later, the two are awake
 -- alike.
-pub record IsLeftOf (s : Setup) (future : UnresolvedFuture) (d : Derived) (left : Tree) : Type 0 where
-  pub residual : Residual (leaf_in s d) (tree_of future) left
-  pub alike : AwakeAlike (leaf_in s d) (tree_of future) left
+pub record IsLeftOf (s : Setup) (t : Tree) (d : Derived) (left : Tree) : Type 0 where
+  pub residual : Residual (leaf_in s d) t left
+  pub alike : AwakeAlike (leaf_in s d) t left
 
 -- what an await that waits says of what is left of it, by the ids of its handles
 abbrev pub waiting_on : Setup → Tree → Derived → List Message
 waiting_on s left d = said_waiting s.version s.options.awaiting_on_policy (λ handle. id_at handle d.handles) left
 
--- it waits in a machine that agrees with where that leads; all that is written is what it says of what is left of the future
+-- it waits in a machine that agrees with where that leads; all that is written is what it says of what is left of what it waits for
 pub record StillAgrees (s : Setup) (m : Meaning) (given : StateMap) (written : List RawMessage) (p : Point) (v w : Machine) : Type 0 where
   pub at : Point
   pub waits : Waits s m given p at
   pub left : Tree
-  pub is_left : IsLeftOf s waits.future at.derived left
+  pub is_left : IsLeftOf s (awaited_tree s waits.future at.derived) at.derived left
   pub agrees : Agrees s given written w at
   pub output : w.output ≡ v.output ++ map encoding (waiting_on s left at.derived)
 
@@ -131,12 +147,12 @@ pub record StillAgrees (s : Setup) (m : Meaning) (given : StateMap) (written : L
 abbrev pub suspended_on : Tree → Derived → Suspension
 suspended_on left d = record { future = sent (λ handle. id_at handle d.handles) left }
 
--- it waits, and the invocation is suspended: one Suspension is written, on what is left of the future
+-- it waits, and the invocation is suspended: one Suspension is written, on what is left of what it waits for
 pub record IsSuspended (s : Setup) (m : Meaning) (given : StateMap) (p : Point) (v w : Machine) : Type 0 where
   pub at : Point
   pub waits : Waits s m given p at
   pub left : Tree
-  pub is_left : IsLeftOf s waits.future at.derived left
+  pub is_left : IsLeftOf s (awaited_tree s waits.future at.derived) at.derived left
   pub output : w.output ≡ v.output ++ encoding (message.Suspension (suspended_on left at.derived)) ∷ []
   pub closed : w.phase ≡ Closed
 
@@ -147,17 +163,30 @@ pub record HasEnded (m : Meaning) (p : Point) (v w : Machine) : Type 0 where
   pub output : w.output ≡ v.output ++ encoding message.End ∷ []
   pub closed : w.phase ≡ Closed
 
--- A call was refused: the run comes to a point from which no move leads on, no recorded command was used, and one Error is
--- written. The error is that of the reason, by the error rule.
+-- A call was refused: the run comes to a point from which no move leads on, and one Error is written, behind the commands that were
+-- made up to there: none, or no recorded one is left. The error is that of the reason, by the error rule.
 pub record IsRefused (s : Setup) (m : Meaning) (given : StateMap) (p : Point) (v : Machine) (e : Error) (w : Machine) : Type 0 where
   pub at : Point
-  pub moves : MovesOn s m given p [] [] at
+  pub made : List RawMessage
+  pub none_before : (made ≡ []) ⊎ (at.left ≡ [])
+  pub moves : MovesOn s m given p [] made at
   pub why : NamedFault
   pub reason : IsRefusedFor (move_at s m at) at.left at.queue why
   pub related : Option RelatedCommand
   pub error : e ≡ ruled v (named_error why related)
-  pub none_used : at.left ≡ p.left
-  pub output : w.output ≡ v.output ++ encoding (message.Error (error_message e)) ∷ []
+  pub output : w.output ≡ v.output ++ (command_frames made ++ encoding (message.Error (error_message e)) ∷ [])
+  pub failure : w.failure ≡ Some e
+
+-- An await found no memory, once it had made these commands, each whole: none, or no recorded one is left.
+pub record IsCutShort (s : Setup) (m : Meaning) (given : StateMap) (p : Point) (v : Machine) (e : Error) (w : Machine) : Type 0 where
+  pub at : Point
+  pub made : List RawMessage
+  pub none_before : (made ≡ []) ⊎ (at.left ≡ [])
+  pub moves : MovesOn s m given p [] made at
+  pub future : UnresolvedFuture
+  pub awaits : IsAwaiting m at future
+  pub error : e ≡ no_memory
+  pub output : w.output ≡ v.output ++ command_frames made
   pub failure : w.failure ≡ Some e
 
 -- What a call does, by what it answers.
@@ -166,4 +195,4 @@ Follows s m given written p v (Done (reply.Answer a) w) = Answered s m given wri
 Follows s m given written p v (Done (reply.Waiting input run) w) = StillAgrees s m given written p v w
 Follows s m given written p v (Done reply.Suspended w) = IsSuspended s m given p v w
 Follows s m given written p v (Done reply.Ended w) = HasEnded m p v w
-Follows s m given written p v (Failed e w) = IsRefused s m given p v e w
+Follows s m given written p v (Failed e w) = IsRefused s m given p v e w ⊎ IsCutShort s m given p v e w

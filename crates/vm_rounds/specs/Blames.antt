@@ -146,14 +146,14 @@ pub record RefusedCall (m : Meaning) (version : Version) (options : VMOptions) (
 -- ---- why an attempt failed
 
 -- Memory was lacking; a frame was refused, or bytes were no frame; the input was closed while known entries were missing; the
--- journal has no input; or the handler's call was refused.
+-- journal has no input; or the handler's call was refused, or an await found no memory for one of its commands.
 pub data Blame (m : Meaning) (version : Version) (options : VMOptions) (fed : List Fed) (closed : Bool) (answers : List Answer) (e : Error) : Type 0 where
   Memory : e ≡ no_memory → Blame m version options fed closed answers e
   Frame : BadFrame version options (frames_fed fed) e → Blame m version options fed closed answers e
   NoFrame : (frames_of (bytes_fed fed)).1 ≡ Garbage → e ≡ ruled_by version options (named_error fault.BadMessage None) → Blame m version options fed closed answers e
   ClosedEarly : closed ≡ true → IsShort (frames_fed fed) → e ≡ ruled_by version options (named_error fault.InputClosedWhileWaitingEntries None) → Blame m version options fed closed answers e
   NoInput : LacksInput (frames_fed fed) → Blame m version options fed closed answers e
-  Call : (Premises m version options fed → RefusedCall m version options fed answers e) → Blame m version options fed closed answers e
+  Call : (Premises m version options fed → (e ≡ no_memory) ⊎ RefusedCall m version options fed answers e) → Blame m version options fed closed answers e
 
 -- As long as an attempt is not over, its VM isn't closed, and has failed only for such a reason.
 pub record BlamedAt (m : Meaning) (version : Version) (options : VMOptions) (over : Option Progress) (fed : List Fed) (closed : Bool) (answers : List Answer) (v : Machine) : Type 0 where

@@ -1,10 +1,10 @@
 -- The call that a step of a handler is, and what its answer is to the handler: one row a kind of what steps ask for.
-use Rattle.std.specs.Prelude.{◌≡◌, ◌⊎◌, ℕ, List, Result, Ok, Err, OnOk}
+use Rattle.std.specs.Prelude.{◌≡◌, ℕ, List, Result, Ok, Err, OnOk}
 use Rattle.journal_errors.specs.declared.error.Error.{Error}
 use Rattle.vm_parts.specs.declared.steps.Answer.TheVariants as answer
 use Rattle.vm_parts.specs.declared.steps.Step.{Step}
 use Rattle.vm_parts.specs.declared.types.AwaitResponse.{AwaitResponse}
-use Rattle.vm_parts.specs.declared.types.AwaitResponse.TheVariants.{AnyCompleted, WaitingExternalProgress}
+use Rattle.vm_parts.specs.declared.types.AwaitResponse.TheVariants.{AnyCompleted, CancelSignalReceived, WaitingExternalProgress}
 use Rattle.await_trees.specs.declared.handle.NotificationHandle.{NotificationHandle}
 use Rattle.await_trees.specs.declared.tree.UnresolvedFuture.{UnresolvedFuture}
 use Rattle.await_trees.specs.Tree.{tree_of}
@@ -13,11 +13,11 @@ use Rattle.vm_machine.specs.declared.asks.Ask.{Ask}
 use Rattle.vm_machine.specs.declared.asks.Ask.TheVariants as ask
 use Rattle.vm_machine.specs.declared.asks.Command.{Command}
 use Rattle.vm_machine.specs.Asks.{ask_of, command_answer}
-use Rattle.vm_machine.specs.Awaits.{Awaits}
+use Rattle.vm_machine.specs.Cancels.{AwaitsWhole}
 use Rattle.vm_machine.specs.Takes.{is_completed, take_step}
 use Rattle.vm_machine.specs.Commands.{CanBeRead, commanded}
 use Rattle.vm_machine.specs.Inputs.{end_step}
-use Rattle.vm_machine.specs.Outcomes.{CalledBy, DoesBy, Done, Failed, Outcome, called}
+use Rattle.vm_machine.specs.Outcomes.{DoesBy, Done, Failed, Outcome, called}
 use Rattle.vm_machine.specs.declared.reads.StateRead.{StateRead}
 use Rattle.vm_machine.specs.Reads.{ReadCanBeRead, read_step}
 use Rattle.vm_machine.specs.Signals.{signal_step}
@@ -55,12 +55,15 @@ read_made r v = mapped (λ handle. reply.Answer (answer.Handle handle)) (called 
 -- an await that is answered, that waits, or by which the invocation is suspended
 abbrev pub await_reply : Result AwaitResponse Error → Reply
 await_reply (Ok AnyCompleted) = reply.Answer answer.Awake
+await_reply (Ok CancelSignalReceived) = reply.Answer answer.Cancelled
 await_reply (Ok (WaitingExternalProgress input run)) = reply.Waiting input run
 await_reply (Err e) = reply.Suspended
 
--- an await of a future: what it may come to, as a reply
+-- An await of a future: what its whole call may come to, as a reply. An error is that of the call, also where it found no memory for one
+-- of its commands.
 abbrev pub Awaited : UnresolvedFuture → Machine → Outcome Reply → Type 0
-Awaited future v o = (answered : Outcome (Result AwaitResponse Error)) × CalledBy (Awaits (tree_of future) v) v answered × (o ≡ mapped await_reply answered)
+Awaited future v (Done given w) = (answered : Result AwaitResponse Error) × AwaitsWhole (tree_of future) (Ok answered) v w × (given ≡ await_reply answered)
+Awaited future v (Failed e w) = AwaitsWhole (tree_of future) (Err e) v w
 
 -- a take: the answer is the result, if there is one
 abbrev pub taken : NotificationHandle → Machine → Outcome Reply

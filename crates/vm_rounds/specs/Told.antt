@@ -1,5 +1,5 @@
 -- What the record of an attempt tells of its handler's run.
-use Rattle.std.specs.Prelude.{◌≡◌, ◌≢◌, ◌⊎◌, ℕ, true, false, cond, length, List, [], ◌∷◌, ◌++◌, map, Option, Some, None, Result, Ok, Err}
+use Rattle.std.specs.Prelude.{◌≡◌, ◌≢◌, ◌⊎◌, ℕ, true, cond, length, List, [], ◌∷◌, ◌++◌, map, Option, Some, None, Result, Ok, Err}
 use Rattle.std.specs.List.{AllByRecursion, concat, flat_map}
 use Rattle.journal_attempt.specs.declared.commands.InputCommand.{InputCommand}
 use Rattle.journal_errors.specs.declared.error.Error.{Error}
@@ -11,7 +11,7 @@ use Rattle.journal_messages.specs.declared.message.RawMessage.{RawMessage}
 use Rattle.journal_values.specs.declared.notification.Notification.{Notification}
 use Rattle.journal_attempt.specs.declared.start.Start.{Start}
 use Rattle.journal_errors.specs.declared.version.Version.{Version}
-use Rattle.journal_errors.specs.Errors.{error_message, named_error}
+use Rattle.journal_errors.specs.Errors.{error_message, named_error, no_memory}
 use Rattle.journal_messages.specs.Message.{encoding}
 use Rattle.journal_messages.specs.Reading.{start_in}
 use Rattle.journal_messages.specs.Message.{IsWhole}
@@ -23,22 +23,23 @@ use Rattle.vm_parts.specs.declared.steps.Step.TheVariants as step
 use Rattle.await_trees.specs.declared.tree.UnresolvedFuture.{UnresolvedFuture}
 use Rattle.vm_machine.specs.declared.machine.Machine.{Machine}
 use Rattle.std.proofs.Common.{Global}
-use Rattle.vm_machine.specs.declared.phase.Phase.TheVariants.{Closed}
+use Rattle.vm_machine.specs.declared.phase.Phase.TheVariants.{Closed, Processing}
 use Rattle.vm_machine.specs.Inputs.{coverage_of, entries_in, info_of}
 use Rattle.vm_machine.specs.Making.{fresh}
 use Rattle.vm_machine.specs.Phases.{is_running}
 use Rattle.invocation_vm.specs.Frames.{Rest, frames_of}
-use Rattle.vm_model.specs.Calls.{Meaning, is_awake}
+use Rattle.vm_model.specs.Calls.{Meaning}
+use Rattle.vm_model.specs.Calls.Move.{Awaits}
 use Rattle.vm_model.specs.Deliveries.{HasNoTwo}
 use Rattle.vm_model.specs.Journal.{input_read_from, stored_form}
 use Rattle.vm_model.specs.Moves.{Point, move_at, start}
-use Rattle.vm_model.specs.Histories.{Handed, Made, Told, behind}
+use Rattle.vm_model.specs.Histories.{Handed, IsPrefix, Made, Told, behind}
 use Rattle.vm_model.specs.Refusals.{IsRefusedFor}
 use Rattle.vm_machine.specs.Outcomes.{IsStarved, ruled}
 use Rattle.vm_rounds.specs.declared.progress.Fed.{Fed}
 use Rattle.vm_rounds.specs.declared.progress.Progress.{Progress}
 use Rattle.vm_rounds.specs.declared.progress.Progress.TheVariants as progress
-use Rattle.vm_rounds.specs.Agreement.{Agrees, Aside}
+use Rattle.vm_rounds.specs.Agreement.{Agrees, Aside, command_frames}
 use Rattle.vm_rounds.specs.Journals.{HasAll, StillWaits, commands_among, is_command, notifications_among, setup_for}
 use Rattle.vm_parts.specs.declared.steps.Answer.{Answer}
 use Rattle.invocation_vm.specs.Views.{View}
@@ -148,18 +149,19 @@ pub record ToldBy (m : Meaning) (version : Version) (options : VMOptions) (fed :
 abbrev pub AnswersAreTold : Meaning → Version → VMOptions → Record → Type 0
 AnswersAreTold m version options r = ToldBy m version options r.fed r.answers (written_by r)
 
--- An await waits rightly: with all arrivals that were fed, its future is awake at no point that the journal tells with these
--- answers, and all its commands are used.
+-- An await waits rightly: with all arrivals that were fed the journal tells no point with more answers; and where all its commands and
+-- all arrivals are used, the run needs one more arrival.
 pub record IsAsleep (m : Meaning) (version : Version) (options : VMOptions) (fed : List Fed) (answers_so_far : List Answer) (written : List RawMessage) : Type 0 where
   pub journal : Journal fed
   pub future : UnresolvedFuture
   pub awaits : m answers_so_far ≡ step.Await future
-  pub asleep : (p : Point) → Tells m version options journal written p → p.answers ≡ answers_so_far → is_awake (setup_for version options journal.start) future p.derived ≡ false
+  pub asleep : (p : Point) → Tells m version options journal written p → IsPrefix p.answers answers_so_far
   pub at : Point
   pub told : Tells m version options journal written at
   pub answers : at.answers ≡ answers_so_far
   pub no_arrival : at.queue ≡ []
   pub no_command : at.left ≡ []
+  pub asks : move_at (setup_for version options journal.start) m at ≡ Awaits
 
 -- the same of a record
 abbrev pub NothingWakes : Meaning → Version → VMOptions → Record → Type 0
@@ -169,34 +171,53 @@ NothingWakes m version options r = IsAsleep m version options r.fed r.answers (w
 abbrev pub Sleeps : Meaning → Version → VMOptions → List Fed → List Answer → List (List ℕ) → View → Type 0
 Sleeps m version options fed answers taken vm = (written : List RawMessage) × Wrote taken vm.machine.output written × IsAsleep m version options fed answers written
 
--- A call is refused while recorded commands are left: the journal tells a point with these answers from which no move leads on,
--- for this reason; one Error is written, which says so by the error rule, and the VM fails by it.
+-- A call is refused that began while recorded commands were left: the run comes to a point with these answers from which no move leads
+-- on, for this reason; one Error is written, which says so by the error rule, and the VM fails by it. A cancelled await may have made
+-- commands before it, but none while recorded ones were left.
 pub record RefusesReplay (m : Meaning) (version : Version) (options : VMOptions) (fed : List Fed) (answers_so_far : List Answer) (e : Error) (old new : Machine) : Type 0 where
   pub journal : Journal fed
   pub at : Point
   pub moves : ℕ
-  pub made : Made (setup_for version options journal.start) m (Handed (handed_out journal)) moves (begun version options journal) [] at
+  pub written : List RawMessage
+  pub none_before : (written ≡ []) ⊎ (at.left ≡ [])
+  pub made : Made (setup_for version options journal.start) m (Handed (handed_out journal)) moves (begun version options journal) written at
   pub answers : at.answers ≡ answers_so_far
-  pub recorded : RawMessage
-  pub further : List RawMessage
-  pub left : at.left ≡ recorded ∷ further
   pub why : NamedFault
   pub reason : IsRefusedFor (move_at (setup_for version options journal.start) m at) at.left at.queue why
   pub related : Option RelatedCommand
   pub error : e ≡ ruled old (named_error why related)
-  pub output : new.output ≡ old.output ++ encoding (message.Error (error_message e)) ∷ []
+  pub output : new.output ≡ old.output ++ (command_frames written ++ encoding (message.Error (error_message e)) ∷ [])
   pub failure : new.failure ≡ Some e
 
--- While recorded commands are left, the handler's call is answered and nothing is written; or it is refused; or memory is lacking.
+-- An await that began while recorded commands were left found no memory for one of its commands. It may have made others before, each
+-- whole, but none while recorded ones were left.
+pub record StarvesReplay (m : Meaning) (version : Version) (options : VMOptions) (fed : List Fed) (answers_so_far : List Answer) (e : Error) (old new : Machine) : Type 0 where
+  pub journal : Journal fed
+  pub at : Point
+  pub moves : ℕ
+  pub written : List RawMessage
+  pub none_before : (written ≡ []) ⊎ (at.left ≡ [])
+  pub made : Made (setup_for version options journal.start) m (Handed (handed_out journal)) moves (begun version options journal) written at
+  pub answers : at.answers ≡ answers_so_far
+  pub future : UnresolvedFuture
+  pub awaits : m at.answers ≡ step.Await future
+  pub error : e ≡ no_memory
+  pub output : new.output ≡ old.output ++ command_frames written
+  pub failure : new.failure ≡ Some e
+
+-- While recorded commands are left, the handler's call is answered, and nothing is written, or no recorded command is left any more; or it
+-- is refused; or memory is lacking.
 abbrev pub Replays : Meaning → Version → VMOptions → Record → Result Progress Error → Record → Type 0
-Replays m version options old (Ok progress.Stepped) new = new.vm.machine.output ≡ old.vm.machine.output
+Replays m version options old (Ok progress.Stepped) new = (new.vm.machine.output ≡ old.vm.machine.output) ⊎ (new.vm.machine.phase ≡ Processing)
 Replays m version options old (Ok progress.NotReady) new = ⊥
 Replays m version options old (Ok (progress.Waiting input run)) new = ⊥
 Replays m version options old (Ok progress.Suspended) new = ⊥
 Replays m version options old (Ok progress.Ended) new = ⊥
 Replays m version options old (Err e) new =
     (new.starved ≡ true)
-    ⊎ (IsStarved old.vm.machine e new.vm.machine ⊎ RefusesReplay m version options old.fed old.answers e old.vm.machine new.vm.machine)
+    ⊎ (IsStarved old.vm.machine e new.vm.machine
+    ⊎ (StarvesReplay m version options old.fed old.answers e old.vm.machine new.vm.machine
+    ⊎ RefusesReplay m version options old.fed old.answers e old.vm.machine new.vm.machine))
 
 -- the VM can make calls: it has neither failed nor ended, nor is the invocation suspended
 pub record IsLive (v : Machine) : Type 0 where

@@ -41,8 +41,9 @@ ghost use Rattle.await_trees.specs.declared.tree.UnresolvedFuture.{UnresolvedFut
 
 /// In a machine that agrees with a point of the handler's run, the handler's call does what the moves from there lead to:
 /// it is answered as they are, writes the commands that they make and no others, and agrees with the point where they lead;
-/// or an await waits, where no arrival and no recorded command is left, and wakes by none of the arrivals; or the handler
-/// ends, where no recorded command is left; or the call is refused, where no move leads on. Of an await this is said where signals
+/// or an await waits, where no arrival and no recorded command is left, and asks for one more arrival; or the handler
+/// ends, where no recorded command is left; or the call is refused, where no move leads on. A cancelled await that is refused, or finds no
+/// memory, has made a beginning of its commands, each whole. Of an await this is said where signals
 /// queue and no completion has two results. (That a command which was written can be read back is in the contract of each call.)
 pub fn calls_follow()
     ensures { (s : Setup) (m : Meaning) (given : StateMap) (written : List RawMessage) (v : Machine) (p : Point) (o : Outcome Reply) → ((future : UnresolvedFuture) → IsAwaiting m p future → (s.options.signal_delivery ≡ Queued) × HasNoTwo p) → Agrees s given written v p → Performs (m p.answers) v o → IfDone o (ReadsBack (m p.answers) v) → Follows s m given written p v o }
@@ -92,7 +93,7 @@ pub fn attempts_keep()
 /// Where the known entries are a history of the handler, no call is refused while recorded commands are left: no mismatch, no
 /// pending await, no end before its time.
 pub fn histories_are_replayed()
-    ensures { (m : Meaning) (version : Version) (options : VMOptions) (fed : List Fed) (answers : List Answer) (e : Error) (old new : Machine) (refusal : RefusesReplay m version options fed answers e old new) (base : StateMap) → History (setup_for version options refusal.journal.start) m base (as_entries refusal.journal.entries) → ⊥ }
+    ensures { (m : Meaning) (version : Version) (options : VMOptions) (fed : List Fed) (answers : List Answer) (e : Error) (old new : Machine) (refusal : RefusesReplay m version options fed answers e old new) (recorded : RawMessage) (further : List RawMessage) → refusal.at.left ≡ recorded ∷ further → (base : StateMap) → History (setup_for version options refusal.journal.start) m base (as_entries refusal.journal.entries) → ⊥ }
 {}
 
 /// Under the premises the answers of an attempt are those of a point that its journal tells, followed by what it wrote, with the arrivals that it

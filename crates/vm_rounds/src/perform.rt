@@ -80,6 +80,7 @@ fn reply_of(response: VMResult<AwaitResponse>) -> Reply
 {
     match response {
         Ok(AwaitResponse::AnyCompleted) => Reply::Answer(Answer::Awake),
+        Ok(AwaitResponse::CancelSignalReceived) => Reply::Answer(Answer::Cancelled),
         Ok(
             AwaitResponse::WaitingExternalProgress {
                 waiting_input,

@@ -23,7 +23,7 @@ use Rattle.vm_machine.specs.Endings.{EventWrites, Writes}
 use Rattle.vm_machine.specs.Inputs.{close_step, input_step}
 use Rattle.vm_machine.specs.Outcomes.{Does, DoesBy, Done, Failed, Outcome, called, refused}
 use Rattle.vm_machine.specs.Signals.{awakeable_step}
-use Rattle.vm_machine.proofs.Endings.{GoesOn, asks_go_on, awaited_writes, awakeable_writes, called_writes, close_writes, commanded_event, end_writes, input_writes, read_writes, same, signal_writes, take_writes, writes_nothing}
+use Rattle.vm_machine.proofs.Endings.{GoesOn, asks_go_on, awakeable_writes, called_writes, close_writes, commanded_event, end_writes, input_writes, read_writes, same, signal_writes, take_writes, writes_nothing}
 use Rattle.invocation_vm.specs.Calls.{skips_replay}
 use Rattle.invocation_vm.specs.Views.{View, after_closing, after_input, left_by}
 use Rattle.invocation_vm.proofs.Feeds.{among_output}
@@ -34,7 +34,8 @@ use Rattle.vm_rounds.specs.declared.progress.Reply.{Reply}
 use Rattle.vm_rounds.specs.declared.progress.Reply.TheVariants as reply
 use Rattle.vm_rounds.specs.Record.{Record, bytes_written}
 use Rattle.vm_rounds.specs.Stepping.{Advances, Asks, CloseDoes, Closes, FeedDoes, Feeds, Reads, StepAt, StepDoes, StepFrom, StepUnless, future_in, kept_at, replied, step_asked, with_vm}
-use Rattle.vm_rounds.specs.Steps.{Performs, PerformsBy, await_reply, mapped}
+use Rattle.vm_rounds.specs.Steps.{Awaited, Performs, PerformsBy, mapped}
+use Rattle.invocation_vm.proofs.Endings.{whole_writes}
 use Rattle.vm_rounds.proofs.Quiet.{input_quiet}
 
 -- ---- one event of the machine
@@ -47,13 +48,18 @@ new_awakeable_writes : (b : Bool) (v : Machine) → EventWrites v (called (if b 
 new_awakeable_writes true v = called_writes v (refused {A = AwakeableHandle} fault.UnsupportedFeature v) (λ live. same v)
 new_awakeable_writes false v = awakeable_writes v
 
+-- an await writes behind the output
+await_event : (future : UnresolvedFuture) (v : Machine) (o : Outcome Reply) → Awaited future v o → EventWrites v o
+await_event future v (Done given w) (answered, whole, replied) = whole_writes (tree_of future) (Ok answered) v w whole
+await_event future v (Failed e w) whole = whole_writes (tree_of future) (Err e) v w whole
+
 -- what is asked for writes behind the output
 asked_writes : (a : Ask) → GoesOn a → (v : Machine) (o : Outcome Reply) → PerformsBy a v o → EventWrites v o
 asked_writes (ask.Command c) goes v o does = subst (EventWrites v) (sym does) (mapped_writes _ v (called (commanded c v) v) (called_writes v (commanded c v) (commanded_event c v goes)))
 asked_writes ask.Awakeable goes v o does = subst (EventWrites v) (sym does) (mapped_writes _ v _ (new_awakeable_writes (skips_replay v.options.journal_replay) v))
 asked_writes (ask.Read r) goes v o does = subst (EventWrites v) (sym does) (mapped_writes _ v _ (read_writes r v))
 asked_writes (ask.Signal name) goes v o does = subst (EventWrites v) (sym does) (mapped_writes _ v _ (signal_writes name v))
-asked_writes (ask.Await future) goes v o (x, comes, does) = subst (EventWrites v) (sym does) (mapped_writes await_reply v x (awaited_writes (tree_of future) v x comes))
+asked_writes (ask.Await future) goes v o does = await_event future v o does
 asked_writes (ask.Take handle) goes v o does = subst (EventWrites v) (sym does) (mapped_writes _ v _ (take_writes handle.0 v))
 asked_writes (ask.Completed handle) goes v o does = subst (EventWrites v) (sym does) (writes_nothing v v (same v))
 asked_writes ask.End goes v o does = subst (EventWrites v) (sym does) (mapped_writes _ v _ (end_writes v))

@@ -8,7 +8,8 @@ use std::env::{self, Env};
 use std::io;
 use std::process::ExitCode;
 
-const USAGE: &str = "usage: vmrounds <content-type> <sleeper|counter> < script > report";
+const USAGE: &str =
+    "usage: vmrounds <content-type> <sleeper|race|parent|counter> < script > report";
 
 /// The two arguments, where there are just two.
 fn arguments(rt: &(impl Env + AllocGlobal)) -> io::Result<Option<(String, String)>> {

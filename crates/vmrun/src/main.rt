@@ -8,7 +8,7 @@ use std::env::{self, Env};
 use std::io;
 use std::process::ExitCode;
 
-const USAGE: &str = "usage: vmrun <content-type> <sleeper|counter>";
+const USAGE: &str = "usage: vmrun <content-type> <sleeper|race|parent|counter>";
 
 /// The two arguments, where there are just two.
 fn arguments(rt: &(impl Env + AllocGlobal)) -> io::Result<Option<(String, String)>> {

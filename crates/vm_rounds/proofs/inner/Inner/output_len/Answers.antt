@@ -1,4 +1,3 @@
-use Rattle.std.proofs.Common.{◌∙◌}
 use Rattle.vm_rounds.proofs.Lengths.{both_counted}
 use Rattle.invocation_vm.specs.Seen.{seen}
 use Rattle.vm_rounds.proofs.inner.Inner.output_len.Goals as goal

@@ -1,0 +1,22 @@
+-- Calls of other handlers, and what a handler awaits two results by.
+use Rattle.std.specs.Prelude.{ℕ, List, [], ◌∷◌, None}
+use Rattle.vm_parts.specs.declared.steps.Step.{Step}
+use Rattle.vm_parts.specs.declared.steps.Step.TheVariants as step
+use Rattle.await_trees.specs.declared.handle.NotificationHandle.{NotificationHandle}
+use Rattle.await_trees.specs.declared.tree.UnresolvedFuture.{UnresolvedFuture}
+use Rattle.await_trees.specs.declared.tree.UnresolvedFuture.TheVariants.{Single}
+use Rattle.vm_parts.specs.declared.values.Target.{Target}
+use Rattle.handlers.specs.Answers.{stable}
+
+-- a service's handler, without a key
+abbrev pub target_of : List ℕ → List ℕ → Target
+target_of service handler =
+    record { service = service; handler = handler; key = None; idempotency_key = None; scope = None; limit_key = None; headers = [] }
+
+-- the call of a service's handler with an input
+abbrev pub call_of : List ℕ → List ℕ → List ℕ → Step
+call_of service handler input = step.Call (target_of service handler) input None stable
+
+-- two handles, to be awaited together
+abbrev pub both : NotificationHandle → NotificationHandle → List UnresolvedFuture
+both first second = Single first ∷ Single second ∷ []

@@ -1,0 +1,144 @@
+// Worked rounds of `parent`: it is cancelled, and its children with it, also where it was stopped between two of their signals.
+use crate::bench::{Told, V7, assert_reported, told_of};
+use round_reports::run::run;
+use runner::streams::Plain;
+use std::alloc::Global;
+use std::io::Cursor;
+use std::process::Abort;
+use std::test::Fail;
+
+/// The first of the two cancel signals is stored, and the attempt is lost; the next one sends the other.
+const CANCELLED: &str = r#"round
+piece all
+step 3
+store 2
+round
+piece all
+step 4
+arrive Notification id=completion(1) result=invocation_id("inv1")
+arrive Notification id=completion(3) result=invocation_id("inv2")
+arrive Notification id=signal(1) result=void
+piece all
+step
+store 1
+round
+piece all
+step 6
+store 2
+=>
+round 1
+answer input id="abc" seed=0 key="" headers=[] value="" scope=- limit=- idem=-
+answer handles 17 18
+answer handles 19 20
+output Call service_name="Child" handler_name="a" invocation_id_notification_idx=1 result_completion_id=2
+output Call service_name="Child" handler_name="b" invocation_id_notification_idx=3 result_completion_id=4
+entries 3
+round 2
+answer input id="abc" seed=0 key="" headers=[] value="" scope=- limit=- idem=-
+answer handles 17 18
+answer handles 19 20
+answer cancelled
+output AwaitingOn future=(kind=FirstCompleted signals=[1] nested=[(kind=AllCompleted completions=[2, 4])])
+output SendSignal target_invocation_id="inv1" signal=index(1) result=void
+output SendSignal target_invocation_id="inv2" signal=index(1) result=void
+entries 7
+round 3
+answer input id="abc" seed=0 key="" headers=[] value="" scope=- limit=- idem=-
+answer handles 17 18
+answer handles 19 20
+answer cancelled
+answer unit
+output SendSignal target_invocation_id="inv2" signal=index(1) result=void
+output Output result=failure(code=409 message="cancelled")
+output End
+entries 9
+journal
+Input
+Call service_name="Child" handler_name="a" invocation_id_notification_idx=1 result_completion_id=2
+Call service_name="Child" handler_name="b" invocation_id_notification_idx=3 result_completion_id=4
+Notification id=completion(1) result=invocation_id("inv1")
+Notification id=completion(3) result=invocation_id("inv2")
+Notification id=signal(1) result=void
+SendSignal target_invocation_id="inv1" signal=index(1) result=void
+SendSignal target_invocation_id="inv2" signal=index(1) result=void
+Output result=failure(code=409 message="cancelled")
+"#;
+
+#[test]
+fn cancelled_parent_cancels_each_child_once(rt: HostRuntime) -> Result<(), Fail> {
+    assert_reported(&rt, rt.alloc(), "parent", CANCELLED)
+}
+
+/// The round behind the calls, which is stopped behind each of its lines in turn. What arrives stays in the journal.
+const STOPPED: [&str; 12] = [
+    "round\n",
+    "piece all\n",
+    "step\n",
+    "step\n",
+    "step\n",
+    "step\n",
+    "arrive Notification id=completion(1) result=invocation_id(\"inv1\")\n",
+    "arrive Notification id=completion(3) result=invocation_id(\"inv2\")\n",
+    "arrive Notification id=signal(1) result=void\n",
+    "piece all\n",
+    "step\n",
+    "store 1\n",
+];
+
+/// How many lines of the round come before what arrives, and how many of them do.
+const BEFORE: usize = 6;
+
+const ARRIVALS: usize = 3;
+
+const CALLS: &str = r#"round
+piece all
+step 3
+store 2
+"#;
+
+const LEFT: &str = r#"round
+piece all
+step 8
+"#;
+
+const ENDS: &str = r#"piece all
+step 8
+store all
+"#;
+
+const SENT: &str = r#"SendSignal target_invocation_id="inv1" signal=index(1) result=void
+SendSignal target_invocation_id="inv2" signal=index(1) result=void
+Output result=failure(code=409 message="cancelled")
+"#;
+
+/// The round is stopped behind so many lines, what didn't arrive in it does in the next, and the journal ends the same.
+fn assert_no_trace(rt: &impl Abort, alloc: Global, at: usize) -> Result<(), Fail> {
+    let mut script = String::from_str(alloc, CALLS)?;
+    for line in STOPPED.iter().take(at) {
+        script.push_str(*line)?;
+    }
+    script.push_str(LEFT)?;
+    for line in STOPPED.iter().skip(at.max(BEFORE)).take(ARRIVALS) {
+        if line.starts_with("arrive") {
+            script.push_str(*line)?;
+        }
+    }
+    script.push_str(ENDS)?;
+    let mut writer = Plain(Vec::new(alloc));
+    let mut reader = Plain(Cursor::new(script.as_bytes()));
+    let end = run(alloc, V7, "parent", &mut reader, &mut writer);
+    assert_eq!(rt; told_of(&end), Told::Reported);
+    assert!(rt;
+        writer.0.ends_with(SENT.as_bytes()),
+        "stopped behind {at} lines"
+    );
+    Ok(())
+}
+
+#[test]
+fn where_a_cancelled_round_stops_leaves_no_trace(rt: HostRuntime) -> Result<(), Fail> {
+    for at in 0..=STOPPED.len() {
+        assert_no_trace(&rt, rt.alloc(), at)?;
+    }
+    Ok(())
+}

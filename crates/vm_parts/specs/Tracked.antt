@@ -1,0 +1,126 @@
+-- Calls whose invocations are cancelled with the handler's: one a handle of an invocation's id, in the order of these handles, which
+-- is that of the calls. The id is known once its result was read.
+use Rattle.std.specs.Prelude.{ℕ, ◌≡◌, ◌<◌, ◌≤◌, Bool, true, false, ◌||◌, ◌==◌, nat_lt, if◌then◌else◌, List, [], ◌∷◌, length, take, slice_index_or, Option, Some, None}
+use Rattle.std.specs.List.Sorted.{IsPartitionPoint}
+use Rattle.std.specs.Option.{option_map}
+use Rattle.journal_values.specs.declared.notification.NotificationResult.{NotificationResult}
+use Rattle.journal_values.specs.declared.notification.NotificationResult.TheVariants as result
+use Rattle.vm_parts.specs.declared.run_state.TrackedCall.{TrackedCall}
+use Rattle.vm_parts.specs.declared.values.Value.{Value}
+use Rattle.vm_parts.specs.declared.values.Value.TheVariants as value
+
+-- a call whose invocation's id isn't known
+abbrev pub unresolved_call : ℕ → TrackedCall
+unresolved_call handle = record { handle = handle; invocation_id = None }
+
+-- one more call is tracked
+abbrev pub with_call : ℕ → List TrackedCall → List TrackedCall
+with_call handle [] = unresolved_call handle ∷ []
+with_call handle (t ∷ ts) =
+    if nat_lt handle t.handle then unresolved_call handle ∷ t ∷ ts
+    else if handle == t.handle then unresolved_call handle ∷ ts
+    else t ∷ with_call handle ts
+
+-- the call of this handle is tracked
+abbrev pub is_tracked : ℕ → List TrackedCall → Bool
+is_tracked handle [] = false
+is_tracked handle (t ∷ ts) = (t.handle == handle) || is_tracked handle ts
+
+-- the invocation's id of the call of this handle is known
+abbrev pub with_id : ℕ → List ℕ → List TrackedCall → List TrackedCall
+with_id handle id [] = []
+with_id handle id (t ∷ ts) = if t.handle == handle then record { handle = t.handle; invocation_id = Some id } ∷ ts else t ∷ with_id handle id ts
+
+-- A result of this handle was read, which is this invocation's id, or no id. Of a tracked call it has to be one, which is then known.
+abbrev pub noted : ℕ → Option (List ℕ) → List TrackedCall → Option (List TrackedCall)
+noted handle id ts = if is_tracked handle ts then option_map (λ known. with_id handle known ts) id else Some ts
+
+-- a handle comes first, where its call's id isn't known
+abbrev pub if_unresolved : Option (List ℕ) → ℕ → List ℕ → List ℕ
+if_unresolved None handle handles = handle ∷ handles
+if_unresolved (Some id) handle handles = handles
+
+-- the handles of the calls whose ids aren't known
+abbrev pub unresolved : List TrackedCall → List ℕ
+unresolved [] = []
+unresolved (t ∷ ts) = if_unresolved t.invocation_id t.handle (unresolved ts)
+
+-- the first of two lists, where a call's id isn't known, else the second
+abbrev pub by_id : Option (List ℕ) → List TrackedCall → List TrackedCall → List TrackedCall
+by_id None first second = first
+by_id (Some id) first second = second
+
+-- the first id that isn't known becomes known
+abbrev pub with_next_id : List ℕ → List TrackedCall → List TrackedCall
+with_next_id id [] = []
+with_next_id id (t ∷ ts) = by_id t.invocation_id (record { handle = t.handle; invocation_id = Some id } ∷ ts) (t ∷ with_next_id id ts)
+
+-- an id comes first, where it is known
+abbrev pub if_known : Option (List ℕ) → List (List ℕ) → List (List ℕ)
+if_known None ids = ids
+if_known (Some id) ids = id ∷ ids
+
+-- the ids that are known
+abbrev pub invocation_ids : List TrackedCall → List (List ℕ)
+invocation_ids [] = []
+invocation_ids (t ∷ ts) = if_known t.invocation_id (invocation_ids ts)
+
+-- the invocation's id that a result is
+abbrev pub id_of_result : NotificationResult → Option (List ℕ)
+id_of_result (result.InvocationId id) = Some id
+id_of_result result.Void = None
+id_of_result (result.Value bytes) = None
+id_of_result (result.Failure failure) = None
+id_of_result (result.StateKeys keys) = None
+
+-- the invocation's id that a value is
+abbrev pub id_of_value : Value → Option (List ℕ)
+id_of_value (value.InvocationId id) = Some id
+id_of_value value.Void = None
+id_of_value (value.Success bytes) = None
+id_of_value (value.Failure failure) = None
+id_of_value (value.StateKeys keys) = None
+
+-- the first of some calls isn't tracked any more
+abbrev pub without_first_call : List TrackedCall → List TrackedCall
+without_first_call [] = []
+without_first_call (t ∷ ts) = ts
+
+-- A result of this handle was read, which is this invocation's id, or no id. Where that may be so, it was noted; else the calls stay.
+abbrev pub Notes : ℕ → Option (List ℕ) → List TrackedCall → List TrackedCall → Bool → Type 0
+Notes handle id old new true = noted handle id old ≡ Some new
+Notes handle id old new false = (noted handle id old ≡ None) × (new ≡ old)
+
+-- this handle is the first of these
+abbrev pub IsFirst : List ℕ → ℕ → Type 0
+IsFirst handles handle = (rest : List ℕ) × (handles ≡ handle ∷ rest)
+
+-- each handle is greater than this one
+abbrev pub Above : ℕ → List TrackedCall → Type 0
+Above handle [] = Unit {0}
+Above handle (t ∷ ts) = (handle < t.handle) × Above handle ts
+
+-- handles ascend
+abbrev pub Ascend : List TrackedCall → Type 0
+Ascend [] = Unit {0}
+Ascend (t ∷ ts) = Above t.handle ts × Ascend ts
+
+-- calls in the order of their handles, and how many of the first ones have ids that are known
+pub record IsTracking (ts : List TrackedCall) (resolved : ℕ) : Type 0 where
+  pub ascend : Ascend ts
+  pub within : resolved ≤ length ts
+  pub known : unresolved (take resolved ts) ≡ []
+
+-- the call of a handle stands here
+abbrev pub IsAt : ℕ → List TrackedCall → ℕ → Type 0
+IsAt handle ts place = (place < length ts) × ((d : TrackedCall) → (slice_index_or ts place d).handle ≡ handle)
+
+-- no call has the handle, and one would stand here: behind those that are less, and before those that are greater
+abbrev pub IsBetween : ℕ → List TrackedCall → ℕ → Type 0
+IsBetween handle ts place = (place ≤ length ts) × IsPartitionPoint (λ t. t.handle < handle) (λ t. handle < t.handle) ts place
+
+-- the first call whose id isn't known stands here, or there is none and this is the end
+pub record IsNext (ts : List TrackedCall) (place : ℕ) : Type 0 where
+  pub within : place ≤ length ts
+  pub known : unresolved (take place ts) ≡ []
+  pub next : (d : TrackedCall) → place < length ts → (slice_index_or ts place d).invocation_id ≡ None
