@@ -1,5 +1,5 @@
 // Worked rounds of `parent`: it is cancelled, and its children with it, also where it was stopped between two of their signals.
-use crate::bench::{Told, V7, assert_reported, told_of};
+use crate::bench::{Told, V7, assert_reported, assert_run, told_of};
 use round_reports::run::run;
 use runner::streams::Plain;
 use std::alloc::Global;
@@ -67,6 +67,153 @@ Output result=failure(code=409 message="cancelled")
 #[test]
 fn cancelled_parent_cancels_each_child_once(rt: HostRuntime) -> Result<(), Fail> {
     assert_reported(&rt, rt.alloc(), "parent", CANCELLED)
+}
+
+/// Options that change nothing of these rounds, each alone.
+const IDLE: [&str; 6] = [
+    "cancel=both",
+    "checks=off",
+    "awaiting=always",
+    "mismatch=pause",
+    "mismatch=fail",
+    "delivery=overwrite",
+];
+
+/// What the rounds give where nothing says what an await waits for.
+const SILENT: &str = r#"round 1
+answer input id="abc" seed=0 key="" headers=[] value="" scope=- limit=- idem=-
+answer handles 17 18
+answer handles 19 20
+output Call service_name="Child" handler_name="a" invocation_id_notification_idx=1 result_completion_id=2
+output Call service_name="Child" handler_name="b" invocation_id_notification_idx=3 result_completion_id=4
+entries 3
+round 2
+answer input id="abc" seed=0 key="" headers=[] value="" scope=- limit=- idem=-
+answer handles 17 18
+answer handles 19 20
+answer cancelled
+output SendSignal target_invocation_id="inv1" signal=index(1) result=void
+output SendSignal target_invocation_id="inv2" signal=index(1) result=void
+entries 7
+round 3
+answer input id="abc" seed=0 key="" headers=[] value="" scope=- limit=- idem=-
+answer handles 17 18
+answer handles 19 20
+answer cancelled
+answer unit
+output SendSignal target_invocation_id="inv2" signal=index(1) result=void
+output Output result=failure(code=409 message="cancelled")
+output End
+entries 9
+journal
+Input
+Call service_name="Child" handler_name="a" invocation_id_notification_idx=1 result_completion_id=2
+Call service_name="Child" handler_name="b" invocation_id_notification_idx=3 result_completion_id=4
+Notification id=completion(1) result=invocation_id("inv1")
+Notification id=completion(3) result=invocation_id("inv2")
+Notification id=signal(1) result=void
+SendSignal target_invocation_id="inv1" signal=index(1) result=void
+SendSignal target_invocation_id="inv2" signal=index(1) result=void
+Output result=failure(code=409 message="cancelled")
+"#;
+
+/// What they give where the children of calls aren't cancelled: the parent is, and says nothing to them.
+const CHILDLESS: &str = r#"round 1
+answer input id="abc" seed=0 key="" headers=[] value="" scope=- limit=- idem=-
+answer handles 17 18
+answer handles 19 20
+output Call service_name="Child" handler_name="a" invocation_id_notification_idx=1 result_completion_id=2
+output Call service_name="Child" handler_name="b" invocation_id_notification_idx=3 result_completion_id=4
+entries 3
+round 2
+answer input id="abc" seed=0 key="" headers=[] value="" scope=- limit=- idem=-
+answer handles 17 18
+answer handles 19 20
+answer cancelled
+output AwaitingOn future=(kind=FirstCompleted signals=[1] nested=[(kind=AllCompleted completions=[2, 4])])
+entries 6
+round 3
+answer input id="abc" seed=0 key="" headers=[] value="" scope=- limit=- idem=-
+answer handles 17 18
+answer handles 19 20
+answer cancelled
+answer unit
+output Output result=failure(code=409 message="cancelled")
+output End
+entries 7
+journal
+Input
+Call service_name="Child" handler_name="a" invocation_id_notification_idx=1 result_completion_id=2
+Call service_name="Child" handler_name="b" invocation_id_notification_idx=3 result_completion_id=4
+Notification id=completion(1) result=invocation_id("inv1")
+Notification id=completion(3) result=invocation_id("inv2")
+Notification id=signal(1) result=void
+Output result=failure(code=409 message="cancelled")
+"#;
+
+/// What they give where cancellation is disabled: the parent waits for its children, asked again at each step.
+const DISABLED: &str = r#"round 1
+answer input id="abc" seed=0 key="" headers=[] value="" scope=- limit=- idem=-
+answer handles 17 18
+answer handles 19 20
+output Call service_name="Child" handler_name="a" invocation_id_notification_idx=1 result_completion_id=2
+output Call service_name="Child" handler_name="b" invocation_id_notification_idx=3 result_completion_id=4
+entries 3
+round 2
+answer input id="abc" seed=0 key="" headers=[] value="" scope=- limit=- idem=-
+answer handles 17 18
+answer handles 19 20
+output AwaitingOn future=(kind=AllCompleted completions=[2, 4])
+output AwaitingOn future=(kind=AllCompleted completions=[2, 4])
+entries 6
+round 3
+answer input id="abc" seed=0 key="" headers=[] value="" scope=- limit=- idem=-
+answer handles 17 18
+answer handles 19 20
+output AwaitingOn future=(kind=AllCompleted completions=[2, 4])
+output AwaitingOn future=(kind=AllCompleted completions=[2, 4])
+output AwaitingOn future=(kind=AllCompleted completions=[2, 4])
+entries 6
+journal
+Input
+Call service_name="Child" handler_name="a" invocation_id_notification_idx=1 result_completion_id=2
+Call service_name="Child" handler_name="b" invocation_id_notification_idx=3 result_completion_id=4
+Notification id=completion(1) result=invocation_id("inv1")
+Notification id=completion(3) result=invocation_id("inv2")
+Notification id=signal(1) result=void
+"#;
+
+/// The rounds with this one option give the report.
+fn assert_with(
+    rt: &impl Abort,
+    alloc: Global,
+    option: &str,
+    rounds: &str,
+    report: &str,
+) -> Result<(), Fail> {
+    let script = format!(in alloc; "world {option}\n{rounds}")?;
+    assert_run(
+        rt,
+        alloc,
+        V7,
+        "parent",
+        script.as_bytes(),
+        Told::Reported,
+        report,
+    );
+    Ok(())
+}
+
+#[test]
+fn options_change_what_they_name(rt: HostRuntime) -> Result<(), Fail> {
+    let (rounds, report) = CANCELLED.split_once("=>\n").ok_or("no =>")?;
+    for option in IDLE {
+        assert_with(&rt, rt.alloc(), option, rounds, report)?;
+    }
+    assert_with(&rt, rt.alloc(), "awaiting=never", rounds, SILENT)?;
+    assert_with(&rt, rt.alloc(), "cancel=none", rounds, CHILDLESS)?;
+    assert_with(&rt, rt.alloc(), "cancel=sends", rounds, CHILDLESS)?;
+    assert_with(&rt, rt.alloc(), "cancel=off", rounds, DISABLED)
 }
 
 /// The round behind the calls, which is stopped behind each of its lines in turn. What arrives stays in the journal.
