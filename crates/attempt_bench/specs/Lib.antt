@@ -1,5 +1,4 @@
 pub mod Asking
-pub mod Calling
 pub mod Choosing
 pub mod Keeping
 pub mod Napping

@@ -3,7 +3,6 @@
 #![tactic(auto)]
 
 pub mod asker;
-pub mod caller;
 pub mod chooser;
 pub mod frames;
 pub mod keeper;

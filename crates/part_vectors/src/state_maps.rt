@@ -1,4 +1,4 @@
-// The state map: what is known of keys, and the known keys in order.
+// The state map: each of its calls once.
 use bytes::Bytes;
 use std::alloc::{AllocError, Global};
 use std::test::Fail;
@@ -41,66 +41,17 @@ fn keys_of(alloc: Global, state: &StateMap) -> Result<Option<Vec<u8>>, AllocErro
 }
 
 #[test]
-fn keys_are_known_where_all_are(rt: HostRuntime) -> Result<(), Fail> {
-    let alloc = rt.alloc();
-    let pairs: [(&str, &[u8]); 2] = [("b", b"1"), ("a", b"22")];
-    let state = state_of(alloc, StateCoverage::Partial, &pairs)?;
-    assert_eq!(rt; shown(alloc, &state, "a")?.as_str(), "value of 2 bytes");
-    assert_eq!(rt; shown(alloc, &state, "c")?.as_str(), "unknown");
-    assert!(rt; keys_of(alloc, &state)?.is_none());
-    let state = state_of(alloc, StateCoverage::Complete, &pairs)?;
-    assert_eq!(rt; shown(alloc, &state, "b")?.as_str(), "value of 1 bytes");
-    assert_eq!(rt; shown(alloc, &state, "c")?.as_str(), "empty");
-    assert!(rt; keys_of(alloc, &state)?.is_some_and(|line| line.as_slice() == "a,b,".as_bytes()));
-    Ok(())
-}
-
-#[test]
-fn keys_are_in_the_order_of_their_bytes(rt: HostRuntime) -> Result<(), Fail> {
-    let alloc = rt.alloc();
-    let pairs: [(&str, &[u8]); 8] = [
-        ("b", b"1"),
-        ("é", b"2"),
-        ("aa", b"3"),
-        ("", b"4"),
-        ("a", b"5"),
-        ("Z", b"6"),
-        ("b", b"77"),
-        ("😀", b"8"),
-    ];
-    let state = state_of(alloc, StateCoverage::Complete, &pairs)?;
-    assert!(rt;
-        keys_of(alloc, &state)?.is_some_and(|line| line.as_slice() == ",Z,a,aa,b,é,😀,".as_bytes())
-    );
-    assert_eq!(rt; shown(alloc, &state, "b")?.as_str(), "value of 2 bytes");
-    Ok(())
-}
-
-#[test]
-fn cleared_keys_are_empty(rt: HostRuntime) -> Result<(), Fail> {
-    let alloc = rt.alloc();
-    let pairs: [(&str, &[u8]); 3] = [("c", b"1"), ("a", b"2"), ("b", b"3")];
-    let mut state = state_of(alloc, StateCoverage::Complete, &pairs)?;
-    state.clear(&Text::from_str(alloc, "b")?)?;
-    state.clear(&Text::from_str(alloc, "d")?)?;
-    assert_eq!(rt; shown(alloc, &state, "b")?.as_str(), "empty");
-    assert!(rt; keys_of(alloc, &state)?.is_some_and(|line| line.as_slice() == "a,c,".as_bytes()));
-    let mut state = state_of(alloc, StateCoverage::Partial, &pairs)?;
-    state.clear(&Text::from_str(alloc, "d")?)?;
-    assert_eq!(rt; shown(alloc, &state, "d")?.as_str(), "empty");
-    assert_eq!(rt; shown(alloc, &state, "e")?.as_str(), "unknown");
-    Ok(())
-}
-
-#[test]
 fn after_a_clear_of_all_each_key_is_known(rt: HostRuntime) -> Result<(), Fail> {
     let alloc = rt.alloc();
     let pairs: [(&str, &[u8]); 2] = [("b", b"1"), ("a", b"2")];
     let mut state = state_of(alloc, StateCoverage::Partial, &pairs)?;
+    state.clear(&Text::from_str(alloc, "b")?)?;
+    assert_eq!(rt; shown(alloc, &state, "a")?.as_str(), "value of 1 bytes");
+    assert_eq!(rt; shown(alloc, &state, "b")?.as_str(), "empty");
+    assert_eq!(rt; shown(alloc, &state, "c")?.as_str(), "unknown");
+    assert!(rt; keys_of(alloc, &state)?.is_none());
     state.clear_all();
-    assert_eq!(rt; shown(alloc, &state, "a")?.as_str(), "empty");
     assert_eq!(rt; shown(alloc, &state, "c")?.as_str(), "empty");
-    assert!(rt; keys_of(alloc, &state)?.is_some_and(|line| line.as_slice() == "".as_bytes()));
     state.set(&Text::from_str(alloc, "c")?, &Bytes::from_static(b"3"))?;
     assert!(rt; keys_of(alloc, &state)?.is_some_and(|line| line.as_slice() == "c,".as_bytes()));
     Ok(())

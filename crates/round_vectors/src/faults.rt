@@ -70,6 +70,36 @@ fn second_completion_stops_the_rounds(rt: HostRuntime) -> Result<(), Fail> {
     assert_stopped(&rt, rt.alloc(), TWICE)
 }
 
+const TWICE_IN_A_ROUND: &str = r#"round
+piece all
+step 2
+store 1
+arrive Notification id=completion(1) result=void
+arrive Notification id=completion(1) result=void
+=>
+fault SecondCompletion
+"#;
+
+#[test]
+fn second_completion_of_a_round_stops_the_rounds(rt: HostRuntime) -> Result<(), Fail> {
+    assert_stopped(&rt, rt.alloc(), TWICE_IN_A_ROUND)
+}
+
+/// The call's completion id 1 is that of the invocation's id, which is no other result.
+const WRONG_KIND: &str = r#"round
+piece all
+step 2
+store 1
+arrive Notification id=completion(1) result=void
+=>
+fault WrongKind
+"#;
+
+#[test]
+fn invocation_id_of_a_call_is_no_other_result(rt: HostRuntime) -> Result<(), Fail> {
+    assert_table(&rt, rt.alloc(), "parent", WRONG_KIND, Told::Stopped)
+}
+
 /// Signals arrive at any time, and more than once: as a line, as bytes, and behind a close. The frame's bytes are those of the line.
 const SIGNALS: &str = r#"round
 piece all

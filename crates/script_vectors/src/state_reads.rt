@@ -69,6 +69,24 @@ get "u"                                              => ok 21
 take 21                                              => ok void
 output                                               => ok <eager_keys_a_b eager_u_void>
 
+# Keys are sorted by their bytes, whatever the order in which they were set; each stands once.
+vm "application/vnd.restate.invocation.v7"           => ok V7
+input <start_1 input_till>                           => ok
+sys_input                                            => ok id="abc" seed=0 key="" headers=[] value="Till" scope=- limit=- idem=-
+clear_all                                            => ok
+set "b" "1"                                          => ok
+set "é" "2"                                          => ok
+set "aa" "3"                                         => ok
+set "" "4"                                           => ok
+set "a" "5"                                          => ok
+set "Z" "6"                                          => ok
+set "b" "7"                                          => ok
+set "😀" "8"                                         => ok
+keys                                                 => ok 17
+take 17                                              => ok keys ["" "Z" "a" "aa" "b" "\xc3\xa9" "\xf0\x9f\x98\x80"]
+get "b"                                              => ok 18
+take 18                                              => ok success "7"
+
 # The whole state, but for a key that was cleared.
 vm "application/vnd.restate.invocation.v7"           => ok V7
 input <start_1_a_b input_till>                       => ok

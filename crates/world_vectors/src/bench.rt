@@ -13,7 +13,6 @@ use wire::{Items, Text};
 pub enum Happens {
     /// All that waits is fed.
     Feed,
-    Close,
     Step,
     Arrive(&'static [u8]),
     Store(usize),
@@ -22,7 +21,6 @@ pub enum Happens {
 fn event(happens: Happens) -> Event {
     match happens {
         Happens::Feed => Event::Piece(usize::MAX),
-        Happens::Close => Event::Close,
         Happens::Step => Event::Step,
         Happens::Arrive(frame) => Event::Arrive(Bytes::from_static(frame)),
         Happens::Store(n) => Event::Store(n),

@@ -5,7 +5,6 @@ use crate::bench::{assert_journal, played};
 use attempt_bench::chooser::Chooser;
 use attempt_bench::frames::{CLEAR_A, COMPLETE_1, SET_B, SIGNAL_17_X};
 use attempt_bench::keeper::Keeper;
-use handlers::sleeper::Sleeper;
 use std::alloc::Global;
 use std::process::Abort;
 use std::test::Fail;
@@ -19,26 +18,7 @@ struct Stops {
     journal: &'static [&'static [u8]],
 }
 
-/// It ends once its sleep is over, as `KEEPER` does.
-const SLEEPER: Stops = Stops {
-    first: &[Feed, Step, Step, Step, Store(9)],
-    second: &[
-        Feed,
-        Step,
-        Step,
-        Step,
-        Store(9),
-        Arrive(COMPLETION_1),
-        Feed,
-        Step,
-        Step,
-        Step,
-        Step,
-        Store(9),
-    ],
-    journal: &[INPUT_TILL, SLEEP_TO_1000, COMPLETION_1, OUTPUT_EMPTY],
-};
-
+/// It ends once its sleep is over.
 const KEEPER: Stops = Stops {
     first: &[
         Feed,
@@ -110,12 +90,6 @@ fn assert_leaves_no_trace<H: Handler>(
         assert_journal(rt, &world, stops.journal);
     }
     Ok(())
-}
-
-#[test]
-fn where_a_sleep_stops_leaves_no_trace(rt: HostRuntime) -> Result<(), Fail> {
-    let alloc = rt.alloc();
-    assert_leaves_no_trace(&rt, alloc, &Sleeper { alloc }, &SLEEPER)
 }
 
 #[test]
