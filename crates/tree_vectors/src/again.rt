@@ -1,6 +1,6 @@
 //! Awaits that are asked twice, with one more arrival between.
+use crate::rows::play;
 use std::test::Fail;
-use tree_bench::play;
 
 /// Each is played twice: the same tree is asked again, and what was left of it.
 const TWICE: &str = "\

@@ -1,6 +1,6 @@
 //! Which trees wake by what arrives, after how much of it, and what is left of the others.
+use crate::rows::play;
 use std::test::Fail;
-use tree_bench::play;
 
 const AWAITS: &str = "\
 await 1; left 1

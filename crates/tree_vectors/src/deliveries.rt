@@ -1,6 +1,6 @@
 //! Deliveries of one id: those that queue up, those that replace one another, and takes of them.
+use crate::rows::play;
 use std::test::Fail;
-use tree_bench::play;
 
 const TAKES: &str =
     r#"ids "a"; arrive s"a"=1 s"a"=2; unused 2; copy 1 1; take 1 1; map 2 "a"; take 2 2; map 3 "a"; copy 3 none; take 3 none

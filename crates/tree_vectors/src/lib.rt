@@ -1,4 +1,4 @@
-//! The test bench of awaits of trees: tables of rows, one a line.
+//! The test bench of awaits of trees: rows, one a line, that are played over the notifications of an attempt.
 #![tactic(auto)]
 
 #[cfg(test)]
@@ -10,6 +10,12 @@ mod deliveries;
 #[cfg(test)]
 mod laws;
 #[cfg(test)]
+mod notation;
+#[cfg(test)]
+mod rows;
+#[cfg(test)]
 mod sent;
+#[cfg(test)]
+mod shown;
 #[cfg(test)]
 mod texts;

@@ -1,6 +1,6 @@
 //! What is sent of trees that wait: kinds, the ids of their leaves, and what nests in them.
+use crate::rows::play;
 use std::test::Fail;
-use tree_bench::play;
 
 const SENT: &str = r#"ids 1 2 3; await 1; send (kind=FirstCompleted completions=[1])
 ids "foo" 2 3; await 1; send (kind=FirstCompleted named=["foo"])

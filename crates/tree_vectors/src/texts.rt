@@ -1,6 +1,6 @@
 //! The texts of trees and of their copies.
+use crate::rows::play;
 use std::test::Fail;
-use tree_bench::play;
 
 const TEXTS: &str = "\
 await 7; text 17

@@ -1,12 +1,10 @@
 //! Rows over awaits of trees, one a line, played over the notifications of an attempt.
+use crate::notation::{arrival, handle_of, id, number, tree};
+use crate::shown::{copy_shown, future_shown, handles_shown, left_shown, result_shown, tree_shown};
 use await_trees::UnresolvedFuture;
 use await_tries::{Residue, Resolution, future_of, list_handles, try_future};
 use std::alloc::Global;
 use std::test::Fail;
-use tree_lines::notation::{arrival, handle_of, id, number, tree};
-use tree_lines::shown::{
-    copy_shown, future_shown, handles_shown, left_shown, result_shown, tree_shown,
-};
 use vm_parts::{AsyncResults, NotificationHandle, SignalDelivery};
 
 const TEN: &str = "1 2 3 4 5 6 7 8 9 10";
