@@ -10,7 +10,7 @@ use std::alloc::{AllocError, Global};
 use std::marker::Model;
 
 /// One log of all that came, of which awaits have used the first `seen`.
-#[derive(Debug, Drop)]
+#[derive(Drop)]
 pub struct Arrivals {
     log: Log,
     seen: usize,

@@ -9,7 +9,7 @@ use std::alloc::{AllocError, Global};
 use std::marker::Model;
 
 /// Results that can be taken as soon as they are there, in order.
-#[derive(Debug, Drop)]
+#[derive(Drop)]
 pub struct EagerResults {
     log: Log,
 }

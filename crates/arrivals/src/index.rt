@@ -9,7 +9,7 @@ use std::collections::BTreeMap;
 use wire::Text;
 
 /// Which slot each id has, where it has one.
-#[derive(Debug, Drop)]
+#[derive(Drop)]
 pub struct Index {
     pub completions: Numbers,
     pub signals: BTreeMap<u32, usize>,

@@ -12,7 +12,7 @@ use std::alloc::{AllocError, Global};
 use std::marker::Model;
 
 /// A notification that came; its result leaves when it is taken.
-#[derive(Debug, Drop)]
+#[derive(Drop)]
 pub struct Entry {
     pub id: NotificationId,
     pub result: Option<NotificationResult>,
@@ -20,7 +20,7 @@ pub struct Entry {
 
 /// Notifications in order of arrival: a list that only grows at its end. Each id has a slot, which lists the places of
 /// its results.
-#[derive(Debug, Drop)]
+#[derive(Drop)]
 pub struct Log {
     entries: Vec<Entry>,
     index: Index,

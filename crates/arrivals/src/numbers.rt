@@ -10,7 +10,7 @@ const REACH: usize = 16;
 
 /// Which slot each number has, where it has one. Numbers that come about in their order stand in a table, and others in
 /// an ordered map; so the table is in proportion to how many came.
-#[derive(Debug, Drop)]
+#[derive(Drop)]
 pub struct Numbers {
     pub table: Vec<Option<usize>>,
     pub others: BTreeMap<u32, usize>,

@@ -8,7 +8,7 @@ use std::alloc::{AllocError, Global};
 use std::marker::Model;
 
 /// Places that were not taken yet, oldest first: a list that only grows, and a cursor into it.
-#[derive(Debug, Drop)]
+#[derive(Drop)]
 pub struct Places {
     all: Vec<usize>,
     cursor: usize,

@@ -6,7 +6,7 @@ use vm_parts::{Answer, NotificationHandle, Step, UnresolvedFuture};
 use vm_rounds::Handler;
 
 /// Makes an awakeable, awaits it, takes its result and ends.
-#[derive(Debug, Drop)]
+#[derive(Drop)]
 pub struct Asker;
 
 impl Handler for Asker {

@@ -10,7 +10,7 @@ use wire::Text;
 
 /// Clears the key "a", sets the key "b" to "x", sleeps to 1000 ms, awaits the sleep, takes its result, writes an empty
 /// output and ends.
-#[derive(Debug, Drop)]
+#[derive(Drop)]
 pub struct Keeper {
     pub alloc: Global,
 }

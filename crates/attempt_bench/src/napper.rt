@@ -8,7 +8,7 @@ use vm_parts::{Answer, NotificationHandle, Step, UnresolvedFuture};
 use vm_rounds::Handler;
 
 /// Sleeps to 1000 ms, awaits the sleep, asks whether it is over, takes its result, writes an empty output and ends.
-#[derive(Debug, Drop)]
+#[derive(Drop)]
 pub struct Napper {
     pub alloc: Global,
 }

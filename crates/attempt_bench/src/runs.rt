@@ -8,14 +8,14 @@ use std::test::Fail;
 use vectors::frames::END;
 
 /// An entry of a journal.
-#[derive(Clone, Copy, Debug)]
+#[derive(Clone, Copy)]
 pub enum Entry {
     Command(&'static [u8]),
     Notification(&'static [u8]),
 }
 
 /// How a run is over, and the frame that says so.
-#[derive(Clone, Copy, Debug)]
+#[derive(Clone, Copy)]
 pub enum Ending {
     Ended,
     Suspended(&'static [u8]),
@@ -24,7 +24,7 @@ pub enum Ending {
 }
 
 /// A run of a handler.
-#[derive(Clone, Copy, Debug)]
+#[derive(Clone, Copy)]
 pub struct Run {
     pub entries: &'static [Entry],
     pub answers: &'static [Told],
@@ -32,7 +32,7 @@ pub struct Run {
 }
 
 /// What an attempt is fed, and what it has to write, where a beginning of the entries is known.
-#[derive(Debug, Drop)]
+#[derive(Drop)]
 pub struct Replay {
     /// Start and the known entries.
     pub recorded: Vec<u8>,

@@ -6,7 +6,7 @@ use vm_parts::{Answer, Step};
 use vm_rounds::Handler;
 
 /// The other handler, which finds no memory for the step after so many answers.
-#[derive(Debug, Drop)]
+#[derive(Drop)]
 pub struct Starving<H> {
     pub handler: H,
     pub answers: usize,

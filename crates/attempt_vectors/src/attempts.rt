@@ -16,7 +16,7 @@ use vectors::frames::{
 use vm_rounds::{Attempt, Handler, Progress};
 
 /// One thing that happens to an attempt, and its answer.
-#[derive(Clone, Copy, Debug)]
+#[derive(Clone, Copy)]
 enum Act {
     /// Bytes come at once.
     Feed(&'static [u8]),

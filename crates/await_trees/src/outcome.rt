@@ -4,7 +4,7 @@ ghost use Rattle.await_trees.specs.Outcomes.{outcome_of, is_done, fires_on};
 
 use journal_attempt::FutureKind;
 
-#[derive(Clone, Copy, Debug, PartialEq, Eq)]
+#[derive(Clone, Copy, PartialEq, Eq)]
 pub enum Outcome {
     Pending,
     Succeeded,

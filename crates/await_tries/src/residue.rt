@@ -6,7 +6,7 @@ use await_trees::Node;
 use std::marker::Model;
 
 /// A tree that a try left pending: its nodes, and the numbers of their children. The first node is the root.
-#[derive(Debug, Drop)]
+#[derive(Drop)]
 pub struct Residue {
     nodes: Vec<Node>,
     kids: Vec<usize>,
@@ -23,7 +23,7 @@ impl Model for Residue {
 }
 
 /// What a try of a future came to.
-#[derive(Debug, Drop)]
+#[derive(Drop)]
 pub enum Resolution {
     /// It is awake.
     AnyCompleted,

@@ -7,7 +7,7 @@ use await_trees::{Label, Node};
 use std::alloc::AllocError;
 
 /// Children that are still to be read: a range of their numbers.
-#[derive(Clone, Copy, Debug)]
+#[derive(Clone, Copy)]
 pub struct Row {
     pub place: usize,
     pub end: usize,

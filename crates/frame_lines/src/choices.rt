@@ -12,7 +12,7 @@ use std::alloc::{AllocError, Global};
 use wire::Fault;
 
 /// A case as it was read: its name, and what stands in its brackets, if it has any.
-#[derive(Debug, Drop)]
+#[derive(Drop)]
 struct Case<'a> {
     name: &'a [u8],
     inside: Option<&'a [u8]>,

@@ -4,14 +4,14 @@ use std::alloc::Global;
 use wire::Fault;
 
 /// A future without those that nest in it: the texts of its other fields, and how many nest in it, if it says so.
-#[derive(Debug, Drop)]
+#[derive(Drop)]
 pub struct Begun<'a> {
     pub fields: Vec<&'a [u8]>,
     pub nested: Option<u64>,
 }
 
 /// What is read next.
-#[derive(Clone, Copy, Debug, PartialEq, Eq)]
+#[derive(Clone, Copy, PartialEq, Eq)]
 enum Next {
     /// The bracket that begins a future.
     Future,
@@ -22,7 +22,7 @@ enum Next {
 }
 
 /// The futures of a text as far as it is read.
-#[derive(Debug, Drop)]
+#[derive(Drop)]
 struct Reader<'a> {
     alloc: Global,
     rest: &'a [u8],

@@ -145,7 +145,7 @@ impl Message {
 }
 
 /// Writes messages as frames.
-#[derive(Debug, Drop)]
+#[derive(Drop)]
 pub struct Encoder {
     alloc: Global,
 }

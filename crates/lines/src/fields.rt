@@ -3,14 +3,14 @@ use crate::pieces::{between, words};
 use std::alloc::Global;
 use wire::Fault;
 
-#[derive(Debug, Drop)]
+#[derive(Drop)]
 struct Field<'a> {
     name: &'a [u8],
     text: &'a [u8],
 }
 
 /// The fields of a line or of a bracket that aren't read yet.
-#[derive(Debug, Drop)]
+#[derive(Drop)]
 pub struct Fields<'a> {
     alloc: Global,
     fields: Vec<Field<'a>>,

@@ -5,7 +5,7 @@ ghost use Rattle.lines.specs.Pieces.{ArePieces, AreWords, behind, outside, with_
 use std::alloc::{AllocError, Global};
 use wire::Fault;
 
-#[derive(Clone, Copy, Debug, PartialEq, Eq)]
+#[derive(Clone, Copy, PartialEq, Eq)]
 enum Quotes {
     Outside,
     Inside,
@@ -14,7 +14,7 @@ enum Quotes {
 }
 
 /// In how many brackets, and in which quotes, a place of a text is.
-#[derive(Clone, Copy, Debug, PartialEq, Eq)]
+#[derive(Clone, Copy, PartialEq, Eq)]
 struct Nesting {
     brackets: usize,
     quotes: Quotes,

@@ -138,7 +138,7 @@ fn refused_arguments_read_and_write_nothing(rt: HostRuntime) -> Result<(), Fail>
 }
 
 /// A connection that is reset behind these bytes.
-#[derive(Debug, Drop)]
+#[derive(Drop)]
 struct Reset<'a>(&'a [u8]);
 
 impl Source for Reset<'_> {
@@ -157,7 +157,7 @@ impl Source for Reset<'_> {
 }
 
 /// A file that finds no memory for its bytes.
-#[derive(Debug, Drop)]
+#[derive(Drop)]
 struct Starved;
 
 impl Read for Starved {
@@ -187,7 +187,7 @@ fn failed_reads_write_nothing(rt: HostRuntime) -> Result<(), Fail> {
 }
 
 /// A pipe that takes one byte a call, is interrupted before each call, and breaks once it is full.
-#[derive(Debug, Drop)]
+#[derive(Drop)]
 struct Pipe {
     taken: Vec<u8>,
     room: usize,
@@ -254,7 +254,7 @@ fn failed_writes_leave_a_beginning(rt: HostRuntime) -> Result<(), Fail> {
 }
 
 /// A writer that takes nothing.
-#[derive(Debug, Drop)]
+#[derive(Drop)]
 struct Full;
 
 impl Write for Full {

@@ -16,7 +16,7 @@ use vm_parts::{NonEmptyValue, NotificationHandle, PayloadOptions, TerminalFailur
 use wire::{Fault, Items, Text};
 
 /// The options behind a command's arguments.
-#[derive(Debug, Drop)]
+#[derive(Drop)]
 pub struct Extras {
     pub name: Option<Text>,
     pub payload: PayloadOptions,

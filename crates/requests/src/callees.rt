@@ -16,7 +16,7 @@ use vm_parts::{Step, Target};
 use wire::{Fault, Items, Text};
 
 /// What is called, and with what.
-#[derive(Debug, Drop)]
+#[derive(Drop)]
 struct Callee {
     service: Text,
     handler: Text,

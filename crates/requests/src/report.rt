@@ -20,7 +20,7 @@ use vm_parts::{CommandRelationship, CommandType};
 use wire::{Fault, Text};
 
 /// The options of an error but the command that it relates to.
-#[derive(Debug, Drop)]
+#[derive(Drop)]
 pub struct Details {
     pub stack: Option<String>,
     pub behavior: ErrorBehavior,

@@ -10,7 +10,7 @@ use std::marker::Model;
 use vm_parts::KeptProposal;
 
 /// Contracts see the list of the proposals.
-#[derive(Debug, Drop)]
+#[derive(Drop)]
 pub struct KeptProposals {
     kept: Vec<KeptProposal>,
 }

@@ -11,7 +11,7 @@ use vm_parts::{NotificationHandle, PendingRun, RunExecution};
 use wire::Text;
 
 /// Contracts see the list of the runs.
-#[derive(Debug, Drop)]
+#[derive(Drop)]
 pub struct RunState {
     pending: Vec<PendingRun>,
 }

@@ -16,7 +16,7 @@ use vm_parts::{PendingRun, StartInfo};
 use wire::{Items, Text};
 
 /// What becomes of what a run came to.
-#[derive(Debug, Drop)]
+#[derive(Drop)]
 pub enum Settlement {
     /// It is proposed as the run's result.
     Proposed(ValueOrFailure),

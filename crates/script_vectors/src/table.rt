@@ -13,7 +13,7 @@ use std::process::Abort;
 use std::test::Fail;
 
 /// Rows that are played one by one, each on a VM of its own.
-#[derive(Clone, Copy, Debug)]
+#[derive(Clone, Copy)]
 pub struct Rows {
     /// The options of the VM.
     pub options: &'static str,

@@ -28,7 +28,7 @@ use vm_parts::{
 use wire::Text;
 
 /// A command that a call asks for.
-#[derive(Debug, Drop)]
+#[derive(Drop)]
 pub struct Command {
     /// Why its arguments refuse the call, if they do.
     pub refusal: Option<NamedFault>,
@@ -39,7 +39,7 @@ pub struct Command {
 }
 
 /// What a step asks for.
-#[derive(Debug, Drop)]
+#[derive(Drop)]
 pub enum Ask {
     Command(Command),
     /// A read of the state.
@@ -475,7 +475,7 @@ pub fn ask_of(alloc: Global, version: Version, step: Step) -> Ask
 }
 
 /// How a command is answered, by its first handle.
-#[derive(Clone, Copy, Debug, PartialEq, Eq)]
+#[derive(Clone, Copy, PartialEq, Eq)]
 pub enum AnswerKind {
     /// By nothing.
     Unit,

@@ -6,7 +6,7 @@ ghost use Rattle.vm_machine.specs.declared.fault.Fault.TheVariants.{Memory, Refu
 use journal_errors::{Error, NamedFault};
 use std::alloc::AllocError;
 
-#[derive(Debug, Drop)]
+#[derive(Drop)]
 pub enum Fault {
     /// A growth was refused.
     Memory,

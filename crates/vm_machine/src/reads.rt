@@ -23,7 +23,7 @@ use vm_parts::{Known, NotificationHandle, StateMap};
 use wire::{Items, Text, copy_of};
 
 /// What a handler reads of its state, and the name of the command.
-#[derive(Debug, Drop)]
+#[derive(Drop)]
 pub enum StateRead {
     /// The value of a key.
     Value { key: Text, name: Text },

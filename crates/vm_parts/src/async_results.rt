@@ -15,14 +15,14 @@ use std::marker::Model;
 use wire::copy_of;
 
 /// The id that a handle stands for.
-#[derive(Debug, Drop)]
+#[derive(Drop)]
 pub struct Mapping {
     pub handle: u32,
     pub id: NotificationId,
 }
 
 /// What came and what eager reads gave, and the handles that can still be answered.
-#[derive(Debug, Drop)]
+#[derive(Drop)]
 pub struct AsyncResults {
     arrivals: Arrivals,
     eager: EagerResults,

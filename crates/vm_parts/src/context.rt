@@ -15,7 +15,7 @@ use std::alloc::{AllocError, Global};
 use wire::{Items, Text, copy_of};
 
 /// The next numbers, each one's place; a counter at `u32::MAX` hands nothing out.
-#[derive(Clone, Copy, Debug)]
+#[derive(Clone, Copy)]
 pub struct Counters {
     /// The index of the last command; none before any.
     pub command: Option<u32>,
@@ -26,14 +26,14 @@ pub struct Counters {
 }
 
 /// The type and name of the last command, as an error that relates to it shows them; an empty name is none.
-#[derive(Debug, Drop)]
+#[derive(Drop)]
 pub struct LastCommand {
     pub ty: MessageType,
     pub name: Text,
 }
 
 /// What the Start message told of the invocation; the seed and the last three as the version has them.
-#[derive(Debug, Drop)]
+#[derive(Drop)]
 pub struct StartInfo {
     pub id: Bytes,
     pub debug_id: Text,
@@ -49,7 +49,7 @@ pub struct StartInfo {
 }
 
 /// Whether a key that the state map doesn't list is known to have no value.
-#[derive(Clone, Copy, Debug, PartialEq, Eq)]
+#[derive(Clone, Copy, PartialEq, Eq)]
 pub enum StateCoverage {
     /// The runtime handed out some keys only.
     Partial,
@@ -58,14 +58,14 @@ pub enum StateCoverage {
 }
 
 /// The state as it was handed out and as the handler has changed it since.
-#[derive(Debug, Drop)]
+#[derive(Drop)]
 pub struct StateMap {
     pub entries: Entries,
     pub coverage: StateCoverage,
 }
 
 /// What is known of a key's value.
-#[derive(Debug, Drop)]
+#[derive(Drop)]
 pub enum Known {
     /// The key's value was not handed out, and the handler hasn't changed it.
     Unknown,

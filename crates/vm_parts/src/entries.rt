@@ -10,7 +10,7 @@ use std::marker::Model;
 use wire::{Items, Text, copy_of};
 
 /// Entries of keys, each with a value or none, that contracts see as a list which is sorted by key.
-#[derive(Debug, Drop)]
+#[derive(Drop)]
 pub struct Entries {
     map: BTreeMap<Text, Option<Bytes>>,
 }

@@ -3,7 +3,7 @@
 use bytes::Bytes;
 
 /// An ephemeral read of a state key: in flight, or with the value that came.
-#[derive(Debug, Drop)]
+#[derive(Drop)]
 pub struct EphemeralCommand {
     pub id: u32,
     /// None while it is in flight; then the key's value, where it has one.

@@ -10,7 +10,7 @@ use std::alloc::{AllocError, Global};
 use std::marker::Model;
 
 /// A handle that was handed out, with its id until it is forgotten.
-#[derive(Debug, Drop)]
+#[derive(Drop)]
 pub struct Held {
     pub handle: u32,
     pub id: Option<NotificationId>,
@@ -18,7 +18,7 @@ pub struct Held {
 
 /// Handles in the order in which they got their ids. As a counter hands them out they ascend, and are searched by
 /// halving; from the first that doesn't they are kept apart.
-#[derive(Debug, Drop)]
+#[derive(Drop)]
 pub struct Handles {
     ascending: Vec<Held>,
     others: Vec<Mapping>,

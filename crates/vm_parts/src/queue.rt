@@ -6,7 +6,7 @@ use std::collections::VecDeque;
 use std::marker::Model;
 
 /// Items in the order in which they came.
-#[derive(Debug, Drop)]
+#[derive(Drop)]
 pub struct Queue<T> {
     items: VecDeque<T>,
 }

@@ -5,14 +5,14 @@ use journal_values::ValueOrFailure;
 use wire::Text;
 
 /// Whether the handler's runner was told to execute a run.
-#[derive(Clone, Copy, Debug, PartialEq, Eq)]
+#[derive(Clone, Copy, PartialEq, Eq)]
 pub enum RunExecution {
     Waiting,
     Executing,
 }
 
 /// A run that was called and whose result is neither known nor proposed.
-#[derive(Debug, Drop)]
+#[derive(Drop)]
 pub struct PendingRun {
     pub handle: u32,
     pub completion_id: u32,
@@ -22,14 +22,14 @@ pub struct PendingRun {
 }
 
 /// The result of a run that was proposed and not yet acknowledged.
-#[derive(Debug, Drop)]
+#[derive(Drop)]
 pub struct KeptProposal {
     pub completion_id: u32,
     pub result: ValueOrFailure,
 }
 
 /// A call or send that is cancelled with the handler, and its invocation's id once it was read.
-#[derive(Debug, Drop)]
+#[derive(Drop)]
 pub struct TrackedCall {
     pub handle: u32,
     pub invocation_id: Option<Text>,

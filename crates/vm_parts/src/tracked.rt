@@ -11,7 +11,7 @@ use wire::{Text, copy_of};
 
 /// Tracked calls, in the order of their handles; one is found by halving. The ids of the first ones are known, which are not looked at
 /// again for one that isn't.
-#[derive(Debug, Drop)]
+#[derive(Drop)]
 pub struct TrackedCalls {
     calls: Vec<TrackedCall>,
     resolved: usize,

@@ -19,7 +19,7 @@ pub enum Progress {
 }
 
 /// A piece of input, with the numbers of answers and of output bytes that stood when it came.
-#[derive(Debug, Drop)]
+#[derive(Drop)]
 pub struct Fed {
     pub piece: Bytes,
     pub answers: usize,
@@ -28,7 +28,7 @@ pub struct Fed {
 }
 
 /// What the VM replied to a step.
-#[derive(Debug, Drop)]
+#[derive(Drop)]
 pub enum Reply {
     Answer(Answer),
     Waiting { input: bool, run: bool },
