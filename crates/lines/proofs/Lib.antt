@@ -1,3 +1,5 @@
+pub mod Blaming
+pub mod Closing
 pub mod Cutting
 pub mod Spelling
 pub mod Wording

@@ -2,6 +2,7 @@
 use Rattle.std.specs.Prelude.{◌≡◌, ◌⊎◌, ◌+◌, ◌*◌, ◌/◌, ◌%◌, ◌<◌, ◌^◌, ◌==◌, ◌&&◌, ◌||◌, ℕ, Bool, nat_lt, not, if◌then◌else◌, List, [], ◌∷◌, ◌++◌, Option, Some, None}
 use Rattle.std.specs.Char.{digit_value, digit_char, is_digit}
 use Rattle.std.specs.List.{flat_map}
+use Rattle.std.specs.Str.{IsUtf8}
 use Rattle.std.specs.Str.Parse.{IsNumeral, digits_value}
 
 -- decimal digits of a number that fits 64 bits
@@ -72,3 +73,7 @@ quoted bytes = 34 ∷ (flat_map shown bytes ++ 34 ∷ [])
 -- bytes as hex digits, as they are printed
 abbrev pub hexed : List ℕ → List ℕ
 hexed bytes = 48 ∷ 120 ∷ flat_map in_hex bytes
+
+-- the text is an atom of these bytes, and they are UTF-8
+abbrev pub IsText : List ℕ → List ℕ → Type 0
+IsText text bytes = IsAtom text bytes × IsUtf8 bytes

@@ -67,3 +67,7 @@ with_word words piece = words ++ filter is_word (piece ∷ [])
 -- the words of the text are its pieces between blanks, without those that are empty
 abbrev pub AreWords : List ℕ → List (Bor (List ℕ)) → Type 0
 AreWords text words = (pieces : List (Bor (List ℕ))) × ArePieces 32 text pieces × (words ≡ filter is_word pieces)
+
+-- the text is this, between an opening and a closing byte
+abbrev pub IsWithin : ℕ → ℕ → List ℕ → List ℕ → Type 0
+IsWithin opening closing text inside = text ≡ opening ∷ (inside ++ closing ∷ [])

@@ -1,8 +1,10 @@
 //! Numbers and bytes as they are written on a line.
-ghost use Rattle.std.specs.Prelude.{◌≡◌, ◌<◌, length, Some, None, IfSome, IfOk, MatchOption};
+ghost use Rattle.std.specs.Prelude.{◌≡◌, ◌<◌, length, Some, None, IfSome, IfNone, IfOk, IfErr, MatchOption};
 ghost use Rattle.std.specs.Str.Parse.{digits_value};
 ghost use Rattle.lines.specs.Atoms.{IsNumber, IsAtom, Spells, escaped, first_char, first_hex, hex_byte};
+ghost use Rattle.lines.specs.Readings.{Blames};
 
+use crate::pieces::between;
 use std::alloc::Global;
 use wire::Fault;
 
@@ -10,6 +12,7 @@ use wire::Fault;
 pub fn number_of(text: &[u8]) -> Option<u64>
     ensures digits { IfSome result (λ _. IsNumber text.now) }
     ensures value { IfSome result (λ number. number ≡ digits_value 10 text.now) }
+    ensures none { IfNone result (IsNumber text.now → ⊥) }
 {
     match text {
         [b'0'..=b'9', ..] => std::str::from_utf8(text).ok()?.parse().ok(),
@@ -68,7 +71,8 @@ fn first_byte(text: &[u8]) -> Option<(u8, &[u8])>
 
 /// The bytes of hex digits, two a byte.
 fn bytes_of_hex(alloc: Global, digits: &[u8]) -> Result<Vec<u8>, Fault>
-    ensures { IfOk result (λ bytes. Spells first_hex digits.now bytes.items) }
+    ensures bytes { IfOk result (λ bytes. Spells first_hex digits.now bytes.items) }
+    ensures none { IfErr result (Blames (Spells first_hex digits.now)) }
 {
     let mut bytes = Vec::new(alloc);
     let mut rest = digits;
@@ -84,7 +88,8 @@ fn bytes_of_hex(alloc: Global, digits: &[u8]) -> Result<Vec<u8>, Fault>
 
 /// The bytes that stand between quotes.
 fn bytes_of_quoted(alloc: Global, text: &[u8]) -> Result<Vec<u8>, Fault>
-    ensures { IfOk result (λ bytes. Spells first_char text.now bytes.items) }
+    ensures bytes { IfOk result (λ bytes. Spells first_char text.now bytes.items) }
+    ensures none { IfErr result (Blames (Spells first_char text.now)) }
 {
     let mut bytes = Vec::new(alloc);
     let mut rest = text;
@@ -100,11 +105,11 @@ fn bytes_of_quoted(alloc: Global, text: &[u8]) -> Result<Vec<u8>, Fault>
 
 /// The bytes of an atom: in quotes, or as hex digits.
 pub fn bytes_of(alloc: Global, text: &[u8]) -> Result<Vec<u8>, Fault>
-    ensures { IfOk result (λ bytes. IsAtom text.now bytes.items) }
+    ensures bytes { IfOk result (λ bytes. IsAtom text.now bytes.items) }
+    ensures none { IfErr result (Blames (IsAtom text.now)) }
 {
-    match text {
-        [b'0', b'x', digits @ ..] => bytes_of_hex(alloc, digits),
-        [b'"', inside @ .., b'"'] => bytes_of_quoted(alloc, inside),
-        _ => Err(Fault::Malformed),
+    if let [b'0', b'x', digits @ ..] = text {
+        return bytes_of_hex(alloc, digits);
     }
+    bytes_of_quoted(alloc, between(text, b'"', b'"')?)
 }

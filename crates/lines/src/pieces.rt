@@ -1,6 +1,8 @@
 //! A text cut into pieces, none of them within quotes or brackets.
-ghost use Rattle.std.specs.Prelude.{◌≡◌, ◌++◌, IfOk, OnOk, IfSome, IsTrue, ◌↔◌, Some};
-ghost use Rattle.lines.specs.Pieces.{ArePieces, AreWords, behind, outside, with_word};
+ghost use Rattle.std.specs.Prelude.{◌≡◌, ◌≢◌, ◌++◌, ◌<◌, ◌-◌, ◌^◌, IfOk, IfErr, OnOk, IfSome, IfNone, IsTrue, ◌↔◌, Some, None};
+ghost use Rattle.wire.specs.declared.fault.Fault.TheVariants.{Malformed};
+ghost use Rattle.lines.specs.Readings.{Blames};
+ghost use Rattle.lines.specs.Pieces.{ArePieces, AreWords, IsWithin, behind, outside, place, with_word};
 
 use std::alloc::{AllocError, Global};
 use wire::Fault;
@@ -35,7 +37,8 @@ impl Nesting {
     /// The nesting behind one byte more; nothing where it closes a bracket that wasn't opened.
     #[tactic(auto, unfolding(crate::specs::Pieces::behind))]
     fn behind(self, byte: u8) -> Option<Nesting>
-        ensures { IfSome result (λ after. behind (Some self) byte ≡ Some after) }
+        ensures some { IfSome result (λ after. behind (Some self) byte ≡ Some after) }
+        ensures none { IfNone result (self.brackets < 2 ^ 64 - 1 → behind (Some self) byte ≡ None) }
     {
         let Nesting {
             mut brackets,
@@ -57,7 +60,9 @@ impl Nesting {
 /// aren't closed has none.
 #[tactic(auto, using(crate::proofs::Cutting::cut_none, crate::proofs::Cutting::cut_within, crate::proofs::Cutting::cut_here, crate::proofs::Cutting::cut_all))]
 pub fn pieces<'a>(alloc: Global, text: &'a [u8], separator: u8) -> Result<Vec<&'a [u8]>, Fault>
-    ensures { IfOk result (λ pieces. ArePieces separator text.now pieces.items) }
+    requires { behind outside separator ≡ outside }
+    ensures pieces { IfOk result (λ pieces. ArePieces separator text.now pieces.items) }
+    ensures unclosed { IfErr result (λ fault. fault ≡ Malformed → place text.now ≢ outside) }
 {
     let mut pieces = Vec::new(alloc);
     let mut start = 0;
@@ -109,7 +114,8 @@ fn add_word<'a>(words: &mut Vec<&'a [u8]>, piece: &'a [u8]) -> Result<(), AllocE
 /// The pieces between blanks, without those that are empty.
 #[tactic(auto, using(crate::proofs::Wording::words_none, crate::proofs::Wording::words_within, crate::proofs::Wording::words_here, crate::proofs::Wording::words_all))]
 pub fn words<'a>(alloc: Global, text: &'a [u8]) -> Result<Vec<&'a [u8]>, Fault>
-    ensures { IfOk result (λ words. AreWords text.now words.items) }
+    ensures words { IfOk result (λ words. AreWords text.now words.items) }
+    ensures unclosed { IfErr result (λ fault. fault ≡ Malformed → place text.now ≢ outside) }
 {
     let mut words = Vec::new(alloc);
     let mut start = 0;
@@ -130,9 +136,12 @@ pub fn words<'a>(alloc: Global, text: &'a [u8]) -> Result<Vec<&'a [u8]>, Fault>
 }
 
 /// What stands between the brackets that the text begins and ends with.
-pub fn between<'a>(text: &'a [u8], open: u8, close: u8) -> Result<&'a [u8], Fault> {
+pub fn between<'a>(text: &'a [u8], opening: u8, closing: u8) -> Result<&'a [u8], Fault>
+    ensures inside { IfOk result (λ inside. IsWithin opening closing text.now inside.now) }
+    ensures none { IfErr result (Blames (IsWithin opening closing text.now)) }
+{
     match text {
-        [first, inside @ .., last] if *first == open && *last == close => Ok(inside),
+        [first, inside @ .., last] if *first == opening && *last == closing => Ok(inside),
         _ => Err(Fault::Malformed),
     }
 }

@@ -1,6 +1,7 @@
 use Rattle.std.proofs.Common.{rules, ◌≡◌, ◌≢◌, length, take, drop, get_or, ap, sym, refl, ◌∙◌, arith, Some, length-drop}
 use Rattle.std.proofs.Math.Seq.{take-length}
 use Rattle.lines.specs.Pieces.{behind, outside}
+use Rattle.lines.proofs.Closing.{on_err, unclosed_within, unclosed_end, blank_closed}
 use Rattle.lines.proofs.Wording.{IsCutToWords, words_within, words_here, words_all}
 use Rattle.lines.proofs.pieces.words.Goals as goal
 use Rattle.lines.proofs.pieces.words.Goals.{then-text-i-eq32+then-is_none+in_ok-add_word, else-text-i-eq32+in_ok-nesting, else-text-i-eq32-via-then-text-i-eq32+else-is_none, else-text-i-eq32-via-else-text-i-eq32}
@@ -21,11 +22,20 @@ loop-i-preserved c = elim c.if-text-i-eq32.branch [
       ]
 ]
 
-pub returns : goal.returns
-returns c =
+pub returns-clause-words : goal.returns-clause-words
+returns-clause-words c =
     let at : c.loop-i.i ≡ length c.args.text.now = omega arith in
     let cut : IsCutToWords c.loop-i.start (length c.args.text.now) c.args.text.now c.loop-i.words.items c.loop-i.nesting = rw (← at) c.loop-i.invariant in
     let e : Some c.loop-i.nesting ≡ outside = search rules in
     let rest = drop c.loop-i.start c.args.text.now in
     let p_is = ap (λ j. take j rest) (sym (length-drop c.loop-i.start c.args.text.now)) ∙ take-length rest in
     words_all c.loop-i.start c.args.text.now c.loop-i.words.items c.add_word-2.new.words.items c.loop-i.nesting _ cut e p_is c.in_ok-add_word-2.ensures
+
+pub returns-in_err-nesting-clause-unclosed : goal.returns-in_err-nesting-clause-unclosed
+returns-in_err-nesting-clause-unclosed c =
+    on_err c.from_residual-in_err-nesting.result _ (λ fault _.
+    unclosed_within 32 c.loop-i.start c.loop-i.i c.args.text.now c.loop-i.invariant.pieces c.loop-i.nesting c.loop-i.invariant.cut blank_closed c.loop-i-test.true (omega arith) (search rules))
+
+pub returns-then-not-is_none-clause-unclosed : goal.returns-then-not-is_none-clause-unclosed
+returns-then-not-is_none-clause-unclosed c _ =
+    unclosed_end 32 c.loop-i.start c.loop-i.i c.args.text.now c.loop-i.invariant.pieces c.loop-i.nesting c.loop-i.invariant.cut blank_closed (omega arith) (search rules)
