@@ -4,7 +4,8 @@ import pathlib
 import struct
 
 from handler import CONTENT_TYPE, start
-from palqytun import VM, BadLine, Cancelled, Failure, IdempotencyId, InvocationId, Suspended, VMError, WorkflowId
+from palqytun import VM, BadLine, Cancelled, Failure, IdempotencyId, InvocationId, Retryable, Suspended, VMError, WorkflowId
+from palqytun import retry_exponential, retry_fixed, retry_never
 from palqytun import all_completed, all_succeeded_or_first_failed, first_completed, first_succeeded_or_all_failed, unknown
 
 INPUT = bytes.fromhex((pathlib.Path(__file__).with_name("journal.hex")).read_text().splitlines()[2])
@@ -19,10 +20,10 @@ def text(data):
     return struct.pack(">Q", len(data)) + data
 
 
-def refused(call, *arguments):
+def refused(call, *arguments, **options):
     """Tells by what a call is refused."""
     try:
-        return call(*arguments)
+        return call(*arguments, **options)
     except (VMError, BadLine, Cancelled, RuntimeError) as error:
         return f"{type(error).__name__}: {error}"
 
@@ -91,3 +92,24 @@ with VM(CONTENT_TYPE) as vm:
     vm.sys_input()
     vm.notify_input(notification(b"\1" + struct.pack(">I", 1), b"\0"))
     print(refused(vm.do_await, vm.sys_sleep(1000)))
+
+with VM(CONTENT_TYPE) as vm:
+    vm.notify_input(start(1) + INPUT)
+    vm.sys_input()
+    run = vm.sys_run("charge")
+    asked = vm.do_await(run.handle)
+    print(run, asked, bool(asked), vm.do_await(run.handle))
+    vm.propose_run_completion(run.handle, every)
+    print(awaited(vm, run.handle))
+    vm.notify_input(struct.pack(">HQI", 6, 4, 1))
+    print(awaited(vm, run.handle)[2] == every, vm.sys_run("b"), vm.do_await(vm.sys_run("c").handle))
+    vm.propose_run_completion(19, Retryable(418, "no", 3, stacktrace="here", delay=5), policy=retry_never())
+    vm.propose_run_completion(18, failure)
+    print(refused(vm.propose_run_completion, 18, b""))
+for policy in retry_fixed(5, attempts=1), retry_exponential(5, 3, 2, longest=8, attempts=3, duration=9, pause=True):
+    with VM(CONTENT_TYPE) as vm:
+        vm.notify_input(start(1) + INPUT)
+        vm.sys_input()
+        run = vm.sys_run("charge")
+        vm.do_await(run.handle)
+        print(policy, refused(vm.propose_run_completion, run.handle, Retryable(418, "no", 3, delay=5), policy=policy))

@@ -18,7 +18,7 @@ import pathlib
 import re
 from dataclasses import dataclass, field
 
-__all__ = ["VM", "VMError", "Suspended", "Cancelled", "BadLine", "Failure", "Input", "InvocationId", "Awakeable", "Future", "first_completed", "all_completed", "first_succeeded_or_all_failed", "all_succeeded_or_first_failed", "unknown", "ResponseHead", "Void", "VOID", "WorkflowId", "IdempotencyId"]
+__all__ = ["VM", "VMError", "Suspended", "Cancelled", "BadLine", "Failure", "Input", "InvocationId", "Awakeable", "Future", "first_completed", "all_completed", "first_succeeded_or_all_failed", "all_succeeded_or_first_failed", "unknown", "Run", "ExecuteRun", "Retryable", "RetryPolicy", "retry_forever", "retry_never", "retry_fixed", "retry_exponential", "ResponseHead", "Void", "VOID", "WorkflowId", "IdempotencyId"]
 
 _DONE, _NO_MEMORY, _NO_SESSION, _NO_VM, _NO_ROOM = range(5)
 _SUSPENDED = 599
@@ -149,6 +149,72 @@ class Awakeable:
 
 
 @dataclass(frozen=True)
+class Run:
+    """A run that the handler called: the handle of its result, and whether the journal has the run already."""
+
+    handle: int
+    replayed: bool
+
+
+@dataclass(frozen=True)
+class ExecuteRun:
+    """What an await answers where a run is to be executed first: the run's handle. It counts as false, for nothing awaited is there yet."""
+
+    handle: int
+
+    def __bool__(self):
+        return False
+
+
+@dataclass(frozen=True)
+class Retryable:
+    """A try of a run that failed and may be tried again: the error, and how long the try took in ms. `behaviour` and `delay` are those of
+    `VM.notify_error`."""
+
+    code: int
+    message: str
+    duration: int = 0
+    stacktrace: object = None
+    behaviour: str = "retry"
+    delay: object = None
+
+
+class RetryPolicy(str):
+    """When a run whose try failed is tried again. The four functions below make the policies."""
+
+    __slots__ = ()
+
+
+def _limits(attempts, duration, pause):
+    most = ("" if attempts is None else f" attempts={attempts}") + ("" if duration is None else f" max={duration}")
+    return most + (" pause" if pause else "")
+
+
+def retry_forever():
+    """Tried again as often as it fails; the default."""
+    return RetryPolicy("infinite")
+
+
+def retry_never():
+    """Never tried again: the error is the run's result."""
+    return RetryPolicy("none")
+
+
+def retry_fixed(interval=None, *, attempts=None, duration=None, pause=False):
+    """Tried again after `interval` ms, until so many attempts were made or so many ms have passed. `pause` pauses the invocation then;
+    without it the error is the run's result."""
+    between = "" if interval is None else f" interval={interval}"
+    return RetryPolicy(f"fixed({(between + _limits(attempts, duration, pause)).lstrip()})")
+
+
+def retry_exponential(initial, numerator, denominator=1, *, longest=None, attempts=None, duration=None, pause=False):
+    """Tried again after `initial` ms at first and then after a growing time: each by the factor `numerator`/`denominator`, and never above
+    `longest` ms. The rest is as in `retry_fixed`."""
+    longest = "" if longest is None else f" interval={longest}"
+    return RetryPolicy(f"exp(initial={initial} factor={numerator}/{denominator}{longest}{_limits(attempts, duration, pause)})")
+
+
+@dataclass(frozen=True)
 class ResponseHead:
     """The head of the response to the runtime."""
 
@@ -223,6 +289,14 @@ def _given(value):
         pairs = "".join(f" {{{_quoted(key)} {_quoted(text)}}}" for key, text in value.metadata)
         return f"failure {value.code} {_quoted(value.message)}{pairs}"
     return f"success {_bytes(value)}"
+
+
+def _tried(result):
+    """What a try of a run gave: a value, a failure, or an error that may be tried again."""
+    if isinstance(result, Retryable):
+        stack, delay = _option("stack", result.stacktrace), "" if result.delay is None else f" delay={result.delay}"
+        return f"retryable {result.duration} {result.code} {_quoted(result.message)}{stack} behaviour={result.behaviour}{delay}"
+    return _given(result)
 
 
 def _target(target):
@@ -364,11 +438,14 @@ class VM:
         return self.call(f"completed {handle}") == "true"
 
     def do_await(self, future):
-        """Whether the future, a handle or a `Future`, is awake. Where it isn't, more input is to be fed; where the input is closed the invocation is
-        suspended, and `Suspended` is raised. `Cancelled` is raised where the invocation was cancelled."""
+        """Whether the future, a handle or a `Future`, is awake. Where it isn't, more input is to be fed, or the result of a run that executes to be
+        proposed; where neither can come the invocation is suspended, and `Suspended` is raised. An `ExecuteRun` names a run to execute first:
+        propose its result and await again. `Cancelled` is raised where the invocation was cancelled."""
         answer = self.call(f"await {future}")
         if answer == "cancelled":
             raise Cancelled("the invocation was cancelled")
+        if answer.startswith("run "):
+            return ExecuteRun(int(answer[4:]))
         return answer == "any"
 
     def take_notification(self, handle):
@@ -447,6 +524,16 @@ class VM:
     def sys_complete_signal(self, invocation_id, name, value):
         """Sends a named signal to another invocation."""
         self.call(f"complete_signal {_quoted(invocation_id)} {_quoted(name)} {_given(value)}")
+
+    def sys_run(self, name):
+        """Calls a run, a side effect whose result is kept; an await says when to execute it."""
+        handle, replayed = self.call(f"run {_quoted(name)}").split()
+        return Run(int(handle), replayed == "true")
+
+    def propose_run_completion(self, handle, result, *, policy=retry_forever()):
+        """Gives the result of a run that an await asked to execute: `bytes`, a `Failure`, or a `Retryable`, for which the policy decides whether
+        the invocation fails to be tried again, pauses, or has the error as the run's result."""
+        self.call(f"propose {handle} {_tried(result)} policy={policy}")
 
     def sys_cancel_invocation(self, invocation_id):
         """Sends the built-in cancel signal to another invocation."""

@@ -10,7 +10,7 @@ use Rattle.arrivals.specs.declared.log.Entry.{Entry}
 use Rattle.arrivals.specs.Came.{Came}
 use Rattle.arrivals.specs.Entries.{given, given_by, all_given}
 
-by_append : (i : NotificationId) (o : Option NotificationResult) (ns ms : List Notification) → given_by i o (ns ++ ms) ≡ given_by i o ns ++ ms
+pub by_append : (i : NotificationId) (o : Option NotificationResult) (ns ms : List Notification) → given_by i o (ns ++ ms) ≡ given_by i o ns ++ ms
 by_append i None ns ms = refl
 by_append i (Some r) ns ms = refl
 

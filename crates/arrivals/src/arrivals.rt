@@ -1,5 +1,5 @@
 //! The arrivals of an attempt: those that no await has used yet, and those that were used.
-ghost use Rattle.std.specs.Prelude.{◌≡◌, [], ◌∷◌, ◌++◌, OnOk, OnErr};
+ghost use Rattle.std.specs.Prelude.{◌≡◌, ◌||◌, [], ◌∷◌, ◌++◌, OnOk, OnErr};
 ghost use Rattle.std.specs.Option.{option_copied};
 ghost use Rattle.arrivals.specs.Came.{nothing_came, is_queued, one_used};
 ghost use Rattle.arrivals.specs.Results.{first, newest, results_of, has_result_among, without_first, without_all};
@@ -63,6 +63,13 @@ impl Arrivals {
         ensures { result ≡ has_result_among id.now self.now.delivered }
     {
         self.log.has(id, self.seen)
+    }
+
+    /// Whether a result of an id came that was not taken, used or not.
+    pub fn knows(&self, id: &NotificationId) -> bool
+        ensures { result ≡ (has_result_among id.now self.now.delivered || has_result_among id.now self.now.queued) }
+    {
+        self.log.has(id, self.log.len())
     }
 
     /// The oldest used result of an id.

@@ -2,8 +2,8 @@
 use bytes::Bytes;
 use invocation_vm::{
     AwaitResponse, CANCEL_NOTIFICATION_HANDLE, CoreVM, Error, Input, NonEmptyValue,
-    NotificationHandle, PayloadOptions, ResponseHead, State, UnresolvedFuture, VM, VMOptions,
-    VMResult, Value, Version, any_cut,
+    NotificationHandle, PayloadOptions, ResponseHead, RetryPolicy, RunExitResult, State,
+    UnresolvedFuture, VM, VMOptions, VMResult, Value, Version, any_cut,
 };
 use std::alloc::{AllocError, Global};
 use std::process::Abort;
@@ -289,4 +289,41 @@ fn cancel_handle_is_awaited(rt: HostRuntime) -> Result<(), Fail> {
     drop(vm);
     any_cut();
     awaited
+}
+
+/// The run `r`.
+const RUN_R: &[u8] = b"\0\x1a\0\0\0\0\0\0\0\x0d\
+    \0\0\0\0\0\0\0\x01r\
+    \0\0\0\x01";
+
+/// Its result `x` is proposed.
+const PROPOSED_X: &[u8] = b"\0\x05\0\0\0\0\0\0\0\x0e\
+    \0\0\0\x01\
+    \0\
+    \0\0\0\0\0\0\0\x01x";
+
+/// The proposal is acknowledged.
+const ACKNOWLEDGED: &[u8] = b"\0\x06\0\0\0\0\0\0\0\x04\
+    \0\0\0\x01";
+
+fn assert_runs(rt: &impl Abort, alloc: Global, vm: &mut CoreVM) -> Result<(), Fail> {
+    start(vm)?;
+    let run = vm.sys_run(text(alloc, "r")?)?;
+    assert!(rt; !run.replayed);
+    assert_eq!(rt; wait(vm, 17)?, AwaitResponse::ExecuteRun(run.handle));
+    let exit = RunExitResult::Success(Bytes::from_static(b"x"));
+    vm.propose_run_completion(run.handle, exit, RetryPolicy::default())?;
+    feed(vm, &[ACKNOWLEDGED])?;
+    assert_eq!(rt; wait(vm, 17)?, AwaitResponse::AnyCompleted);
+    let taken = vm.take_notification(run.handle)?;
+    assert_eq!(rt; taken, Some(Value::Success(Bytes::from_static(b"x"))));
+    assert_sends(rt, alloc, vm, &[RUN_R, PROPOSED_X])
+}
+
+#[test]
+fn run_is_executed_and_proposed(rt: HostRuntime) -> Result<(), Fail> {
+    let mut vm = made(rt.alloc())?;
+    let done = assert_runs(&rt, rt.alloc(), &mut vm);
+    drop(vm);
+    done
 }

@@ -34,10 +34,13 @@ use Rattle.vm_machine.specs.Inputs.{close_step, end_step, input_step, malformed_
 use Rattle.vm_machine.specs.Signals.{awakeable_step, signal_step}
 use Rattle.vm_machine.specs.Outcomes.{CalledBy, Does, DoesBy, Done, Failed, IsStarved, Outcome, called, refused}
 use Rattle.vm_machine.specs.Reports.{report_step}
-use Rattle.vm_machine.proofs.Endings.{answered, awaited_writes, awakeable_writes, signal_writes, read_writes, called_writes, close_writes, end_writes, input_writes, commanded_event, malformed_writes, message_writes, nothing_behind, report_writes, same, take_writes, writes_nothing}
+use Rattle.vm_machine.proofs.Endings.{answered, awaited_writes, awakeable_writes, signal_writes, read_writes, called_writes, close_writes, end_writes, input_writes, commanded_event, malformed_writes, message_writes, nothing_behind, proposed_write, report_writes, same, take_writes, writes_nothing}
 use Rattle.vm_machine.specs.declared.reads.StateRead.{StateRead}
 use Rattle.vm_machine.specs.Reads.{read_step}
-use Rattle.invocation_vm.specs.Calls.{CallsCommand, CallsFlatAwait, CallsFor, CallsRead, new_awakeable_step, skips_replay}
+use Rattle.retries.specs.declared.policy.RetryPolicy.{RetryPolicy}
+use Rattle.runs.specs.declared.types.RunExitResult.{RunExitResult}
+use Rattle.vm_machine.specs.Proposals.{Proposes}
+use Rattle.invocation_vm.specs.Calls.{CallsCommand, CallsFlatAwait, CallsFor, CallsProposal, CallsRead, new_awakeable_step, skips_replay}
 use Rattle.invocation_vm.specs.Endings.{EndsOnceAfter, StaysSo}
 use Rattle.invocation_vm.specs.Frames.{Tail, Rest, Garbage, frames_of}
 use Rattle.invocation_vm.specs.Making.{made}
@@ -151,6 +154,10 @@ signal_stays name r old new c = calls_stay (signal_step name) r old new (signal_
 
 pub read_stays : (read : StateRead) (r : Result NotificationHandle Error) (old new : View) → CallsRead read r old new → StaysSo old new
 read_stays read r old new c = calls_stay (read_step read) r old new (read_writes read old.machine) c.0
+
+pub proposal_stays : (handle : NotificationHandle) (exit : RunExitResult) (policy : RetryPolicy) (r : Result Unit Error) (old new : View) → CallsProposal handle exit policy r old new → StaysSo old new
+proposal_stays handle exit policy r old new c =
+    stays old new (does_by_writes (CalledBy (Proposes handle exit policy old.machine) old.machine) r old.machine new.machine (λ o. proposed_write handle exit policy old.machine o) c.0)
 
 pub input_stays : (r : Result Input Error) (old new : View) → Calls input_step r old new → StaysSo old new
 input_stays r old new c = calls_stay input_step r old new (input_writes old.machine) c

@@ -1,4 +1,7 @@
 -- What a sleep does in Processing, and what each call does to a VM that has failed.
+use Rattle.vm_machine.specs.Proposals.{Proposes}
+use Rattle.runs.specs.declared.types.RunExitResult.{RunExitResult}
+use Rattle.retries.specs.declared.policy.RetryPolicy.{RetryPolicy}
 use Rattle.std.proofs.Common.{◌≡◌, inl, inr, ℕ, ◌<◌, Option, Some, None, List, false, min, refl, sym, ap, ◌∙◌, subst, arith}
 use Rattle.std.specs.Prelude.{if◌then◌else◌, Result, Ok, Err}
 use Rattle.std.proofs.lemmas.Bool.{lt-ltb}
@@ -26,7 +29,7 @@ use Rattle.vm_machine.specs.Phases.{is_processing, is_running, state_fault}
 use Rattle.vm_machine.specs.Requests.{shown_type, with_ids}
 use Rattle.vm_machine.proofs.Replaying.{answers_first}
 use Rattle.vm_machine.specs.Asks.{sleep_command}
-use Rattle.invocation_vm.specs.Calls.{CallsCommand, CallsFlatAwait}
+use Rattle.invocation_vm.specs.Calls.{CallsCommand, CallsFlatAwait, CallsProposal}
 use Rattle.invocation_vm.specs.Sleeps.{MaySleep, sleeping}
 use Rattle.invocation_vm.specs.Views.{View, AnswersFirst, Calls, Leaves}
 
@@ -127,6 +130,11 @@ first_by {A = A} R (Err x) e old new is h d u =
       | inl f ↦ first_at {A = A} (Failed x new.machine) (Err x) e old new is (h (Failed x new.machine) f) (inl refl) u
       | inr s ↦ (inr (ap (λ y. Err y) s.error), viewed old new old.machine (s.stays e is) u)
     ]
+
+pub first_proposed : (handle : NotificationHandle) (exit : RunExitResult) (policy : RetryPolicy) (r : Result Unit Error) (e : Error) (old new : View) → old.machine.failure ≡ Some e → CallsProposal handle exit policy r old new → AnswersFirst e r old new
+first_proposed handle exit policy r e old new is c =
+    let R = Proposes handle exit policy old.machine in
+    first_by (CalledBy R old.machine) r e old new is (λ o. awaited_at old.machine.failure R e old.machine o is) c.0 c.1
 
 pub first_awaited : (future : UnresolvedFuture) (r : Result AwaitResponse Error) (e : Error) (old new : View) → old.machine.failure ≡ Some e → CallsFlatAwait future r old new → AnswersFirst e r old new
 first_awaited future r e old new is (answered, (whole, u), flat) =

@@ -9,13 +9,18 @@ use Rattle.vm_parts.specs.declared.options.JournalReplay.TheVariants.{Enabled, D
 use Rattle.vm_parts.specs.declared.types.AwaitResponse.{AwaitResponse}
 use Rattle.vm_parts.specs.declared.types.AwakeableHandle.{AwakeableHandle}
 use Rattle.await_trees.specs.declared.handle.NotificationHandle.{NotificationHandle}
+use Rattle.retries.specs.declared.policy.RetryPolicy.{RetryPolicy}
+use Rattle.runs.specs.declared.types.RunExitResult.{RunExitResult}
+use Rattle.runs.specs.declared.types.RunHandle.{RunHandle}
 use Rattle.await_trees.specs.declared.tree.UnresolvedFuture.{UnresolvedFuture}
 use Rattle.vm_machine.specs.declared.asks.Command.{Command}
 use Rattle.vm_machine.specs.declared.machine.Machine.{Machine}
 use Rattle.vm_machine.specs.Awaits.{Awaits}
 use Rattle.vm_machine.specs.Cancels.{AwaitsWhole}
-use Rattle.vm_machine.specs.Commands.{CanBeRead, Fits, answered_by, commanded}
+use Rattle.vm_machine.specs.Asks.{run_command}
+use Rattle.vm_machine.specs.Commands.{CanBeRead, Fits, answered_by, commanded, knows_next}
 use Rattle.vm_machine.specs.Outcomes.{Outcome, flattened, refused}
+use Rattle.vm_machine.specs.Proposals.{Proposes}
 use Rattle.vm_machine.specs.declared.reads.StateRead.{StateRead}
 use Rattle.vm_machine.specs.Reads.{ReadCanBeRead, read_step}
 use Rattle.vm_machine.specs.Signals.{awakeable_step}
@@ -37,6 +42,18 @@ CallsUnit c r old new = CallsFor (λ _. tt {0}) c r old new
 -- A state read: what it wrote can be read back.
 abbrev pub CallsRead : StateRead → Result NotificationHandle Error → View → View → Type 0
 CallsRead r result old new = Calls (read_step r) result old new × OnOk result (ReadCanBeRead r old.machine)
+
+-- the handle of a run, and whether its result is there already
+abbrev pub run_handle : Bool → NotificationHandle → RunHandle
+run_handle replayed handle = record { replayed = replayed; handle = handle }
+
+-- A run: it is replayed where the completion id that it is given has a result.
+abbrev pub CallsRun : List ℕ → Result RunHandle Error → View → View → Type 0
+CallsRun name r old new = CallsFor (run_handle (knows_next old.machine)) (run_command name) r old new
+
+-- What executing a run came to is told.
+abbrev pub CallsProposal : NotificationHandle → RunExitResult → RetryPolicy → Result Unit Error → View → View → Type 0
+CallsProposal handle exit policy r old new = CallsBy (Proposes handle exit policy) r old new
 
 -- a result with this of its answer
 abbrev pub result_by : {A B : Type 0} → (A → B) → Result A Error → Result B Error

@@ -7,18 +7,20 @@ ghost use Rattle.vm_machine.specs.Requests.{ids_of};
 ghost use Rattle.vm_machine.specs.Cancels.{Cancels};
 ghost use Rattle.vm_machine.specs.Outcomes.{Lives};
 ghost use Rattle.vm_parts.specs.Tracked.{invocation_ids};
-ghost use Rattle.invocation_vm.specs.Calls.{CallsAwait, CallsCommand, CallsFor, CallsRead, CallsTry, CallsUnit};
+ghost use Rattle.invocation_vm.specs.Calls.{CallsAwait, CallsCommand, CallsFor, CallsRead, CallsTry, CallsUnit, run_handle};
 ghost use Rattle.invocation_vm.specs.Seen.{seen};
 ghost use Rattle.invocation_vm.specs.Views.{Calls};
 
 use crate::shared::{
-    both_handles, id_handle, make_awakeable, name_text, sends_cancels, unanswered,
+    both_handles, id_handle, make_awakeable, name_text, run_handle, sends_cancels, unanswered,
 };
 use crate::versions::{response_head, version_in};
 use crate::vm::VM;
 use bytes::Bytes;
 use journal_errors::{Error, HeaderMap, NamedFault, Version};
 use journal_streams::Decoder;
+use retries::RetryPolicy;
+use runs::{RunExitResult, RunHandle};
 use std::alloc::{AllocError, Global};
 use std::fmt;
 use std::time::Duration;
@@ -130,6 +132,13 @@ impl CoreVM {
         ensures { CallsFor send_handle command result (seen self.old) (seen self.new) }
     {
         id_handle(self.command(command))
+    }
+
+    /// A run, by whether its result is there already.
+    fn run_of(&mut self, replayed: bool, command: Command) -> VMResult<RunHandle>
+        ensures { CallsFor (run_handle replayed) command result (seen self.old) (seen self.new) }
+    {
+        run_handle(replayed, self.command(command))
     }
 
     /// The first part of an await: notifications are used, and the ids are read of the invocations that are to be cancelled.
@@ -444,6 +453,27 @@ impl VM for CoreVM {
     ) -> VMResult<NotificationHandle> {
         let version = self.machine.version;
         self.command(asks::get_invocation_output(target, version))
+    }
+
+    fn sys_run(&mut self, name: String) -> VMResult<RunHandle> {
+        let replayed = self.machine.knows_next();
+        self.run_of(replayed, asks::run(Text::from_string(name)))
+    }
+
+    fn propose_run_completion(
+        &mut self,
+        notification_handle: NotificationHandle,
+        run_exit_result: RunExitResult,
+        retry_policy: RetryPolicy,
+    ) -> VMResult<()> {
+        if let Err(error) = self.machine.live() {
+            return Err(error);
+        }
+        let before = self.machine.counters;
+        let given = self
+            .machine
+            .finish_run(notification_handle, run_exit_result, &retry_policy);
+        self.machine.settle(before, given)
     }
 
     fn sys_write_output(&mut self, value: NonEmptyValue, options: PayloadOptions) -> VMResult<()> {

@@ -12,6 +12,9 @@ ghost use Rattle.vm_parts.specs.declared.types.AwakeableHandle.{AwakeableHandle}
 ghost use Rattle.vm_parts.specs.declared.types.CallHandle.{CallHandle};
 ghost use Rattle.await_trees.specs.declared.handle.NotificationHandle.{NotificationHandle};
 ghost use Rattle.vm_parts.specs.declared.types.SendHandle.{SendHandle};
+ghost use Rattle.retries.specs.declared.policy.RetryPolicy.{RetryPolicy};
+ghost use Rattle.runs.specs.declared.types.RunExitResult.{RunExitResult};
+ghost use Rattle.runs.specs.declared.types.RunHandle.{RunHandle};
 ghost use Rattle.await_trees.specs.declared.tree.UnresolvedFuture.{UnresolvedFuture};
 ghost use Rattle.vm_parts.specs.declared.values.Input.{Input};
 ghost use Rattle.vm_parts.specs.declared.values.Value.{Value};
@@ -24,7 +27,7 @@ ghost use Rattle.vm_machine.specs.Inputs.{end_step, input_step};
 ghost use Rattle.vm_machine.specs.Outcomes.{IsStarved, Outcome};
 ghost use Rattle.vm_machine.specs.Signals.{signal_step};
 ghost use Rattle.vm_machine.specs.declared.reads.StateRead.{StateRead};
-ghost use Rattle.invocation_vm.specs.Calls.{CallsCommand, CallsFlatAwait, CallsFor, CallsRead, CallsUnit, new_awakeable_step};
+ghost use Rattle.invocation_vm.specs.Calls.{CallsCommand, CallsFlatAwait, CallsFor, CallsProposal, CallsRead, CallsRun, CallsUnit, new_awakeable_step};
 ghost use Rattle.invocation_vm.specs.Endings.{EndsOnceAfter, StaysSo};
 ghost use Rattle.invocation_vm.specs.Making.{made};
 ghost use Rattle.invocation_vm.specs.Sleeps.{MaySleep, sleeping};
@@ -46,6 +49,8 @@ pub fn all_output_ends_once()
     ensures unanswered { (c : Command) (r : Result Unit Error) (old new : View) → is_terminal c.message ≡ false → CallsUnit c r old new → StaysSo old new }
     ensures calls { (c : Command) (r : Result CallHandle Error) (old new : View) → is_terminal c.message ≡ false → CallsFor call_handles c r old new → StaysSo old new }
     ensures sends { (c : Command) (r : Result SendHandle Error) (old new : View) → is_terminal c.message ≡ false → CallsFor send_handle c r old new → StaysSo old new }
+    ensures runs { (name : List ℕ) (r : Result RunHandle Error) (old new : View) → CallsRun name r old new → StaysSo old new }
+    ensures proposals { (handle : NotificationHandle) (exit : RunExitResult) (policy : RetryPolicy) (r : Result Unit Error) (old new : View) → CallsProposal handle exit policy r old new → StaysSo old new }
     ensures reads { (read : StateRead) (r : Result NotificationHandle Error) (old new : View) → CallsRead read r old new → StaysSo old new }
     ensures awakeables { (r : Result AwakeableHandle Error) (old new : View) → Calls new_awakeable_step r old new → StaysSo old new }
     ensures signals { (name : List ℕ) (r : Result NotificationHandle Error) (old new : View) → Calls (signal_step name) r old new → StaysSo old new }
@@ -64,5 +69,6 @@ pub fn sleep_is_written()
 pub fn first_error_is_answered<A>()
     ensures calls { (step : Machine → Outcome A) (r : Result A Error) (e : Error) (old new : View) → old.machine.failure ≡ Some e → Calls step r old new → AnswersFirst e r old new }
     ensures awaits { (future : UnresolvedFuture) (r : Result AwaitResponse Error) (e : Error) (old new : View) → old.machine.failure ≡ Some e → CallsFlatAwait future r old new → AnswersFirst e r old new }
+    ensures proposals { (handle : NotificationHandle) (exit : RunExitResult) (policy : RetryPolicy) (r : Result Unit Error) (e : Error) (old new : View) → old.machine.failure ≡ Some e → CallsProposal handle exit policy r old new → AnswersFirst e r old new }
     ensures quiet { (raws : List RawMessage) (after : View) (r : Result Unit AllocError) (e : Error) (old new : View) → old.machine.failure ≡ Some e → Leaves raws after r old new → r ≡ Ok tt }
 {}

@@ -13,6 +13,8 @@ pub use feed::any_cut;
 pub use journal_calls::{IdempotencyId, WorkflowId};
 pub use journal_errors::{Error, ErrorBehavior, HeaderMap, Version};
 pub use laws::{all_output_ends_once, first_error_is_answered, sleep_is_written};
+pub use retries::{Fraction, OnMaxAttempts, RetryPolicy};
+pub use runs::{RunExitResult, RunHandle};
 pub use vm::VM;
 pub use vm_parts::{
     AttachInvocationTarget, AwaitResponse, AwaitingOnPolicy, AwakeableHandle,

@@ -3,9 +3,10 @@ ghost use Rattle.std.specs.Prelude.{◌≡◌, ◌+◌, ◌<◌, ◌^◌, IfOk};
 ghost use Rattle.vm_machine.specs.Asks.{call_handles, send_handle};
 ghost use Rattle.vm_machine.specs.Cancels.{sends_cancels};
 ghost use Rattle.vm_machine.specs.Outcomes.{Gives};
-ghost use Rattle.invocation_vm.specs.Calls.{name_or_empty, new_awakeable_step, result_by, skips_replay};
+ghost use Rattle.invocation_vm.specs.Calls.{name_or_empty, new_awakeable_step, result_by, run_handle, skips_replay};
 
 use journal_errors::NamedFault;
+use runs::RunHandle;
 use std::alloc::Global;
 use vm_machine::asks::{call_handles, send_handle};
 use vm_machine::fault::refuse;
@@ -53,6 +54,16 @@ pub(crate) fn id_handle(given: VMResult<NotificationHandle>) -> VMResult<SendHan
 {
     match given {
         Ok(handle) => Ok(send_handle(handle)),
+        Err(error) => Err(error),
+    }
+}
+
+/// The answer to a run, by whether its result is there already.
+pub(crate) fn run_handle(replayed: bool, given: VMResult<NotificationHandle>) -> VMResult<RunHandle>
+    ensures { result ≡ result_by (run_handle replayed) given }
+{
+    match given {
+        Ok(handle) => Ok(RunHandle { replayed, handle }),
         Err(error) => Err(error),
     }
 }

@@ -9,12 +9,14 @@ ghost use Rattle.vm_machine.specs.declared.phase.Phase.TheVariants.{Closed};
 ghost use Rattle.vm_machine.specs.Phases.{is_waiting};
 ghost use Rattle.vm_machine.specs.Signals.{signal_step};
 ghost use Rattle.vm_machine.specs.declared.reads.StateRead.TheVariants as reads;
-ghost use Rattle.invocation_vm.specs.Calls.{CallsCommand, CallsFlatAwait, CallsFor, CallsRead, CallsUnit, name_or_empty, new_awakeable_step};
+ghost use Rattle.invocation_vm.specs.Calls.{CallsCommand, CallsFlatAwait, CallsFor, CallsProposal, CallsRead, CallsRun, CallsUnit, name_or_empty, new_awakeable_step};
 ghost use Rattle.invocation_vm.specs.Making.{Makes, response_head, version_in};
 ghost use Rattle.invocation_vm.specs.Views.{View, Calls, Leaves, TakesOutput, after_closing, after_error, after_input, brought};
 
 use bytes::Bytes;
 use journal_errors::{Error, HeaderMap};
+use retries::RetryPolicy;
+use runs::{RunExitResult, RunHandle};
 use std::alloc::{AllocError, Global};
 use std::time::Duration;
 use vm_parts::{
@@ -71,7 +73,8 @@ pub trait VM: Sized {
         ensures { result ≡ is_completed handle.0 (view self.now).machine };
 
     /// Uses notifications in order of arrival until the future is done. Where it stays pending: in replay the VM
-    /// fails; with open input the caller is to wait; with closed input the invocation is suspended, the VM is closed
+    /// fails; in Processing each run that it waits for is to be executed, by one answer a run; then with open input the caller is
+    /// to wait, and with closed input too as long as such a run is executing; else the invocation is suspended, the VM is closed
     /// and answers the error 599. By the options the cancel signal ends it too: once the ids are there of all invocations that
     /// are cancelled with the handler's, each is sent the cancel signal, by a command each, and `CancelSignalReceived` is answered.
     fn do_await(&mut self, future: UnresolvedFuture) -> VMResult<AwaitResponse>
@@ -213,6 +216,23 @@ pub trait VM: Sized {
         target: AttachInvocationTarget,
     ) -> VMResult<NotificationHandle>
         ensures { CallsCommand (get_invocation_output_command target (view self.old).machine.version) result (view self.old) (view self.new) };
+
+    /// A run: an effect that the caller executes outside the VM, once an await that waits for it answers `ExecuteRun`, and whose
+    /// result it then proposes. Where the journal has the result, the run is `replayed` and isn't executed.
+    fn sys_run(&mut self, name: String) -> VMResult<RunHandle>
+        ensures { CallsRun (string_bytes name) result (view self.old) (view self.new) };
+
+    /// What executing the run of this handle came to. A result and a terminal failure are proposed; of another failure the policy
+    /// says whether it is proposed too, or fails the VM so that it is retried after a delay or paused. From V7 on a proposed result
+    /// is kept, and comes as the run's completion once it is acknowledged. Metadata needs V6, a policy that may pause V7; a handle
+    /// without a pending run is refused. Outside Processing nothing is done.
+    fn propose_run_completion(
+        &mut self,
+        notification_handle: NotificationHandle,
+        run_exit_result: RunExitResult,
+        retry_policy: RetryPolicy,
+    ) -> VMResult<()>
+        ensures { CallsProposal notification_handle run_exit_result retry_policy result (view self.old) (view self.new) };
 
     /// The handler's result. A failure with metadata needs V6.
     fn sys_write_output(&mut self, value: NonEmptyValue, options: PayloadOptions) -> VMResult<()>

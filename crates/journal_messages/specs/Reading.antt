@@ -11,6 +11,7 @@ use Rattle.journal_calls.specs.Bodies.{call_format, one_way_call_format, complet
 use Rattle.journal_values.specs.Bodies.{notification_format}
 use Rattle.journal_attempt.specs.declared.start.Start.{Start}
 use Rattle.journal_attempt.specs.declared.commands.InputCommand.{InputCommand}
+use Rattle.journal_attempt.specs.declared.runs.ProposeRunCompletionAck.{ProposeRunCompletionAck}
 use Rattle.journal_values.specs.declared.notification.Notification.{Notification}
 use Rattle.journal_errors.specs.declared.types.MessageType.{MessageType}
 use Rattle.journal_errors.specs.declared.types.MessageType.TheVariants as type
@@ -32,6 +33,10 @@ input_in = body_as input_format
 -- the notification whose body this is
 unfoldable pub notification_in : List ℕ → Option Notification
 notification_in = body_as notification_format
+
+-- the acknowledgement whose body this is
+unfoldable pub acknowledgement_in : List ℕ → Option ProposeRunCompletionAck
+acknowledgement_in = body_as propose_run_completion_ack_format
 
 -- the message of this type that the body spells
 unfoldable pub message_in : MessageType → List ℕ → Option Message

@@ -2,7 +2,7 @@
 ghost use Rattle.std.specs.Prelude.{◌≡◌, ◌≤◌, ◌-◌, ◌++◌, take, drop, length, IfOk, OnOk};
 ghost use Rattle.wire.specs.Format.{u64s};
 ghost use Rattle.wire.specs.Reads.{Read};
-ghost use Rattle.journal_messages.specs.Reading.{body_as, start_in, input_in, notification_in, message_in};
+ghost use Rattle.journal_messages.specs.Reading.{acknowledgement_in, body_as, start_in, input_in, notification_in, message_in};
 ghost use Rattle.journal_messages.specs.Message.{IsWhole};
 ghost use Rattle.journal_messages.specs.Message.{body, encoding, type_of, IsValid, DecodesTo, Decodes};
 
@@ -192,7 +192,7 @@ impl RawMessage {
     }
 }
 
-#[tactic(auto, unfolding(crate::specs::Reading::start_in, crate::specs::Reading::input_in, crate::specs::Reading::notification_in))]
+#[tactic(auto, unfolding(crate::specs::Reading::start_in, crate::specs::Reading::input_in, crate::specs::Reading::notification_in, crate::specs::Reading::acknowledgement_in))]
 impl RawMessage {
     pub fn read_start(&self, alloc: Global) -> Result<Start, Fault>
         ensures { Read (start_in self.now.body) result }
@@ -208,6 +208,12 @@ impl RawMessage {
 
     pub fn read_notification(&self, alloc: Global) -> Result<Notification, Fault>
         ensures { Read (notification_in self.now.body) result }
+    {
+        self.read_as(alloc)
+    }
+
+    pub fn read_acknowledgement(&self, alloc: Global) -> Result<ProposeRunCompletionAck, Fault>
+        ensures { Read (acknowledgement_in self.now.body) result }
     {
         self.read_as(alloc)
     }

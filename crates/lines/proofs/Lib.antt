@@ -1,5 +1,6 @@
 pub mod Blaming
 pub mod Closing
 pub mod Cutting
+pub mod Once
 pub mod Spelling
 pub mod Wording

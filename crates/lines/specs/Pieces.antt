@@ -71,3 +71,9 @@ AreWords text words = (pieces : List (Bor (List ℕ))) × ArePieces 32 text piec
 -- the text is this, between an opening and a closing byte
 abbrev pub IsWithin : ℕ → ℕ → List ℕ → List ℕ → Type 0
 IsWithin opening closing text inside = text ≡ opening ∷ (inside ++ closing ∷ [])
+
+-- the words of what stands between an opening and a closing byte
+pub record AreWordsWithin (opening closing : ℕ) (text : List ℕ) (words : List (Bor (List ℕ))) : Type 0 where
+  pub inside : List ℕ
+  pub within : IsWithin opening closing text inside
+  pub are_words : AreWords inside words

@@ -2,7 +2,7 @@
 ghost use Rattle.std.specs.Prelude.{◌≡◌, ◌≢◌, ◌++◌, ◌<◌, ◌-◌, ◌^◌, IfOk, IfErr, OnOk, IfSome, IfNone, IsTrue, ◌↔◌, Some, None};
 ghost use Rattle.wire.specs.declared.fault.Fault.TheVariants.{Malformed};
 ghost use Rattle.lines.specs.Readings.{Blames};
-ghost use Rattle.lines.specs.Pieces.{ArePieces, AreWords, IsWithin, behind, outside, place, with_word};
+ghost use Rattle.lines.specs.Pieces.{ArePieces, AreWords, AreWordsWithin, IsWithin, behind, outside, place, with_word};
 
 use std::alloc::{AllocError, Global};
 use wire::Fault;
@@ -144,6 +144,21 @@ pub fn between<'a>(text: &'a [u8], opening: u8, closing: u8) -> Result<&'a [u8],
         [first, inside @ .., last] if *first == opening && *last == closing => Ok(inside),
         _ => Err(Fault::Malformed),
     }
+}
+
+/// The words of what stands between the brackets that the text begins and ends with.
+#[tactic(auto, using(crate::proofs::Once::unclosed_blamed, crate::proofs::Once::unbracketed_blamed))]
+pub fn words_within<'a>(
+    alloc: Global,
+    text: &'a [u8],
+    opening: u8,
+    closing: u8,
+) -> Result<Vec<&'a [u8]>, Fault>
+    ensures words { IfOk result (λ words. AreWordsWithin opening closing text.now words.items) }
+    ensures none { IfErr result (Blames (AreWordsWithin opening closing text.now)) }
+{
+    let inside = between(text, opening, closing)?;
+    words(alloc, inside)
 }
 
 /// The items of a list, without the blanks around them.

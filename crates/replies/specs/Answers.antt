@@ -2,6 +2,7 @@
 use Rattle.std.specs.Prelude.{ℕ, List, [], ◌++◌, Option, Some, None, codes}
 use Rattle.std.specs.Fmt.{decimal}
 use Rattle.lines.specs.Atoms.{quoted}
+use Rattle.runs.specs.declared.types.RunHandle.{RunHandle}
 use Rattle.vm_parts.specs.declared.steps.Answer.{Answer}
 use Rattle.vm_parts.specs.declared.steps.Answer.TheVariants as answer
 use Rattle.vm_parts.specs.declared.types.AwakeableHandle.{AwakeableHandle}
@@ -16,6 +17,10 @@ handles_text handles = decimal handles.invocation_id_notification_handle.0 ++ co
 -- the handle of an awakeable, and its id
 abbrev pub awakeable_text : AwakeableHandle → List ℕ
 awakeable_text made = decimal made.handle.0 ++ codes " " ++ quoted made.id
+
+-- the handle of a run, and whether its result is already there
+abbrev pub run_text : RunHandle → List ℕ
+run_text run = decimal run.handle.0 ++ codes " " ++ flag_text run.replayed
 
 -- what was taken, if anything was
 abbrev pub taken_text : Option Value → List ℕ

@@ -13,7 +13,7 @@ use Rattle.vm_parts.specs.declared.types.State.TheVariants as state
 use Rattle.vm_parts.specs.declared.values.ResponseHead.{ResponseHead}
 use Rattle.replies.specs.declared.reply.Reply.{Reply}
 use Rattle.replies.specs.declared.reply.Reply.TheVariants as reply
-use Rattle.replies.specs.Answers.{answer_text}
+use Rattle.replies.specs.Answers.{answer_text, run_text}
 use Rattle.replies.specs.Texts.{flag_text, header_text, spaced}
 
 abbrev pub version_text : Version → List ℕ
@@ -40,10 +40,11 @@ error_text e = codes "err " ++ decimal e.code ++ codes " " ++ quoted e.message
 abbrev pub head_text : ResponseHead → List ℕ
 head_text head = decimal head.status_code ++ codes " " ++ version_text head.version ++ spaced header_text head.headers
 
--- what an await answered: whether input, and whether a run's result is waited for
+-- what an await answered: which run is to be executed now; whether input, and whether a run's result is waited for
 abbrev pub awaited_text : AwaitResponse → List ℕ
 awaited_text response.AnyCompleted = codes "any"
 awaited_text response.CancelSignalReceived = codes "cancelled"
+awaited_text (response.ExecuteRun handle) = codes "run " ++ decimal handle.0
 awaited_text (response.WaitingExternalProgress input run) = codes "wait " ++ flag_text input ++ codes " " ++ flag_text run
 
 -- a number that may be below 0
@@ -60,6 +61,7 @@ value_reply_text (reply.Ready is_ready) = flag_text is_ready
 value_reply_text (reply.State state) = state_text state
 value_reply_text (reply.Index index) = index_text index
 value_reply_text (reply.Awaited response) = awaited_text response
+value_reply_text (reply.Run run) = run_text run
 value_reply_text (reply.Answer answer) = answer_text answer
 value_reply_text given = []
 

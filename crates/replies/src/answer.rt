@@ -1,10 +1,11 @@
 //! The texts of what a handler's calls answered.
 ghost use Rattle.std.specs.Prelude.{◌≡◌, ◌++◌, codes, OnOk};
 ghost use Rattle.std.specs.Fmt.{decimal};
-ghost use Rattle.replies.specs.Answers.{answer_text, awakeable_text, handles_text, taken_text};
+ghost use Rattle.replies.specs.Answers.{answer_text, awakeable_text, handles_text, run_text, taken_text};
 
 use crate::shown::Shown;
 use lines::line::Line;
+use runs::RunHandle;
 use std::alloc::AllocError;
 use vm_parts::{Answer, AwakeableHandle, CallHandle, NotificationHandle, Value};
 
@@ -33,6 +34,17 @@ impl Shown for AwakeableHandle {
         self.handle.show(line)?;
         line.word(" ")?;
         self.id.show(line)
+    }
+}
+
+/// The handle, and whether the result is already there.
+impl Shown for RunHandle {
+    ghost text = { run_text };
+
+    fn show(&self, line: &mut Line) -> Result<(), AllocError> {
+        self.handle.show(line)?;
+        line.word(" ")?;
+        self.replayed.show(line)
     }
 }
 

@@ -2,10 +2,11 @@
 ghost use Rattle.std.specs.Prelude.{◌≡◌, ◌++◌, codes, ℤ, OnOk};
 ghost use Rattle.replies.specs.Replies.{awaited_text, error_text, head_text, index_text, reply_text, state_text, value_reply_text, version_text};
 
-use crate::shown::{Shown, spaced};
+use crate::shown::{Shown, labelled, spaced};
 use bytes::Bytes;
 use journal_errors::{Error, Version};
 use lines::line::Line;
+use runs::RunHandle;
 use std::alloc::AllocError;
 use vm_parts::{Answer, AwaitResponse, ResponseHead, State};
 
@@ -29,6 +30,7 @@ pub enum Reply {
     State(State),
     Index(i64),
     Awaited(AwaitResponse),
+    Run(RunHandle),
     /// The call of a handler was answered.
     Answer(Answer),
 }
@@ -93,6 +95,7 @@ impl Shown for AwaitResponse {
         match self {
             AwaitResponse::AnyCompleted => line.word("any"),
             AwaitResponse::CancelSignalReceived => line.word("cancelled"),
+            AwaitResponse::ExecuteRun(handle) => labelled("run ", handle, line),
             AwaitResponse::WaitingExternalProgress {
                 waiting_input,
                 waiting_run_proposal,
@@ -132,6 +135,7 @@ impl Reply {
             Reply::State(state) => state.show(line),
             Reply::Index(given) => index(*given, line),
             Reply::Awaited(response) => response.show(line),
+            Reply::Run(run) => run.show(line),
             Reply::Answer(answer) => answer.show(line),
             _ => Ok(()),
         }

@@ -1,7 +1,6 @@
 -- A tree is read from its text: what each piece that is read adds to what was read before.
 use Rattle.std.proofs.Common.{◌≡◌, ℕ, List, [], ◌∷◌, ◌++◌, Some, None, refl, sym, ap, ◌∙◌, subst, append_assoc}
 use Rattle.std.proofs.lemmas.List.{append-nil}
-use Rattle.std.specs.Str.Parse.{IsNumeral, digits_value}
 use Rattle.journal_attempt.specs.declared.future.FutureKind.{FutureKind}
 use Rattle.journal_attempt.specs.declared.future.FutureKind.TheVariants.{FirstCompleted as OfFirst, AllCompleted as OfAll, FirstSucceededOrAllFailed as OfAny, AllSucceededOrFirstFailed as OfEvery, Unknown as OfUnknown}
 use Rattle.await_trees.specs.Tree.{node, tree_of, forest_of}
@@ -12,6 +11,7 @@ use Rattle.await_trees.specs.declared.tree.UnresolvedFuture.{UnresolvedFuture}
 use Rattle.await_trees.specs.declared.tree.UnresolvedFuture.TheVariants.{Single}
 use Rattle.requests.specs.Trees.{SpellsTree, SpellsForest, kind_name}
 use Rattle.requests.specs.OpenNodes.{AreFollowed, Begins, Begin, StandsAt}
+use Rattle.requests.specs.Words.{IsNumberOf}
 use Rattle.requests.specs.declared.trees.OpenNode.{OpenNode}
 
 -- the tree of a node over children
@@ -62,11 +62,11 @@ spells_all inside own (u ∷ us) t h s =
     subst (λ z. SpellsForest z (forest_of ((u ∷ us) ++ t ∷ []))) (sym (ap (λ z. z ++ own) e ∙ append_assoc first (44 ∷ behind) own))
     (put_first first (behind ++ own) u us t o (spells_all behind own us t r s))
 
-pub reads_handle : (text word behind rest : List ℕ) (nodes : List OpenNode) (handle : NotificationHandle) → rest ≡ word ++ behind → IsNumeral 10 word → handle.0 ≡ digits_value 10 word
+pub reads_handle : (text word behind rest : List ℕ) (nodes : List OpenNode) (handle : NotificationHandle) → rest ≡ word ++ behind → IsNumberOf 32 word handle.0
     → StandsAt text nodes None rest → StandsAt text nodes (Some (Single handle)) behind
-reads_handle text word behind rest nodes handle cut digits value stands =
+reads_handle text word behind rest nodes handle cut number stands =
     let (before, own, e, b, nil) = stands in
-    (before, word, e ∙ ap (λ z. before ++ (z ++ rest)) nil ∙ ap (λ z. before ++ z) cut, b, subst (λ t. SpellsTree word t) (sym (tree_of-Single handle)) (digits, value))
+    (before, word, e ∙ ap (λ z. before ++ (z ++ rest)) nil ∙ ap (λ z. before ++ z) cut, b, subst (λ t. SpellsTree word t) (sym (tree_of-Single handle)) number)
 
 pub reads_empty : (text word behind rest : List ℕ) (nodes : List OpenNode) (kind : FutureKind) (future : UnresolvedFuture) → rest ≡ word ++ 40 ∷ 41 ∷ behind → word ≡ kind_name kind → future ≡ future_node kind []
     → StandsAt text nodes None rest → StandsAt text nodes (Some future) behind

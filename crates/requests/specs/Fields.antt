@@ -30,3 +30,8 @@ abbrev pub IsSet : {A : Type 0} → (List ℕ → A → Type 0) → A → List (
 IsSet Says default [] value = value ≡ default
 IsSet Says default (text ∷ []) value = Says text value
 IsSet Says default (text ∷ other ∷ more) value = ⊥
+
+-- what is said by a field that has to stand once
+abbrev pub IsRequired : {A : Type 0} → (List ℕ → A → Type 0) → List (List ℕ) → A → Type 0
+IsRequired Says (text ∷ []) value = Says text value
+IsRequired Says found value = ⊥

@@ -5,6 +5,8 @@ pub mod Words
 pub mod Values
 pub mod Targets
 pub mod Reports
+pub mod Policies
+pub mod Results
 pub mod Trees
 pub mod OpenNodes
 pub mod Verbs

@@ -1,11 +1,11 @@
 -- What a line of the script asks for.
-use Rattle.std.specs.Prelude.{◌≡◌, ◌==◌, ◌||◌, ℕ, Bool, true, false, List, drop, length, nat_eq, codes, string_bytes}
+use Rattle.std.specs.Prelude.{◌≡◌, ◌≢◌, ◌⊎◌, ◌==◌, ◌||◌, ℕ, Bool, true, false, List, drop, length, nat_eq, codes, string_bytes}
 use Rattle.std.specs.Borrow.{Bor}
 use Rattle.std.specs.Cmp.Lexicographic.{pointwise}
 use Rattle.std.specs.List.{starts_with}
-use Rattle.std.specs.Str.{IsTrimAscii}
-use Rattle.lines.specs.Atoms.{IsAtom}
-use Rattle.lines.specs.Pieces.{AreWords}
+use Rattle.std.specs.Str.{IsTrimAscii, IsUtf8}
+use Rattle.lines.specs.Atoms.{IsText}
+use Rattle.lines.specs.Pieces.{AreWords, outside, place}
 use Rattle.vm_parts.specs.declared.options.VMOptions.{VMOptions}
 use Rattle.requests.specs.declared.content_type.ContentType.{ContentType}
 use Rattle.requests.specs.declared.content_type.ContentType.TheVariants.{Absent, Unreadable, Named}
@@ -28,23 +28,44 @@ begins_with_vm text = pointwise nat_eq text (codes "vm") || starts_with nat_eq t
 abbrev pub IsContentType : List ℕ → ContentType → Type 0
 IsContentType word Absent = word ≡ codes "-"
 IsContentType word Unreadable = word ≡ codes "!"
-IsContentType word (Named text) = IsAtom word (string_bytes text)
+IsContentType word (Named text) = IsText word (string_bytes text)
 
--- the words of the line are `vm`, this content type and these options
+-- these words are `vm`, this content type and these options
+pub record IsMade (words : List (Bor (List ℕ))) (made : ContentType × VMOptions) : Type 0 where
+  pub name : text_at 0 words ≡ codes "vm"
+  pub content_type : IsContentType (text_at 1 words) made.0
+  pub options : AreOptions (drop 2 words) made.1
+
+-- the words of the line make a VM of this content type and these options
 abbrev pub MakesWith : List ℕ → ContentType → VMOptions → Type 0
-MakesWith text content_type options =
-    (words : List (Bor (List ℕ))) × AreWords text words × (text_at 0 words ≡ codes "vm") × IsContentType (text_at 1 words) content_type × AreOptions (drop 2 words) options
+MakesWith text content_type options = (words : List (Bor (List ℕ))) × AreWords text words × IsMade words (content_type, options)
+
+-- these words make no VM
+pub record MakeNothing (words : List (Bor (List ℕ))) : Type 0 where
+  pub nothing : (made : ContentType × VMOptions) → IsMade words made → ⊥
+
+-- why a line has no words that make a VM: its quotes or brackets aren't closed, or its words make none
+abbrev pub MakesNothing : List ℕ → Type 0
+MakesNothing text = (place text ≢ outside) ⊎ ((words : List (Bor (List ℕ))) × AreWords text words × MakeNothing words)
 
 -- the words of the line ask for this call
 abbrev pub AsksCall : List ℕ → Call → Type 0
 AsksCall text call = (words : List (Bor (List ℕ))) × AreWords text words × IsAsked words call
 
--- What a line without blanks at its ends asks for. One that begins with `vm` makes a VM or is bad, and any other is a call or
--- is bad.
+-- these words ask for no call
+pub record AskNothing (words : List (Bor (List ℕ))) : Type 0 where
+  pub nothing : (call : Call) → IsAsked words call → ⊥
+
+-- why a line has no words that ask for a call: its quotes or brackets aren't closed, or its words ask for nothing
+abbrev pub AsksNothing : List ℕ → Type 0
+AsksNothing text = (place text ≢ outside) ⊎ ((words : List (Bor (List ℕ))) × AreWords text words × AskNothing words)
+
+-- What a line without blanks at its ends asks for. One that begins with `vm` makes a VM, and any other is a call. It is bad where
+-- it isn't UTF-8, and where its words make or ask for nothing.
 abbrev pub Asks : List ℕ → Request → Type 0
 Asks text request.Nothing = says_nothing text ≡ true
-Asks text request.Bad = (says_nothing text ≡ false) × (begins_with_vm text ≡ false)
-Asks text request.BadMake = (says_nothing text ≡ false) × (begins_with_vm text ≡ true)
+Asks text request.Bad = (says_nothing text ≡ false) × (begins_with_vm text ≡ false) × ((IsUtf8 text → ⊥) ⊎ AsksNothing text)
+Asks text request.BadMake = (says_nothing text ≡ false) × (begins_with_vm text ≡ true) × ((IsUtf8 text → ⊥) ⊎ MakesNothing text)
 Asks text (request.Make content_type options) = (says_nothing text ≡ false) × (begins_with_vm text ≡ true) × MakesWith text content_type options
 Asks text (request.Call call) = (says_nothing text ≡ false) × (begins_with_vm text ≡ false) × AsksCall text call
 

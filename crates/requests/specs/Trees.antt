@@ -1,10 +1,11 @@
 -- How a tree of awaits is spelled, in one word: a handle by its digits, and a node by its kind's name and its children
 -- in round brackets, with a comma between each two.
 use Rattle.std.specs.Prelude.{◌≡◌, ℕ, List, [], ◌∷◌, ◌++◌, codes}
-use Rattle.std.specs.Str.Parse.{IsNumeral, digits_value}
 use Rattle.journal_attempt.specs.declared.future.FutureKind.{FutureKind}
 use Rattle.journal_attempt.specs.declared.future.FutureKind.TheVariants.{FirstCompleted, AllCompleted, FirstSucceededOrAllFailed, AllSucceededOrFirstFailed, Unknown}
-use Rattle.await_trees.specs.Tree.{Tree, Forest, leaf, node, none, more}
+use Rattle.await_trees.specs.Tree.{Tree, Forest, leaf, node, none, more, tree_of}
+use Rattle.await_trees.specs.declared.tree.UnresolvedFuture.{UnresolvedFuture}
+use Rattle.requests.specs.Words.{IsNumberOf}
 
 -- ( and ) and a comma
 abbrev pub opening : ℕ
@@ -27,7 +28,7 @@ kind_name Unknown = codes "un"
 abbrev mutual
   -- the text spells a tree
   pub SpellsTree : List ℕ → Tree → Type 0
-  SpellsTree text (leaf handle) = IsNumeral 10 text × (handle ≡ digits_value 10 text)
+  SpellsTree text (leaf handle) = IsNumberOf 32 text handle
   SpellsTree text (node kind children) = (inside : List ℕ) × (text ≡ kind_name kind ++ opening ∷ (inside ++ closing ∷ [])) × SpellsForest inside children
 
   -- the text spells trees, with a comma between each two
@@ -35,3 +36,11 @@ abbrev mutual
   SpellsForest text none = text ≡ []
   SpellsForest text (more t none) = SpellsTree text t
   SpellsForest text (more t (more u others)) = (first behind : List ℕ) × (text ≡ first ++ comma ∷ behind) × SpellsTree first t × SpellsForest behind (more u others)
+
+-- the word is a kind's
+abbrev pub IsKind : List ℕ → FutureKind → Type 0
+IsKind word kind = word ≡ kind_name kind
+
+-- the text spells the tree that is awaited
+abbrev pub SpellsFuture : List ℕ → UnresolvedFuture → Type 0
+SpellsFuture text future = SpellsTree text (tree_of future)

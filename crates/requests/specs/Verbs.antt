@@ -1,22 +1,25 @@
 -- The call that a line asks for: its first word names it, and its arguments are in their places.
-use Rattle.std.specs.Prelude.{◌≡◌, ℕ, List, [], length, drop, codes}
+use Rattle.std.specs.Prelude.{◌≡◌, ℕ, List, [], ◌∷◌, length, drop, codes, Option, Some, find, nat_eq}
+use Rattle.std.specs.Cmp.Lexicographic.{pointwise}
 use Rattle.std.specs.Borrow.{Bor}
-use Rattle.std.specs.Duration.{as_nanos}
-use Rattle.lines.specs.Atoms.{IsAtom}
-use Rattle.vm_parts.specs.declared.steps.Step.{Step}
+use Rattle.std.specs.declared.time.Duration.{Duration}
+use Rattle.lines.specs.Atoms.{IsAtom, IsText}
+use Rattle.lines.specs.Readings.{One, Two, Three}
+use Rattle.vm_parts.specs.declared.options.PayloadOptions.{PayloadOptions}
+use Rattle.vm_parts.specs.declared.values.Target.{Target}
+use Rattle.await_trees.specs.declared.handle.NotificationHandle.{NotificationHandle}
 use Rattle.vm_parts.specs.declared.steps.Step.TheVariants as step
 use Rattle.await_trees.specs.declared.tree.UnresolvedFuture.{UnresolvedFuture}
-use Rattle.await_trees.specs.Tree.{tree_of}
 use Rattle.requests.specs.declared.request.Call.{Call}
 use Rattle.requests.specs.declared.request.Call.TheVariants as call
 use Rattle.requests.specs.declared.verb.Verb.{Verb}
 use Rattle.requests.specs.declared.verb.Verb.TheVariants as verb
-use Rattle.requests.specs.Durations.{IsDuration}
-use Rattle.requests.specs.Reports.{AreErrorOptions}
+use Rattle.requests.specs.Reports.{IsReport}
+use Rattle.requests.specs.Results.{IsProposal}
 use Rattle.requests.specs.Targets.{AreCallOptions, AreSendOptions, NamesInvocation}
-use Rattle.requests.specs.Trees.{SpellsTree}
-use Rattle.requests.specs.Values.{HasCodeAndText, HasExtras, HasName, HasNow, HasValue, HasValueAlone}
-use Rattle.requests.specs.Words.{IsNumberOf, IsOneAtom, behind, text_at}
+use Rattle.requests.specs.Trees.{SpellsFuture}
+use Rattle.requests.specs.Values.{HasExtras, HasName, HasNow, HasValue, IsTime, IsValue}
+use Rattle.requests.specs.Words.{IsNumberOf, IsOneAtom, IsOneText, behind, text_at}
 
 -- the word that names a call
 unfoldable pub verb_name : Verb → List ℕ
@@ -48,99 +51,87 @@ verb_name verb.Cancel = codes "cancel"
 verb_name verb.GetPromise = codes "get_promise"
 verb_name verb.PeekPromise = codes "peek_promise"
 verb_name verb.CompletePromise = codes "complete_promise"
+verb_name verb.Run = codes "run"
+verb_name verb.Propose = codes "propose"
 verb_name verb.Attach = codes "attach"
 verb_name verb.GetOutput = codes "get_output"
 verb_name verb.WriteOutput = codes "write_output"
 verb_name verb.End = codes "end"
 
--- the name of the call that a handler's step is
-abbrev pub verb_of_step : Step → Verb
-verb_of_step (step.Await future) = verb.Await
-verb_of_step (step.Completed handle) = verb.Completed
-verb_of_step (step.Take handle) = verb.Take
-verb_of_step (step.StateGet key name options) = verb.Get
-verb_of_step (step.StateGetKeys name) = verb.Keys
-verb_of_step (step.StateSet key value name options) = verb.Set
-verb_of_step (step.StateClear key name) = verb.Clear
-verb_of_step (step.StateClearAll name) = verb.ClearAll
-verb_of_step (step.Sleep name until now) = verb.Sleep
-verb_of_step (step.Call target input name options) = verb.Call
-verb_of_step (step.Send target input time name options) = verb.Send
-verb_of_step step.Awakeable = verb.Awakeable
-verb_of_step (step.Signal name) = verb.Signal
-verb_of_step (step.CompleteAwakeable id value options) = verb.CompleteAwakeable
-verb_of_step (step.CompleteSignal target name value) = verb.CompleteSignal
-verb_of_step (step.CancelInvocation target) = verb.Cancel
-verb_of_step (step.GetPromise key) = verb.GetPromise
-verb_of_step (step.PeekPromise key) = verb.PeekPromise
-verb_of_step (step.CompletePromise key value options) = verb.CompletePromise
-verb_of_step (step.AttachInvocation target) = verb.Attach
-verb_of_step (step.GetInvocationOutput target) = verb.GetOutput
-verb_of_step (step.WriteOutput value options) = verb.WriteOutput
-verb_of_step step.End = verb.End
+-- the verbs, those that most lines have first
+abbrev pub verbs : List Verb
+verbs =
+    verb.Take ∷ verb.Await ∷ verb.Input ∷ verb.Sleep ∷ verb.Get ∷ verb.Set ∷ verb.Call ∷ verb.Signal ∷ verb.Completed ∷ verb.Send ∷ verb.Output ∷ verb.Head ∷ verb.Close ∷ verb.Ready ∷ verb.State ∷ verb.Index ∷ verb.Error ∷ verb.SysInput ∷ verb.Keys ∷ verb.Clear ∷ verb.ClearAll ∷ verb.Awakeable ∷ verb.CompleteAwakeable ∷ verb.CompleteSignal ∷ verb.Cancel ∷ verb.GetPromise ∷ verb.PeekPromise ∷ verb.CompletePromise ∷ verb.Run ∷ verb.Propose ∷ verb.Attach ∷ verb.GetOutput ∷ verb.WriteOutput ∷ verb.End ∷ []
 
--- the name of a call
-abbrev pub verb_of : Call → Verb
-verb_of call.Head = verb.Head
-verb_of (call.Input bytes) = verb.Input
-verb_of call.Close = verb.Close
-verb_of call.Output = verb.Output
-verb_of call.Ready = verb.Ready
-verb_of call.State = verb.State
-verb_of call.Index = verb.Index
-verb_of (call.Error error relationship) = verb.Error
-verb_of call.SysInput = verb.SysInput
-verb_of (call.Step s) = verb_of_step s
+-- the verb whose name this is
+unfoldable pub verb_named : List ℕ → Option Verb
+verb_named word = find (λ verb. pointwise nat_eq word (verb_name verb)) verbs
 
 -- the digits of this handle, and no other word
-abbrev pub IsHandle : List (Bor (List ℕ)) → ℕ → Type 0
-IsHandle words handle = (length words ≡ 1) × IsNumberOf (text_at 0 words) handle
-
--- the words begin with this service, this handler and this input
-abbrev pub HasCallee : List (Bor (List ℕ)) → List ℕ → List ℕ → List ℕ → Type 0
-HasCallee words service handler input = IsAtom (text_at 0 words) service × IsAtom (text_at 1 words) handler × IsAtom (text_at 2 words) input
+abbrev pub IsHandle : List (Bor (List ℕ)) → NotificationHandle → Type 0
+IsHandle words handle = (length words ≡ 1) × IsNumberOf 32 (text_at 0 words) handle.0
 
 -- one word that spells the tree that is awaited, and no other word
 abbrev pub IsAwaited : List (Bor (List ℕ)) → UnresolvedFuture → Type 0
-IsAwaited words future = (length words ≡ 1) × SpellsTree (text_at 0 words) (tree_of future)
+IsAwaited words future = (length words ≡ 1) × SpellsFuture (text_at 0 words) future
 
--- the arguments of a step, in their places, and the options behind them
-abbrev pub HasStepArguments : List (Bor (List ℕ)) → Step → Type 0
-HasStepArguments arguments (step.Await future) = IsAwaited arguments future
-HasStepArguments arguments (step.Completed handle) = IsHandle arguments handle.0
-HasStepArguments arguments (step.Take handle) = IsHandle arguments handle.0
-HasStepArguments arguments (step.StateGet key name options) = IsAtom (text_at 0 arguments) key × HasExtras (drop 1 arguments) name options
-HasStepArguments arguments (step.StateGetKeys name) = HasName arguments name
-HasStepArguments arguments (step.StateSet key value name options) = IsAtom (text_at 0 arguments) key × IsAtom (text_at 1 arguments) value × HasExtras (drop 2 arguments) name options
-HasStepArguments arguments (step.StateClear key name) = IsAtom (text_at 0 arguments) key × HasName (drop 1 arguments) name
-HasStepArguments arguments (step.StateClearAll name) = HasName arguments name
-HasStepArguments arguments (step.Sleep name until now) = IsAtom (text_at 0 arguments) name × IsDuration (text_at 1 arguments) (as_nanos until) × HasNow (drop 2 arguments) now
-HasStepArguments arguments (step.Call target input name options) = HasCallee arguments target.service target.handler input × AreCallOptions (drop 3 arguments) target name options
-HasStepArguments arguments (step.Send target input time name options) = HasCallee arguments target.service target.handler input × AreSendOptions (drop 3 arguments) target time name options
-HasStepArguments arguments step.Awakeable = arguments ≡ []
-HasStepArguments arguments (step.Signal name) = IsOneAtom arguments name
-HasStepArguments arguments (step.CompleteAwakeable id value options) = IsAtom (text_at 0 arguments) id × HasValue (drop 1 arguments) value options
-HasStepArguments arguments (step.CompleteSignal target name value) = IsAtom (text_at 0 arguments) target × IsAtom (text_at 1 arguments) name × HasValueAlone (drop 2 arguments) value
-HasStepArguments arguments (step.CancelInvocation target) = IsOneAtom arguments target
-HasStepArguments arguments (step.GetPromise key) = IsOneAtom arguments key
-HasStepArguments arguments (step.PeekPromise key) = IsOneAtom arguments key
-HasStepArguments arguments (step.CompletePromise key value options) = IsAtom (text_at 0 arguments) key × HasValue (drop 1 arguments) value options
-HasStepArguments arguments (step.AttachInvocation target) = NamesInvocation arguments target
-HasStepArguments arguments (step.GetInvocationOutput target) = NamesInvocation arguments target
-HasStepArguments arguments (step.WriteOutput value options) = HasValue arguments value options
-HasStepArguments arguments step.End = arguments ≡ []
+-- the words begin with this service, this handler and this input
+abbrev pub HasCallee : List (Bor (List ℕ)) → List ℕ × List ℕ × List ℕ → Type 0
+HasCallee words callee = IsText (text_at 0 words) callee.0 × IsText (text_at 1 words) callee.1 × IsAtom (text_at 2 words) callee.2
 
--- the arguments of a call, in their places, and the options behind them
-abbrev pub HasArguments : List (Bor (List ℕ)) → Call → Type 0
-HasArguments arguments (call.Input bytes) = IsOneAtom arguments bytes
-HasArguments arguments (call.Error error relationship) = HasCodeAndText error.code error.message arguments × AreErrorOptions (drop 2 arguments) error relationship
-HasArguments arguments (call.Step s) = HasStepArguments arguments s
-HasArguments arguments other = arguments ≡ []
+-- what is called, with which input, name and options
+pub record IsCall (words : List (Bor (List ℕ))) (call : Target × List ℕ × Option (List ℕ) × PayloadOptions) : Type 0 where
+  pub callee : HasCallee words (call.0.service, call.0.handler, call.1)
+  pub options : AreCallOptions (drop 3 words) call.0 call.2 call.3
 
--- a call of this name, with these words behind it
+-- what is sent to, with which input, when, and with which name and options
+pub record IsSend (words : List (Bor (List ℕ))) (send : Target × List ℕ × Option Duration × Option (List ℕ) × PayloadOptions) : Type 0 where
+  pub callee : HasCallee words (send.0.service, send.0.handler, send.1)
+  pub options : AreSendOptions (drop 3 words) send.0 send.2 send.3 send.4
+
+-- nothing stands behind the name
+abbrev pub IsBare : List (Bor (List ℕ)) → Call → Call → Type 0
+IsBare words bare call = (length words ≡ 0) × (call ≡ bare)
+
+-- what the words behind a call's name ask for: its arguments, in their places
 abbrev pub IsLine : Verb → List (Bor (List ℕ)) → Call → Type 0
-IsLine named arguments call = (verb_of call ≡ named) × HasArguments arguments call
+IsLine verb.Head words = IsBare words call.Head
+IsLine verb.Input words = One (IsOneAtom words) call.Input
+IsLine verb.Close words = IsBare words call.Close
+IsLine verb.Output words = IsBare words call.Output
+IsLine verb.Ready words = IsBare words call.Ready
+IsLine verb.State words = IsBare words call.State
+IsLine verb.Index words = IsBare words call.Index
+IsLine verb.Error words = One (IsReport words) (λ report. call.Error report.0 report.1)
+IsLine verb.Await words = One (IsAwaited words) (λ future. call.Step (step.Await future))
+IsLine verb.Completed words = One (IsHandle words) (λ handle. call.Step (step.Completed handle))
+IsLine verb.Take words = One (IsHandle words) (λ handle. call.Step (step.Take handle))
+IsLine verb.SysInput words = IsBare words call.SysInput
+IsLine verb.Get words = Two (IsText (text_at 0 words)) (HasExtras (drop 1 words)) (λ key extras. call.Step (step.StateGet key extras.name extras.payload))
+IsLine verb.Keys words = One (HasName words) (λ name. call.Step (step.StateGetKeys name))
+IsLine verb.Set words = Three (IsText (text_at 0 words)) (IsAtom (text_at 1 words)) (HasExtras (drop 2 words)) (λ key value extras. call.Step (step.StateSet key value extras.name extras.payload))
+IsLine verb.Clear words = Two (IsText (text_at 0 words)) (HasName (drop 1 words)) (λ key name. call.Step (step.StateClear key name))
+IsLine verb.ClearAll words = One (HasName words) (λ name. call.Step (step.StateClearAll name))
+IsLine verb.Sleep words = Three (IsText (text_at 0 words)) (IsTime (text_at 1 words)) (HasNow (drop 2 words)) (λ name until now. call.Step (step.Sleep name until now))
+IsLine verb.Call words = One (IsCall words) (λ c. call.Step (step.Call c.0 c.1 c.2 c.3))
+IsLine verb.Send words = One (IsSend words) (λ c. call.Step (step.Send c.0 c.1 c.2 c.3 c.4))
+IsLine verb.Awakeable words = IsBare words (call.Step step.Awakeable)
+IsLine verb.Signal words = One (IsOneText words) (λ name. call.Step (step.Signal name))
+IsLine verb.CompleteAwakeable words = Two (IsText (text_at 0 words)) (HasValue (drop 1 words)) (λ id value. call.Step (step.CompleteAwakeable id value.0 value.1))
+IsLine verb.CompleteSignal words = Three (IsText (text_at 0 words)) (IsText (text_at 1 words)) (IsValue (drop 2 words)) (λ target name value. call.Step (step.CompleteSignal target name value))
+IsLine verb.Cancel words = One (IsOneText words) (λ target. call.Step (step.CancelInvocation target))
+IsLine verb.GetPromise words = One (IsOneText words) (λ key. call.Step (step.GetPromise key))
+IsLine verb.PeekPromise words = One (IsOneText words) (λ key. call.Step (step.PeekPromise key))
+IsLine verb.CompletePromise words = Two (IsText (text_at 0 words)) (HasValue (drop 1 words)) (λ key value. call.Step (step.CompletePromise key value.0 value.1))
+IsLine verb.Run words = One (IsOneText words) call.Run
+IsLine verb.Propose words = One (IsProposal words) (λ it. call.Propose it.handle it.result it.policy)
+IsLine verb.Attach words = One (NamesInvocation words) (λ target. call.Step (step.AttachInvocation target))
+IsLine verb.GetOutput words = One (NamesInvocation words) (λ target. call.Step (step.GetInvocationOutput target))
+IsLine verb.WriteOutput words = One (HasValue words) (λ value. call.Step (step.WriteOutput value.0 value.1))
+IsLine verb.End words = IsBare words (call.Step step.End)
 
 -- the call that the words of a line ask for
-abbrev pub IsAsked : List (Bor (List ℕ)) → Call → Type 0
-IsAsked words call = (text_at 0 words ≡ verb_name (verb_of call)) × HasArguments (behind words) call
+pub record IsAsked (words : List (Bor (List ℕ))) (call : Call) : Type 0 where
+  pub named : Verb
+  pub names : verb_named (text_at 0 words) ≡ Some named
+  pub line : IsLine named (behind words) call

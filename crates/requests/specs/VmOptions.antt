@@ -53,19 +53,39 @@ abbrev pub delivery_word : SignalDelivery → List ℕ
 delivery_word delivery.Queued = codes "queued"
 delivery_word delivery.Overwrite = codes "overwrite"
 
+-- ---- words for these
+
+abbrev pub IsCancel : List ℕ → ImplicitCancellationOption → Type 0
+IsCancel text it = text ≡ cancel_word it
+
+abbrev pub IsChecks : List ℕ → NonDeterministicChecksOption → Type 0
+IsChecks text it = text ≡ checks_word it
+
+abbrev pub IsAwaiting : List ℕ → AwaitingOnPolicy → Type 0
+IsAwaiting text it = text ≡ awaiting_word it
+
+abbrev pub IsMismatch : List ℕ → JournalMismatchRetryBehavior → Type 0
+IsMismatch text it = text ≡ mismatch_word it
+
+abbrev pub IsReplay : List ℕ → JournalReplay → Type 0
+IsReplay text it = text ≡ replay_word it
+
+abbrev pub IsDelivery : List ℕ → SignalDelivery → Type 0
+IsDelivery text it = text ≡ delivery_word it
+
 -- what a caller that skips commands does; no option of the VM
-abbrev pub IsSkip : List ℕ → Type 0
-IsSkip text = (text ≡ codes "double") ⊎ (text ≡ codes "carried")
+abbrev pub IsSkip : List ℕ → Unit {0} → Type 0
+IsSkip text it = (text ≡ codes "double") ⊎ (text ≡ codes "carried")
 
 -- An option is what the word behind its name stands for, and as by default where it isn't named. The seed stands apart.
 pub record ArePolicies (words : List (Bor (List ℕ))) (options : VMOptions) : Type 0 where
-  pub cancel : IsSet (λ text it. text ≡ cancel_word it) default_options.implicit_cancellation (texts (codes "cancel=") words) options.implicit_cancellation
-  pub checks : IsSet (λ text it. text ≡ checks_word it) default_options.non_determinism_checks (texts (codes "checks=") words) options.non_determinism_checks
-  pub awaiting : IsSet (λ text it. text ≡ awaiting_word it) default_options.awaiting_on_policy (texts (codes "awaiting=") words) options.awaiting_on_policy
-  pub mismatch : IsSet (λ text it. text ≡ mismatch_word it) default_options.journal_mismatch_retry_behavior (texts (codes "mismatch=") words) options.journal_mismatch_retry_behavior
-  pub replay : IsSet (λ text it. text ≡ replay_word it) default_options.journal_replay (texts (codes "replay=") words) options.journal_replay
-  pub delivery : IsSet (λ text it. text ≡ delivery_word it) default_options.signal_delivery (texts (codes "delivery=") words) options.signal_delivery
-  pub skip : IsSet (λ text it. IsSkip text) (tt {0}) (texts (codes "skip=") words) (tt {0})
+  pub cancel : IsSet IsCancel default_options.implicit_cancellation (texts (codes "cancel=") words) options.implicit_cancellation
+  pub checks : IsSet IsChecks default_options.non_determinism_checks (texts (codes "checks=") words) options.non_determinism_checks
+  pub awaiting : IsSet IsAwaiting default_options.awaiting_on_policy (texts (codes "awaiting=") words) options.awaiting_on_policy
+  pub mismatch : IsSet IsMismatch default_options.journal_mismatch_retry_behavior (texts (codes "mismatch=") words) options.journal_mismatch_retry_behavior
+  pub replay : IsSet IsReplay default_options.journal_replay (texts (codes "replay=") words) options.journal_replay
+  pub delivery : IsSet IsDelivery default_options.signal_delivery (texts (codes "delivery=") words) options.signal_delivery
+  pub skip : IsSet IsSkip (tt {0}) (texts (codes "skip=") words) (tt {0})
 
 -- the names of the options
 abbrev pub option_names : List (List ℕ)
@@ -74,5 +94,5 @@ option_names = codes "cancel=" ∷ codes "checks=" ∷ codes "awaiting=" ∷ cod
 -- the options that these words name, and no others
 pub record AreOptions (words : List (Bor (List ℕ))) (options : VMOptions) : Type 0 where
   pub policies : ArePolicies words options
-  pub seed : IsSet IsNumberOf default_options.fallback_random_seed (texts (codes "seed=") words) options.fallback_random_seed
+  pub seed : IsSet (IsNumberOf 64) default_options.fallback_random_seed (texts (codes "seed=") words) options.fallback_random_seed
   pub only : are_named option_names words ≡ true

@@ -1,14 +1,16 @@
 //! The lines that call another handler: which one, with what, and how.
-ghost use Rattle.std.specs.Prelude.{◌≡◌, ◌∷◌, IfOk, codes, drop};
+ghost use Rattle.std.specs.Prelude.{◌≡◌, ◌∷◌, IfErr, IfOk, codes, drop};
+ghost use Rattle.lines.specs.Readings.{Blames};
 ghost use Rattle.requests.specs.declared.verb.Verb.TheVariants as verb;
 ghost use Rattle.requests.specs.Fields.{are_named, texts};
 ghost use Rattle.requests.specs.Targets.{AreHeaders, HasCallOptions, call_names};
 ghost use Rattle.requests.specs.Verbs.{HasCallee, IsLine};
 
-use crate::arguments::{optional_duration, optional_text, pair_of, without_unstable};
+use crate::arguments::{optional_duration, optional_text, without_unstable};
 use crate::atoms::{shared_of, text_of};
 use crate::fields::{are_named, text_behind};
 use crate::request::Call;
+use crate::values::pair_of;
 use bytes::Bytes;
 use journal_values::Header;
 use std::alloc::Global;
@@ -24,8 +26,10 @@ struct Callee {
 }
 
 /// `[header={T T}]..`, among other words.
+#[tactic(auto, using(crate::proofs::Pairs::headers_blamed))]
 fn headers_of(alloc: Global, words: &[&[u8]]) -> Result<Items<Header>, Fault>
-    ensures { IfOk result (λ headers. AreHeaders (texts (codes "header=") words.now) headers) }
+    ensures value { IfOk result (AreHeaders (texts (codes "header=") words.now)) }
+    ensures none { IfErr result (Blames (AreHeaders (texts (codes "header=") words.now))) }
 {
     let mut headers = Items::new(alloc);
     for word in words {
@@ -47,7 +51,8 @@ fn target_with(
 ) -> Result<(Target, Option<Text>), Fault>
     ensures service { IfOk result (λ found. found.0.service ≡ service) }
     ensures handler { IfOk result (λ found. found.0.handler ≡ handler) }
-    ensures options { IfOk result (λ found. HasCallOptions words.now found.0 found.1) }
+    ensures options { IfOk result (HasCallOptions words.now) }
+    ensures none { IfErr result (Blames (HasCallOptions words.now)) }
 {
     let key = optional_text(alloc, words, "key=")?;
     let idempotency_key = optional_text(alloc, words, "idem=")?;
@@ -68,12 +73,14 @@ fn target_with(
 }
 
 /// `T T B`, and the words behind them.
+#[tactic(auto, using(crate::proofs::Calling::service_blamed, crate::proofs::Calling::handler_blamed, crate::proofs::Calling::input_blamed, crate::proofs::Missing::text_blamed_at, crate::proofs::Missing::atom_blamed_at, crate::proofs::Missing::no_atom_at))]
 fn callee_of<'w, 'a>(
     alloc: Global,
     words: &'w [&'a [u8]],
 ) -> Result<(Callee, &'w [&'a [u8]]), Fault>
-    ensures callee { IfOk result (λ found. HasCallee words.now found.0.service found.0.handler found.0.input) }
+    ensures callee { IfOk result (λ found. HasCallee words.now (found.0.service, found.0.handler, found.0.input)) }
     ensures rest { IfOk result (λ found. found.1.now ≡ drop 3 words.now) }
+    ensures none { IfErr result (Blames (HasCallee words.now)) }
 {
     let [service, handler, input, options @ ..] = words else {
         return Err(Fault::Malformed);
@@ -112,8 +119,10 @@ fn are_send_options(words: &[&[u8]]) -> bool
 }
 
 /// The row `call`: `T T B [key=T] [idem=T] [scope=T] [limit=T] [header={T T}].. [name=T] [unstable]`.
+#[tactic(auto, using(lines::proofs::Blaming::one_blamed, crate::proofs::Calling::callee_blamed, crate::proofs::Calling::flag_blamed, crate::proofs::Calling::others_blamed, crate::proofs::Calling::options_blamed))]
 pub fn call_line(alloc: Global, arguments: &[&[u8]]) -> Result<Call, Fault>
-    ensures { IfOk result (λ call. IsLine verb.Call arguments.now call) }
+    ensures value { IfOk result (IsLine verb.Call arguments.now) }
+    ensures none { IfErr result (Blames (IsLine verb.Call arguments.now)) }
 {
     let (callee, rest) = callee_of(alloc, arguments)?;
     let (words, options) = without_unstable(alloc, rest)?;
@@ -135,8 +144,10 @@ pub fn call_line(alloc: Global, arguments: &[&[u8]]) -> Result<Call, Fault>
 }
 
 /// The row `send`, which may have a time too, `[at=D]`.
+#[tactic(auto, using(lines::proofs::Blaming::one_blamed, crate::proofs::Calling::send_callee_blamed, crate::proofs::Calling::send_flag_blamed, crate::proofs::Calling::send_others_blamed, crate::proofs::Calling::time_blamed, crate::proofs::Calling::send_options_blamed))]
 pub fn send_line(alloc: Global, arguments: &[&[u8]]) -> Result<Call, Fault>
-    ensures { IfOk result (λ call. IsLine verb.Send arguments.now call) }
+    ensures value { IfOk result (IsLine verb.Send arguments.now) }
+    ensures none { IfErr result (Blames (IsLine verb.Send arguments.now)) }
 {
     let (callee, rest) = callee_of(alloc, arguments)?;
     let (words, options) = without_unstable(alloc, rest)?;

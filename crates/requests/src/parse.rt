@@ -1,24 +1,24 @@
 //! A line of the script, read as a whole: one row a call.
-ghost use Rattle.std.specs.Prelude.{◌≡◌, ◌⊎◌, [], IfOk, Ok, true, false, codes, drop};
+ghost use Rattle.std.specs.Prelude.{◌≡◌, IfErr, IfOk, Ok, true, false, codes, drop};
 ghost use Rattle.requests.specs.declared.verb.Verb.TheVariants as verb;
-ghost use Rattle.requests.specs.Lines.{Asks, AsksCall, IsContentType, MakesWith, Reads, begins_with_vm, says_nothing};
-ghost use Rattle.lines.specs.Atoms.{IsAtom};
-ghost use Rattle.requests.specs.Verbs.{IsAwaited, IsLine, IsAsked};
+ghost use Rattle.requests.specs.Lines.{Asks, AsksCall, AskNothing, AsksNothing, IsContentType, IsMade, MakesNothing, MakesWith, Reads, begins_with_vm, says_nothing};
+ghost use Rattle.lines.specs.Readings.{Blames};
+ghost use Rattle.wire.specs.declared.fault.Fault.TheVariants.{Malformed};
+ghost use Rattle.requests.specs.Verbs.{IsAsked, IsAwaited, IsBare, IsLine};
 ghost use Rattle.requests.specs.VmOptions.{AreOptions};
 ghost use Rattle.requests.specs.Words.{text_at};
 
-use crate::arguments::{
-    Extras, bytes_alone, extras_of, handle_alone, name_of, now_of, text_alone, two_texts,
-    value_alone, value_and_payload,
-};
+use crate::arguments::{Extras, bytes_alone, extras_of, handle_alone, name_of, now_of, text_alone};
 use crate::atoms::{duration_of, shared_of, string_of, text_of};
 use crate::callees::{call_line, send_line};
 use crate::content_type::ContentType;
 use crate::options::options_of;
-use crate::report::error_of;
+use crate::report::error_line;
 use crate::request::{Call, Request};
+use crate::results::{Proposal, proposal_of};
 use crate::targets::target_of;
 use crate::trees::tree_of_word;
+use crate::values::{value_and_payload, value_of};
 use crate::verb::{Verb, verb_of_word};
 use bytes::Bytes;
 use lines::pieces::words;
@@ -26,8 +26,10 @@ use std::alloc::{AllocError, Global};
 use vm_parts::{Step, UnresolvedFuture, VMOptions};
 use wire::{Fault, Text};
 
+#[tactic(auto, using(lines::proofs::Blaming::first_blamed, lines::proofs::Blaming::second_blamed, crate::proofs::Missing::no_text_at))]
 fn get_of(alloc: Global, arguments: &[&[u8]]) -> Result<Call, Fault>
-    ensures { IfOk result (λ call. IsLine verb.Get arguments.now call) }
+    ensures value { IfOk result (IsLine verb.Get arguments.now) }
+    ensures none { IfErr result (Blames (IsLine verb.Get arguments.now)) }
 {
     let [key, others @ ..] = arguments else {
         return Err(Fault::Malformed);
@@ -41,34 +43,25 @@ fn get_of(alloc: Global, arguments: &[&[u8]]) -> Result<Call, Fault>
     }))
 }
 
+#[tactic(auto, using(lines::proofs::Blaming::one_blamed))]
 fn keys_of(alloc: Global, arguments: &[&[u8]]) -> Result<Call, Fault>
-    ensures { IfOk result (λ call. IsLine verb.Keys arguments.now call) }
+    ensures value { IfOk result (IsLine verb.Keys arguments.now) }
+    ensures none { IfErr result (Blames (IsLine verb.Keys arguments.now)) }
 {
     let name = name_of(alloc, arguments)?;
     Ok(Call::Step(Step::StateGetKeys { name }))
 }
 
-/// `T B`, and the words behind them.
-fn key_and_value<'w, 'a>(
-    alloc: Global,
-    words: &'w [&'a [u8]],
-) -> Result<(Text, Bytes, &'w [&'a [u8]]), Fault>
-    ensures key { IfOk result (λ found. IsAtom (text_at 0 words.now) found.0) }
-    ensures value { IfOk result (λ found. IsAtom (text_at 1 words.now) found.1) }
-    ensures rest { IfOk result (λ found. found.2.now ≡ drop 2 words.now) }
+#[tactic(auto, using(lines::proofs::Blaming::first_of_three_blamed, lines::proofs::Blaming::second_of_three_blamed, lines::proofs::Blaming::third_of_three_blamed, crate::proofs::Missing::no_text_at, crate::proofs::Missing::no_atom_at))]
+fn set_of(alloc: Global, arguments: &[&[u8]]) -> Result<Call, Fault>
+    ensures value { IfOk result (IsLine verb.Set arguments.now) }
+    ensures none { IfErr result (Blames (IsLine verb.Set arguments.now)) }
 {
-    let [key, value, rest @ ..] = words else {
+    let [key, value, others @ ..] = arguments else {
         return Err(Fault::Malformed);
     };
     let key = text_of(alloc, *key)?;
     let value = shared_of(alloc, *value)?;
-    Ok((key, value, rest))
-}
-
-fn set_of(alloc: Global, arguments: &[&[u8]]) -> Result<Call, Fault>
-    ensures { IfOk result (λ call. IsLine verb.Set arguments.now call) }
-{
-    let (key, value, others) = key_and_value(alloc, arguments)?;
     let Extras { name, payload } = extras_of(alloc, others)?;
     Ok(Call::Step(Step::StateSet {
         key,
@@ -78,8 +71,10 @@ fn set_of(alloc: Global, arguments: &[&[u8]]) -> Result<Call, Fault>
     }))
 }
 
+#[tactic(auto, using(lines::proofs::Blaming::first_blamed, lines::proofs::Blaming::second_blamed, crate::proofs::Missing::no_text_at))]
 fn clear_of(alloc: Global, arguments: &[&[u8]]) -> Result<Call, Fault>
-    ensures { IfOk result (λ call. IsLine verb.Clear arguments.now call) }
+    ensures value { IfOk result (IsLine verb.Clear arguments.now) }
+    ensures none { IfErr result (Blames (IsLine verb.Clear arguments.now)) }
 {
     let [key, others @ ..] = arguments else {
         return Err(Fault::Malformed);
@@ -89,8 +84,10 @@ fn clear_of(alloc: Global, arguments: &[&[u8]]) -> Result<Call, Fault>
     Ok(Call::Step(Step::StateClear { key, name }))
 }
 
+#[tactic(auto, using(lines::proofs::Blaming::first_of_three_blamed, lines::proofs::Blaming::second_of_three_blamed, lines::proofs::Blaming::third_of_three_blamed, crate::proofs::Missing::no_text_at))]
 fn sleep_of(alloc: Global, arguments: &[&[u8]]) -> Result<Call, Fault>
-    ensures { IfOk result (λ call. IsLine verb.Sleep arguments.now call) }
+    ensures value { IfOk result (IsLine verb.Sleep arguments.now) }
+    ensures none { IfErr result (Blames (IsLine verb.Sleep arguments.now)) }
 {
     let [name, until, others @ ..] = arguments else {
         return Err(Fault::Malformed);
@@ -105,8 +102,10 @@ fn sleep_of(alloc: Global, arguments: &[&[u8]]) -> Result<Call, Fault>
     }))
 }
 
+#[tactic(auto, using(lines::proofs::Blaming::first_blamed, lines::proofs::Blaming::second_blamed, crate::proofs::Missing::no_text_at))]
 fn complete_awakeable_of(alloc: Global, arguments: &[&[u8]]) -> Result<Call, Fault>
-    ensures { IfOk result (λ call. IsLine verb.CompleteAwakeable arguments.now call) }
+    ensures value { IfOk result (IsLine verb.CompleteAwakeable arguments.now) }
+    ensures none { IfErr result (Blames (IsLine verb.CompleteAwakeable arguments.now)) }
 {
     let [id, value @ ..] = arguments else {
         return Err(Fault::Malformed);
@@ -116,11 +115,17 @@ fn complete_awakeable_of(alloc: Global, arguments: &[&[u8]]) -> Result<Call, Fau
     Ok(Call::Step(Step::CompleteAwakeable { id, value, options }))
 }
 
+#[tactic(auto, using(lines::proofs::Blaming::first_of_three_blamed, lines::proofs::Blaming::second_of_three_blamed, lines::proofs::Blaming::third_of_three_blamed, crate::proofs::Missing::no_text_at))]
 fn complete_signal_of(alloc: Global, arguments: &[&[u8]]) -> Result<Call, Fault>
-    ensures { IfOk result (λ call. IsLine verb.CompleteSignal arguments.now call) }
+    ensures value { IfOk result (IsLine verb.CompleteSignal arguments.now) }
+    ensures none { IfErr result (Blames (IsLine verb.CompleteSignal arguments.now)) }
 {
-    let (target_invocation_id, signal_name, value) = two_texts(alloc, arguments)?;
-    let value = value_alone(alloc, value)?;
+    let [target, name, value @ ..] = arguments else {
+        return Err(Fault::Malformed);
+    };
+    let target_invocation_id = text_of(alloc, *target)?;
+    let signal_name = text_of(alloc, *name)?;
+    let value = value_of(alloc, value)?;
     Ok(Call::Step(Step::CompleteSignal {
         target_invocation_id,
         signal_name,
@@ -128,8 +133,10 @@ fn complete_signal_of(alloc: Global, arguments: &[&[u8]]) -> Result<Call, Fault>
     }))
 }
 
+#[tactic(auto, using(lines::proofs::Blaming::one_blamed))]
 fn cancel_of(alloc: Global, arguments: &[&[u8]]) -> Result<Call, Fault>
-    ensures { IfOk result (λ call. IsLine verb.Cancel arguments.now call) }
+    ensures value { IfOk result (IsLine verb.Cancel arguments.now) }
+    ensures none { IfErr result (Blames (IsLine verb.Cancel arguments.now)) }
 {
     let target_invocation_id = text_alone(alloc, arguments)?;
     Ok(Call::Step(Step::CancelInvocation {
@@ -137,29 +144,37 @@ fn cancel_of(alloc: Global, arguments: &[&[u8]]) -> Result<Call, Fault>
     }))
 }
 
+#[tactic(auto, using(lines::proofs::Blaming::one_blamed))]
 fn signal_of(alloc: Global, arguments: &[&[u8]]) -> Result<Call, Fault>
-    ensures { IfOk result (λ call. IsLine verb.Signal arguments.now call) }
+    ensures value { IfOk result (IsLine verb.Signal arguments.now) }
+    ensures none { IfErr result (Blames (IsLine verb.Signal arguments.now)) }
 {
     let name = text_alone(alloc, arguments)?;
     Ok(Call::Step(Step::Signal { name }))
 }
 
+#[tactic(auto, using(lines::proofs::Blaming::one_blamed))]
 fn get_promise_of(alloc: Global, arguments: &[&[u8]]) -> Result<Call, Fault>
-    ensures { IfOk result (λ call. IsLine verb.GetPromise arguments.now call) }
+    ensures value { IfOk result (IsLine verb.GetPromise arguments.now) }
+    ensures none { IfErr result (Blames (IsLine verb.GetPromise arguments.now)) }
 {
     let key = text_alone(alloc, arguments)?;
     Ok(Call::Step(Step::GetPromise { key }))
 }
 
+#[tactic(auto, using(lines::proofs::Blaming::one_blamed))]
 fn peek_promise_of(alloc: Global, arguments: &[&[u8]]) -> Result<Call, Fault>
-    ensures { IfOk result (λ call. IsLine verb.PeekPromise arguments.now call) }
+    ensures value { IfOk result (IsLine verb.PeekPromise arguments.now) }
+    ensures none { IfErr result (Blames (IsLine verb.PeekPromise arguments.now)) }
 {
     let key = text_alone(alloc, arguments)?;
     Ok(Call::Step(Step::PeekPromise { key }))
 }
 
+#[tactic(auto, using(lines::proofs::Blaming::first_blamed, lines::proofs::Blaming::second_blamed, crate::proofs::Missing::no_text_at))]
 fn complete_promise_of(alloc: Global, arguments: &[&[u8]]) -> Result<Call, Fault>
-    ensures { IfOk result (λ call. IsLine verb.CompletePromise arguments.now call) }
+    ensures value { IfOk result (IsLine verb.CompletePromise arguments.now) }
+    ensures none { IfErr result (Blames (IsLine verb.CompletePromise arguments.now)) }
 {
     let [key, value @ ..] = arguments else {
         return Err(Fault::Malformed);
@@ -173,30 +188,64 @@ fn complete_promise_of(alloc: Global, arguments: &[&[u8]]) -> Result<Call, Fault
     }))
 }
 
+#[tactic(auto, using(lines::proofs::Blaming::one_blamed))]
+fn run_of(alloc: Global, arguments: &[&[u8]]) -> Result<Call, Fault>
+    ensures value { IfOk result (IsLine verb.Run arguments.now) }
+    ensures none { IfErr result (Blames (IsLine verb.Run arguments.now)) }
+{
+    let name = text_alone(alloc, arguments)?;
+    Ok(Call::Run(name))
+}
+
+#[tactic(auto, using(lines::proofs::Blaming::one_blamed))]
+fn propose_of(alloc: Global, arguments: &[&[u8]]) -> Result<Call, Fault>
+    ensures value { IfOk result (IsLine verb.Propose arguments.now) }
+    ensures none { IfErr result (Blames (IsLine verb.Propose arguments.now)) }
+{
+    let Proposal {
+        handle,
+        result,
+        policy,
+    } = proposal_of(alloc, arguments)?;
+    Ok(Call::Propose {
+        handle,
+        result,
+        policy,
+    })
+}
+
+#[tactic(auto, using(lines::proofs::Blaming::one_blamed))]
 fn attach_of(alloc: Global, arguments: &[&[u8]]) -> Result<Call, Fault>
-    ensures { IfOk result (λ call. IsLine verb.Attach arguments.now call) }
+    ensures value { IfOk result (IsLine verb.Attach arguments.now) }
+    ensures none { IfErr result (Blames (IsLine verb.Attach arguments.now)) }
 {
     let target = target_of(alloc, arguments)?;
     Ok(Call::Step(Step::AttachInvocation(target)))
 }
 
+#[tactic(auto, using(lines::proofs::Blaming::one_blamed))]
 fn get_output_of(alloc: Global, arguments: &[&[u8]]) -> Result<Call, Fault>
-    ensures { IfOk result (λ call. IsLine verb.GetOutput arguments.now call) }
+    ensures value { IfOk result (IsLine verb.GetOutput arguments.now) }
+    ensures none { IfErr result (Blames (IsLine verb.GetOutput arguments.now)) }
 {
     let target = target_of(alloc, arguments)?;
     Ok(Call::Step(Step::GetInvocationOutput(target)))
 }
 
+#[tactic(auto, using(lines::proofs::Blaming::one_blamed))]
 fn write_output_of(alloc: Global, arguments: &[&[u8]]) -> Result<Call, Fault>
-    ensures { IfOk result (λ call. IsLine verb.WriteOutput arguments.now call) }
+    ensures value { IfOk result (IsLine verb.WriteOutput arguments.now) }
+    ensures none { IfErr result (Blames (IsLine verb.WriteOutput arguments.now)) }
 {
     let (value, options) = value_and_payload(alloc, arguments)?;
     Ok(Call::Step(Step::WriteOutput(value, options)))
 }
 
 /// What is awaited: `TREE` alone.
+#[tactic(auto, using(crate::proofs::Missing::one_tree_blamed))]
 fn awaited(alloc: Global, arguments: &[&[u8]]) -> Result<UnresolvedFuture, Fault>
-    ensures { IfOk result (λ future. IsAwaited arguments.now future) }
+    ensures value { IfOk result (IsAwaited arguments.now) }
+    ensures none { IfErr result (Blames (IsAwaited arguments.now)) }
 {
     match arguments {
         [tree] => tree_of_word(alloc, *tree),
@@ -204,64 +253,58 @@ fn awaited(alloc: Global, arguments: &[&[u8]]) -> Result<UnresolvedFuture, Fault
     }
 }
 
+#[tactic(auto, using(lines::proofs::Blaming::one_blamed))]
 fn await_of(alloc: Global, arguments: &[&[u8]]) -> Result<Call, Fault>
-    ensures { IfOk result (λ call. IsLine verb.Await arguments.now call) }
+    ensures value { IfOk result (IsLine verb.Await arguments.now) }
+    ensures none { IfErr result (Blames (IsLine verb.Await arguments.now)) }
 {
     let future = awaited(alloc, arguments)?;
     Ok(Call::Step(Step::Await(future)))
 }
 
-/// The call of a name that takes no arguments.
-fn bare_call(verb: Verb) -> Result<Call, Fault>
-    ensures { IfOk result (λ call. IsLine verb [] call) }
-{
-    match verb {
-        Verb::Head => Ok(Call::Head),
-        Verb::Close => Ok(Call::Close),
-        Verb::Output => Ok(Call::Output),
-        Verb::Ready => Ok(Call::Ready),
-        Verb::State => Ok(Call::State),
-        Verb::Index => Ok(Call::Index),
-        Verb::SysInput => Ok(Call::SysInput),
-        Verb::Awakeable => Ok(Call::Step(Step::Awakeable)),
-        Verb::End => Ok(Call::Step(Step::End)),
-        _ => Err(Fault::Malformed),
-    }
-}
-
-fn bare_of(verb: Verb, arguments: &[&[u8]]) -> Result<Call, Fault>
-    ensures { IfOk result (λ call. IsLine verb arguments.now call) }
+/// A call that takes no arguments.
+fn bare(arguments: &[&[u8]], call: Call) -> Result<Call, Fault>
+    ensures value { IfOk result (IsBare arguments.now call) }
+    ensures none { IfErr result (Blames (IsBare arguments.now call)) }
 {
     if arguments.is_empty() {
-        bare_call(verb)
+        Ok(call)
     } else {
         Err(Fault::Malformed)
     }
 }
 
+#[tactic(auto, using(lines::proofs::Blaming::one_blamed))]
 fn input_of(alloc: Global, arguments: &[&[u8]]) -> Result<Call, Fault>
-    ensures { IfOk result (λ call. IsLine verb.Input arguments.now call) }
+    ensures value { IfOk result (IsLine verb.Input arguments.now) }
+    ensures none { IfErr result (Blames (IsLine verb.Input arguments.now)) }
 {
     let bytes = bytes_alone(alloc, arguments)?;
     Ok(Call::Input(bytes))
 }
 
+#[tactic(auto, using(lines::proofs::Blaming::one_blamed))]
 fn completed_of(arguments: &[&[u8]]) -> Result<Call, Fault>
-    ensures { IfOk result (λ call. IsLine verb.Completed arguments.now call) }
+    ensures value { IfOk result (IsLine verb.Completed arguments.now) }
+    ensures none { IfErr result (Blames (IsLine verb.Completed arguments.now)) }
 {
     let handle = handle_alone(arguments)?;
     Ok(Call::Step(Step::Completed(handle)))
 }
 
+#[tactic(auto, using(lines::proofs::Blaming::one_blamed))]
 fn take_of(arguments: &[&[u8]]) -> Result<Call, Fault>
-    ensures { IfOk result (λ call. IsLine verb.Take arguments.now call) }
+    ensures value { IfOk result (IsLine verb.Take arguments.now) }
+    ensures none { IfErr result (Blames (IsLine verb.Take arguments.now)) }
 {
     let handle = handle_alone(arguments)?;
     Ok(Call::Step(Step::Take(handle)))
 }
 
+#[tactic(auto, using(lines::proofs::Blaming::one_blamed))]
 fn clear_all_of(alloc: Global, arguments: &[&[u8]]) -> Result<Call, Fault>
-    ensures { IfOk result (λ call. IsLine verb.ClearAll arguments.now call) }
+    ensures value { IfOk result (IsLine verb.ClearAll arguments.now) }
+    ensures none { IfErr result (Blames (IsLine verb.ClearAll arguments.now)) }
 {
     let name = name_of(alloc, arguments)?;
     Ok(Call::Step(Step::StateClearAll { name }))
@@ -270,20 +313,21 @@ fn clear_all_of(alloc: Global, arguments: &[&[u8]]) -> Result<Call, Fault>
 /// The call of this name, with the arguments behind it.
 #[inline(always)]
 fn call_named(alloc: Global, verb: Verb, arguments: &[&[u8]]) -> Result<Call, Fault>
-    ensures { IfOk result (λ call. IsLine verb arguments.now call) }
+    ensures value { IfOk result (IsLine verb arguments.now) }
+    ensures none { IfErr result (Blames (IsLine verb arguments.now)) }
 {
     match verb {
-        Verb::Head
-        | Verb::Close
-        | Verb::Output
-        | Verb::Ready
-        | Verb::State
-        | Verb::Index
-        | Verb::SysInput
-        | Verb::Awakeable
-        | Verb::End => bare_of(verb, arguments),
+        Verb::Head => bare(arguments, Call::Head),
+        Verb::Close => bare(arguments, Call::Close),
+        Verb::Output => bare(arguments, Call::Output),
+        Verb::Ready => bare(arguments, Call::Ready),
+        Verb::State => bare(arguments, Call::State),
+        Verb::Index => bare(arguments, Call::Index),
+        Verb::SysInput => bare(arguments, Call::SysInput),
+        Verb::Awakeable => bare(arguments, Call::Step(Step::Awakeable)),
+        Verb::End => bare(arguments, Call::Step(Step::End)),
         Verb::Input => input_of(alloc, arguments),
-        Verb::Error => error_of(alloc, arguments),
+        Verb::Error => error_line(alloc, arguments),
         Verb::Await => await_of(alloc, arguments),
         Verb::Completed => completed_of(arguments),
         Verb::Take => take_of(arguments),
@@ -302,6 +346,8 @@ fn call_named(alloc: Global, verb: Verb, arguments: &[&[u8]]) -> Result<Call, Fa
         Verb::GetPromise => get_promise_of(alloc, arguments),
         Verb::PeekPromise => peek_promise_of(alloc, arguments),
         Verb::CompletePromise => complete_promise_of(alloc, arguments),
+        Verb::Run => run_of(alloc, arguments),
+        Verb::Propose => propose_of(alloc, arguments),
         Verb::Attach => attach_of(alloc, arguments),
         Verb::GetOutput => get_output_of(alloc, arguments),
         Verb::WriteOutput => write_output_of(alloc, arguments),
@@ -309,8 +355,10 @@ fn call_named(alloc: Global, verb: Verb, arguments: &[&[u8]]) -> Result<Call, Fa
 }
 
 /// The call that the words of a line ask for.
+#[tactic(auto, using(crate::proofs::Asking::none_ask, crate::proofs::Asking::unnamed_ask, crate::proofs::Asking::blamed_ask))]
 fn call_of(alloc: Global, words: &[&[u8]]) -> Result<Call, Fault>
-    ensures { IfOk result (λ call. IsAsked words.now call) }
+    ensures value { IfOk result (IsAsked words.now) }
+    ensures none { IfErr result (λ fault. fault ≡ Malformed → AskNothing words.now) }
 {
     let [word, arguments @ ..] = words else {
         return Err(Fault::Malformed);
@@ -318,8 +366,10 @@ fn call_of(alloc: Global, words: &[&[u8]]) -> Result<Call, Fault>
     call_named(alloc, verb_of_word(*word)?, arguments)
 }
 
+#[tactic(auto, using(crate::proofs::Making::unnamed_blamed))]
 fn content_type_of(alloc: Global, text: &[u8]) -> Result<ContentType, Fault>
-    ensures { IfOk result (λ content_type. IsContentType text.now content_type) }
+    ensures value { IfOk result (IsContentType text.now) }
+    ensures none { IfErr result (Blames (IsContentType text.now)) }
 {
     if text == b"-".as_slice() {
         return Ok(ContentType::Absent);
@@ -331,10 +381,10 @@ fn content_type_of(alloc: Global, text: &[u8]) -> Result<ContentType, Fault>
 }
 
 /// The content type and the options that the words of a `vm` line name.
+#[tactic(auto, using(crate::proofs::Making::few_make, crate::proofs::Making::name_blamed, crate::proofs::Making::options_blamed, crate::proofs::Making::content_type_blamed))]
 fn make_of_words(alloc: Global, words: &[&[u8]]) -> Result<(ContentType, VMOptions), Fault>
-    ensures name { IfOk result (λ _. text_at 0 words.now ≡ codes "vm") }
-    ensures content_type { IfOk result (λ made. IsContentType (text_at 1 words.now) made.0) }
-    ensures options { IfOk result (λ made. AreOptions (drop 2 words.now) made.1) }
+    ensures value { IfOk result (IsMade words.now) }
+    ensures none { IfErr result (Blames (IsMade words.now)) }
 {
     let [name, content_type, options @ ..] = words else {
         return Err(Fault::Malformed);
@@ -348,16 +398,20 @@ fn make_of_words(alloc: Global, words: &[&[u8]]) -> Result<(ContentType, VMOptio
 }
 
 /// The row `vm`.
+#[tactic(auto, using(crate::proofs::Making::unclosed_makes, crate::proofs::Making::words_make))]
 fn make_of(alloc: Global, line: &[u8]) -> Result<(ContentType, VMOptions), Fault>
-    ensures { IfOk result (λ made. MakesWith line.now made.0 made.1) }
+    ensures value { IfOk result (λ made. MakesWith line.now made.0 made.1) }
+    ensures none { IfErr result (λ fault. fault ≡ Malformed → MakesNothing line.now) }
 {
     let words = words(alloc, line)?;
     make_of_words(alloc, words.as_slice())
 }
 
 /// Any other row that isn't empty.
+#[tactic(auto, using(crate::proofs::Asking::unclosed_asks, crate::proofs::Asking::words_ask))]
 fn row_of(alloc: Global, line: &[u8]) -> Result<Call, Fault>
-    ensures { IfOk result (λ call. AsksCall line.now call) }
+    ensures value { IfOk result (AsksCall line.now) }
+    ensures none { IfErr result (λ fault. fault ≡ Malformed → AsksNothing line.now) }
 {
     let words = words(alloc, line)?;
     call_of(alloc, words.as_slice())
@@ -383,7 +437,7 @@ fn makes(line: &[u8]) -> bool
 fn parse_make(alloc: Global, line: &[u8]) -> Result<Request, AllocError>
     requires silent { says_nothing line.now ≡ false }
     requires makes { begins_with_vm line.now ≡ true }
-    ensures { IfOk result (λ request. Asks line.now request) }
+    ensures value { IfOk result (Asks line.now) }
 {
     if std::str::from_utf8(line).is_err() {
         return Ok(Request::BadMake);
@@ -399,7 +453,7 @@ fn parse_make(alloc: Global, line: &[u8]) -> Result<Request, AllocError>
 fn parse_call(alloc: Global, line: &[u8]) -> Result<Request, AllocError>
     requires silent { says_nothing line.now ≡ false }
     requires makes { begins_with_vm line.now ≡ false }
-    ensures { IfOk result (λ request. Asks line.now request) }
+    ensures value { IfOk result (Asks line.now) }
 {
     if std::str::from_utf8(line).is_err() {
         return Ok(Request::Bad);
@@ -413,7 +467,7 @@ fn parse_call(alloc: Global, line: &[u8]) -> Result<Request, AllocError>
 
 /// What a line asks for.
 pub fn parse(alloc: Global, line: &[u8]) -> Result<Request, AllocError>
-    ensures { IfOk result (λ request. Reads line.now request) }
+    ensures value { IfOk result (Reads line.now) }
 {
     let line = line.trim_ascii();
     if is_silent(line) {

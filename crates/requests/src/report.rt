@@ -1,19 +1,20 @@
 //! The row `error`: what the handler's runner reports.
-ghost use Rattle.std.specs.Prelude.{◌≡◌, [], IfOk, codes, string_bytes};
+ghost use Rattle.std.specs.Prelude.{◌≡◌, [], IfErr, IfOk, codes, string_bytes};
 ghost use Rattle.journal_errors.specs.declared.error.ErrorBehavior.TheVariants as behavior;
-ghost use Rattle.lines.specs.Atoms.{IsAtom};
+ghost use Rattle.lines.specs.Atoms.{IsText};
+ghost use Rattle.lines.specs.Readings.{Blames};
 ghost use Rattle.requests.specs.declared.verb.Verb.TheVariants as verb;
 ghost use Rattle.requests.specs.Fields.{IsOptional, IsSet, are_named, texts};
-ghost use Rattle.requests.specs.Reports.{AreErrorOptions, IsCommand, IsCommandAt, IsCommandName, IsRelated, behavior_name, delay_or, error_names, reported, stack_or, type_name};
+ghost use Rattle.requests.specs.Reports.{AreDetails, IsBehavior, IsCommand, IsCommandAt, IsCommandName, IsError, IsRelated, IsReport, IsType, delay_or, error_names, reported, stack_or, type_name};
 ghost use Rattle.requests.specs.Values.{IsTime};
 ghost use Rattle.requests.specs.Verbs.{IsLine};
 
 use crate::arguments::optional_duration;
-use crate::atoms::{inside_of, string_of, text_of, u16_of, u32_of};
-use crate::fields::{are_named, field_of};
+use crate::atoms::{string_of, text_of, u16_of, u32_of};
+use crate::fields::{are_named, field_of, text_behind};
 use crate::request::Call;
 use journal_errors::{Error, ErrorBehavior};
-use lines::pieces::words;
+use lines::pieces::words_within;
 use std::alloc::Global;
 use std::time::Duration;
 use vm_parts::{CommandRelationship, CommandType};
@@ -28,8 +29,10 @@ pub struct Details {
 }
 
 /// What is to be done after the error.
+#[tactic(auto, using(crate::proofs::Reporting::no_behavior))]
 fn behavior_of(text: &[u8]) -> Result<ErrorBehavior, Fault>
-    ensures { IfOk result (λ behavior. text.now ≡ behavior_name behavior) }
+    ensures value { IfOk result (IsBehavior text.now) }
+    ensures none { IfErr result (Blames (IsBehavior text.now)) }
 {
     if text == b"retry".as_slice() {
         return Ok(ErrorBehavior::Retry);
@@ -96,7 +99,8 @@ fn name_of_type(ty: CommandType) -> &'static str
 
 /// The type of command of this name.
 fn command_type_of(text: &[u8]) -> Result<CommandType, Fault>
-    ensures { IfOk result (λ ty. text.now ≡ type_name ty) }
+    ensures value { IfOk result (IsType text.now) }
+    ensures none { IfErr result (Blames (IsType text.now)) }
 {
     for ty in &TYPES {
         if text == name_of_type(*ty).as_bytes() {
@@ -107,8 +111,10 @@ fn command_type_of(text: &[u8]) -> Result<CommandType, Fault>
 }
 
 /// A text, or `-` for none.
+#[tactic(auto, using(crate::proofs::Reporting::name_blamed), unfolding(crate::specs::Reports::IsCommandName))]
 fn optional_of(alloc: Global, text: &[u8]) -> Result<Option<Text>, Fault>
-    ensures { IfOk result (λ name. IsCommandName text.now name) }
+    ensures value { IfOk result (IsCommandName text.now) }
+    ensures none { IfErr result (Blames (IsCommandName text.now)) }
 {
     if text == b"-".as_slice() {
         return Ok(None);
@@ -117,11 +123,12 @@ fn optional_of(alloc: Global, text: &[u8]) -> Result<Option<Text>, Fault>
 }
 
 /// `(TYPE NAME)`.
+#[tactic(auto, using(crate::proofs::Commands::unbracketed_blamed, crate::proofs::Commands::type_blamed, crate::proofs::Commands::name_blamed))]
 fn next_of(alloc: Global, text: &[u8]) -> Result<(CommandType, Option<Text>), Fault>
-    ensures { IfOk result (λ command. IsCommand text.now command.0 command.1) }
+    ensures value { IfOk result (IsCommand text.now) }
+    ensures none { IfErr result (Blames (IsCommand text.now)) }
 {
-    let inside = inside_of(text, b'(', b')')?;
-    let words = words(alloc, inside)?;
+    let words = words_within(alloc, text, b'(', b')')?;
     let [ty, name] = words.as_slice() else {
         return Err(Fault::Malformed);
     };
@@ -131,11 +138,12 @@ fn next_of(alloc: Global, text: &[u8]) -> Result<(CommandType, Option<Text>), Fa
 }
 
 /// `(N TYPE NAME)`.
+#[tactic(auto, using(crate::proofs::Commands::at_unbracketed_blamed, crate::proofs::Commands::at_index_blamed, crate::proofs::Commands::at_type_blamed, crate::proofs::Commands::at_name_blamed))]
 fn specific_of(alloc: Global, text: &[u8]) -> Result<(u32, CommandType, Option<Text>), Fault>
-    ensures { IfOk result (λ command. IsCommandAt text.now command.0 command.1 command.2) }
+    ensures value { IfOk result (IsCommandAt text.now) }
+    ensures none { IfErr result (Blames (IsCommandAt text.now)) }
 {
-    let inside = inside_of(text, b'(', b')')?;
-    let words = words(alloc, inside)?;
+    let words = words_within(alloc, text, b'(', b')')?;
     let [index, ty, name] = words.as_slice() else {
         return Err(Fault::Malformed);
     };
@@ -146,30 +154,34 @@ fn specific_of(alloc: Global, text: &[u8]) -> Result<(u32, CommandType, Option<T
 }
 
 /// The command that an error relates to.
+#[tactic(auto, using(crate::proofs::Reporting::next_blamed, crate::proofs::Reporting::at_blamed, crate::proofs::Reporting::unrelated_blamed))]
 fn relationship_of(alloc: Global, text: &[u8]) -> Result<CommandRelationship, Fault>
-    ensures { IfOk result (λ related. IsRelated text.now related) }
+    ensures value { IfOk result (IsRelated text.now) }
+    ensures none { IfErr result (Blames (IsRelated text.now)) }
 {
-    match text {
-        b"last" => Ok(CommandRelationship::Last),
-        [b'n', b'e', b'x', b't', command @ ..] => {
-            let (ty, name) = next_of(alloc, command)?;
-            Ok(CommandRelationship::Next { ty, name })
-        }
-        [b'a', b't', command @ ..] => {
-            let (command_index, ty, name) = specific_of(alloc, command)?;
-            Ok(CommandRelationship::Specific {
-                command_index,
-                ty,
-                name,
-            })
-        }
-        _ => Err(Fault::Malformed),
+    if text == b"last".as_slice() {
+        return Ok(CommandRelationship::Last);
     }
+    if let Some(command) = text_behind(text, "next") {
+        let (ty, name) = next_of(alloc, command)?;
+        return Ok(CommandRelationship::Next { ty, name });
+    }
+    if let Some(command) = text_behind(text, "at") {
+        let (command_index, ty, name) = specific_of(alloc, command)?;
+        return Ok(CommandRelationship::Specific {
+            command_index,
+            ty,
+            name,
+        });
+    }
+    Err(Fault::Malformed)
 }
 
 /// `[rel=R]`, among other words.
+#[tactic(auto, using(crate::proofs::Missing::optional_blamed))]
 fn related_in(alloc: Global, words: &[&[u8]]) -> Result<Option<CommandRelationship>, Fault>
-    ensures { IfOk result (λ related. IsOptional IsRelated (texts (codes "rel=") words.now) related) }
+    ensures value { IfOk result (IsOptional IsRelated (texts (codes "rel=") words.now)) }
+    ensures none { IfErr result (Blames (IsOptional IsRelated (texts (codes "rel=") words.now))) }
 {
     match field_of(words, "rel=")? {
         Some(text) => Ok(Some(relationship_of(alloc, text)?)),
@@ -178,8 +190,10 @@ fn related_in(alloc: Global, words: &[&[u8]]) -> Result<Option<CommandRelationsh
 }
 
 /// `[stack=T]`, among other words.
+#[tactic(auto, using(crate::proofs::Missing::set_blamed, crate::proofs::Missing::twice_set))]
 fn stack_in(alloc: Global, words: &[&[u8]]) -> Result<Option<String>, Fault>
-    ensures { IfOk result (λ stack. IsSet IsAtom [] (texts (codes "stack=") words.now) (stack_or stack [])) }
+    ensures value { IfOk result (λ stack. IsSet IsText [] (texts (codes "stack=") words.now) (stack_or stack [])) }
+    ensures none { IfErr result (Blames (IsSet IsText [] (texts (codes "stack=") words.now))) }
 {
     match field_of(words, "stack=")? {
         Some(text) => Ok(Some(string_of(alloc, text)?)),
@@ -188,8 +202,10 @@ fn stack_in(alloc: Global, words: &[&[u8]]) -> Result<Option<String>, Fault>
 }
 
 /// `[behaviour=..]`, among other words.
+#[tactic(auto, using(crate::proofs::Missing::set_blamed, crate::proofs::Missing::twice_set))]
 fn behavior_in(words: &[&[u8]]) -> Result<ErrorBehavior, Fault>
-    ensures { IfOk result (λ it. IsSet (λ text it. text ≡ behavior_name it) behavior.Retry (texts (codes "behaviour=") words.now) it) }
+    ensures value { IfOk result (IsSet IsBehavior behavior.Retry (texts (codes "behaviour=") words.now)) }
+    ensures none { IfErr result (Blames (IsSet IsBehavior behavior.Retry (texts (codes "behaviour=") words.now))) }
 {
     match field_of(words, "behaviour=")? {
         Some(text) => behavior_of(text),
@@ -199,9 +215,10 @@ fn behavior_in(words: &[&[u8]]) -> Result<ErrorBehavior, Fault>
 
 /// `[stack=T] [behaviour=..] [delay=D]`, among other words.
 fn details_in(alloc: Global, words: &[&[u8]]) -> Result<Details, Fault>
-    ensures stack { IfOk result (λ details. IsSet IsAtom [] (texts (codes "stack=") words.now) (stack_or details.stack [])) }
-    ensures behavior { IfOk result (λ details. IsSet (λ text it. text ≡ behavior_name it) behavior.Retry (texts (codes "behaviour=") words.now) details.behavior) }
+    ensures stack { IfOk result (λ details. IsSet IsText [] (texts (codes "stack=") words.now) (stack_or details.stack [])) }
+    ensures behavior { IfOk result (λ details. IsSet IsBehavior behavior.Retry (texts (codes "behaviour=") words.now) details.behavior) }
     ensures delay { IfOk result (λ details. IsOptional IsTime (texts (codes "delay=") words.now) details.delay) }
+    ensures none { IfErr result (Blames (AreDetails words.now)) }
 {
     let stack = stack_in(alloc, words)?;
     let behavior = behavior_in(words)?;
@@ -246,6 +263,21 @@ fn error_with(code: u16, message: String, details: Details) -> Error
     delayed(stacked(error, stack), delay)
 }
 
+/// `N T`, and among the words behind them `[stack=T] [behaviour=..] [delay=D]`.
+#[tactic(auto, using(crate::proofs::Reporting::code_blamed, crate::proofs::Reporting::message_blamed, crate::proofs::Reporting::details_blamed, crate::proofs::Missing::no_text_at))]
+pub fn error_of(alloc: Global, words: &[&[u8]]) -> Result<Error, Fault>
+    ensures value { IfOk result (IsError words.now) }
+    ensures none { IfErr result (Blames (IsError words.now)) }
+{
+    let [code, message, options @ ..] = words else {
+        return Err(Fault::Malformed);
+    };
+    let code = u16_of(*code)?;
+    let message = string_of(alloc, *message)?;
+    let details = details_in(alloc, options)?;
+    Ok(error_with(code, message, details))
+}
+
 /// Whether the words name options of an `error` line alone.
 fn are_options(words: &[&[u8]]) -> bool
     ensures { result ≡ are_named error_names words.now }
@@ -253,34 +285,27 @@ fn are_options(words: &[&[u8]]) -> bool
     are_named(words, &["stack=", "behaviour=", "delay=", "rel="])
 }
 
-/// The error of this code and text with the options that the words name, and the command that it relates to.
-fn error_among(
-    alloc: Global,
-    code: u16,
-    message: String,
-    words: &[&[u8]],
-) -> Result<(Error, Option<CommandRelationship>), Fault>
-    ensures code { IfOk result (λ found. found.0.code ≡ code) }
-    ensures message { IfOk result (λ found. found.0.message ≡ string_bytes message) }
-    ensures options { IfOk result (λ found. AreErrorOptions words.now found.0 found.1) }
+/// The error that is reported, and the command that it relates to.
+#[tactic(auto, using(crate::proofs::Reporting::error_blamed, crate::proofs::Reporting::options_blamed, crate::proofs::Reporting::related_blamed))]
+fn report_of(alloc: Global, words: &[&[u8]]) -> Result<(Error, Option<CommandRelationship>), Fault>
+    ensures value { IfOk result (IsReport words.now) }
+    ensures none { IfErr result (Blames (IsReport words.now)) }
 {
-    if !are_options(words) {
+    let error = error_of(alloc, words)?;
+    let options = words.get(2..).unwrap_or_default();
+    if !are_options(options) {
         return Err(Fault::Malformed);
     }
-    let relationship = related_in(alloc, words)?;
-    let details = details_in(alloc, words)?;
-    Ok((error_with(code, message, details), relationship))
+    let relationship = related_in(alloc, options)?;
+    Ok((error, relationship))
 }
 
 /// The row `error`.
-pub fn error_of(alloc: Global, arguments: &[&[u8]]) -> Result<Call, Fault>
-    ensures { IfOk result (λ call. IsLine verb.Error arguments.now call) }
+#[tactic(auto, using(lines::proofs::Blaming::one_blamed))]
+pub fn error_line(alloc: Global, arguments: &[&[u8]]) -> Result<Call, Fault>
+    ensures value { IfOk result (IsLine verb.Error arguments.now) }
+    ensures none { IfErr result (Blames (IsLine verb.Error arguments.now)) }
 {
-    let [code, message, others @ ..] = arguments else {
-        return Err(Fault::Malformed);
-    };
-    let code = u16_of(*code)?;
-    let message = string_of(alloc, *message)?;
-    let (error, relationship) = error_among(alloc, code, message, others)?;
+    let (error, relationship) = report_of(alloc, arguments)?;
     Ok(Call::Error(error, relationship))
 }

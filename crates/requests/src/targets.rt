@@ -1,5 +1,6 @@
 //! The invocation that a line names: by its id, by its workflow, or by an idempotency key.
-ghost use Rattle.std.specs.Prelude.{IfOk};
+ghost use Rattle.std.specs.Prelude.{IfErr, IfOk};
+ghost use Rattle.lines.specs.Readings.{Blames};
 ghost use Rattle.requests.specs.Targets.{HasKeyAndScope, HasScope, IsCallOf, IsWorkflow, NamesBehind, NamesInvocation};
 
 use crate::arguments::{optional_text, text_alone, three_texts, two_texts};
@@ -11,7 +12,8 @@ use wire::{Fault, Text};
 
 /// `[scope=T]` alone.
 fn scope_of(alloc: Global, words: &[&[u8]]) -> Result<Option<Text>, Fault>
-    ensures { IfOk result (λ scope. HasScope words.now scope) }
+    ensures value { IfOk result (HasScope words.now) }
+    ensures none { IfErr result (Blames (HasScope words.now)) }
 {
     if !are_named(words, &["scope="]) {
         return Err(Fault::Malformed);
@@ -20,8 +22,10 @@ fn scope_of(alloc: Global, words: &[&[u8]]) -> Result<Option<Text>, Fault>
 }
 
 /// `T T [scope=T]`: name and key.
+#[tactic(auto, using(crate::proofs::Targeting::workflow_texts_blamed))]
 fn workflow_of(alloc: Global, words: &[&[u8]]) -> Result<WorkflowId, Fault>
-    ensures { IfOk result (λ workflow. IsWorkflow words.now workflow) }
+    ensures value { IfOk result (IsWorkflow words.now) }
+    ensures none { IfErr result (Blames (IsWorkflow words.now)) }
 {
     let (name, key, options) = two_texts(alloc, words)?;
     let scope = scope_of(alloc, options)?;
@@ -30,7 +34,8 @@ fn workflow_of(alloc: Global, words: &[&[u8]]) -> Result<WorkflowId, Fault>
 
 /// `[skey=T] [scope=T]` alone.
 fn key_and_scope(alloc: Global, words: &[&[u8]]) -> Result<(Option<Text>, Option<Text>), Fault>
-    ensures { IfOk result (λ found. HasKeyAndScope words.now found.0 found.1) }
+    ensures value { IfOk result (HasKeyAndScope words.now) }
+    ensures none { IfErr result (Blames (HasKeyAndScope words.now)) }
 {
     if !are_named(words, &["skey=", "scope="]) {
         return Err(Fault::Malformed);
@@ -41,8 +46,10 @@ fn key_and_scope(alloc: Global, words: &[&[u8]]) -> Result<(Option<Text>, Option
 }
 
 /// `T T T [skey=T] [scope=T]`: service, handler and idempotency key.
+#[tactic(auto, using(crate::proofs::Targeting::call_texts_blamed, crate::proofs::Targeting::call_options_blamed))]
 fn call_of(alloc: Global, words: &[&[u8]]) -> Result<IdempotencyId, Fault>
-    ensures { IfOk result (λ call. IsCallOf words.now call) }
+    ensures value { IfOk result (IsCallOf words.now) }
+    ensures none { IfErr result (Blames (IsCallOf words.now)) }
 {
     let (service_name, handler_name, idempotency_key, options) = three_texts(alloc, words)?;
     let (service_key, scope) = key_and_scope(alloc, options)?;
@@ -56,24 +63,34 @@ fn call_of(alloc: Global, words: &[&[u8]]) -> Result<IdempotencyId, Fault>
 }
 
 /// The invocation that this word and those behind it name.
+#[tactic(auto, using(crate::proofs::Targeting::id_blamed, crate::proofs::Targeting::workflow_blamed, crate::proofs::Targeting::call_blamed))]
 fn target_behind(
     alloc: Global,
     word: &[u8],
     others: &[&[u8]],
 ) -> Result<AttachInvocationTarget, Fault>
-    ensures { IfOk result (λ named. NamesBehind word.now others.now named) }
+    ensures value { IfOk result (NamesBehind word.now others.now) }
+    ensures none { IfErr result (Blames (NamesBehind word.now others.now)) }
 {
-    match word {
-        b"id" => Ok(AttachInvocationTarget::InvocationId(text_alone(alloc, others)?)),
-        b"workflow" => Ok(AttachInvocationTarget::WorkflowId(workflow_of(alloc, others)?)),
-        b"idem" => Ok(AttachInvocationTarget::IdempotencyId(call_of(alloc, others)?)),
-        _ => Err(Fault::Malformed),
+    if word == b"id".as_slice() {
+        let id = text_alone(alloc, others)?;
+        return Ok(AttachInvocationTarget::InvocationId(id));
     }
+    if word == b"workflow".as_slice() {
+        let workflow = workflow_of(alloc, others)?;
+        return Ok(AttachInvocationTarget::WorkflowId(workflow));
+    }
+    if word == b"idem".as_slice() {
+        let call = call_of(alloc, others)?;
+        return Ok(AttachInvocationTarget::IdempotencyId(call));
+    }
+    Err(Fault::Malformed)
 }
 
 /// `id T`, `workflow T T [scope=T]` or `idem T T T [skey=T] [scope=T]`.
 pub fn target_of(alloc: Global, words: &[&[u8]]) -> Result<AttachInvocationTarget, Fault>
-    ensures { IfOk result (λ named. NamesInvocation words.now named) }
+    ensures value { IfOk result (NamesInvocation words.now) }
+    ensures none { IfErr result (Blames (NamesInvocation words.now)) }
 {
     let [word, others @ ..] = words else {
         return Err(Fault::Malformed);

@@ -1,8 +1,9 @@
 //! Trees of awaits, as a line spells them: `17`, or `fc(17,ac(18,19),un())`.
-ghost use Rattle.std.specs.Prelude.{◌≡◌, ◌++◌, ◌<◌, ℕ, List, None, Some, length, ◌∷◌, IfOk, IfSome};
-ghost use Rattle.await_trees.specs.Tree.{tree_of};
-ghost use Rattle.requests.specs.OpenNodes.{StandsAt};
-ghost use Rattle.requests.specs.Trees.{SpellsTree, kind_name};
+ghost use Rattle.std.specs.Prelude.{◌≡◌, ◌≢◌, ◌++◌, ◌<◌, ℕ, List, None, Some, length, ◌∷◌, IfErr, IfNone, IfOk, IfSome};
+ghost use Rattle.lines.specs.Readings.{Blames};
+ghost use Rattle.requests.specs.OpenNodes.{GoesOn, StandsAt, behind_word, is_break, word_of};
+ghost use Rattle.requests.specs.Trees.{IsKind, SpellsFuture, kind_name};
+ghost use Rattle.wire.specs.declared.fault.Fault.TheVariants.{Malformed};
 
 use crate::atoms::handle_of;
 use await_trees::{FutureKind, node_over};
@@ -41,7 +42,8 @@ fn name_of_kind(kind: FutureKind) -> &'static str
 
 /// The kind that a word is.
 fn kind_of(word: &[u8]) -> Result<FutureKind, Fault>
-    ensures { IfOk result (λ kind. word.now ≡ kind_name kind) }
+    ensures value { IfOk result (IsKind word.now) }
+    ensures none { IfErr result (Blames (IsKind word.now)) }
 {
     for kind in &KINDS {
         if word == name_of_kind(*kind).as_bytes() {
@@ -51,12 +53,21 @@ fn kind_of(word: &[u8]) -> Result<FutureKind, Fault>
     Err(Fault::Malformed)
 }
 
+/// Whether a byte is a bracket or a comma.
+fn is_break(byte: u8) -> bool
+    ensures { result ≡ is_break byte }
+{
+    matches!(byte, b'(' | b')' | b',')
+}
+
 /// The text up to its first bracket or comma, and the rest from there.
 fn cut(text: &[u8]) -> (&[u8], &[u8])
-    ensures { text.now ≡ result.0.now ++ result.1.now }
+    ensures whole { text.now ≡ result.0.now ++ result.1.now }
+    ensures word { result.0.now ≡ word_of text.now }
+    ensures rest { result.1.now ≡ behind_word text.now }
 {
     for i in 0..text.len() {
-        if matches!(text[i], b'(' | b')' | b',') {
+        if is_break(text[i]) {
             return text.split_at(i);
         }
     }
@@ -65,7 +76,8 @@ fn cut(text: &[u8]) -> (&[u8], &[u8])
 
 /// What stands behind this byte, if the text begins with it.
 fn behind(byte: u8, text: &[u8]) -> Option<&[u8]>
-    ensures { IfSome result (λ rest. text.now ≡ byte ∷ rest.now) }
+    ensures some { IfSome result (λ rest. text.now ≡ byte ∷ rest.now) }
+    ensures none { IfNone result ((rest : List ℕ) → text.now ≢ byte ∷ rest) }
 {
     match text {
         [first, rest @ ..] if *first == byte => Some(rest),
@@ -77,8 +89,11 @@ fn behind(byte: u8, text: &[u8]) -> Option<&[u8]>
 type Read<'a> = (Option<UnresolvedFuture>, &'a [u8]);
 
 /// Reads a handle, an empty node, or the beginning of a node, which is then open; and the rest behind it.
+#[tactic(auto, using(crate::proofs::TreeEnding::handle_goes_on))]
 fn begin<'a>(alloc: Global, nodes: &mut Vec<OpenNode>, text: &'a [u8]) -> Result<Read<'a>, Fault>
     ensures stands { IfOk result (λ read. (whole : List ℕ) → StandsAt whole nodes.old.items None text.now → StandsAt whole nodes.new.items read.0 read.1.now) }
+    ensures goes_on { IfOk result (λ read. GoesOn (length nodes.old.items) None text.now → GoesOn (length nodes.new.items) read.0 read.1.now) }
+    ensures none { IfErr result (λ fault. fault ≡ Malformed → GoesOn (length nodes.old.items) None text.now → ⊥) }
     ensures shorter { IfOk result (λ read. length read.1.now < length text.now) }
 {
     let (word, rest) = cut(text);
@@ -96,12 +111,16 @@ fn begin<'a>(alloc: Global, nodes: &mut Vec<OpenNode>, text: &'a [u8]) -> Result
 }
 
 /// Puts a tree into the innermost open node, and reads the comma or the bracket behind it.
+#[tactic(auto, using(crate::proofs::TreeEnding::over, crate::proofs::TreeEnding::closing_goes_on, crate::proofs::TreeEnding::neither))]
 fn go_on<'a>(
     nodes: &mut Vec<OpenNode>,
     tree: UnresolvedFuture,
     text: &'a [u8],
 ) -> Result<Read<'a>, Fault>
+    requires { 0 < length text.now }
     ensures stands { IfOk result (λ read. (whole : List ℕ) → StandsAt whole nodes.old.items (Some tree) text.now → StandsAt whole nodes.new.items read.0 read.1.now) }
+    ensures goes_on { IfOk result (λ read. GoesOn (length nodes.old.items) (Some tree) text.now → GoesOn (length nodes.new.items) read.0 read.1.now) }
+    ensures none { IfErr result (λ fault. fault ≡ Malformed → GoesOn (length nodes.old.items) (Some tree) text.now → ⊥) }
     ensures shorter { IfOk result (λ read. length read.1.now < length text.now) }
 {
     let Some(OpenNode { kind, mut children }) = nodes.pop() else {
@@ -123,7 +142,10 @@ fn read_on<'a>(
     last: Option<UnresolvedFuture>,
     text: &'a [u8],
 ) -> Result<Read<'a>, Fault>
+    requires { 0 < length text.now }
     ensures stands { IfOk result (λ read. (whole : List ℕ) → StandsAt whole nodes.old.items last text.now → StandsAt whole nodes.new.items read.0 read.1.now) }
+    ensures goes_on { IfOk result (λ read. GoesOn (length nodes.old.items) last text.now → GoesOn (length nodes.new.items) read.0 read.1.now) }
+    ensures none { IfErr result (λ fault. fault ≡ Malformed → GoesOn (length nodes.old.items) last text.now → ⊥) }
     ensures shorter { IfOk result (λ read. length read.1.now < length text.now) }
 {
     match last {
@@ -135,7 +157,8 @@ fn read_on<'a>(
 /// The tree that a word spells.
 #[tactic(auto, using(crate::proofs::TreeReading::stands_first, crate::proofs::TreeReading::stands_last))]
 pub fn tree_of_word(alloc: Global, text: &[u8]) -> Result<UnresolvedFuture, Fault>
-    ensures { IfOk result (λ future. SpellsTree text.now (tree_of future)) }
+    ensures value { IfOk result (SpellsFuture text.now) }
+    ensures none { IfErr result (Blames (SpellsFuture text.now)) }
 {
     let mut nodes = Vec::new(alloc);
     let mut last = None;

@@ -1,6 +1,6 @@
 //! The first word of a line, which says what call is made.
-ghost use Rattle.std.specs.Prelude.{◌≡◌, IfOk};
-ghost use Rattle.requests.specs.Verbs.{verb_name};
+ghost use Rattle.std.specs.Prelude.{◌≡◌, IfOk, IfErr, Some, None};
+ghost use Rattle.requests.specs.Verbs.{verb_name, verb_named};
 
 use wire::Fault;
 
@@ -35,6 +35,8 @@ pub enum Verb {
     GetPromise,
     PeekPromise,
     CompletePromise,
+    Run,
+    Propose,
     Attach,
     GetOutput,
     WriteOutput,
@@ -42,7 +44,7 @@ pub enum Verb {
 }
 
 /// Each verb: those that most lines have come first.
-static VERBS: [Verb; 32] = [
+static VERBS: [Verb; 34] = [
     Verb::Take,
     Verb::Await,
     Verb::Input,
@@ -71,6 +73,8 @@ static VERBS: [Verb; 32] = [
     Verb::GetPromise,
     Verb::PeekPromise,
     Verb::CompletePromise,
+    Verb::Run,
+    Verb::Propose,
     Verb::Attach,
     Verb::GetOutput,
     Verb::WriteOutput,
@@ -111,6 +115,8 @@ fn name_of_verb(verb: Verb) -> &'static str
         Verb::GetPromise => "get_promise",
         Verb::PeekPromise => "peek_promise",
         Verb::CompletePromise => "complete_promise",
+        Verb::Run => "run",
+        Verb::Propose => "propose",
         Verb::Attach => "attach",
         Verb::GetOutput => "get_output",
         Verb::WriteOutput => "write_output",
@@ -120,7 +126,8 @@ fn name_of_verb(verb: Verb) -> &'static str
 
 /// The verb that a word is.
 pub fn verb_of_word(word: &[u8]) -> Result<Verb, Fault>
-    ensures { IfOk result (λ verb. word.now ≡ verb_name verb) }
+    ensures named { IfOk result (λ verb. verb_named word.now ≡ Some verb) }
+    ensures none { IfErr result (λ _. verb_named word.now ≡ None) }
 {
     for verb in &VERBS {
         if word == name_of_verb(*verb).as_bytes() {

@@ -18,14 +18,14 @@ fn runs_are_executed_once(rt: HostRuntime) -> Result<(), Fail> {
     let mut runs = RunState::new(alloc);
     runs.insert_run_to_execute(FIRST, 1, 1, Text::from_str(alloc, "a")?)?;
     runs.insert_run_to_execute(SECOND, 2, 2, Text::from_str(alloc, "b")?)?;
-    assert_eq!(rt; runs.try_execute_run(&[OTHER]), None);
+    assert_eq!(rt; runs.try_execute_run(&[OTHER.0]), None);
     assert!(rt; !runs.any_executing());
-    assert_eq!(rt; runs.try_execute_run(&[SECOND]), Some(SECOND));
+    assert_eq!(rt; runs.try_execute_run(&[SECOND.0]), Some(SECOND));
     assert!(rt; runs.any_executing());
-    assert!(rt; runs.any_executing_in_this_set(&[FIRST, SECOND]));
-    assert!(rt; !runs.any_executing_in_this_set(&[FIRST, OTHER]));
-    assert_eq!(rt; runs.try_execute_run(&[SECOND, FIRST]), Some(FIRST));
-    assert_eq!(rt; runs.try_execute_run(&[SECOND, FIRST]), None);
+    assert!(rt; runs.any_executing_in_this_set(&[FIRST.0, SECOND.0]));
+    assert!(rt; !runs.any_executing_in_this_set(&[FIRST.0, OTHER.0]));
+    assert_eq!(rt; runs.try_execute_run(&[SECOND.0, FIRST.0]), Some(FIRST));
+    assert_eq!(rt; runs.try_execute_run(&[SECOND.0, FIRST.0]), None);
     Ok(())
 }
 
@@ -42,7 +42,7 @@ fn runs_are_pending_until_they_are_proposed(rt: HostRuntime) -> Result<(), Fail>
             .is_some_and(|run| run.completion_id == 1)
     );
     assert!(rt; runs.notify_execution_completed(FIRST).is_none());
-    assert_eq!(rt; runs.try_execute_run(&[FIRST]), None);
+    assert_eq!(rt; runs.try_execute_run(&[FIRST.0]), None);
     Ok(())
 }
 

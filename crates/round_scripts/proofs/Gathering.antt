@@ -1,20 +1,19 @@
 -- Lists that grow side by side: texts and what they spell.
 use Rattle.std.proofs.Common.{◌≡◌, ◌++◌, ℕ, List, [], ◌∷◌, sym, subst, Global, string_bytes}
 use Rattle.std.specs.declared.string.String.{String}
-use Rattle.lines.specs.Atoms.{IsAtom}
-use Rattle.requests.specs.Values.{IsPair}
+use Rattle.lines.specs.Atoms.{IsText}
 use Rattle.requests.proofs.Pairing.{zip_push}
 use Rattle.round_scripts.specs.Rounds.{AreKeys}
-use Rattle.round_scripts.specs.Worlds.{AreEntries}
+use Rattle.round_scripts.specs.Worlds.{AreEntries, IsEntry}
 
 -- one text more that is a key
-pub keys_more : (found more : List (List ℕ)) (text : List ℕ) (keys after : List (List ℕ)) (key : List ℕ) → AreKeys found keys → more ≡ found ++ text ∷ [] → IsAtom text key → after ≡ keys ++ key ∷ [] → AreKeys more after
+pub keys_more : (found more : List (List ℕ)) (text : List ℕ) (keys after : List (List ℕ)) (key : List ℕ) → AreKeys found keys → more ≡ found ++ text ∷ [] → IsText text key → after ≡ keys ++ key ∷ [] → AreKeys more after
 keys_more found more text keys after key all longer atom is =
-    let pushed = zip_push (λ (t k : List ℕ). IsAtom t k) found keys text key all atom in
+    let pushed = zip_push (λ (t k : List ℕ). IsText t k) found keys text key all atom in
     subst (λ ys. AreKeys more ys) (sym is) (subst (λ ts. AreKeys ts (keys ++ key ∷ [])) (sym longer) pushed)
 
 -- one text more that is a key with its value
-pub entries_more : (found more : List (List ℕ)) (text : List ℕ) (entries after : List (String Global × List ℕ)) (entry : String Global × List ℕ) → AreEntries found entries → more ≡ found ++ text ∷ [] → IsPair text (string_bytes entry.0) entry.1 → after ≡ entries ++ entry ∷ [] → AreEntries more after
+pub entries_more : (found more : List (List ℕ)) (text : List ℕ) (entries after : List (String Global × List ℕ)) (entry : String Global × List ℕ) → AreEntries found entries → more ≡ found ++ text ∷ [] → IsEntry text (string_bytes entry.0) entry.1 → after ≡ entries ++ entry ∷ [] → AreEntries more after
 entries_more found more text entries after entry all longer pair is =
-    let pushed = zip_push (λ (t : List ℕ) (e : String Global × List ℕ). IsPair t (string_bytes e.0) e.1) found entries text entry all pair in
+    let pushed = zip_push (λ (t : List ℕ) (e : String Global × List ℕ). IsEntry t (string_bytes e.0) e.1) found entries text entry all pair in
     subst (λ ys. AreEntries more ys) (sym is) (subst (λ ts. AreEntries ts (entries ++ entry ∷ [])) (sym longer) pushed)

@@ -2,7 +2,7 @@
 use Rattle.std.specs.Prelude.{◌≡◌, ◌/◌, ℕ, true, List, [], ◌∷◌, codes}
 use Rattle.std.specs.Borrow.{Bor}
 use Rattle.std.specs.List.{AllZip}
-use Rattle.lines.specs.Atoms.{IsAtom}
+use Rattle.lines.specs.Atoms.{IsText}
 use Rattle.requests.specs.Durations.{IsDuration}
 use Rattle.requests.specs.Fields.{IsSet, are_named, texts}
 use Rattle.requests.specs.Values.{HasFlag, without}
@@ -11,7 +11,7 @@ use Rattle.vm_world.specs.declared.types.Round.{Round}
 
 -- texts that are these keys
 abbrev pub AreKeys : List (List ℕ) → List (List ℕ) → Type 0
-AreKeys found keys = AllZip (λ text key. IsAtom text key) found keys
+AreKeys found keys = AllZip (λ text key. IsText text key) found keys
 
 -- the whole milliseconds of a duration
 abbrev pub IsWholeMilliseconds : List ℕ → ℕ → Type 0
@@ -25,7 +25,7 @@ round_names = codes "key=" ∷ codes "retry=" ∷ codes "duration=" ∷ []
 pub record SaysRound (words : List (Bor (List ℕ))) (round : Round) : Type 0 where
   pub partial : HasFlag (codes "partial") words round.partial
   pub keys : AreKeys (texts (codes "key=") (without (codes "partial") words)) round.keys
-  pub retry_count : IsSet IsNumberOf 0 (texts (codes "retry=") (without (codes "partial") words)) round.retry_count
+  pub retry_count : IsSet (IsNumberOf 32) 0 (texts (codes "retry=") (without (codes "partial") words)) round.retry_count
   pub duration : IsSet IsWholeMilliseconds 0 (texts (codes "duration=") (without (codes "partial") words)) round.duration
   pub events : round.events ≡ []
   pub only : are_named round_names (without (codes "partial") words) ≡ true

@@ -14,7 +14,7 @@ use Rattle.round_scripts.specs.Worlds.{SaysWorld}
 
 -- a number, or the greatest one where it is `all`
 abbrev pub IsCount : List ℕ → ℕ → Type 0
-IsCount text count = ((text ≡ codes "all") × (count ≡ 2 ^ 64 - 1)) ⊎ IsNumberOf text count
+IsCount text count = ((text ≡ codes "all") × (count ≡ 2 ^ 64 - 1)) ⊎ IsNumberOf 64 text count
 
 -- one count, and no other word
 abbrev pub IsOneCount : List (Bor (List ℕ)) → ℕ → Type 0
@@ -22,7 +22,7 @@ IsOneCount words count = (length words ≡ 1) × IsCount (text_at 0 words) count
 
 -- one, where no word says how many, or the number that is the only word
 abbrev pub AreSteps : List (Bor (List ℕ)) → ℕ → Type 0
-AreSteps words steps = ((words ≡ []) × (steps ≡ 1)) ⊎ ((length words ≡ 1) × IsNumberOf (text_at 0 words) steps)
+AreSteps words steps = ((words ≡ []) × (steps ≡ 1)) ⊎ ((length words ≡ 1) × IsNumberOf 64 (text_at 0 words) steps)
 
 -- this word and those behind it say that this happens
 abbrev pub SaysEvent : List ℕ → List (Bor (List ℕ)) → Event → Type 0

@@ -1,14 +1,14 @@
 -- What a script says of its world, and the world where it says nothing.
-use Rattle.std.specs.Prelude.{◌≡◌, ℕ, true, List, [], ◌∷◌, codes, None, string_bytes}
+use Rattle.std.specs.Prelude.{◌≡◌, ℕ, true, List, [], ◌∷◌, length, codes, None, string_bytes}
 use Rattle.std.proofs.Common.{Global}
 use Rattle.std.specs.Borrow.{Bor}
 use Rattle.std.specs.List.{AllZip}
 use Rattle.std.specs.declared.string.String.{String}
-use Rattle.lines.specs.Atoms.{IsAtom}
+use Rattle.lines.specs.Atoms.{IsAtom, IsText}
+use Rattle.lines.specs.Pieces.{AreWordsWithin}
 use Rattle.requests.specs.Fields.{IsOptional, IsSet, are_named, texts}
-use Rattle.requests.specs.Values.{IsPair}
 use Rattle.requests.specs.VmOptions.{ArePolicies}
-use Rattle.requests.specs.Words.{IsNumberOf}
+use Rattle.requests.specs.Words.{IsNumberOf, text_at}
 use Rattle.vm_parts.specs.Options.{default_options}
 use Rattle.vm_world.specs.declared.types.Identity.{Identity}
 use Rattle.round_scripts.specs.declared.given.Given.{Given}
@@ -27,16 +27,24 @@ pub record IsDefault (given : Given) : Type 0 where
 -- the words say this of the invocation
 pub record SaysIdentity (words : List (Bor (List ℕ))) (identity : Identity) : Type 0 where
   pub id : IsSet IsAtom default_identity.id (texts (codes "id=") words) identity.id
-  pub debug_id : IsSet IsAtom default_identity.debug_id (texts (codes "debug_id=") words) identity.debug_id
-  pub key : IsSet IsAtom default_identity.key (texts (codes "key=") words) identity.key
-  pub random_seed : IsSet IsNumberOf default_identity.random_seed (texts (codes "seed=") words) identity.random_seed
-  pub scope : IsOptional IsAtom (texts (codes "scope=") words) identity.scope
-  pub limit_key : IsOptional IsAtom (texts (codes "limit=") words) identity.limit_key
-  pub idempotency_key : IsOptional IsAtom (texts (codes "idem=") words) identity.idempotency_key
+  pub debug_id : IsSet IsText default_identity.debug_id (texts (codes "debug_id=") words) identity.debug_id
+  pub key : IsSet IsText default_identity.key (texts (codes "key=") words) identity.key
+  pub random_seed : IsSet (IsNumberOf 64) default_identity.random_seed (texts (codes "seed=") words) identity.random_seed
+  pub scope : IsOptional IsText (texts (codes "scope=") words) identity.scope
+  pub limit_key : IsOptional IsText (texts (codes "limit=") words) identity.limit_key
+  pub idempotency_key : IsOptional IsText (texts (codes "idem=") words) identity.idempotency_key
+
+-- a key and its value, in braces
+pub record IsEntry (text key value : List ℕ) : Type 0 where
+  pub words : List (Bor (List ℕ))
+  pub are_words : AreWordsWithin 123 125 text words
+  pub two : length words ≡ 2
+  pub is_key : IsText (text_at 0 words) key
+  pub is_value : IsAtom (text_at 1 words) value
 
 -- texts that are these keys with their values
 abbrev pub AreEntries : List (List ℕ) → List (String Global × List ℕ) → Type 0
-AreEntries found entries = AllZip (λ text entry. IsPair text (string_bytes entry.0) entry.1) found entries
+AreEntries found entries = AllZip (λ text entry. IsEntry text (string_bytes entry.0) entry.1) found entries
 
 -- what may be said of a world
 abbrev pub world_names : List (List ℕ)

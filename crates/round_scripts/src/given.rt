@@ -1,14 +1,13 @@
 //! The line `world`: what a world is made of, but for the version of its attempts.
 ghost use Rattle.std.specs.Prelude.{◌≡◌, IfOk, codes, string_bytes};
-ghost use Rattle.lines.specs.Atoms.{IsAtom};
+ghost use Rattle.lines.specs.Atoms.{IsAtom, IsText};
 ghost use Rattle.requests.specs.Fields.{IsSet, are_named, texts};
-ghost use Rattle.requests.specs.Values.{IsPair};
-ghost use Rattle.round_scripts.specs.Worlds.{AreEntries, IsDefault, SaysIdentity, SaysWorld, default_identity, world_names};
+ghost use Rattle.round_scripts.specs.Worlds.{AreEntries, IsDefault, IsEntry, SaysIdentity, SaysWorld, default_identity, world_names};
 
 use bytes::Bytes;
-use lines::pieces::words;
+use lines::pieces::words_within;
 use requests::arguments::optional_text;
-use requests::atoms::{inside_of, shared_of, string_of, text_of};
+use requests::atoms::{shared_of, string_of, text_of};
 use requests::fields::{are_named, field_of, text_behind};
 use requests::options::{policies_of, seed_in};
 use std::alloc::{AllocError, Global};
@@ -69,7 +68,7 @@ fn bytes_or(
 
 /// `[NAME=T]`, or the default.
 fn text_or(alloc: Global, words: &[&[u8]], name: &str, default: &str) -> Result<Text, Fault>
-    ensures { IfOk result (λ text. IsSet IsAtom default.now (texts name.now words.now) text) }
+    ensures { IfOk result (λ text. IsSet IsText default.now (texts name.now words.now) text) }
 {
     match field_of(words, name)? {
         Some(text) => text_of(alloc, text),
@@ -101,10 +100,9 @@ fn identity_in(alloc: Global, words: &[&[u8]]) -> Result<Identity, Fault>
 
 /// `{T B}`.
 fn pair_of(alloc: Global, text: &[u8]) -> Result<(String, Bytes), Fault>
-    ensures { IfOk result (λ pair. IsPair text.now (string_bytes pair.0) pair.1) }
+    ensures { IfOk result (λ pair. IsEntry text.now (string_bytes pair.0) pair.1) }
 {
-    let inside = inside_of(text, b'{', b'}')?;
-    let pair = words(alloc, inside)?;
+    let pair = words_within(alloc, text, b'{', b'}')?;
     match pair.as_slice() {
         [key, value] => {
             let key = string_of(alloc, *key)?;

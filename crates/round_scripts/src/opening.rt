@@ -26,7 +26,7 @@ fn keys_in(alloc: Global, words: &[&[u8]]) -> Result<Items<Text>, Fault>
 
 /// `[retry=N]`, by default 0.
 fn retry_count_in(words: &[&[u8]]) -> Result<u32, Fault>
-    ensures { IfOk result (λ count. IsSet IsNumberOf 0 (texts (codes "retry=") words.now) count) }
+    ensures { IfOk result (λ count. IsSet (IsNumberOf 32) 0 (texts (codes "retry=") words.now) count) }
 {
     match field_of(words, "retry=")? {
         Some(text) => u32_of(text),

@@ -25,6 +25,7 @@ goes_on (Ok progress.Ended) e = absurd cc
 goes_on (Ok progress.Suspended) e = absurd cc
 goes_on (Ok progress.NotReady) e = absurd cc
 goes_on (Ok (progress.Waiting input run)) e = absurd cc
+goes_on (Ok (progress.ExecuteRun run)) e = absurd cc
 goes_on (Err x) e = absurd cc
 
 pub stepped_more : (meaning : Meaning) (n : ℕ) (first before now : Record) (last : Result Progress Error) → Stepped meaning n first before → StepDoes meaning before last now → None ≡ end_after last → Stepped meaning (n + 1) first now

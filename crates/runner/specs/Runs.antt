@@ -33,6 +33,7 @@ end_after (Ok progress.Ended) = Some attempt_end.Ended
 end_after (Ok progress.Suspended) = Some attempt_end.Suspended
 end_after (Ok progress.NotReady) = Some attempt_end.Stalled
 end_after (Ok (progress.Waiting input run)) = Some attempt_end.Stalled
+end_after (Ok (progress.ExecuteRun run)) = Some attempt_end.Stalled
 end_after (Err e) = Some (attempt_end.Failed e)
 
 -- Steps are made until one gives the handler no answer. An attempt that gave 2 ^ 64 - 1 answers is stalled.

@@ -28,7 +28,7 @@ fn step_of<H: Handler>(attempt: &mut Attempt<H>) -> Option<AttemptEnd>
         Ok(Progress::Ended) => Some(AttemptEnd::Ended),
         Ok(Progress::Suspended) => Some(AttemptEnd::Suspended),
         Ok(Progress::NotReady) => Some(AttemptEnd::Stalled),
-        Ok(Progress::Waiting { .. }) => Some(AttemptEnd::Stalled),
+        Ok(Progress::Waiting { .. } | Progress::ExecuteRun(_)) => Some(AttemptEnd::Stalled),
         Err(error) => Some(AttemptEnd::Failed(error)),
     }
 }

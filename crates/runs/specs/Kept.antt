@@ -1,6 +1,9 @@
 -- Results that were proposed and wait for their acknowledgement, in the order of the proposals.
 use Rattle.std.specs.Prelude.{ℕ, ◌==◌, Bool}
+use Rattle.journal_values.specs.declared.notification.NotificationResult.{NotificationResult}
+use Rattle.journal_values.specs.declared.notification.NotificationResult.TheVariants as comes
 use Rattle.journal_values.specs.declared.parts.ValueOrFailure.{ValueOrFailure}
+use Rattle.journal_values.specs.declared.parts.ValueOrFailure.TheVariants as proposed
 use Rattle.vm_parts.specs.declared.run_state.KeptProposal.{KeptProposal}
 
 -- of the run that this id completes
@@ -9,3 +12,8 @@ is_for id kept = kept.completion_id == id
 
 abbrev pub result_of : KeptProposal → ValueOrFailure
 result_of kept = kept.result
+
+-- a proposed result, as the run's completion brings it
+abbrev pub completion_result : ValueOrFailure → NotificationResult
+completion_result (proposed.Value value) = comes.Value value
+completion_result (proposed.Failure failure) = comes.Failure failure

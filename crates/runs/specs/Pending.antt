@@ -20,9 +20,9 @@ info_of run = (run.command_index, run.name)
 abbrev pub has_handle : NotificationHandle → PendingRun → Bool
 has_handle handle run = run.handle == handle.0
 
--- a handle's number is one of these
-abbrev pub is_one_of : List NotificationHandle → ℕ → Bool
-is_one_of any number = list_any (λ handle. handle.0 == number) any
+-- a handle is one of these
+abbrev pub is_one_of : List ℕ → ℕ → Bool
+is_one_of any handle = list_any (λ other. other == handle) any
 
 abbrev pub waits : RunExecution → Bool
 waits Waiting = true
@@ -36,11 +36,11 @@ executes Executing = true
 abbrev pub is_executing : PendingRun → Bool
 is_executing run = executes run.execution
 
-abbrev pub is_executing_in : List NotificationHandle → PendingRun → Bool
+abbrev pub is_executing_in : List ℕ → PendingRun → Bool
 is_executing_in any run = is_executing run && is_one_of any run.handle
 
 -- it waits, and is one of these
-abbrev pub may_execute : List NotificationHandle → PendingRun → Bool
+abbrev pub may_execute : List ℕ → PendingRun → Bool
 may_execute any run = waits run.execution && is_one_of any run.handle
 
 -- the run from when it is executed

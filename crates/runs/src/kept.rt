@@ -2,9 +2,9 @@
 ghost use Rattle.std.specs.Prelude.{◌≡◌, [], ◌∷◌, ◌++◌, OnOk, OnErr, find, position};
 ghost use Rattle.std.specs.Option.{option_map};
 ghost use Rattle.runs.specs.Firsts.{without_first};
-ghost use Rattle.runs.specs.Kept.{is_for, result_of};
+ghost use Rattle.runs.specs.Kept.{completion_result, is_for, result_of};
 
-use journal_values::ValueOrFailure;
+use journal_values::{NotificationResult, ValueOrFailure};
 use std::alloc::{AllocError, Global};
 use std::marker::Model;
 use vm_parts::KeptProposal;
@@ -22,6 +22,16 @@ impl Model for KeptProposals {
     ghost Value = { List KeptProposal };
 
     ghost view = { λ proposals. proposals.kept.items };
+}
+
+/// A proposed result, as the run's completion brings it.
+pub fn completion_result(proposed: ValueOrFailure) -> NotificationResult
+    ensures { result ≡ completion_result proposed }
+{
+    match proposed {
+        ValueOrFailure::Value(value) => NotificationResult::Value(value),
+        ValueOrFailure::Failure(failure) => NotificationResult::Failure(failure),
+    }
 }
 
 impl KeptProposals {

@@ -6,7 +6,7 @@ pub mod run_state;
 pub mod settling;
 pub mod types;
 
-pub use kept::KeptProposals;
+pub use kept::{KeptProposals, completion_result};
 pub use run_state::RunState;
 pub use settling::{Settlement, settle};
 pub use types::{RunExitResult, RunHandle};

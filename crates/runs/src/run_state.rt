@@ -25,10 +25,10 @@ impl Model for RunState {
     ghost view = { λ state. state.pending.items };
 }
 
-fn is_one_of(handle: u32, any_handle: &[NotificationHandle]) -> bool
+fn is_one_of(handle: u32, any_handle: &[u32]) -> bool
     ensures { result ≡ is_one_of any_handle.now handle }
 {
-    any_handle.iter().any(|other| other.0 == handle)
+    any_handle.iter().any(|other| *other == handle)
 }
 
 impl RunState {
@@ -63,7 +63,7 @@ impl RunState {
     }
 
     /// The place of the first run that waits and has one of these handles.
-    fn place_to_execute(&self, any_handle: &[NotificationHandle]) -> Option<usize>
+    fn place_to_execute(&self, any_handle: &[u32]) -> Option<usize>
         ensures { result ≡ position (may_execute any_handle.now) self.now }
     {
         self.pending.iter().position(|run| run.execution == RunExecution::Waiting
@@ -78,10 +78,7 @@ impl RunState {
     }
 
     /// Of the runs that wait and have one of these handles the first is executed from now on.
-    pub fn try_execute_run(
-        &mut self,
-        any_handle: &[NotificationHandle],
-    ) -> Option<NotificationHandle>
+    pub fn try_execute_run(&mut self, any_handle: &[u32]) -> Option<NotificationHandle>
         ensures run { result ≡ option_map handle_of (find (may_execute any_handle.now) self.old) }
         ensures rest { self.new ≡ with_first (may_execute any_handle.now) started self.old }
     {
@@ -100,7 +97,7 @@ impl RunState {
     }
 
     /// Whether a run with one of these handles is being executed.
-    pub fn any_executing_in_this_set(&self, any_handle: &[NotificationHandle]) -> bool
+    pub fn any_executing_in_this_set(&self, any_handle: &[u32]) -> bool
         ensures { result ≡ list_any (is_executing_in any_handle.now) self.now }
     {
         self.pending.iter().any(|run| run.execution == RunExecution::Executing

@@ -32,6 +32,8 @@ mod refusals;
 #[cfg(test)]
 mod reports;
 #[cfg(test)]
+mod runs;
+#[cfg(test)]
 mod sleeps;
 #[cfg(test)]
 mod state_reads;

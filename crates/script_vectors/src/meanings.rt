@@ -110,7 +110,11 @@ cancel                                         => bad
 end 1                                          => bad
 output output                                  => bad
 gets "k"                                        => bad
-run "a"                                        => bad
+run                                            => bad
+run "a" "b"                                    => bad
+propose 17                                     => bad
+propose 17 success "x" policy=never            => bad
+propose 17 success "x" policy=fixed(factor=1/2) => bad
 error                                          => bad
 error 500                                      => bad
 error 65536 "x"                                => bad

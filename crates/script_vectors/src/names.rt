@@ -113,10 +113,11 @@ pub fn frame_of(name: &str) -> Result<&'static [u8], Fail> {
     Err("no such frame")?
 }
 
-static TYPES: [(&str, u8); 13] = [
+static TYPES: [(&str, u8); 15] = [
     ("Suspension", 2),
     ("Error", 3),
     ("End", 4),
+    ("ProposeRunCompletion", 5),
     ("AwaitingOn", 7),
     ("SetState", 15),
     ("ClearState", 16),
@@ -126,6 +127,7 @@ static TYPES: [(&str, u8); 13] = [
     ("OneWayCall", 20),
     ("CompleteAwakeable", 21),
     ("SendSignal", 22),
+    ("Run", 26),
     ("Output", 29),
 ];
 

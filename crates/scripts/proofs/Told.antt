@@ -5,10 +5,15 @@ use Rattle.journal_errors.specs.declared.error.Error.{Error}
 use Rattle.journal_messages.specs.declared.message.RawMessage.{RawMessage}
 use Rattle.vm_parts.specs.declared.types.AwaitResponse.{AwaitResponse}
 use Rattle.await_trees.specs.declared.tree.UnresolvedFuture.{UnresolvedFuture}
+use Rattle.vm_parts.specs.declared.steps.Answer.TheVariants as answer
+use Rattle.await_trees.specs.declared.handle.NotificationHandle.{NotificationHandle}
+use Rattle.retries.specs.declared.policy.RetryPolicy.{RetryPolicy}
+use Rattle.runs.specs.declared.types.RunExitResult.{RunExitResult}
+use Rattle.runs.specs.declared.types.RunHandle.{RunHandle}
 use Rattle.vm_machine.specs.declared.machine.Machine.{Machine}
 use Rattle.vm_machine.specs.Outcomes.{Does, Outcome, called}
 use Rattle.invocation_vm.specs.declared.core_vm.CoreVM.{CoreVM}
-use Rattle.invocation_vm.specs.Calls.{CallsFlatAwait}
+use Rattle.invocation_vm.specs.Calls.{CallsFlatAwait, CallsProposal, CallsRun}
 use Rattle.invocation_vm.specs.Views.{View, Leaves, TakesOutput}
 use Rattle.replies.specs.declared.reply.Reply.{Reply}
 use Rattle.replies.specs.declared.reply.Reply.TheVariants as reply
@@ -17,14 +22,19 @@ use Rattle.requests.specs.Lines.{Reads}
 use Rattle.scripts.specs.Performed.{Performed}
 use Rattle.replies.specs.Replies.{reply_text}
 use Rattle.scripts.specs.Transcripts.{Transcribes}
-use Rattle.scripts.specs.Called as tells
-use Rattle.scripts.specs.Called.{Answers, Feeds, Drains, reply_of, reply_or_memory}
+use Rattle.scripts.specs.Called.{Answers, Feeds, Drains, Tells, reply_of, reply_or_memory}
 
 pub answers : {A : Type 0} (f : A → Reply) (step : Machine → Outcome A) (given : Result A Error) (answer : Reply) (old new : View) → Does (called (step old.machine) old.machine) given old.machine new.machine → new.undecoded ≡ old.undecoded → answer ≡ reply_of f given → Answers f step answer old new
 answers f step given answer old new does undecoded told = record { given = given; calls = (does, undecoded); told = told }
 
-pub awaits : (future : UnresolvedFuture) (given : Result AwaitResponse Error) (answer : Reply) (old new : View) → CallsFlatAwait future given old new → answer ≡ reply_of reply.Awaited given → tells.Awaits future answer old new
+pub awaits : (future : UnresolvedFuture) (given : Result AwaitResponse Error) (answer : Reply) (old new : View) → CallsFlatAwait future given old new → answer ≡ reply_of reply.Awaited given → Tells reply.Awaited (CallsFlatAwait future) answer old new
 awaits future given answer old new calls told = record { given = given; calls = calls; told = told }
+
+pub runs : (name : List ℕ) (given : Result RunHandle Error) (answer : Reply) (old new : View) → CallsRun name given old new → answer ≡ reply_of reply.Run given → Tells reply.Run (CallsRun name) answer old new
+runs name given answer old new calls told = record { given = given; calls = calls; told = told }
+
+pub proposes : (handle : NotificationHandle) (exit : RunExitResult) (policy : RetryPolicy) (given : Result Unit Error) (said : Reply) (old new : View) → CallsProposal handle exit policy given old new → said ≡ reply_of (λ _. reply.Answer answer.Unit) given → Tells (λ _. reply.Answer answer.Unit) (CallsProposal handle exit policy) said old new
+proposes handle exit policy given said old new calls told = record { given = given; calls = calls; told = told }
 
 pub feeds : (raws : List RawMessage) (after : View) (given : Result Unit AllocError) (answer : Reply) (old new : View) → Leaves raws after given old new → answer ≡ reply_or_memory (λ _. reply.Done) given → Feeds raws after answer old new
 feeds raws after given answer old new leaves told = record { given = given; leaves = leaves; told = told }

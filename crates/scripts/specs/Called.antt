@@ -7,8 +7,6 @@ use Rattle.journal_errors.specs.declared.version.Version.{Version}
 use Rattle.journal_errors.specs.Errors.{no_memory}
 use Rattle.vm_parts.specs.declared.steps.Answer.TheVariants as answer
 use Rattle.vm_parts.specs.declared.steps.Step.{Step}
-use Rattle.vm_parts.specs.declared.types.AwaitResponse.{AwaitResponse}
-use Rattle.await_trees.specs.declared.tree.UnresolvedFuture.{UnresolvedFuture}
 use Rattle.vm_parts.specs.declared.values.ResponseHead.{ResponseHead}
 use Rattle.vm_machine.specs.declared.asks.Ask.{Ask}
 use Rattle.vm_machine.specs.declared.asks.Ask.TheVariants as ask
@@ -22,7 +20,7 @@ use Rattle.vm_machine.specs.Outcomes.{Outcome}
 use Rattle.vm_machine.specs.Requests.{ids_of}
 use Rattle.vm_machine.specs.Reads.{read_step}
 use Rattle.vm_machine.specs.Signals.{signal_step}
-use Rattle.invocation_vm.specs.Calls.{CallsFlatAwait, new_awakeable_step}
+use Rattle.invocation_vm.specs.Calls.{CallsFlatAwait, CallsProposal, CallsRun, new_awakeable_step}
 use Rattle.invocation_vm.specs.Making.{response_head}
 use Rattle.invocation_vm.specs.Views.{View, Calls, Leaves, TakesOutput, after_closing, after_error, after_input, brought}
 use Rattle.requests.specs.declared.request.Call.{Call}
@@ -46,11 +44,11 @@ pub record Answers {A : Type 0} (f : A → Reply) (step : Machine → Outcome A)
   pub calls : Calls step given old new
   pub told : answer ≡ reply_of f given
 
--- an await: the reply tells its result
-pub record Awaits (future : UnresolvedFuture) (answer : Reply) (old new : View) : Type 0 where
-  pub given : Result AwaitResponse Error
-  pub calls : CallsFlatAwait future given old new
-  pub told : answer ≡ reply_of reply.Awaited given
+-- any other call of the VM, of which is said what it does: the reply tells its result
+pub record Tells {A : Type 0} (f : A → Reply) (Done : Result A Error → View → View → Type 0) (answer : Reply) (old new : View) : Type 0 where
+  pub given : Result A Error
+  pub calls : Done given old new
+  pub told : answer ≡ reply_of f given
 
 -- what comes in: nothing is told but want of memory
 pub record Feeds (raws : List RawMessage) (after : View) (answer : Reply) (old new : View) : Type 0 where
@@ -82,7 +80,7 @@ DoneAsAsked (ask.Command c) told old new = Answers (λ handle. reply.Answer (com
 DoneAsAsked ask.Awakeable told old new = Answers (λ made. reply.Answer (answer.Awakeable made)) new_awakeable_step told old new
 DoneAsAsked (ask.Read r) told old new = Answers (λ handle. reply.Answer (answer.Handle handle)) (read_step r) told old new
 DoneAsAsked (ask.Signal name) told old new = Answers (λ handle. reply.Answer (answer.Handle handle)) (signal_step name) told old new
-DoneAsAsked (ask.Await future) told old new = Awaits future told old new
+DoneAsAsked (ask.Await future) told old new = Tells reply.Awaited (CallsFlatAwait future) told old new
 DoneAsAsked (ask.Take handle) told old new = Answers (λ value. reply.Answer (answer.Taken value)) (take_step handle.0) told old new
 DoneAsAsked (ask.Completed handle) told old new = (told ≡ reply.Answer (answer.Completed (is_completed handle.0 old.machine))) × (new ≡ old)
 DoneAsAsked ask.End told old new = Answers (λ _. reply.Answer answer.Unit) end_step told old new
@@ -102,4 +100,6 @@ Called call.State told old new = (told ≡ reply.State (state_of old.machine)) �
 Called call.Index told old new = (told ≡ reply.Index (last_index old.machine.counters.command)) × (new ≡ old)
 Called (call.Error error relationship) told old new = Feeds [] (after_error old error relationship) told old new
 Called call.SysInput told old new = Answers (λ input. reply.Answer (answer.Input input)) input_step told old new
+Called (call.Run name) told old new = Tells reply.Run (CallsRun name) told old new
+Called (call.Propose handle exit policy) told old new = Tells (λ _. reply.Answer answer.Unit) (CallsProposal handle exit policy) told old new
 Called (call.Step step) told old new = StepDone step told old new

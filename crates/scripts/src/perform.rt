@@ -13,8 +13,8 @@ ghost use Rattle.scripts.specs.Performed.{Made, Performed};
 
 use bytes::Bytes;
 use invocation_vm::{
-    AwaitResponse, AwakeableHandle, CoreVM, Error, Input, NotificationHandle, ResponseHead, VM,
-    VMOptions, VMResult, Value,
+    AwaitResponse, AwakeableHandle, CoreVM, Error, Input, NotificationHandle, ResponseHead,
+    RunHandle, VM, VMOptions, VMResult, Value,
 };
 use replies::Reply;
 use requests::content_type::ContentType;
@@ -115,6 +115,15 @@ fn ended(given: VMResult<()>) -> Reply
     }
 }
 
+fn ran(given: VMResult<RunHandle>) -> Reply
+    ensures { result ≡ reply_of reply.Run given }
+{
+    match given {
+        Ok(run) => Reply::Run(run),
+        Err(error) => Reply::Refused(error),
+    }
+}
+
 /// Makes a call that has a command.
 #[tactic(auto, using(crate::proofs::Told::answers, vm_machine::proofs::Answering::handles_fit))]
 fn carry(vm: &mut CoreVM, command: Command) -> Reply
@@ -161,7 +170,7 @@ fn perform_step(vm: &mut CoreVM, step: Step) -> Reply
 }
 
 /// Makes a call.
-#[tactic(auto, using(crate::proofs::Told::answers, crate::proofs::Told::feeds, crate::proofs::Told::drains))]
+#[tactic(auto, using(crate::proofs::Told::answers, crate::proofs::Told::feeds, crate::proofs::Told::drains, crate::proofs::Told::runs, crate::proofs::Told::proposes))]
 #[inline(always)]
 fn perform_call(vm: &mut CoreVM, call: Call) -> Reply
     ensures { Called call result (seen vm.old) (seen vm.new) }
@@ -176,6 +185,12 @@ fn perform_call(vm: &mut CoreVM, call: Call) -> Reply
         Call::Index => Reply::Index(vm.last_command_index()),
         Call::Error(error, relationship) => fed(vm.notify_error(error, relationship)),
         Call::SysInput => input(vm.sys_input()),
+        Call::Run(name) => ran(vm.sys_run(name.into_string())),
+        Call::Propose {
+            handle,
+            result,
+            policy,
+        } => ended(vm.propose_run_completion(handle, result, policy)),
         Call::Step(step) => perform_step(vm, step),
     }
 }

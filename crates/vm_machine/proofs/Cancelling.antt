@@ -2,14 +2,15 @@
 use Rattle.std.proofs.Common.{◌≡◌, ◌<◌, ℕ, Bool, true, false, List, ◌∷◌, Option, Some, None, refl, sym, ap, ◌∙◌, subst, ⊎_elim, length, arith}
 use Rattle.std.specs.Prelude.{if◌then◌else◌, MatchBool, Result, Ok, Err}
 use Rattle.std.specs.Option.{option_and_then}
+use Rattle.std.specs.List.{find, list_any}
+use Rattle.await_trees.specs.Handles.{handles_of}
 use Rattle.await_trees.specs.Tree.{Tree, leaf}
-use Rattle.await_trees.specs.Wires.{sent}
-use Rattle.await_tries.specs.Message.{ids}
 use Rattle.journal_errors.specs.declared.error.Error.{Error}
 use Rattle.journal_errors.specs.declared.faults.NamedFault.TheVariants as fault
-use Rattle.journal_errors.specs.Errors.{named_error}
+use Rattle.runs.specs.Pending.{is_executing_in, may_execute}
+use Rattle.vm_parts.specs.declared.run_state.PendingRun.{PendingRun}
 use Rattle.vm_parts.specs.declared.types.AwaitResponse.{AwaitResponse}
-use Rattle.vm_parts.specs.declared.types.AwaitResponse.TheVariants.{AnyCompleted, CancelSignalReceived, WaitingExternalProgress}
+use Rattle.vm_parts.specs.declared.types.AwaitResponse.TheVariants.{AnyCompleted, CancelSignalReceived, ExecuteRun, WaitingExternalProgress}
 use Rattle.vm_parts.specs.declared.run_state.TrackedCall.{TrackedCall}
 use Rattle.vm_parts.specs.Tracked.{IsFirst, id_of_result, unresolved, with_next_id}
 use Rattle.vm_parts.proofs.Tracking.{unresolved-with_next_id}
@@ -18,7 +19,7 @@ use Rattle.vm_machine.specs.declared.fault.Fault.TheVariants as why
 use Rattle.vm_machine.specs.declared.machine.Machine.{Machine}
 use Rattle.vm_machine.specs.Outcomes.{Outcome, Done, Failed, GivesBy, lasting, refused}
 use Rattle.vm_machine.specs.Phases.{is_replaying}
-use Rattle.vm_machine.specs.Awaits.{Behind, Ends, Gathers, ReadsId, StaysPending, Tries, has_woken, id_read, result_at, suspended, waiting, with_used}
+use Rattle.vm_machine.specs.Awaits.{Behind, Ends, Gathers, ReadsId, StaysPending, Tries, has_woken, id_read, pending_in_replay, result_at, waits_by, waits_on, with_used}
 
 -- what lasts is as it was, and the phase
 abbrev pub Keeps : Machine → Machine → Type 0
@@ -33,12 +34,19 @@ done_so : {A : Type 0} (a b : A) (v w : Machine) → Done a v ≡ Done b w → w
 done_so a b v w h = cc
 
 -- an await that stays pending hasn't woken
-pending_sleeps : (left : Tree) (u w : Machine) (a b : Bool) → woken w ≡ (if a then refused fault.UncompletedDoProgressDuringReplay u
-    else if b then Done (Err (named_error fault.Suspended None)) (suspended (sent (ids u.results) left) u)
-    else Done (Ok (WaitingExternalProgress true false)) (waiting left u)) → ⊥
-pending_sleeps left u w true b h = cc
-pending_sleeps left u w false true h = cc
-pending_sleeps left u w false false h = cc
+waits_sleeps : (closed executing : Bool) (left : Tree) (u w : Machine) → woken w ≡ waits_by closed executing left u → ⊥
+waits_sleeps false executing left u w h = cc
+waits_sleeps true true left u w h = cc
+waits_sleeps true false left u w h = cc
+
+runs_sleep : (run : Option PendingRun) (executing : Bool) (left : Tree) (u w : Machine) → woken w ≡ waits_on run executing left u → ⊥
+runs_sleep (Some run) executing left u w h = cc
+runs_sleep None executing left u w h = waits_sleeps u.input_closed executing left u w h
+
+pending_sleeps : (replaying : Bool) (run : Option PendingRun) (executing : Bool) (left : Tree) (u w : Machine)
+    → woken w ≡ (if replaying then pending_in_replay (handles_of left) u else waits_on run executing left u) → ⊥
+pending_sleeps true run executing left u w h = cc
+pending_sleeps false run executing left u w h = runs_sleep run executing left u w h
 
 -- an await that has woken has used so many notifications, and changed nothing else
 pub woken_used : (t : Tree) (v w : Machine) → Tries t v (Done (Ok AnyCompleted) w) → (n : ℕ) × (w ≡ with_used n v)
@@ -46,7 +54,7 @@ woken_used t v w tries = ⊎_elim
     (λ (x : Ends t v (Done (Ok AnyCompleted) w)). (x.0, sym (done_so (Ok AnyCompleted) (Ok AnyCompleted) w (with_used x.0 v) x.2)))
     (λ (x : StaysPending t v (Done (Ok AnyCompleted) w)).
     let u = with_used (length v.results.queued) v in
-    absurd (pending_sleeps x.0 u w (is_replaying u.phase) u.input_closed x.2))
+    absurd (pending_sleeps (is_replaying u.phase) (find (may_execute (handles_of x.0)) u.runs) (list_any (is_executing_in (handles_of x.0)) u.runs) x.0 u w x.2))
     tries
 
 pub woken_keeps : (t : Tree) (v w : Machine) → Tries t v (Done (Ok AnyCompleted) w) → Keeps v w
@@ -72,6 +80,7 @@ read_behind handle v w (Done (Ok AnyCompleted) x) tries on =
     let read = read_done (option_and_then id_of_result (result_at handle x)) x w on in
     (read.0, used.0, read.1 ∙ ap (λ (y : Machine). record y { tracked = with_next_id read.0 y.tracked }) used.1)
 read_behind handle v w (Done (Ok CancelSignalReceived) x) tries on = absurd cc
+read_behind handle v w (Done (Ok (ExecuteRun run)) x) tries on = absurd cc
 read_behind handle v w (Done (Ok (WaitingExternalProgress input run)) x) tries on = absurd cc
 read_behind handle v w (Done (Err e) x) tries on = absurd cc
 read_behind handle v w (Failed e x) tries on = absurd cc
@@ -119,6 +128,7 @@ pub record Gathered (first now : Machine) : Type 0 where
 pub woken_is : (answer : Result AwaitResponse Error) → has_woken answer ≡ true → answer ≡ Ok AnyCompleted
 woken_is (Ok AnyCompleted) so = refl
 woken_is (Ok CancelSignalReceived) so = absurd cc
+woken_is (Ok (ExecuteRun run)) so = absurd cc
 woken_is (Ok (WaitingExternalProgress input run)) so = absurd cc
 woken_is (Err e) so = absurd cc
 

@@ -15,18 +15,25 @@ use Rattle.journal_values.specs.declared.notification.NotificationId.{Notificati
 use Rattle.journal_values.specs.declared.notification.NotificationResult.{NotificationResult}
 use Rattle.journal_attempt.specs.declared.start.Start.{Start}
 use Rattle.journal_errors.specs.declared.types.MessageType.TheVariants as type
-use Rattle.journal_errors.specs.Errors.{error_message, named_error}
+use Rattle.journal_errors.specs.Errors.{error_message}
 use Rattle.journal_attempt.specs.declared.future.Future.{Future}
 use Rattle.await_trees.specs.Tree.{Tree, leaf}
 use Rattle.await_trees.specs.Wires.{sent}
 use Rattle.await_tries.specs.Message.{ids}
 use Rattle.journal_equality.specs.HeaderEqual.{header_equal}
 use Rattle.journal_messages.specs.Message.{encoding, type_of}
-use Rattle.journal_messages.specs.Reading.{input_in, message_in, notification_in, start_in}
+use Rattle.journal_messages.specs.Reading.{acknowledgement_in, input_in, message_in, notification_in, start_in}
+use Rattle.journal_attempt.specs.declared.runs.ProposeRunCompletionAck.{ProposeRunCompletionAck}
+use Rattle.std.specs.List.{find, list_any}
+use Rattle.await_trees.specs.Handles.{handles_of}
+use Rattle.runs.specs.Kept.{is_for}
+use Rattle.runs.specs.Pending.{is_executing, is_executing_in, may_execute}
+use Rattle.vm_parts.specs.declared.run_state.KeptProposal.{KeptProposal}
+use Rattle.vm_parts.specs.declared.run_state.PendingRun.{PendingRun}
 use Rattle.journal_errors.specs.Types.{type_number}
 use Rattle.vm_parts.specs.declared.command_type.CommandRelationship.{CommandRelationship}
 use Rattle.vm_parts.specs.declared.types.AwaitResponse.{AwaitResponse}
-use Rattle.vm_parts.specs.declared.types.AwaitResponse.TheVariants.{AnyCompleted, CancelSignalReceived, WaitingExternalProgress}
+use Rattle.vm_parts.specs.declared.types.AwaitResponse.TheVariants.{AnyCompleted, CancelSignalReceived, ExecuteRun, WaitingExternalProgress}
 use Rattle.await_trees.specs.declared.handle.NotificationHandle.{NotificationHandle}
 use Rattle.vm_parts.specs.declared.values.Value.{Value}
 use Rattle.vm_parts.specs.Deliveries.{id_at, present_for, taken_by}
@@ -43,7 +50,7 @@ use Rattle.vm_machine.specs.declared.asks.Ask.TheVariants as ask
 use Rattle.vm_machine.specs.declared.asks.Command.{Command}
 use Rattle.vm_machine.specs.Asks.{ask_of}
 use Rattle.vm_machine.specs.Takes.{result_taken, take_step, taken_at, value_noted, value_taken}
-use Rattle.vm_machine.specs.Inputs.{close_step, closed_at, counted_entry, end_at, end_step, ended, enqueued, entries_in, entry_step, input_at, input_counted, input_read, input_step, malformed_step, message_step, notification_step, queued, start_step, started, started_with}
+use Rattle.vm_machine.specs.Inputs.{acknowledged, acknowledged_by, acknowledgement_step, close_step, closed_at, counted_entry, end_at, end_step, ended, enqueued, entries_in, entry_step, input_at, input_counted, input_read, input_step, malformed_step, message_step, notification_step, queued, start_step, started, started_with}
 use Rattle.vm_machine.specs.Reports.{is_retry, related_to, report_step}
 use Rattle.journal_values.specs.declared.notification.NotificationResult.{NotificationResult}
 use Rattle.vm_parts.specs.declared.context.Known.{Known}
@@ -60,7 +67,13 @@ use Rattle.vm_machine.specs.Outcomes.{Outcome, Done, Failed, ◌>>=◌, CalledBy
 use Rattle.vm_machine.specs.Phases.{is_closed, is_from_v7, is_processing, is_replaying, is_running, state_fault}
 use Rattle.vm_machine.specs.Requests.{ids_of, name_of, shown_type, with_ids}
 use Rattle.vm_machine.proofs.Calling.{called_from}
-use Rattle.vm_machine.specs.Awaits.{Awaits, AwaitsAt, AwaitsBy, Behind, Ends, EndsBy, Gathers, ReadsId, StaysPending, Tries, id_read, is_cancelled, or_cancelled, result_at, said_waiting, says_so, suspended, waiting, with_used}
+use Rattle.retries.specs.declared.policy.RetryPolicy.{RetryPolicy}
+use Rattle.runs.specs.declared.settling.Settlement.{Settlement}
+use Rattle.runs.specs.declared.settling.Settlement.TheVariants as settlement
+use Rattle.runs.specs.declared.types.RunExitResult.{RunExitResult}
+use Rattle.journal_values.specs.declared.parts.ValueOrFailure.{ValueOrFailure}
+use Rattle.vm_machine.specs.Proposals.{Proposes, Settled, SettledAt, SettledUnless, proposal_fault, proposed, settled_as, without_run}
+use Rattle.vm_machine.specs.Awaits.{Awaits, AwaitsAt, AwaitsBy, Behind, Ends, EndsBy, Gathers, ReadsId, StaysPending, Tries, id_read, is_cancelled, executed, or_cancelled, pending_in_replay, result_at, run_at, said_waiting, says_so, suspended, waiting, waits_by, waits_on, with_used}
 use Rattle.vm_machine.proofs.Cancelling.{Keeps, woken_keeps, read_keeps}
 use Rattle.vm_parts.specs.Options.{ends_awaits}
 use Rattle.vm_parts.specs.Tracked.{id_of_result, id_of_value, noted, unresolved, with_next_id}
@@ -393,20 +406,27 @@ none_last false false m after e t = tt
 
 waiting_so : (v u : Machine) (left : Tree) → Same v u → is_over v ≡ false → Writes v (waiting left u)
 waiting_so v u left s goes =
-    let said = said_waiting u.version u.options.awaiting_on_policy (ids u.results) left in
+    let executing = list_any is_executing u.runs in
+    let said = said_waiting u.version u.options.awaiting_on_policy executing (ids u.results) left in
     record {
       messages = said;
       output = ap (λ o. o ++ map encoding said) s.output;
-      ends_once = none_last (is_over v) (says_so u.version u.options.awaiting_on_policy left) (message.AwaitingOn (record { future = sent (ids u.results) left; executing_side_effects = false })) (is_over u) goes refl;
+      ends_once = none_last (is_over v) (says_so u.version u.options.awaiting_on_policy executing left) (message.AwaitingOn (record { future = sent (ids u.results) left; executing_side_effects = false })) (is_over u) goes refl;
     }
 
-pending_so : (left : Tree) (v u : Machine) (a b : Bool) → Same v u → is_over v ≡ false
-    → Event {A = Result AwaitResponse Error} v (if a then refused fault.UncompletedDoProgressDuringReplay u
-    else if b then Done (Err (named_error fault.Suspended None)) (suspended (sent (ids u.results) left) u)
-    else Done (Ok (WaitingExternalProgress true false)) (waiting left u))
-pending_so left v u true b s goes = s
-pending_so left v u false true s goes = suspended_so v u (sent (ids u.results) left) s goes
-pending_so left v u false false s goes = waiting_so v u left s goes
+waits_so : (closed executing : Bool) (left : Tree) (v u : Machine) → Same v u → is_over v ≡ false → Event v (waits_by closed executing left u)
+waits_so false executing left v u s goes = waiting_so v u left s goes
+waits_so true true left v u s goes = writes_nothing v u s
+waits_so true false left v u s goes = suspended_so v u (sent (ids u.results) left) s goes
+
+runs_so : (run : Option PendingRun) (executing : Bool) (left : Tree) (v u : Machine) → Same v u → is_over v ≡ false → Event v (waits_on run executing left u)
+runs_so (Some run) executing left v u s goes = writes_nothing v (executed (handles_of left) u) (record { output = s.output; closed = s.closed; failure = s.failure })
+runs_so None executing left v u s goes = waits_so u.input_closed executing left v u s goes
+
+pending_so : (replaying : Bool) (run : Option PendingRun) (executing : Bool) (left : Tree) (v u : Machine) → Same v u → is_over v ≡ false
+    → Event v (if replaying then pending_in_replay (handles_of left) u else waits_on run executing left u)
+pending_so true run executing left v u s goes = s
+pending_so false run executing left v u s goes = runs_so run executing left v u s goes
 
 -- one try of a tree
 tries_so : (t : Tree) (v : Machine) (o : Outcome (Result AwaitResponse Error)) → is_running v.phase ≡ true → v.failure ≡ None → Tries t v o → Event v o
@@ -414,7 +434,7 @@ tries_so t v o runs live comes = ⊎_elim
     (λ (x : Ends t v o). subst (Event v) (sym x.2) (writes_nothing v (with_used x.0 v) (record { output = refl; closed = refl; failure = refl })))
     (λ (x : StaysPending t v o).
     let u = with_used (length v.results.queued) v in
-    subst (Event v) (sym x.2) (pending_so x.0 v u (is_replaying u.phase) u.input_closed (record { output = refl; closed = refl; failure = refl }) (goes_on v live runs)))
+    subst (Event v) (sym x.2) (pending_so (is_replaying u.phase) (find (may_execute (handles_of x.0)) u.runs) (list_any (is_executing_in (handles_of x.0)) u.runs) x.0 v u (record { output = refl; closed = refl; failure = refl }) (goes_on v live runs)))
     comes
 
 -- an await that has woken has written nothing
@@ -439,6 +459,7 @@ behind_so : (v : Machine) (Next : Machine → Outcome (Result AwaitResponse Erro
     → ((w : Machine) → first ≡ Done (Ok AnyCompleted) w → Next w o → Event v o) → Behind Next first o → Event v o
 behind_so v Next (Done (Ok AnyCompleted) w) o h f on = f w refl on
 behind_so v Next (Done (Ok CancelSignalReceived) w) o h f on = subst (Event v) (sym on) h
+behind_so v Next (Done (Ok (ExecuteRun run)) w) o h f on = subst (Event v) (sym on) h
 behind_so v Next (Done (Ok (WaitingExternalProgress input run)) w) o h f on = subst (Event v) (sym on) h
 behind_so v Next (Done (Err e) w) o h f on = subst (Event v) (sym on) h
 behind_so v Next (Failed e w) o h f on = subst (Event v) (sym on) h
@@ -611,16 +632,32 @@ notification_quiet raw Replaying v e = queued_quiet (notification_in raw.body) v
 notification_quiet raw Processing v e = queued_quiet (notification_in raw.body) v
 notification_quiet raw Closed v e = same v
 
-message_so : (raw : RawMessage) (v : Machine) (a b c : Bool)
-    → Quiet v (if a then start_step raw v.phase v else if b then entry_step raw v.phase v else if c then notification_step raw v.phase v else refused fault.UnexpectedInputMessage v)
-message_so raw v true b c = start_quiet raw v.phase v refl
-message_so raw v false true c = entry_quiet raw v.phase v refl
-message_so raw v false false true = notification_quiet raw v.phase v refl
-message_so raw v false false false = same v
+kept_quiet : (id : ℕ) (kept : Option KeptProposal) (v : Machine) → Quiet v (acknowledged id kept v)
+kept_quiet id None v = same v
+kept_quiet id (Some kept) v = record { output = refl; closed = refl; failure = refl }
+
+acknowledged_quiet : (ack : Option ProposeRunCompletionAck) (v : Machine) → Quiet v (acknowledged_by ack v)
+acknowledged_quiet None v = same v
+acknowledged_quiet (Some ack) v = kept_quiet ack.id (find (is_for ack.id) v.proposals) v
+
+acknowledgement_quiet : (raw : RawMessage) (p : Phase) (v : Machine) → Quiet v (acknowledgement_step raw p v)
+acknowledgement_quiet raw WaitingStart v = same v
+acknowledgement_quiet raw WaitingReplayEntries v = same v
+acknowledgement_quiet raw Replaying v = same v
+acknowledgement_quiet raw Processing v = acknowledged_quiet (acknowledgement_in raw.body) v
+acknowledgement_quiet raw Closed v = same v
+
+message_so : (raw : RawMessage) (v : Machine) (a b c d : Bool)
+    → Quiet v (if a then start_step raw v.phase v else if b then entry_step raw v.phase v else if c then notification_step raw v.phase v else if d then acknowledgement_step raw v.phase v else refused fault.UnexpectedInputMessage v)
+message_so raw v true b c d = start_quiet raw v.phase v refl
+message_so raw v false true c d = entry_quiet raw v.phase v refl
+message_so raw v false false true d = notification_quiet raw v.phase v refl
+message_so raw v false false false true = acknowledgement_quiet raw v.phase v
+message_so raw v false false false false = same v
 
 message_quiet : (raw : RawMessage) (v : Machine) → Quiet v (message_step raw v)
 unfolding message_step
-message_quiet raw v = message_so raw v (type_number raw.ty == 1) (nat_le 10 (type_number raw.ty) && nat_lt (type_number raw.ty) 30) (type_number raw.ty == 30)
+message_quiet raw v = message_so raw v (type_number raw.ty == 1) (nat_le 10 (type_number raw.ty) && nat_lt (type_number raw.ty) 30) (type_number raw.ty == 30) (type_number raw.ty == 6)
 
 pub message_writes : (raw : RawMessage) (v : Machine) → EventWrites v (called (message_step raw v) v)
 message_writes raw v = called_writes v (message_step raw v) (λ live. quiet_event v (message_step raw v) (message_quiet raw v))
@@ -637,3 +674,43 @@ closed_quiet Closed v u s = s
 
 pub close_writes : (v : Machine) → EventWrites v (called (close_step v) v)
 close_writes v = called_writes v (close_step v) (λ live. quiet_event v (close_step v) (closed_quiet v.phase v (record v { input_closed = true }) (record { output = refl; closed = refl; failure = refl })))
+
+-- ---- what a run came to
+
+proposed_so : (id : ℕ) (result : ValueOrFailure) (v u : Machine) → Same v u → is_over v ≡ false → Writes v (proposed id result u)
+proposed_so id result v u s goes =
+    let m = message.ProposeRunCompletion (record { id = id; result = result }) in
+    record {
+      messages = m ∷ [];
+      output = ap (λ o. o ++ encoding m ∷ []) s.output;
+      ends_once = one_message (is_over v) m (is_over (proposed id result u)) goes refl;
+    }
+
+settlement_so : (id : ℕ) (s : Settlement) (v u : Machine) → Same v u → is_over v ≡ false → Event v (settled_as id s u)
+settlement_so id (settlement.Proposed result) v u s goes = proposed_so id result v u s goes
+settlement_so id (settlement.Failed e) v u s goes = s
+
+settled_so : (handle : NotificationHandle) (exit : RunExitResult) (policy : RetryPolicy) (run : Option PendingRun) (v : Machine) (o : Outcome Unit) → is_over v ≡ false → Settled handle exit policy run v o → Event v o
+settled_so handle exit policy None v o goes is = subst (Event v) (sym is) (same v)
+settled_so handle exit policy (Some run) v o goes (s, becomes, is) =
+    subst (Event v) (sym is) (settlement_so run.completion_id s v (without_run handle v) (record { output = refl; closed = refl; failure = refl }) goes)
+
+settled_at_so : (p : Phase) (handle : NotificationHandle) (exit : RunExitResult) (policy : RetryPolicy) (v : Machine) (o : Outcome Unit) → v.phase ≡ p → v.failure ≡ None → SettledAt p handle exit policy v o → Event v o
+settled_at_so WaitingStart handle exit policy v o e live is = subst (Event v) (sym is) (writes_nothing v v (same v))
+settled_at_so WaitingReplayEntries handle exit policy v o e live is = subst (Event v) (sym is) (writes_nothing v v (same v))
+settled_at_so Replaying handle exit policy v o e live is = subst (Event v) (sym is) (writes_nothing v v (same v))
+settled_at_so Processing handle exit policy v o e live is = settled_so handle exit policy (run_at handle.0 v) v o (goes_on v live (ap is_running e)) is
+settled_at_so Closed handle exit policy v o e live is = subst (Event v) (sym is) (writes_nothing v v (same v))
+
+settled_unless_so : (f : Option NamedFault) (handle : NotificationHandle) (exit : RunExitResult) (policy : RetryPolicy) (v : Machine) (o : Outcome Unit) → v.failure ≡ None → SettledUnless f handle exit policy v o → Event v o
+settled_unless_so (Some name) handle exit policy v o live is = subst (Event v) (sym is) (same v)
+settled_unless_so None handle exit policy v o live is = settled_at_so v.phase handle exit policy v o refl live is
+
+pub proposals_write : (handle : NotificationHandle) (exit : RunExitResult) (policy : RetryPolicy) (v : Machine) (o : Outcome Unit) → Proposes handle exit policy v o → EventWrites v (called o v)
+proposals_write handle exit policy v o is = called_writes v o (λ live. settled_unless_so (proposal_fault exit policy v.version) handle exit policy v o live is)
+
+-- the same of the call
+pub proposed_write : (handle : NotificationHandle) (exit : RunExitResult) (policy : RetryPolicy) (v : Machine) (o : Outcome Unit) → CalledBy (Proposes handle exit policy v) v o → EventWrites v o
+proposed_write handle exit policy v o h =
+    let from = called_from (Proposes handle exit policy v) v o h in
+    subst (EventWrites v) (sym from.2) (called_writes v from.0 (λ live. settled_unless_so (proposal_fault exit policy v.version) handle exit policy v from.0 live (from.1 live)))

@@ -6,4 +6,5 @@ pub mod Endings
 pub mod Preparing
 pub mod Replaying
 pub mod Resolving
+pub mod Running
 pub mod States

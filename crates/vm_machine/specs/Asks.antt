@@ -161,6 +161,10 @@ complete_promise_command key value options version = record {
   unstable = options.unstable_serialization;
 }
 
+-- an effect is executed outside, and its result is proposed
+abbrev pub run_command : List ℕ → Command
+run_command name = allowed (message.Run (record { name = name; result_completion_id = 0 })) false
+
 -- the scope of an invocation that is named by its workflow or its idempotency key
 abbrev pub scope_of : InvocationTarget → Option (List ℕ)
 scope_of (target.InvocationId id) = None
@@ -244,6 +248,7 @@ ask_of version (step.CancelInvocation target) = ask.Command (cancel_invocation_c
 ask_of version (step.GetPromise key) = ask.Command (get_promise_command key)
 ask_of version (step.PeekPromise key) = ask.Command (peek_promise_command key)
 ask_of version (step.CompletePromise key value options) = ask.Command (complete_promise_command key value options version)
+ask_of version (step.Run name) = ask.Command (run_command name)
 ask_of version (step.AttachInvocation target) = ask.Command (attach_invocation_command target version)
 ask_of version (step.GetInvocationOutput target) = ask.Command (get_invocation_output_command target version)
 ask_of version (step.WriteOutput value options) = ask.Command (output_command value options version)

@@ -1,8 +1,9 @@
 -- Awaits of trees: notifications are used in order of arrival until the tree is awake. Where the cancel signal ends awaits, one that it
 -- ends first reads the ids of the invocations that are cancelled with the handler's.
-use Rattle.std.specs.Prelude.{◌≡◌, ◌⊎◌, MatchBool, ℕ, Bool, true, false, ◌&&◌, if◌then◌else◌, List, [], ◌∷◌, ◌++◌, length, map, Option, Some, None, is_some, Result, Ok, Err}
-use Rattle.std.specs.Option.{option_and_then}
-use Rattle.await_trees.specs.Handles.{has_leaf}
+use Rattle.std.specs.Prelude.{◌≡◌, ◌⊎◌, MatchBool, ℕ, Bool, true, false, not, ◌&&◌, if◌then◌else◌, List, [], ◌∷◌, ◌++◌, length, map, Option, Some, None, is_some, find, Result, Ok, Err}
+use Rattle.std.specs.List.{list_any}
+use Rattle.std.specs.Option.{option_and_then, option_map, option_or}
+use Rattle.await_trees.specs.Handles.{handles_of, has_leaf}
 use Rattle.await_trees.specs.Tree.{Tree, leaf, node, none, more}
 use Rattle.await_trees.specs.Wires.{sent}
 use Rattle.await_tries.specs.Await.{LeastAwake, LeftPending}
@@ -19,10 +20,14 @@ use Rattle.journal_messages.specs.declared.message.Message.TheVariants as messag
 use Rattle.journal_messages.specs.Message.{encoding}
 use Rattle.journal_values.specs.declared.notification.NotificationId.{NotificationId}
 use Rattle.journal_values.specs.declared.notification.NotificationResult.{NotificationResult}
+use Rattle.runs.specs.Firsts.{with_first}
+use Rattle.runs.specs.Pending.{handle_of, has_handle, is_executing, is_executing_in, may_execute, started}
+use Rattle.runs.specs.Settling.{run_command}
 use Rattle.vm_parts.specs.declared.options.AwaitingOnPolicy.{AwaitingOnPolicy}
 use Rattle.vm_parts.specs.declared.options.AwaitingOnPolicy.TheVariants as policy
+use Rattle.vm_parts.specs.declared.run_state.PendingRun.{PendingRun}
 use Rattle.vm_parts.specs.declared.types.AwaitResponse.{AwaitResponse}
-use Rattle.vm_parts.specs.declared.types.AwaitResponse.TheVariants.{AnyCompleted, CancelSignalReceived, WaitingExternalProgress}
+use Rattle.vm_parts.specs.declared.types.AwaitResponse.TheVariants.{AnyCompleted, CancelSignalReceived, ExecuteRun, WaitingExternalProgress}
 use Rattle.vm_parts.specs.Deliveries.{id_at, present_for}
 use Rattle.vm_parts.specs.Options.{ends_awaits}
 use Rattle.vm_parts.specs.Tracked.{id_of_result, unresolved, with_next_id}
@@ -40,31 +45,62 @@ abbrev pub suspended : Future → Machine → Machine
 suspended future v =
     record v { output = v.output ++ encoding (message.Suspension (record { future = future })) ∷ []; output_ended = true; phase = Closed }
 
--- By this policy an await that waits may say what for. No run is executing.
-abbrev pub allows : AwaitingOnPolicy → Bool
-allows policy.SendAlways = true
-allows policy.DontSendWhenExecutingRun = true
-allows policy.DontSend = false
+-- By this policy an await that waits may say what for, by whether any run is executing.
+abbrev pub allows : AwaitingOnPolicy → Bool → Bool
+allows policy.SendAlways executing = true
+allows policy.DontSendWhenExecutingRun executing = not executing
+allows policy.DontSend executing = false
 
 -- An await that waits says what for: from version 7 on, where the policy allows it and what is left of the tree has a leaf.
-abbrev pub says_so : Version → AwaitingOnPolicy → Tree → Bool
-says_so version policy left = is_from_v7 version && (allows policy && has_leaf left)
+abbrev pub says_so : Version → AwaitingOnPolicy → Bool → Tree → Bool
+says_so version policy executing left = is_from_v7 version && (allows policy executing && has_leaf left)
 
 -- what it then says: what is left of the tree, by the ids that its handles stand for
-abbrev pub said_waiting : Version → AwaitingOnPolicy → (ℕ → Option NotificationId) → Tree → List Message
-said_waiting version policy id left =
-    if says_so version policy left then message.AwaitingOn (record { future = sent id left; executing_side_effects = false }) ∷ [] else []
+abbrev pub said_waiting : Version → AwaitingOnPolicy → Bool → (ℕ → Option NotificationId) → Tree → List Message
+said_waiting version policy executing id left =
+    if says_so version policy executing left then message.AwaitingOn (record { future = sent id left; executing_side_effects = false }) ∷ [] else []
 
 -- it waits, and has said what for where it says so
 abbrev pub waiting : Tree → Machine → Machine
-waiting left v = record v { output = v.output ++ map encoding (said_waiting v.version v.options.awaiting_on_policy (ids v.results) left) }
+waiting left v =
+    record v { output = v.output ++ map encoding (said_waiting v.version v.options.awaiting_on_policy (list_any is_executing v.runs) (ids v.results) left) }
+
+-- ---- runs that are awaited
+
+-- the pending run of a handle that wasn't taken
+abbrev pub run_at : ℕ → Machine → Option PendingRun
+run_at handle v = if is_some (id_at handle v.results.handles) then find (has_handle (record { 0 = handle })) v.runs else None
+
+-- the run of the last of these handles that has one
+abbrev pub last_run : List ℕ → Machine → Option PendingRun
+last_run [] v = None
+last_run (handle ∷ handles) v = option_or (last_run handles v) (run_at handle v)
+
+-- an await that is pending in replay is refused, and relates to the command of the last run that it waits for
+abbrev pub pending_in_replay : List ℕ → Machine → Outcome (Result AwaitResponse Error)
+pending_in_replay handles v = Failed (named_error fault.UncompletedDoProgressDuringReplay (option_map run_command (last_run handles v))) v
+
+-- the first of the runs with these handles that isn't executing is executed from now on
+abbrev pub executed : List ℕ → Machine → Machine
+executed handles v = record v { runs = with_first (may_execute handles) started v.runs }
+
+-- An await waits for input and for the results of runs, by whether the input is closed and whether a run that it waits for is
+-- executing; where neither can come, the invocation is suspended.
+abbrev pub waits_by : Bool → Bool → Tree → Machine → Outcome (Result AwaitResponse Error)
+waits_by false executing left v = Done (Ok (WaitingExternalProgress true executing)) (waiting left v)
+waits_by true true left v = Done (Ok (WaitingExternalProgress false true)) v
+waits_by true false left v = Done (Err (named_error fault.Suspended None)) (suspended (sent (ids v.results) left) v)
+
+-- An await that stays pending in Processing: a run that it waits for is executed first, where there is one that isn't executing.
+abbrev pub waits_on : Option PendingRun → Bool → Tree → Machine → Outcome (Result AwaitResponse Error)
+waits_on (Some run) executing left v = Done (Ok (ExecuteRun (handle_of run))) (executed (handles_of left) v)
+waits_on None executing left v = waits_by v.input_closed executing left v
 
 -- an await that stays pending, by what is left of its tree
 abbrev pub pending_on : Tree → Machine → Outcome (Result AwaitResponse Error)
 pending_on left v =
-    if is_replaying v.phase then refused fault.UncompletedDoProgressDuringReplay v
-    else if v.input_closed then Done (Err (named_error fault.Suspended None)) (suspended (sent (ids v.results) left) v)
-    else Done (Ok (WaitingExternalProgress true false)) (waiting left v)
+    if is_replaying v.phase then pending_in_replay (handles_of left) v
+    else waits_on (find (may_execute (handles_of left)) v.runs) (list_any (is_executing_in (handles_of left)) v.runs) left v
 
 -- The await ends: as many notifications are used as wake the tree, and no fewer would.
 abbrev pub Ends : Tree → Machine → Outcome (Result AwaitResponse Error) → Type 0
@@ -103,6 +139,7 @@ is_cancelled v = is_some (result_at 1 v)
 abbrev pub has_woken : Result AwaitResponse Error → Bool
 has_woken (Ok AnyCompleted) = true
 has_woken (Ok CancelSignalReceived) = false
+has_woken (Ok (ExecuteRun handle)) = false
 has_woken (Ok (WaitingExternalProgress input run)) = false
 has_woken (Err e) = false
 

@@ -19,6 +19,7 @@ use Rattle.vm_parts.specs.declared.options.NonDeterministicChecksOption.{NonDete
 use Rattle.vm_parts.specs.declared.options.NonDeterministicChecksOption.TheVariants as checks
 use Rattle.await_trees.specs.declared.handle.NotificationHandle.{NotificationHandle}
 use Rattle.vm_parts.specs.Counting.{next_index, missing}
+use Rattle.vm_parts.specs.Deliveries.{is_known}
 use Rattle.vm_machine.specs.declared.asks.Command.{Command}
 use Rattle.vm_machine.specs.declared.fault.Fault.{Fault}
 use Rattle.vm_machine.specs.declared.machine.Machine.{Machine}
@@ -26,7 +27,7 @@ use Rattle.vm_machine.specs.declared.phase.Phase.{Phase}
 use Rattle.vm_machine.specs.declared.phase.Phase.TheVariants.{Replaying, Processing}
 use Rattle.vm_machine.specs.Outcomes.{Outcome, Done, Failed, ◌>>=◌, Gives, about_last, refused}
 use Rattle.vm_machine.specs.Phases.{is_running, is_processing, state_fault}
-use Rattle.vm_machine.specs.Requests.{changed, ids_of, name_of, shown_type, tracked_after, with_ids}
+use Rattle.vm_machine.specs.Requests.{changed, ids_of, name_of, runs_after, shown_type, tracked_after, with_ids}
 
 -- a command is counted, and its type and name are kept
 abbrev pub entered : MessageType → List ℕ → Machine → Machine
@@ -106,11 +107,19 @@ handed_out n v =
       counters = given_on n v.counters;
     }
 
+-- the completion id that comes next has a result already
+abbrev pub knows_next : Machine → Bool
+knows_next v = is_known (CompletionId v.counters.completion) v.results
+
 -- what a call changes before its command: it is counted and shown, its numbers are given, it is tracked where its invocation is
--- cancelled with the handler's, and the state is changed
+-- cancelled with the handler's, it is pending where it is a run without a result, and the state is changed
 abbrev pub prepared : Message → Machine → Machine
 prepared m v =
-    (let w = handed_out (ids_of m) (entered (shown_type m) (name_of m) v) in record w { tracked = tracked_after v.options.implicit_cancellation m v.counters.handle v.tracked; state = changed (with_ids v.counters.completion m) v.state })
+    (let w = handed_out (ids_of m) (entered (shown_type m) (name_of m) v) in record w {
+      tracked = tracked_after v.options.implicit_cancellation m v.counters.handle v.tracked;
+      runs = runs_after m (record { 0 = v.counters.handle }) v.counters.completion (next_index v.counters.command) (knows_next v) v.runs;
+      state = changed (with_ids v.counters.completion m) v.state;
+    })
 
 -- a call whose state was checked: the counters, and then the command
 abbrev pub counted : Option NamedFault → Message → Bool → Machine → Outcome NotificationHandle

@@ -1,19 +1,24 @@
 -- What comes to a machine: messages, the closing of the input, and a handler that reads its input.
-use Rattle.std.specs.Prelude.{◌≡◌, ◌⊎◌, ℕ, ◌-◌, Bool, true, false, ◌&&◌, ◌==◌, if◌then◌else◌, nat_lt, nat_le, List, [], ◌∷◌, ◌++◌, Option, Some, None, Result, Ok, Err, IsErr}
+use Rattle.std.specs.Prelude.{◌≡◌, ◌⊎◌, ℕ, ◌-◌, Bool, true, false, ◌&&◌, ◌==◌, if◌then◌else◌, nat_lt, nat_le, List, [], ◌∷◌, ◌++◌, find, Option, Some, None, Result, Ok, Err, IsErr}
 use Rattle.std.specs.List.{list_all}
 use Rattle.std.specs.Str.{is_utf8}
 use Rattle.std.specs.declared.alloc.AllocError.{AllocError}
 use Rattle.journal_attempt.specs.declared.commands.InputCommand.{InputCommand}
+use Rattle.journal_attempt.specs.declared.runs.ProposeRunCompletionAck.{ProposeRunCompletionAck}
 use Rattle.journal_errors.specs.declared.faults.NamedFault.{NamedFault}
 use Rattle.journal_errors.specs.declared.faults.NamedFault.TheVariants as fault
 use Rattle.journal_messages.specs.declared.message.Message.TheVariants as message
 use Rattle.journal_messages.specs.declared.message.RawMessage.{RawMessage}
 use Rattle.journal_values.specs.declared.notification.Notification.{Notification}
+use Rattle.journal_values.specs.declared.notification.NotificationId.TheVariants.{CompletionId}
 use Rattle.journal_attempt.specs.declared.start.Start.{Start}
 use Rattle.journal_errors.specs.declared.types.MessageType.TheVariants as type
 use Rattle.journal_errors.specs.declared.version.Version.{Version}
 use Rattle.journal_messages.specs.Message.{encoding}
-use Rattle.journal_messages.specs.Reading.{start_in, input_in, notification_in}
+use Rattle.journal_messages.specs.Reading.{acknowledgement_in, start_in, input_in, notification_in}
+use Rattle.runs.specs.Firsts.{without_first}
+use Rattle.runs.specs.Kept.{completion_result, is_for}
+use Rattle.vm_parts.specs.declared.run_state.KeptProposal.{KeptProposal}
 use Rattle.journal_errors.specs.Types.{type_number}
 use Rattle.vm_parts.specs.declared.context.Counters.{Counters}
 use Rattle.vm_parts.specs.declared.context.StartInfo.{StartInfo}
@@ -119,6 +124,28 @@ notification_step raw Replaying v = queued (notification_in raw.body) (λ w. w) 
 notification_step raw Processing v = queued (notification_in raw.body) (λ w. w) v
 notification_step raw Closed v = Done tt v
 
+-- ---- acknowledgements
+
+-- the completion of this id that a kept proposal stands for
+abbrev pub completion_of : ℕ → KeptProposal → Notification
+completion_of id kept = record { id = CompletionId id; result = completion_result kept.result }
+
+-- The first kept proposal of this id, if there is one, comes as the run's completion, and isn't kept any more.
+abbrev pub acknowledged : ℕ → Option KeptProposal → Machine → Outcome Unit
+acknowledged id None v = refused fault.BadProposeRunCompletionAck v
+acknowledged id (Some kept) v = Done tt (enqueued (completion_of id kept) (record v { proposals = without_first (is_for id) v.proposals }))
+
+-- an acknowledgement that was read
+abbrev pub acknowledged_by : Option ProposeRunCompletionAck → Machine → Outcome Unit
+acknowledged_by None v = refused fault.BadMessage v
+acknowledged_by (Some ack) v = acknowledged ack.id (find (is_for ack.id) v.proposals) v
+
+-- a proposal is acknowledged
+abbrev pub acknowledgement_step : RawMessage → Phase → Machine → Outcome Unit
+acknowledgement_step raw Processing v = acknowledged_by (acknowledgement_in raw.body) v
+acknowledgement_step raw Closed v = Done tt v
+acknowledgement_step raw phase v = refused fault.UnexpectedState v
+
 -- ---- any message
 
 -- What is refused for its type in the machine's phase, or ignored, isn't decoded.
@@ -127,6 +154,7 @@ message_step raw v =
     if type_number raw.ty == 1 then start_step raw v.phase v
     else if nat_le 10 (type_number raw.ty) && nat_lt (type_number raw.ty) 30 then entry_step raw v.phase v
     else if type_number raw.ty == 30 then notification_step raw v.phase v
+    else if type_number raw.ty == 6 then acknowledgement_step raw v.phase v
     else refused fault.UnexpectedInputMessage v
 
 -- bytes that are no frame

@@ -8,6 +8,7 @@ pub mod Making
 pub mod Numbers
 pub mod Outcomes
 pub mod Phases
+pub mod Proposals
 pub mod Queries
 pub mod Reads
 pub mod Replays

@@ -2,14 +2,14 @@
 ghost use Rattle.std.specs.Prelude.{◌≡◌, ◌+◌, ◌<◌, ◌^◌, ◌/◌, min};
 ghost use Rattle.std.specs.Duration.{as_nanos};
 ghost use Rattle.std.specs.Option.{option_copied};
-ghost use Rattle.vm_machine.specs.Asks.{HandlesFit, allowed, answer_by, answer_kind, ask_of, attach_invocation_command, call_command, call_handles, cancel_invocation_command, clear_all_state_command, clear_state_command, complete_awakeable_command, complete_promise_command, complete_signal_command, early_fault, empty_fault, get_invocation_output_command, get_promise_command, has_metadata, millis_of, name_in, output_command, peek_promise_command, request_of, scope_fault, scope_of, send_command, send_handle, set_state_command, signal_result, sleep_command, target_fault, time_fault, value_fault};
+ghost use Rattle.vm_machine.specs.Asks.{HandlesFit, allowed, answer_by, answer_kind, ask_of, attach_invocation_command, call_command, call_handles, cancel_invocation_command, clear_all_state_command, clear_state_command, complete_awakeable_command, complete_promise_command, complete_signal_command, early_fault, empty_fault, get_invocation_output_command, get_promise_command, has_metadata, millis_of, name_in, output_command, peek_promise_command, request_of, run_command, scope_fault, scope_of, send_command, send_handle, set_state_command, signal_result, sleep_command, target_fault, time_fault, value_fault};
 ghost use Rattle.vm_machine.specs.Requests.{ids_of};
 
 use crate::machine::empty_text;
 use crate::reads::StateRead;
 use crate::request;
 use bytes::Bytes;
-use journal_attempt::{OutputCommand, SleepCommand};
+use journal_attempt::{OutputCommand, RunCommand, SleepCommand};
 use journal_calls::{
     CallCommand, CallRequest, CompleteAwakeableCommand, CompletePromiseCommand, InvocationCommand,
     InvocationTarget, OneWayCallCommand, PromiseCommand, SendSignalCommand, Signal, SignalResult,
@@ -209,6 +209,16 @@ pub fn cancel_invocation(target_invocation_id: Text) -> Command
         target_invocation_id,
         signal: Signal::Index(CANCEL_SIGNAL),
         result: SignalResult::Void,
+    });
+    allowed(message, false)
+}
+
+pub fn run(name: Text) -> Command
+    ensures { result ≡ run_command name }
+{
+    let message = Message::Run(RunCommand {
+        name,
+        result_completion_id: 0,
     });
     allowed(message, false)
 }
@@ -464,6 +474,7 @@ pub fn ask_of(alloc: Global, version: Version, step: Step) -> Ask
             value,
             options,
         } => Ask::Command(complete_promise(key, value, options, version)),
+        Step::Run { name } => Ask::Command(run(name)),
         Step::AttachInvocation(target) => Ask::Command(attach_invocation(target, version)),
         Step::GetInvocationOutput(target) => Ask::Command(get_invocation_output(target, version)),
         Step::WriteOutput(value, options) => Ask::Command(output(value, options, version)),

@@ -1,26 +1,29 @@
 //! Awaits of trees: notifications are used until the tree is awake, or the cancel signal is there; else the machine waits for what is
 //! left of the tree.
-ghost use Rattle.std.specs.Prelude.{◌≡◌, ◌∷◌, ◌++◌, [], IfOk, OnOk, OnErr};
-ghost use Rattle.std.specs.Option.{option_and_then};
+ghost use Rattle.std.specs.Prelude.{◌≡◌, ◌∷◌, ◌++◌, [], find, IfNone, IfOk, IfSome, OnOk, OnErr};
+ghost use Rattle.std.specs.List.{list_any};
+ghost use Rattle.std.specs.Option.{option_and_then, option_map};
 ghost use Rattle.await_trees.specs.Tree.{tree_of};
 ghost use Rattle.await_trees.specs.Wires.{sent};
 ghost use Rattle.await_tries.specs.Left.{tree_left};
 ghost use Rattle.await_tries.specs.Message.{ids};
 ghost use Rattle.journal_messages.specs.Message.{encoding};
+ghost use Rattle.runs.specs.Pending.{handle_of, is_executing, may_execute};
+ghost use Rattle.runs.specs.Settling.{run_command};
 ghost use Rattle.journal_messages.specs.declared.message.Message.TheVariants as message;
 ghost use Rattle.vm_machine.specs.Outcomes.{Gives, GivesBy};
 ghost use Rattle.vm_parts.specs.Options.{ends_awaits};
 ghost use Rattle.vm_parts.specs.Tracked.{id_of_result, unresolved};
-ghost use Rattle.vm_machine.specs.Awaits.{Awaits, Gathers, ReadsId, Tries, TriesOrCancels, allows, has_woken, is_cancelled, is_first_of_none, or_cancelled, pending_on, result_at, says_so, waiting};
+ghost use Rattle.vm_machine.specs.Awaits.{Awaits, Gathers, ReadsId, Tries, TriesOrCancels, allows, executed, has_woken, is_cancelled, is_first_of_none, last_run, or_cancelled, pending_on, result_at, run_at, says_so, waiting, waits_by};
 ghost use Rattle.vm_machine.specs.Cancels.{cancel_taken};
 
 use crate::fault::{Fault, refuse};
 use crate::machine::Machine;
 use crate::phase::Phase;
 use await_trees::UnresolvedFuture;
-use await_tries::{Residue, Resolution, future_of, has_leaf, try_future};
+use await_tries::{Residue, Resolution, future_of, has_leaf, list_handles, try_future};
 use journal_attempt::{AwaitingOn, Suspension};
-use journal_errors::{Error, NamedFault, Version};
+use journal_errors::{Error, MessageType, NamedFault, RelatedCommand, Version};
 use journal_messages::Message;
 use journal_values::NotificationResult;
 use std::alloc::{AllocError, Global};
@@ -30,12 +33,13 @@ use vm_parts::{
 };
 use wire::{Items, Text, copy_of};
 
-/// Whether an await that waits may say what for. No run is executing.
-fn allows(policy: AwaitingOnPolicy) -> bool
-    ensures { result ≡ allows policy }
+/// Whether an await that waits may say what for, by whether any run is executing.
+fn allows(policy: AwaitingOnPolicy, executing: bool) -> bool
+    ensures { result ≡ allows policy executing }
 {
     match policy {
-        AwaitingOnPolicy::SendAlways | AwaitingOnPolicy::DontSendWhenExecutingRun => true,
+        AwaitingOnPolicy::SendAlways => true,
+        AwaitingOnPolicy::DontSendWhenExecutingRun => !executing,
         AwaitingOnPolicy::DontSend => false,
     }
 }
@@ -93,9 +97,10 @@ impl Machine {
 
     /// Whether an await that waits says what for.
     fn says_so(&self, left: &Residue) -> Result<bool, AllocError>
-        ensures { IfOk result (λ says. says ≡ says_so self.now.version self.now.options.awaiting_on_policy (tree_left left.now)) }
+        ensures { IfOk result (λ says. says ≡ says_so self.now.version self.now.options.awaiting_on_policy (list_any is_executing self.now.runs) (tree_left left.now)) }
     {
-        if self.version < Version::V7 || !allows(self.options.awaiting_on_policy) {
+        let executing = self.runs.any_executing();
+        if self.version < Version::V7 || !allows(self.options.awaiting_on_policy, executing) {
             return Ok(false);
         }
         has_leaf(self.alloc, left)
@@ -119,24 +124,89 @@ impl Machine {
         written
     }
 
-    /// An await that stays pending on what is left of a tree.
-    fn pend_on(&mut self, left: &Residue) -> Result<Result<AwaitResponse, Error>, Fault>
-        ensures { Gives (pending_on (tree_left left.now) self.old) result self.old self.new }
+    /// The pending run of a handle that wasn't taken, as an error that relates to its command shows it.
+    fn related_run(&self, handle: u32) -> Result<Option<RelatedCommand>, AllocError>
+        ensures { IfOk result (λ related. related ≡ option_map run_command (run_at handle self.now)) }
     {
-        if self.phase.is_replaying() {
-            return Err(refuse(NamedFault::UncompletedDoProgressDuringReplay));
+        if self.results.find(handle).is_none() {
+            return Ok(None);
         }
+        match self.runs.get_run_info(&NotificationHandle(handle)) {
+            None => Ok(None),
+            Some((index, name)) => Ok(Some(RelatedCommand {
+                index,
+                ty: MessageType::RunCommand,
+                name: Text::from_str(self.alloc, name)?,
+            })),
+        }
+    }
+
+    /// The run of the last of these handles that has one, as an error that relates to its command shows it.
+    fn last_related_run(&self, handles: &[u32]) -> Result<Option<RelatedCommand>, AllocError>
+        ensures { IfOk result (λ related. related ≡ option_map run_command (last_run handles.now self.now)) }
+    {
+        let mut found = None;
+        for handle in handles {
+            found = self.related_run(*handle)?.or(found);
+        }
+        Ok(found)
+    }
+
+    /// The first of the runs with these handles that isn't executing is executed from now on.
+    fn execute_run(&mut self, handles: &[u32]) -> Option<NotificationHandle>
+        ensures run { result ≡ option_map handle_of (find (may_execute handles.now) self.old.runs) }
+        ensures some { IfSome result (λ run. self.new ≡ executed handles.now self.old) }
+        ensures none { IfNone result (self.new ≡ self.old) }
+    {
+        match self.runs.try_execute_run(handles) {
+            Some(run) => Some(run),
+            None => None,
+        }
+    }
+
+    /// An await waits for input and for the results of runs, by whether a run that it waits for is executing; where neither can come,
+    /// the invocation is suspended.
+    fn wait_or_suspend(
+        &mut self,
+        left: &Residue,
+        executing: bool,
+    ) -> Result<Result<AwaitResponse, Error>, Fault>
+        ensures { Gives (waits_by self.old.input_closed executing (tree_left left.now) self.old) result self.old self.new }
+    {
         if !self.input_closed {
             self.wait_on(left)?;
             return Ok(Ok(AwaitResponse::WaitingExternalProgress {
                 waiting_input: true,
-                waiting_run_proposal: false,
+                waiting_run_proposal: executing,
+            }));
+        }
+        if executing {
+            return Ok(Ok(AwaitResponse::WaitingExternalProgress {
+                waiting_input: false,
+                waiting_run_proposal: true,
             }));
         }
         self.suspend_on(left)?;
         self.output_ended = true;
         self.phase = Phase::Closed;
         Ok(Err(Error::named(NamedFault::Suspended, None)))
+    }
+
+    /// An await that stays pending on what is left of a tree.
+    fn pend_on(&mut self, left: &Residue) -> Result<Result<AwaitResponse, Error>, Fault>
+        ensures { Gives (pending_on (tree_left left.now) self.old) result self.old self.new }
+    {
+        let handles = list_handles(self.alloc, left)?;
+        if self.phase.is_replaying() {
+            let related = self.last_related_run(handles.as_slice())?;
+            let fault = NamedFault::UncompletedDoProgressDuringReplay;
+            return Err(Fault::Refused(Error::named(fault, related)));
+        }
+        if let Some(run) = self.execute_run(handles.as_slice()) {
+            return Ok(Ok(AwaitResponse::ExecuteRun(run)));
+        }
+        let executing = self.runs.any_executing_in_this_set(handles.as_slice());
+        self.wait_or_suspend(left, executing)
     }
 
     /// One try of a future by the notifications alone; it may stay pending.

@@ -3,9 +3,9 @@ ghost use Rattle.std.specs.Prelude.{◌≡◌, ◌<◌, ◌+◌, ◌^◌, ◌∷
 ghost use Rattle.journal_errors.specs.Errors.{named_error};
 ghost use Rattle.journal_messages.specs.Message.{IsWhole};
 ghost use Rattle.vm_machine.specs.Outcomes.{Gives, about_last, last_related, lasting};
-ghost use Rattle.vm_machine.specs.Commands.{entered, phase_after, written, popped, replayed, carried_out, handed_out, checks_are_off, Carries, Issues};
+ghost use Rattle.vm_machine.specs.Commands.{entered, phase_after, written, popped, replayed, carried_out, handed_out, checks_are_off, knows_next, Carries, Issues};
 ghost use Rattle.vm_machine.specs.Phases.{is_processing};
-ghost use Rattle.vm_machine.specs.Requests.{changed, ids_of, tracked_after};
+ghost use Rattle.vm_machine.specs.Requests.{changed, ids_of, runs_after, tracked_after};
 
 use crate::asks::Command;
 use crate::fault::{Fault, refuse};
@@ -158,6 +158,34 @@ impl Machine {
         Ok(())
     }
 
+    /// Whether the completion id that comes next has a result already.
+    pub fn knows_next(&self) -> bool
+        ensures { result ≡ knows_next self.now }
+    {
+        let id = NotificationId::CompletionId(self.counters.completion);
+        self.results.knows(&id)
+    }
+
+    /// Keeps a run whose result isn't known, by its handle and its index.
+    fn note_run(
+        &mut self,
+        command: &Message,
+        handle: NotificationHandle,
+        index: u32,
+    ) -> Result<(), AllocError>
+        ensures ok { OnOk result (self.new ≡ record self.old { runs = runs_after command.now handle self.old.counters.completion index (knows_next self.old) self.old.runs }) }
+        ensures err { OnErr result (lasting self.new ≡ lasting self.old) }
+    {
+        if let Message::Run(run) = command {
+            if !self.knows_next() {
+                let name = copy_of(&run.name)?;
+                self.runs
+                    .insert_run_to_execute(handle, self.counters.completion, index, name)?;
+            }
+        }
+        Ok(())
+    }
+
     /// What a command changes of the state.
     fn change(&mut self, command: &Message) -> Result<(), AllocError>
         ensures ok { OnOk result (self.new ≡ record self.old { state = changed command.now self.old.state }) }
@@ -191,12 +219,13 @@ impl Machine {
             return Err(Fault::Refused(self.about_last(self.phase.fault())?));
         }
         let ids = ids_of(message);
+        let index = self.counters.next_index();
         if let Some(fault) = self.counters.missing(ids, 0, ids) {
-            let index = self.counters.next_index();
             return Err(Fault::Refused(about_next(fault, index, ty, name)));
         }
         let handle = NotificationHandle(self.counters.handle);
         self.track(message, handle)?;
+        self.note_run(message, handle, index)?;
         give_ids(message, self.counters.completion);
         self.enter(ty, name);
         self.hand_out(ids)?;

@@ -1,5 +1,5 @@
 //! Laws of the calls, in replay as in Processing.
-ghost use Rattle.std.specs.Prelude.{◌≡◌, ℕ, Bool, true, false, List, [], ◌∷◌, Option, Some, None, Result};
+ghost use Rattle.std.specs.Prelude.{◌≡◌, ℕ, Bool, true, false, find, List, [], ◌∷◌, Option, Some, None, Result};
 ghost use Rattle.vm_parts.specs.declared.types.AwakeableHandle.{AwakeableHandle};
 ghost use Rattle.await_trees.specs.declared.handle.NotificationHandle.{NotificationHandle};
 ghost use Rattle.vm_machine.specs.declared.machine.Machine.{Machine};
@@ -18,16 +18,24 @@ ghost use Rattle.vm_machine.specs.Asks.{ask_of};
 ghost use Rattle.vm_machine.specs.Takes.{take_step};
 ghost use Rattle.vm_machine.specs.Commands.{issued};
 ghost use Rattle.vm_machine.specs.Endings.{EventWrites, Writes, is_over, is_terminal};
-ghost use Rattle.vm_machine.specs.Inputs.{close_step, end_step, input_step, malformed_step, message_step};
+ghost use Rattle.journal_values.specs.declared.parts.ValueOrFailure.{ValueOrFailure};
+ghost use Rattle.runs.specs.Firsts.{without_first};
+ghost use Rattle.runs.specs.Kept.{is_for};
+ghost use Rattle.vm_parts.specs.declared.run_state.KeptProposal.{KeptProposal};
+ghost use Rattle.vm_machine.specs.Phases.{is_from_v7};
+ghost use Rattle.vm_machine.specs.Inputs.{completion_of, enqueued, close_step, end_step, input_step, malformed_step, message_step};
 ghost use Rattle.vm_machine.specs.Reports.{report_step};
 ghost use Rattle.vm_machine.specs.Numbers.{Counted};
-ghost use Rattle.vm_machine.specs.Outcomes.{Done, Failed, Outcome, called};
+ghost use Rattle.vm_machine.specs.Outcomes.{Done, Failed, Outcome, called, refused};
 ghost use Rattle.vm_machine.specs.Replays.{MayReplay, Pops, Refuses, is_header_equal, is_of_its_type};
 ghost use Rattle.vm_machine.specs.Requests.{changed, ids_of, with_ids};
 ghost use Rattle.vm_machine.specs.Signals.{awakeable_step, signal_step};
 ghost use Rattle.vm_machine.specs.declared.reads.StateRead.{StateRead};
 ghost use Rattle.vm_machine.specs.Reads.{read_step};
+ghost use Rattle.retries.specs.declared.policy.RetryPolicy.{RetryPolicy};
+ghost use Rattle.runs.specs.declared.types.RunExitResult.{RunExitResult};
 ghost use Rattle.vm_machine.specs.Awaits.{Awaits};
+ghost use Rattle.vm_machine.specs.Proposals.{Acknowledges, Proposes, proposed};
 ghost use Rattle.await_trees.specs.Tree.{Tree};
 ghost use Rattle.vm_parts.specs.declared.types.AwaitResponse.{AwaitResponse};
 
@@ -61,9 +69,18 @@ pub fn output_ends_once()
     ensures inputs { (v : Machine) → EventWrites v (called (input_step v) v) }
     ensures ends { (v : Machine) → EventWrites v (called (end_step v) v) }
     ensures reports { (e : Error) (relationship : Option CommandRelationship) (v : Machine) → EventWrites v (called (report_step e relationship v) v) }
+    ensures proposals { (handle : NotificationHandle) (exit : RunExitResult) (policy : RetryPolicy) (v : Machine) (o : Outcome Unit) → Proposes handle exit policy v o → EventWrites v (called o v) }
     ensures messages { (raw : RawMessage) (v : Machine) → EventWrites v (called (message_step raw v) v) }
     ensures malformed { (v : Machine) → EventWrites v (called (malformed_step v) v) }
     ensures closings { (v : Machine) → EventWrites v (called (close_step v) v) }
+{}
+
+/// In Processing an acknowledgement brings the proposed result, once, as the completion of its run, and is refused where none is kept;
+/// one is kept only from version 7 on.
+pub fn acknowledgements_bring_what_was_proposed()
+    ensures kept { (raw : RawMessage) (id : ℕ) (kept : KeptProposal) (v : Machine) → Acknowledges raw id v → find (is_for id) v.proposals ≡ Some kept → message_step raw v ≡ Done tt (enqueued (completion_of id kept) (record v { proposals = without_first (is_for id) v.proposals })) }
+    ensures none { (raw : RawMessage) (id : ℕ) (v : Machine) → Acknowledges raw id v → find (is_for id) v.proposals ≡ None → message_step raw v ≡ refused fault.BadProposeRunCompletionAck v }
+    ensures early { (id : ℕ) (result : ValueOrFailure) (v : Machine) → is_from_v7 v.version ≡ false → (proposed id result v).proposals ≡ v.proposals }
 {}
 
 /// What a step asks for is no terminal message.

@@ -9,6 +9,7 @@ pub mod issue;
 pub mod laws;
 pub mod machine;
 pub mod phase;
+pub mod proposals;
 pub mod queries;
 pub mod reads;
 pub mod receive;

@@ -6,10 +6,11 @@ use crate::phase::Phase;
 use bytes::Bytes;
 use journal_errors::{Error, MessageType, Version};
 use journal_messages::RawMessage;
+use runs::{KeptProposals, RunState};
 use std::alloc::{AllocError, Global};
 use vm_parts::{
-    AsyncResults, Counters, EphemeralCommand, KeptProposal, LastCommand, Outbox, PendingRun, Queue,
-    StartInfo, StateCoverage, StateMap, TrackedCalls, VMOptions,
+    AsyncResults, Counters, EphemeralCommand, LastCommand, Outbox, Queue, StartInfo, StateCoverage,
+    StateMap, TrackedCalls, VMOptions,
 };
 use wire::{Items, Text};
 
@@ -34,8 +35,10 @@ pub struct Machine {
     pub wrote_command: bool,
     pub results: AsyncResults,
     pub state: StateMap,
-    pub runs: Items<PendingRun>,
-    pub proposals: Items<KeptProposal>,
+    /// The runs whose results are neither known nor proposed.
+    pub runs: RunState,
+    /// The results that were proposed and wait for their acknowledgement.
+    pub proposals: KeptProposals,
     /// The calls whose invocations are cancelled with the handler's.
     pub tracked: TrackedCalls,
     pub ephemeral: Items<EphemeralCommand>,
@@ -94,8 +97,8 @@ impl Machine {
             wrote_command: false,
             results,
             state: StateMap::new(alloc, StateCoverage::Partial),
-            runs: Items::new(alloc),
-            proposals: Items::new(alloc),
+            runs: RunState::new(alloc),
+            proposals: KeptProposals::new(alloc),
             tracked: TrackedCalls::new(alloc),
             ephemeral: Items::new(alloc),
             output: Outbox::new(alloc),

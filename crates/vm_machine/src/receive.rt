@@ -1,8 +1,9 @@
 //! Messages that come in: Start, the recorded commands, notifications, and the closing of the input.
-ghost use Rattle.std.specs.Prelude.{◌≡◌, Some, None, IfOk, OnErr, true};
+ghost use Rattle.std.specs.Prelude.{◌≡◌, find, Some, None, IfOk, OnErr, true};
+ghost use Rattle.runs.specs.Kept.{is_for};
 ghost use Rattle.vm_machine.specs.Outcomes.{Gives};
 ghost use Rattle.vm_machine.specs.Phases.{is_waiting};
-ghost use Rattle.vm_machine.specs.Inputs.{from_version, started, info_of, entries_in, coverage_of, counted_entry, start_step, entry_step, notification_step, message_step, malformed_step, close_step};
+ghost use Rattle.vm_machine.specs.Inputs.{from_version, started, info_of, entries_in, coverage_of, counted_entry, start_step, acknowledged, acknowledgement_step, entry_step, notification_step, message_step, malformed_step, close_step};
 
 use crate::fault::{Fault, refuse};
 use crate::machine::Machine;
@@ -11,6 +12,8 @@ use bytes::Bytes;
 use journal_attempt::Start;
 use journal_errors::{NamedFault, Version};
 use journal_messages::RawMessage;
+use journal_values::{Notification, NotificationId};
+use runs::completion_result;
 use std::alloc::{AllocError, Global};
 use vm_parts::{Entries, StartInfo, StateCoverage, StateMap};
 use wire::{Items, Text};
@@ -169,6 +172,39 @@ impl Machine {
         Ok(())
     }
 
+    /// The proposal of this id is acknowledged: its result comes as the run's completion.
+    fn acknowledge(&mut self, id: u32) -> Result<(), Fault>
+        ensures step { Gives (acknowledged id (find (is_for id) self.old.proposals) self.old) result self.old self.new }
+        ensures quiet { self.new.output ≡ self.old.output }
+        ensures failure { self.new.failure ≡ self.old.failure }
+    {
+        let Some(proposed) = self.proposals.acknowledge(id) else {
+            return Err(refuse(NamedFault::BadProposeRunCompletionAck));
+        };
+        self.results.enqueue(Notification {
+            id: NotificationId::CompletionId(id),
+            result: completion_result(proposed),
+        })?;
+        Ok(())
+    }
+
+    fn receive_acknowledgement(&mut self, raw: &RawMessage) -> Result<(), Fault>
+        ensures step { Gives (acknowledgement_step raw.now self.old.phase self.old) result self.old self.new }
+        ensures quiet { self.new.output ≡ self.old.output }
+        ensures failure { self.new.failure ≡ self.old.failure }
+    {
+        match self.phase {
+            Phase::Processing => {}
+            Phase::Closed => return Ok(()),
+            _ => return Err(refuse(NamedFault::UnexpectedState)),
+        }
+        match raw.read_acknowledgement(self.alloc) {
+            Ok(acknowledgement) => self.acknowledge(acknowledgement.id),
+            Err(wire::Fault::Memory) => Err(Fault::Memory),
+            Err(wire::Fault::Malformed) => Err(refuse(NamedFault::BadMessage)),
+        }
+    }
+
     /// A message comes.
     #[tactic(auto, unfolding(crate::specs::Inputs::message_step))]
     pub fn receive(&mut self, raw: RawMessage) -> Result<(), Fault>
@@ -178,6 +214,7 @@ impl Machine {
     {
         match raw.ty.number() {
             1 => self.receive_start(&raw),
+            6 => self.receive_acknowledgement(&raw),
             10..=29 => self.receive_command(raw),
             30 => self.receive_notification(&raw),
             _ => Err(refuse(NamedFault::UnexpectedInputMessage)),

@@ -3,6 +3,7 @@ use Rattle.std.proofs.Common.{◌≡◌, ℕ, Bool, true, false, cond, List, [],
 use Rattle.journal_values.specs.declared.notification.Notification.{Notification}
 use Rattle.journal_values.specs.declared.notification.NotificationId.{NotificationId}
 use Rattle.journal_values.specs.declared.notification.NotificationResult.{NotificationResult}
+use Rattle.std.specs.Prelude.{◌||◌}
 use Rattle.vm_parts.specs.Arrived.{Arrived, Ready}
 use Rattle.std.specs.Option.{option_or}
 use Rattle.vm_parts.specs.Deliveries.{same_id, results_of, first, newest, newest_after, without_first, without_all, left_among, left_ready, present, present_among, id_at, is_listed, Taken}
@@ -60,3 +61,13 @@ pub none_taken : (delivery : SignalDelivery) (handle : ℕ) (v : Arrived) (id : 
     → Some id ≡ id_at handle v.handles → None ≡ present delivery id v.ready → ready ≡ left_ready delivery id v.ready → answer ≡ None → Taken delivery handle v answer (record v { ready = ready })
 none_taken delivery handle v id answer ready i p r a =
     record { result = rw (← i, sym p) a; left = rw (← i, sym p) (ap (λ t. record v { ready = t }) (r ∙ nothing_left delivery id v.ready (sym p))) }
+
+-- ---- what is known of an id
+
+-- used or waiting, or given by an eager read: in any order
+pub known_is : (used waits eager : Bool) → ((used || eager) || waits) ≡ ((used || waits) || eager)
+known_is true waits eager = refl
+known_is false true true = refl
+known_is false true false = refl
+known_is false false true = refl
+known_is false false false = refl

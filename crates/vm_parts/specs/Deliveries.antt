@@ -36,6 +36,10 @@ unmapped handle (m ∷ ms) = cond (m.handle == handle) ms (m ∷ unmapped handle
 abbrev pub has_result : NotificationId → Ready → Bool
 has_result id r = has_result_among id r.delivered || has_result_among id r.eager
 
+-- whether a result of an id is there that was not taken: it is ready, or waits
+abbrev pub is_known : NotificationId → Arrived → Bool
+is_known id v = has_result id v.ready || has_result_among id v.queued
+
 -- a handle that stands for no id never has a result
 abbrev pub has_result_for : Option NotificationId → Ready → Bool
 has_result_for None r = false

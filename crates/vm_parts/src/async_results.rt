@@ -3,7 +3,7 @@
 ghost use Rattle.std.specs.Prelude.{◌≡◌, ◌∷◌, ◌++◌, [], OnOk, OnErr, IfOk};
 ghost use Rattle.std.specs.Option.{option_copied};
 ghost use Rattle.arrivals.specs.Came.{is_queued};
-ghost use Rattle.vm_parts.specs.Deliveries.{id_at, no_results, is_listed, left_among, present_among, present_for, has_result_for, next_used, with_eager, Taken};
+ghost use Rattle.vm_parts.specs.Deliveries.{id_at, is_known, no_results, is_listed, left_among, present_among, present_for, has_result_for, next_used, with_eager, Taken};
 
 use crate::handles::Handles;
 use crate::options::SignalDelivery;
@@ -179,6 +179,14 @@ impl AsyncResults {
             None => false,
             Some(id) => self.arrivals.has(id) || self.eager.has(id),
         }
+    }
+
+    /// Whether a result of an id is there that was not taken: it waits, or is ready.
+    #[tactic(auto, using(crate::proofs::Results::known_is))]
+    pub fn knows(&self, id: &NotificationId) -> bool
+        ensures { result ≡ is_known id.now self.now }
+    {
+        self.arrivals.knows(id) || self.eager.has(id)
     }
 
     /// Uses the oldest notification that waits, if there is one; it takes no memory.

@@ -79,6 +79,9 @@ pub enum Step {
         value: NonEmptyValue,
         options: PayloadOptions,
     },
+    Run {
+        name: Text,
+    },
     AttachInvocation(InvocationTarget),
     GetInvocationOutput(InvocationTarget),
     WriteOutput(NonEmptyValue, PayloadOptions),

@@ -55,6 +55,8 @@ pub enum AwaitResponse {
         waiting_input: bool,
         waiting_run_proposal: bool,
     },
+    /// The run of this handle is to be executed now, outside the VM; its result is to be proposed.
+    ExecuteRun(NotificationHandle),
     /// The handler is cancelled: the cancel signal came, and each invocation that is cancelled with it was sent one.
     CancelSignalReceived,
 }

@@ -375,6 +375,7 @@ sleeps_on m version options r f (written, wrote, asleep) = subst (IsAsleep m ver
 
 pub asleep_waits : (m : Meaning) (version : Version) (options : VMOptions) (r : Record) (result : Result Progress Error) → WholeFrames r.vm.machine.output → IfWaits result (Sleeps m version options r.fed r.answers r.taken r.vm) → IfWaits result (NothingWakes m version options r)
 asleep_waits m version options r (Ok (progress.Waiting input run)) f h = sleeps_on m version options r f h
+asleep_waits m version options r (Ok (progress.ExecuteRun run)) f h = sleeps_on m version options r f h
 asleep_waits m version options r (Ok progress.Suspended) f h = sleeps_on m version options r f h
 asleep_waits m version options r (Ok progress.NotReady) f h = tt
 asleep_waits m version options r (Ok progress.Stepped) f h = tt

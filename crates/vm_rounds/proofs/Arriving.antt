@@ -1,4 +1,7 @@
 -- What frames bring to a machine: arrivals, where they are notifications; else it fails.
+use Rattle.std.specs.List.{find}
+use Rattle.runs.specs.Kept.{is_for}
+use Rattle.journal_attempt.specs.declared.runs.ProposeRunCompletionAck.{ProposeRunCompletionAck}
 use Rattle.std.proofs.Common.{◌≡◌, ◌⊎◌, ℕ, Bool, true, false, cond, List, [], ◌∷◌, ◌++◌, Option, Some, None, refl, sym, ap, ◌∙◌, subst, inl, inr, ⊎_elim, append_assoc, append-nil}
 use Rattle.std.specs.Prelude.{◌==◌, ◌&&◌, if◌then◌else◌, is_some, nat_le, nat_lt, IsSome}
 use Rattle.std.proofs.lemmas.Bool.{eqb-true}
@@ -7,13 +10,13 @@ use Rattle.journal_errors.specs.declared.faults.NamedFault.{NamedFault}
 use Rattle.journal_errors.specs.declared.faults.NamedFault.TheVariants as fault
 use Rattle.journal_messages.specs.declared.message.RawMessage.{RawMessage}
 use Rattle.journal_values.specs.declared.notification.Notification.{Notification}
-use Rattle.journal_messages.specs.Reading.{notification_in}
+use Rattle.journal_messages.specs.Reading.{notification_in, acknowledgement_in}
 use Rattle.journal_errors.specs.Types.{type_number}
 use Rattle.vm_parts.specs.declared.context.StateMap.{StateMap}
 use Rattle.vm_machine.specs.declared.machine.Machine.{Machine}
 use Rattle.vm_machine.specs.declared.phase.Phase.{Phase}
 use Rattle.vm_machine.specs.declared.phase.Phase.TheVariants.{WaitingStart, WaitingReplayEntries, Replaying, Processing, Closed}
-use Rattle.vm_machine.specs.Inputs.{entry_step, message_step, notification_step, queued, start_step}
+use Rattle.vm_machine.specs.Inputs.{entry_step, message_step, notification_step, queued, start_step, acknowledged, acknowledged_by, acknowledgement_step}
 use Rattle.vm_machine.specs.Outcomes.{Outcome, called, called_at, refused, settled}
 use Rattle.vm_machine.specs.Phases.{is_running}
 use Rattle.invocation_vm.specs.Views.{all_received, left_by, received}
@@ -44,28 +47,36 @@ by_number raw n v =
     if n == 1 then start_step raw v.phase v
     else if nat_le 10 n && nat_lt n 30 then entry_step raw v.phase v
     else if n == 30 then notification_step raw v.phase v
+    else if n == 6 then acknowledgement_step raw v.phase v
     else refused fault.UnexpectedInputMessage v
 
 notification_is : (v : Machine) (raw : RawMessage) → is_notification raw ≡ true → message_step raw v ≡ notification_step raw v.phase v
 unfolding message_step
 notification_is v raw e = ap (λ n. by_number raw n v) (eqb-true (type_number raw.ty) 30 e)
 
--- where the handler runs, another message is refused
-refuses_other : (raw : RawMessage) (phase : Phase) (v : Machine) → is_running phase ≡ true → (a b : Bool) → (name : NamedFault) × ((if a then start_step raw phase v else if b then entry_step raw phase v else refused fault.UnexpectedInputMessage v) ≡ refused name v)
-refuses_other raw WaitingStart v e a b = absurd (cc)
-refuses_other raw WaitingReplayEntries v e a b = absurd (cc)
-refuses_other raw Closed v e a b = absurd (cc)
-refuses_other raw Replaying v e true b = (fault.UnexpectedInputMessage, refl)
-refuses_other raw Replaying v e false true = (fault.UnexpectedEntryMessage, refl)
-refuses_other raw Replaying v e false false = (fault.UnexpectedInputMessage, refl)
-refuses_other raw Processing v e true b = (fault.UnexpectedInputMessage, refl)
-refuses_other raw Processing v e false true = (fault.UnexpectedEntryMessage, refl)
-refuses_other raw Processing v e false false = (fault.UnexpectedInputMessage, refl)
+-- where the handler runs and no proposal is kept, another message is refused
+refuses_acknowledged : (v : Machine) → v.proposals ≡ [] → (ack : Option ProposeRunCompletionAck) → (name : NamedFault) × (acknowledged_by ack v ≡ refused name v)
+refuses_acknowledged v none None = (fault.BadMessage, refl)
+refuses_acknowledged v none (Some ack) = (fault.BadProposeRunCompletionAck, ap (λ kept. acknowledged ack.id (find (is_for ack.id) kept) v) none)
+
+refuses_other : (raw : RawMessage) (phase : Phase) (v : Machine) → is_running phase ≡ true → v.proposals ≡ [] → (a b d : Bool)
+    → (name : NamedFault) × ((if a then start_step raw phase v else if b then entry_step raw phase v else if d then acknowledgement_step raw phase v else refused fault.UnexpectedInputMessage v) ≡ refused name v)
+refuses_other raw WaitingStart v e none a b d = absurd (cc)
+refuses_other raw WaitingReplayEntries v e none a b d = absurd (cc)
+refuses_other raw Closed v e none a b d = absurd (cc)
+refuses_other raw Replaying v e none true b d = (fault.UnexpectedInputMessage, refl)
+refuses_other raw Replaying v e none false true d = (fault.UnexpectedEntryMessage, refl)
+refuses_other raw Replaying v e none false false true = (fault.UnexpectedState, refl)
+refuses_other raw Replaying v e none false false false = (fault.UnexpectedInputMessage, refl)
+refuses_other raw Processing v e none true b d = (fault.UnexpectedInputMessage, refl)
+refuses_other raw Processing v e none false true d = (fault.UnexpectedEntryMessage, refl)
+refuses_other raw Processing v e none false false true = refuses_acknowledged v none (acknowledgement_in raw.body)
+refuses_other raw Processing v e none false false false = (fault.UnexpectedInputMessage, refl)
 
 other_is : (v : Machine) (raw : RawMessage) → is_notification raw ≡ false
-    → message_step raw v ≡ (if type_number raw.ty == 1 then start_step raw v.phase v else if nat_le 10 (type_number raw.ty) && nat_lt (type_number raw.ty) 30 then entry_step raw v.phase v else refused fault.UnexpectedInputMessage v)
+    → message_step raw v ≡ (if type_number raw.ty == 1 then start_step raw v.phase v else if nat_le 10 (type_number raw.ty) && nat_lt (type_number raw.ty) 30 then entry_step raw v.phase v else if type_number raw.ty == 6 then acknowledgement_step raw v.phase v else refused fault.UnexpectedInputMessage v)
 unfolding message_step
-other_is v raw e = ap (λ b. if type_number raw.ty == 1 then start_step raw v.phase v else if nat_le 10 (type_number raw.ty) && nat_lt (type_number raw.ty) 30 then entry_step raw v.phase v else if b then notification_step raw v.phase v else refused fault.UnexpectedInputMessage v) e
+other_is v raw e = ap (λ b. if type_number raw.ty == 1 then start_step raw v.phase v else if nat_le 10 (type_number raw.ty) && nat_lt (type_number raw.ty) 30 then entry_step raw v.phase v else if b then notification_step raw v.phase v else if type_number raw.ty == 6 then acknowledgement_step raw v.phase v else refused fault.UnexpectedInputMessage v) e
 
 -- a notification comes to a machine whose handler runs
 notified_step : (raw : RawMessage) (phase : Phase) (v : Machine) → is_running phase ≡ true → notification_step raw phase v ≡ queued (notification_in raw.body) (λ w. w) v
@@ -92,7 +103,7 @@ one_comes s given written aside p raw identity true e =
     subst (λ w. Comes s given written w (notified_by (notification_in raw.body) []) p) (sym is) (queued_comes s given written aside p identity (notification_in raw.body))
 one_comes s given written aside p raw identity false e =
     let v = machine_at s given written aside p in
-    let no = refuses_other raw v.phase v (runs_at p.left) (type_number raw.ty == 1) (nat_le 10 (type_number raw.ty) && nat_lt (type_number raw.ty) 30) in
+    let no = refuses_other raw v.phase v (runs_at p.left) refl (type_number raw.ty == 1) (nat_le 10 (type_number raw.ty) && nat_lt (type_number raw.ty) 30) (type_number raw.ty == 6) in
     let is : received raw v ≡ left_by (settled (refused {A = Unit {0}} no.0 v)) = live_receives v raw refl ∙ ap (λ o. left_by (settled o)) (other_is v raw e ∙ no.1) in
     inr (ap (λ w. is_some w.failure) is)
 

@@ -17,6 +17,7 @@ settled_vm : (r : Record) (answers : List Answer) (mid : View) (future : Option 
     → replied (record r { answers = answers; vm = mid }) future given w ≡ replied (record r { answers = answers }) future given w
 settled_vm r answers mid future (Ok (reply.Answer a)) w = refl
 settled_vm r answers mid future (Ok (reply.Waiting input run)) w = refl
+settled_vm r answers mid future (Ok (reply.Execute run)) w = refl
 settled_vm r answers mid future (Ok reply.Suspended) w = refl
 settled_vm r answers mid future (Ok reply.Ended) w = refl
 settled_vm r answers mid future (Err e) w = refl

@@ -23,7 +23,7 @@ use Rattle.vm_parts.specs.declared.options.SignalDelivery.TheVariants.{Queued}
 use Rattle.vm_parts.specs.declared.steps.Answer.TheVariants as answer
 use Rattle.vm_parts.specs.declared.steps.Step.TheVariants as step
 use Rattle.vm_parts.specs.declared.types.AwaitResponse.{AwaitResponse}
-use Rattle.vm_parts.specs.declared.types.AwaitResponse.TheVariants.{AnyCompleted, CancelSignalReceived, WaitingExternalProgress}
+use Rattle.vm_parts.specs.declared.types.AwaitResponse.TheVariants.{AnyCompleted, CancelSignalReceived, ExecuteRun, WaitingExternalProgress}
 use Rattle.vm_parts.specs.Deliveries.{same_id}
 use Rattle.vm_parts.specs.Options.{ends_awaits}
 use Rattle.vm_parts.specs.Tracked.{id_of_result, unresolved, with_next_id}
@@ -127,7 +127,8 @@ module _ (s : Setup) (m : Meaning) (given : StateMap) (written : List RawMessage
   abbrev pub PartTo : Point → Outcome (Result AwaitResponse Error) → Type 0
   PartTo p (Done (Ok AnyCompleted) w) = Answered s m given written p (v p) answer.Awake w
   PartTo p (Done (Ok CancelSignalReceived) w) = IsGathered p w
-  PartTo p (Done (Ok (WaitingExternalProgress input run)) w) = StillAgrees s m given written p (v p) w
+  PartTo p (Done (Ok (WaitingExternalProgress input run)) w) = StillAgrees input s m given written p (v p) w
+  PartTo p (Done (Ok (ExecuteRun run)) w) = StillAgrees false s m given written p (v p) w
   PartTo p (Done (Err e) w) = IsSuspended s m given p (v p) w
   PartTo p (Failed e w) = RefusesAt s m given p (v p) e w
 
@@ -137,10 +138,8 @@ module _ (s : Setup) (m : Meaning) (given : StateMap) (written : List RawMessage
   one_behind : (p q r : Point) → Reached p q → Reached q r → Reached p r
   one_behind p q r a b = record { moves = moves_behind s m given p q r [] [] a.moves b.moves; left = b.left ∙ a.left; is = b.is; two = b.two }
 
-  part_behind : (p q : Point) → Reached p q → (o : Outcome (Result AwaitResponse Error)) → PartTo q o → PartTo p o
-  part_behind p q a (Done (Ok AnyCompleted) w) h = record { at = h.at; made = h.made; none_before = h.none_before; moves = moves_behind s m given p q h.at (answer.Awake ∷ []) h.made a.moves h.moves; agrees = h.agrees; output = h.output }
-  part_behind p q a (Done (Ok CancelSignalReceived) w) h = record { at = h.at; reached = one_behind p q h.at a h.reached; machine = h.machine; is_cancelled = h.is_cancelled; known = h.known }
-  part_behind p q a (Done (Ok (WaitingExternalProgress input run)) w) h = record {
+  still_behind : (input : Bool) (p q : Point) → Reached p q → (w : Machine) → StillAgrees input s m given written q (v q) w → StillAgrees input s m given written p (v p) w
+  still_behind input p q a w h = record {
     at = h.at;
     waits = record { moves = moves_behind s m given p q h.at [] [] a.moves h.waits.moves; future = h.waits.future; awaits = h.waits.awaits; asks = h.waits.asks; no_arrival = h.waits.no_arrival; none_recorded = sym a.left ∙ h.waits.none_recorded; no_command = h.waits.no_command };
     left = h.left;
@@ -148,6 +147,12 @@ module _ (s : Setup) (m : Meaning) (given : StateMap) (written : List RawMessage
     agrees = h.agrees;
     output = h.output;
   }
+
+  part_behind : (p q : Point) → Reached p q → (o : Outcome (Result AwaitResponse Error)) → PartTo q o → PartTo p o
+  part_behind p q a (Done (Ok AnyCompleted) w) h = record { at = h.at; made = h.made; none_before = h.none_before; moves = moves_behind s m given p q h.at (answer.Awake ∷ []) h.made a.moves h.moves; agrees = h.agrees; output = h.output }
+  part_behind p q a (Done (Ok CancelSignalReceived) w) h = record { at = h.at; reached = one_behind p q h.at a h.reached; machine = h.machine; is_cancelled = h.is_cancelled; known = h.known }
+  part_behind p q a (Done (Ok (WaitingExternalProgress input run)) w) h = still_behind input p q a w h
+  part_behind p q a (Done (Ok (ExecuteRun run)) w) h = still_behind false p q a w h
   part_behind p q a (Done (Err e) w) h = record {
     at = h.at;
     waits = record { moves = moves_behind s m given p q h.at [] [] a.moves h.waits.moves; future = h.waits.future; awaits = h.waits.awaits; asks = h.waits.asks; no_arrival = h.waits.no_arrival; none_recorded = sym a.left ∙ h.waits.none_recorded; no_command = h.waits.no_command };
@@ -204,6 +209,7 @@ module _ (s : Setup) (m : Meaning) (given : StateMap) (written : List RawMessage
         (subst (λ (u : Machine). Answered s m given written q (v q) answer.Awake u) (sym x.machine) (answers_awake q is (none_cancelled never q.derived) x.least.holds))
     plain_to never (Done (Ok CancelSignalReceived) w) x = absurd x
     plain_to never (Done (Ok (WaitingExternalProgress input run)) w) x = x
+    plain_to never (Done (Ok (ExecuteRun run)) w) x = x
     plain_to never (Done (Err e) w) x = x
     plain_to never (Failed e w) x = x
 
@@ -221,7 +227,8 @@ module _ (s : Setup) (m : Meaning) (given : StateMap) (written : List RawMessage
   abbrev ReadTo : List ℕ → Point → Outcome (Result AwaitResponse Error) → Type 0
   ReadTo handles p (Done (Ok AnyCompleted) w) = HasRead handles p w
   ReadTo handles p (Done (Ok CancelSignalReceived) w) = ⊥
-  ReadTo handles p (Done (Ok (WaitingExternalProgress input run)) w) = StillAgrees s m given written p (v p) w
+  ReadTo handles p (Done (Ok (WaitingExternalProgress input run)) w) = StillAgrees input s m given written p (v p) w
+  ReadTo handles p (Done (Ok (ExecuteRun run)) w) = StillAgrees false s m given written p (v p) w
   ReadTo handles p (Done (Err e) w) = IsSuspended s m given p (v p) w
   ReadTo handles p (Failed e w) = RefusesAt s m given p (v p) e w
 
@@ -229,6 +236,7 @@ module _ (s : Setup) (m : Meaning) (given : StateMap) (written : List RawMessage
   read_behind handles p q a (Done (Ok AnyCompleted) w) h = record { at = h.at; reached = one_behind p q h.at a h.reached; machine = h.machine; is_cancelled = h.is_cancelled; rest = h.rest }
   read_behind handles p q a (Done (Ok CancelSignalReceived) w) h = absurd h
   read_behind handles p q a (Done (Ok (WaitingExternalProgress input run)) w) h = part_behind p q a (Done (Ok (WaitingExternalProgress input run)) w) h
+  read_behind handles p q a (Done (Ok (ExecuteRun run)) w) h = part_behind p q a (Done (Ok (ExecuteRun run)) w) h
   read_behind handles p q a (Done (Err e) w) h = part_behind p q a (Done (Err e) w) h
   read_behind handles p q a (Failed e w) h = part_behind p q a (Failed e w) h
 
@@ -325,6 +333,7 @@ module _ (s : Setup) (m : Meaning) (given : StateMap) (written : List RawMessage
         read_behind handles p q (reached_at p is two x.count w (leaf handle) asks_id x) o (subst (ReadTo handles q) (sym same) now)
     read_by (Done (Ok CancelSignalReceived) w) x o on = absurd x
     read_by (Done (Ok (WaitingExternalProgress input run)) w) x o on = subst (ReadTo handles p) (sym on) x
+    read_by (Done (Ok (ExecuteRun run)) w) x o on = subst (ReadTo handles p) (sym on) x
     read_by (Done (Err e) w) x o on = subst (ReadTo handles p) (sym on) x
     read_by (Failed e w) x o on = subst (ReadTo handles p) (sym on) x
 
@@ -340,6 +349,7 @@ module _ (s : Setup) (m : Meaning) (given : StateMap) (written : List RawMessage
       behind rest_to (Done (Ok AnyCompleted) w) x on = part_behind p x.at x.reached o (rest_to x.at x.reached.is x.reached.two x.is_cancelled x.rest o (subst (λ (u : Machine). Gathers handles u o) x.machine on))
       behind rest_to (Done (Ok CancelSignalReceived) w) x on = absurd x
       behind rest_to (Done (Ok (WaitingExternalProgress input run)) w) x on = subst (PartTo p) (sym on) x
+      behind rest_to (Done (Ok (ExecuteRun run)) w) x on = subst (PartTo p) (sym on) x
       behind rest_to (Done (Err e) w) x on = subst (PartTo p) (sym on) x
       behind rest_to (Failed e w) x on = subst (PartTo p) (sym on) x
 
@@ -381,6 +391,7 @@ module _ (s : Setup) (m : Meaning) (given : StateMap) (written : List RawMessage
         (ends_to q is (two_used p x.count two) x.least.holds (is_some (present_in s 1 q.derived)) refl o (subst (λ (u : Machine). EndsBy (is_cancelled u) u o) x.machine on))
     cancels_by (Done (Ok CancelSignalReceived) w) x o on = absurd x
     cancels_by (Done (Ok (WaitingExternalProgress input run)) w) x o on = subst (PartTo p) (sym on) x
+    cancels_by (Done (Ok (ExecuteRun run)) w) x o on = subst (PartTo p) (sym on) x
     cancels_by (Done (Err e) w) x o on = subst (PartTo p) (sym on) x
     cancels_by (Failed e w) x o on = subst (PartTo p) (sym on) x
 

@@ -1,4 +1,8 @@
 -- A frame that comes is taken in, or refused for the reason that the table of frames says.
+use Rattle.std.specs.List.{find}
+use Rattle.runs.specs.Kept.{is_for}
+use Rattle.vm_parts.specs.declared.run_state.KeptProposal.{KeptProposal}
+use Rattle.journal_attempt.specs.declared.runs.ProposeRunCompletionAck.{ProposeRunCompletionAck}
 use Rattle.std.proofs.Common.{◌≡◌, ◌⊎◌, ℕ, Bool, true, false, List, [], ◌∷◌, Option, Some, None, refl, sym, ap, ◌∙◌, inl, inr, ⊎_elim}
 use Rattle.std.specs.Prelude.{◌==◌, if◌then◌else◌, is_some, IsSome}
 use Rattle.journal_errors.specs.declared.faults.NamedFault.{NamedFault}
@@ -8,17 +12,17 @@ use Rattle.journal_values.specs.declared.notification.Notification.{Notification
 use Rattle.journal_attempt.specs.declared.start.Start.{Start}
 use Rattle.journal_errors.specs.declared.version.Version.{Version}
 use Rattle.journal_errors.specs.Errors.{named_error}
-use Rattle.journal_messages.specs.Reading.{notification_in, start_in}
+use Rattle.journal_messages.specs.Reading.{notification_in, start_in, acknowledgement_in}
 use Rattle.journal_errors.specs.Types.{type_number}
 use Rattle.vm_parts.specs.declared.options.VMOptions.{VMOptions}
 use Rattle.vm_machine.specs.declared.machine.Machine.{Machine}
 use Rattle.vm_machine.specs.declared.phase.Phase.{Phase}
 use Rattle.vm_machine.specs.declared.phase.Phase.TheVariants.{WaitingStart, WaitingReplayEntries, Replaying, Processing, Closed}
-use Rattle.vm_machine.specs.Inputs.{counted_entry, coverage_of, entries_in, info_of, queued, started, started_with}
+use Rattle.vm_machine.specs.Inputs.{counted_entry, coverage_of, entries_in, info_of, queued, started, started_with, acknowledged, acknowledged_by, acknowledgement_step}
 use Rattle.vm_machine.specs.Outcomes.{Outcome, Done, refused, ruled, ruled_by, settled}
 use Rattle.invocation_vm.specs.Views.{all_received, left_by, received}
-use Rattle.vm_rounds.specs.Journals.{is_command, is_notification}
-use Rattle.vm_rounds.specs.Blames.{FailsAt, fault_by, frame_fault, notification_fault, refused_start, start_fault}
+use Rattle.vm_rounds.specs.Journals.{is_command, is_notification, is_acknowledgement}
+use Rattle.vm_rounds.specs.Blames.{FailsAt, acknowledgement_fault, fault_among, fault_by, kept_fault, notification_fault, other_fault, read_fault, refused_start, start_fault, frame_fault}
 use Rattle.vm_parts.specs.declared.context.StateMap.{StateMap}
 use Rattle.vm_model.specs.Calls.{Setup}
 use Rattle.vm_model.specs.Moves.{Point, later}
@@ -54,42 +58,100 @@ queued_fits : (o : Option Notification) (v : Machine) → Fits (notification_fau
 queued_fits None v = (refl, refl)
 queued_fits (Some n) v = ((_, refl, (refl, (refl, refl))), (_, refl, (refl, (refl, refl))))
 
-pub message_fits : (raw : RawMessage) (phase : Phase) (v : Machine) (a b c : Bool) → Fits (fault_by phase raw a b c) v (message_by raw phase v a b c)
-message_fits raw WaitingStart v true b c = starts_fit (start_in raw.body) v
-message_fits raw WaitingReplayEntries v true b c = refl
-message_fits raw Replaying v true b c = refl
-message_fits raw Processing v true b c = refl
-message_fits raw Closed v true b c = refl
-message_fits raw WaitingStart v false true c = refl
-message_fits raw WaitingReplayEntries v false true c = (_, refl, (refl, (refl, refl)))
-message_fits raw Replaying v false true c = refl
-message_fits raw Processing v false true c = refl
-message_fits raw Closed v false true c = refl
-message_fits raw WaitingStart v false false true = refl
-message_fits raw WaitingReplayEntries v false false true = (queued_fits (notification_in raw.body) v).0
-message_fits raw Replaying v false false true = (queued_fits (notification_in raw.body) v).1
-message_fits raw Processing v false false true = (queued_fits (notification_in raw.body) v).1
-message_fits raw Closed v false false true = (_, refl, (refl, (refl, refl)))
-message_fits raw WaitingStart v false false false = refl
-message_fits raw WaitingReplayEntries v false false false = refl
-message_fits raw Replaying v false false false = refl
-message_fits raw Processing v false false false = refl
-message_fits raw Closed v false false false = refl
+kept_fits : (id : ℕ) (kept : Option KeptProposal) (v : Machine) → Fits (kept_fault kept) v (acknowledged id kept v)
+kept_fits id None v = refl
+kept_fits id (Some kept) v = (_, refl, (refl, (refl, refl)))
+
+read_fits : (ack : Option ProposeRunCompletionAck) (v : Machine) → Fits (read_fault v.proposals ack) v (acknowledged_by ack v)
+read_fits None v = refl
+read_fits (Some ack) v = kept_fits ack.id (find (is_for ack.id) v.proposals) v
+
+acknowledgement_fits : (raw : RawMessage) (phase : Phase) (v : Machine) → Fits (acknowledgement_fault v.proposals phase raw) v (acknowledgement_step raw phase v)
+acknowledgement_fits raw WaitingStart v = refl
+acknowledgement_fits raw WaitingReplayEntries v = refl
+acknowledgement_fits raw Replaying v = refl
+acknowledgement_fits raw Processing v = read_fits (acknowledgement_in raw.body) v
+acknowledgement_fits raw Closed v = (_, refl, (refl, (refl, refl)))
+
+other_fits : (raw : RawMessage) (phase : Phase) (v : Machine) (d : Bool) → Fits (other_fault v.proposals phase raw d) v (if d then acknowledgement_step raw phase v else refused fault.UnexpectedInputMessage v)
+other_fits raw phase v true = acknowledgement_fits raw phase v
+other_fits raw phase v false = refl
+
+pub message_fits : (raw : RawMessage) (phase : Phase) (v : Machine) (a b c d : Bool) → Fits (fault_by v.proposals phase raw a b c d) v (message_by raw phase v a b c d)
+message_fits raw WaitingStart v true b c d = starts_fit (start_in raw.body) v
+message_fits raw WaitingReplayEntries v true b c d = refl
+message_fits raw Replaying v true b c d = refl
+message_fits raw Processing v true b c d = refl
+message_fits raw Closed v true b c d = refl
+message_fits raw WaitingStart v false true c d = refl
+message_fits raw WaitingReplayEntries v false true c d = (_, refl, (refl, (refl, refl)))
+message_fits raw Replaying v false true c d = refl
+message_fits raw Processing v false true c d = refl
+message_fits raw Closed v false true c d = refl
+message_fits raw WaitingStart v false false true d = refl
+message_fits raw WaitingReplayEntries v false false true d = (queued_fits (notification_in raw.body) v).0
+message_fits raw Replaying v false false true d = (queued_fits (notification_in raw.body) v).1
+message_fits raw Processing v false false true d = (queued_fits (notification_in raw.body) v).1
+message_fits raw Closed v false false true d = (_, refl, (refl, (refl, refl)))
+message_fits raw WaitingStart v false false false d = other_fits raw WaitingStart v d
+message_fits raw WaitingReplayEntries v false false false d = other_fits raw WaitingReplayEntries v d
+message_fits raw Replaying v false false false d = other_fits raw Replaying v d
+message_fits raw Processing v false false false d = other_fits raw Processing v d
+message_fits raw Closed v false false false d = other_fits raw Closed v d
+
+-- a frame that is refused though proposals are kept is refused where none is, for the same reason
+kept_by : (kept : List KeptProposal) (ack : Option ProposeRunCompletionAck) (why : NamedFault) → read_fault kept ack ≡ Some why → read_fault [] ack ≡ Some why
+kept_by kept None why is = is
+kept_by kept (Some ack) why is = by_kept (find (is_for ack.id) kept) is
+  where
+    by_kept : (found : Option KeptProposal) → kept_fault found ≡ Some why → Some fault.BadProposeRunCompletionAck ≡ Some why
+    by_kept None e = e
+    by_kept (Some k) e = absurd (cc)
+
+none_kept_by : (kept : List KeptProposal) (phase : Phase) (raw : RawMessage) (a b c d : Bool) (why : NamedFault) → fault_by kept phase raw a b c d ≡ Some why → fault_by [] phase raw a b c d ≡ Some why
+none_kept_by kept WaitingStart raw true b c d why is = is
+none_kept_by kept WaitingStart raw false true c d why is = is
+none_kept_by kept WaitingStart raw false false true d why is = is
+none_kept_by kept WaitingStart raw false false false true why is = is
+none_kept_by kept WaitingStart raw false false false false why is = is
+none_kept_by kept WaitingReplayEntries raw true b c d why is = is
+none_kept_by kept WaitingReplayEntries raw false true c d why is = is
+none_kept_by kept WaitingReplayEntries raw false false true d why is = is
+none_kept_by kept WaitingReplayEntries raw false false false true why is = is
+none_kept_by kept WaitingReplayEntries raw false false false false why is = is
+none_kept_by kept Replaying raw true b c d why is = is
+none_kept_by kept Replaying raw false true c d why is = is
+none_kept_by kept Replaying raw false false true d why is = is
+none_kept_by kept Replaying raw false false false true why is = is
+none_kept_by kept Replaying raw false false false false why is = is
+none_kept_by kept Processing raw true b c d why is = is
+none_kept_by kept Processing raw false true c d why is = is
+none_kept_by kept Processing raw false false true d why is = is
+none_kept_by kept Processing raw false false false true why is = kept_by kept (acknowledgement_in raw.body) why is
+none_kept_by kept Processing raw false false false false why is = is
+none_kept_by kept Closed raw true b c d why is = is
+none_kept_by kept Closed raw false true c d why is = is
+none_kept_by kept Closed raw false false true d why is = is
+none_kept_by kept Closed raw false false false true why is = is
+none_kept_by kept Closed raw false false false false why is = is
+
+pub none_kept : (kept : List KeptProposal) (phase : Phase) (raw : RawMessage) (why : NamedFault) → fault_among kept phase raw ≡ Some why → frame_fault phase raw ≡ Some why
+none_kept kept phase raw why is = none_kept_by kept phase raw (type_number raw.ty == 1) (is_command raw) (is_notification raw) (is_acknowledgement raw) why is
 
 -- one frame: it is taken in, or refused
 abbrev One : RawMessage → Machine → Machine → Type 0
-One raw v w = ((w.failure ≡ None) × ((w.version ≡ v.version) × (w.options ≡ v.options))) ⊎ ((why : NamedFault) × (frame_fault v.phase raw ≡ Some why) × (w.failure ≡ Some (ruled v (named_error why None))))
+One raw v w = ((w.failure ≡ None) × ((w.version ≡ v.version) × (w.options ≡ v.options))) ⊎ ((why : NamedFault) × (fault_among v.proposals v.phase raw ≡ Some why) × (w.failure ≡ Some (ruled v (named_error why None))))
 
 pub one_comes : (raw : RawMessage) (v : Machine) → v.failure ≡ None → One raw v (received raw v)
-one_comes raw v live = by_fault (frame_fault v.phase raw) refl (message_fits raw v.phase v (type_number raw.ty == 1) (is_command raw) (is_notification raw))
+one_comes raw v live = by_fault (fault_among v.proposals v.phase raw) refl (message_fits raw v.phase v (type_number raw.ty == 1) (is_command raw) (is_notification raw) (is_acknowledgement raw))
   where
     o : Outcome Unit
-    o = message_by raw v.phase v (type_number raw.ty == 1) (is_command raw) (is_notification raw)
+    o = message_by raw v.phase v (type_number raw.ty == 1) (is_command raw) (is_notification raw) (is_acknowledgement raw)
 
     is : received raw v ≡ left_by (settled o)
     is = receives_by v raw live
 
-    by_fault : (f : Option NamedFault) → frame_fault v.phase raw ≡ f → Fits f v o → One raw v (received raw v)
+    by_fault : (f : Option NamedFault) → fault_among v.proposals v.phase raw ≡ f → Fits f v o → One raw v (received raw v)
     by_fault None e (w, done, (failure, (version, options))) =
         let at : received raw v ≡ w = is ∙ ap (λ x. left_by (settled x)) done in
         inl (ap (λ (x : Machine). x.failure) at ∙ failure ∙ live, (ap (λ (x : Machine). x.version) at ∙ version, ap (λ (x : Machine). x.options) at ∙ options))
@@ -121,7 +183,7 @@ frames_fit (raw ∷ raws) v live =
       failure = f.failure ∙ λ i. Some (ruled_by (x.1.0 i) (x.1.1 i) (named_error f.why None));
     }))
     (frames_fit raws w x.0))
-    (λ (x : (why : NamedFault) × (frame_fault v.phase raw ≡ Some why) × (w.failure ≡ Some (ruled v (named_error why None)))).
+    (λ (x : (why : NamedFault) × (fault_among v.proposals v.phase raw ≡ Some why) × (w.failure ≡ Some (ruled v (named_error why None)))).
     inr (record {
       before = [];
       raw = raw;

@@ -20,7 +20,7 @@ use Rattle.vm_parts.specs.declared.steps.Answer.{Answer}
 use Rattle.vm_parts.specs.declared.steps.Answer.TheVariants as answer
 use Rattle.vm_parts.specs.declared.steps.Step.TheVariants as step
 use Rattle.vm_parts.specs.declared.types.AwaitResponse.{AwaitResponse}
-use Rattle.vm_parts.specs.declared.types.AwaitResponse.TheVariants.{AnyCompleted, CancelSignalReceived, WaitingExternalProgress}
+use Rattle.vm_parts.specs.declared.types.AwaitResponse.TheVariants.{AnyCompleted, CancelSignalReceived, ExecuteRun, WaitingExternalProgress}
 use Rattle.vm_parts.specs.Deliveries.{id_at, present_for, taken_by}
 use Rattle.vm_parts.specs.Options.{ends_awaits}
 use Rattle.vm_parts.specs.Tracked.{invocation_ids, unresolved, without_first_call}
@@ -46,7 +46,7 @@ use Rattle.vm_rounds.specs.declared.progress.Reply.{Reply}
 use Rattle.vm_rounds.specs.Steps.{Awaited, IfDone, await_reply}
 use Rattle.vm_rounds.proofs.Awaiting.{IsGathered, PartTo, part_to}
 use Rattle.vm_rounds.proofs.Commanding.{LeadsOn, commands_follow}
-use Rattle.vm_rounds.proofs.Leading.{Leads, error_written, made_or_spent, no_move, one_move, same_rule, state_at, with_frames, with_last}
+use Rattle.vm_rounds.proofs.Leading.{Leads, error_written, made_or_spent, no_move, one_move, same_rule, state_at, with_beside, with_frames}
 use Rattle.vm_rounds.proofs.Requesting.{runs_at}
 use Rattle.vm_rounds.proofs.Waiting.{RefusesAt, quiet_move}
 
@@ -215,7 +215,7 @@ module _ (s : Setup) (m : Meaning) (given : StateMap) (future : UnresolvedFuture
         let sent = sent_so q e in
         let others = others_known p.derived.tracked id ids c.known c.ids_are in
         let none : q.derived.tracked ≡ [] = (moves_same s p id lacks (p.left ++ brought) q e).1 in
-        let beside = with_last g.1.0 (with_frames brought aside) in
+        let beside = with_beside g.1.0 (with_frames brought aside) in
         record {
           at = r;
           made = brought;
@@ -277,6 +277,7 @@ module _ (s : Setup) (m : Meaning) (given : StateMap) (future : UnresolvedFuture
   CancelsTo written aside p (Ok (Ok CancelSignalReceived)) w = Answered s m given written p (cleared written aside p) answer.Cancelled w
   CancelsTo written aside p (Ok (Ok AnyCompleted)) w = ⊥
   CancelsTo written aside p (Ok (Ok (WaitingExternalProgress input run))) w = ⊥
+  CancelsTo written aside p (Ok (Ok (ExecuteRun run))) w = ⊥
   CancelsTo written aside p (Ok (Err e)) w = ⊥
   CancelsTo written aside p (Err e) w = IsRefused s m given p (cleared written aside p) e w ⊎ IsCutShort s m given p (cleared written aside p) e w
 
@@ -342,6 +343,7 @@ module _ (s : Setup) (m : Meaning) (given : StateMap) (future : UnresolvedFuture
   cancels_behind written aside p ids mid x (Ok (Ok CancelSignalReceived)) w h = answered_behind written p x.at x.made (cleared written aside p) (cleared (written ++ x.made) x.beside x.at) x.moves x.output answer.Cancelled w h
   cancels_behind written aside p ids mid x (Ok (Ok AnyCompleted)) w h = absurd h
   cancels_behind written aside p ids mid x (Ok (Ok (WaitingExternalProgress input run))) w h = absurd h
+  cancels_behind written aside p ids mid x (Ok (Ok (ExecuteRun run))) w h = absurd h
   cancels_behind written aside p ids mid x (Ok (Err e)) w h = absurd h
   cancels_behind written aside p ids mid x (Err e) w h = either_behind p x.at x.made (cleared written aside p) (cleared (written ++ x.made) x.beside x.at) x.moves x.output refl refl e w h
 
@@ -439,6 +441,7 @@ module _ (s : Setup) (m : Meaning) (given : StateMap) (written : List RawMessage
   answered_so a w (Err e, mid, does, fin) = absurd (let z : Ok a ≡ Err e = fin.0 in cc)
   answered_so a w (Ok (Ok AnyCompleted), mid, does, fin) = subst (λ (z : Result AwaitResponse Error × Machine). Follows s m given written p here (Done (await_reply z.0) z.1)) (λ i. (sym (ap (ok_in a) fin.0) i, sym fin.1 i)) (first_done (Ok AnyCompleted) mid does)
   answered_so a w (Ok (Ok (WaitingExternalProgress input run)), mid, does, fin) = subst (λ (z : Result AwaitResponse Error × Machine). Follows s m given written p here (Done (await_reply z.0) z.1)) (λ i. (sym (ap (ok_in a) fin.0) i, sym fin.1 i)) (first_done (Ok (WaitingExternalProgress input run)) mid does)
+  answered_so a w (Ok (Ok (ExecuteRun run)), mid, does, fin) = subst (λ (z : Result AwaitResponse Error × Machine). Follows s m given written p here (Done (await_reply z.0) z.1)) (λ i. (sym (ap (ok_in a) fin.0) i, sym fin.1 i)) (first_done (Ok (ExecuteRun run)) mid does)
   answered_so a w (Ok (Err e), mid, does, fin) = subst (λ (z : Result AwaitResponse Error × Machine). Follows s m given written p here (Done (await_reply z.0) z.1)) (λ i. (sym (ap (ok_in a) fin.0) i, sym fin.1 i)) (first_done (Err e) mid does)
   answered_so a w (Ok (Ok CancelSignalReceived), mid, does, fin) = by_answer a (whole_cancels mid (Ok a) w x fin)
     where
@@ -449,6 +452,7 @@ module _ (s : Setup) (m : Meaning) (given : StateMap) (written : List RawMessage
       by_answer (Ok CancelSignalReceived) h = answered_behind s m given future written p x.at [] here (cleared s m given future written aside x.at) x.reached.moves (sym (append-nil aside.output)) answer.Cancelled w (subst (λ l. Answered s m given l x.at (cleared s m given future written aside x.at) answer.Cancelled w) (sym (append-nil written)) h)
       by_answer (Ok AnyCompleted) h = absurd h
       by_answer (Ok (WaitingExternalProgress input run)) h = absurd h
+      by_answer (Ok (ExecuteRun run)) h = absurd h
       by_answer (Err e) h = absurd h
 
   failed_as : (e : Error) (w : Machine) → AwaitsWhole (tree_of future) (Err e) here w → IsRefused s m given p here e w ⊎ IsCutShort s m given p here e w
@@ -456,6 +460,7 @@ module _ (s : Setup) (m : Meaning) (given : StateMap) (written : List RawMessage
   failed_as e w (Err d, mid, does, fin) = subst (λ (z : Error × Machine). IsRefused s m given p here z.0 z.1 ⊎ IsCutShort s m given p here z.0 z.1) (λ i. (sym (ap (err_in e) fin.0) i, sym fin.1 i)) (first_failed d mid does)
   failed_as e w (Ok (Ok AnyCompleted), mid, does, fin) = absurd (let z : Err e ≡ Ok (Ok AnyCompleted) = fin.0 in cc)
   failed_as e w (Ok (Ok (WaitingExternalProgress input run)), mid, does, fin) = absurd (let z : Err e ≡ Ok (Ok (WaitingExternalProgress input run)) = fin.0 in cc)
+  failed_as e w (Ok (Ok (ExecuteRun run)), mid, does, fin) = absurd (let z : Err e ≡ Ok (Ok (ExecuteRun run)) = fin.0 in cc)
   failed_as e w (Ok (Err d), mid, does, fin) = absurd (let z : Err e ≡ Ok (Err d) = fin.0 in cc)
   failed_as e w (Ok (Ok CancelSignalReceived), mid, does, fin) =
       let x : IsGathered s m given written aside future identity queued p mid = first_done (Ok CancelSignalReceived) mid does in

@@ -26,7 +26,7 @@ LeadsOn s given written aside p gives mv o = Leads s given written aside p mv p.
 
 -- an answer with nothing used
 pub answers : {A : Type 0} (s : Setup) (given : StateMap) (written : List RawMessage) (aside : Aside) (p : Point) (gives : A → Answer) (a : A) (d : Derived) → LeadsOn s given written aside p gives (Answers (gives a ∷ []) d) (Done a (machine_at s given written aside (record p { derived = d })))
-answers s given written aside p gives a d = (refl, (aside.last, λ i. record (machine_at s given (sym (append-nil written) i) (record aside { output = sym (append-nil aside.output) i }) (record p { derived = d })) { commands = sym (append-nil p.left) i; phase = phase_after (sym (append-nil p.left) i) }))
+answers s given written aside p gives a d = (refl, (aside.beside, λ i. record (machine_at s given (sym (append-nil written) i) (record aside { output = sym (append-nil aside.output) i }) (record p { derived = d })) { commands = sym (append-nil p.left) i; phase = phase_after (sym (append-nil p.left) i) }))
 
 -- a refusal for the call's own reason
 pub refuses : {A : Type 0} (s : Setup) (given : StateMap) (written : List RawMessage) (aside : Aside) (p : Point) (gives : A → Answer) (name : NamedFault) (w : Machine) → w.output ≡ aside.output → w.phase ≡ phase_after p.left → w.version ≡ s.version → w.options ≡ s.options → LeadsOn s given written aside p gives (Refuses name) (refused name w)

@@ -13,7 +13,7 @@ use Rattle.vm_parts.specs.declared.context.StateMap.{StateMap}
 use Rattle.vm_machine.specs.declared.machine.Machine.{Machine}
 use Rattle.vm_machine.specs.declared.phase.Phase.{Phase}
 use Rattle.vm_machine.specs.declared.phase.Phase.TheVariants.{WaitingStart, WaitingReplayEntries, Replaying}
-use Rattle.vm_machine.specs.Inputs.{counted_entry, coverage_of, entries_in, entry_step, info_of, message_step, notification_step, queued, start_step, started, started_with}
+use Rattle.vm_machine.specs.Inputs.{acknowledgement_step, counted_entry, coverage_of, entries_in, entry_step, info_of, message_step, notification_step, queued, start_step, started, started_with}
 use Rattle.vm_machine.specs.Making.{fresh}
 use Rattle.journal_attempt.specs.declared.start.Start.{Start}
 use Rattle.journal_errors.specs.declared.version.Version.{Version}
@@ -23,7 +23,7 @@ use Rattle.vm_machine.specs.Outcomes.{Outcome, Done, refused, settled}
 use Rattle.invocation_vm.specs.Views.{all_received, left_by, received}
 use Rattle.vm_model.specs.Calls.{Setup}
 use Rattle.vm_rounds.specs.Agreement.{Aside}
-use Rattle.vm_rounds.specs.Journals.{TakenIn, HasAll, HasStarted, StartCame, aside_for, setup_for, Started, StillWaits, commands_among, is_command, is_notification, machine_fed, missing, notifications_among, notified_by, phase_missing, waiting}
+use Rattle.vm_rounds.specs.Journals.{TakenIn, HasAll, HasStarted, StartCame, aside_for, setup_for, Started, StillWaits, commands_among, is_command, is_notification, machine_fed, missing, notifications_among, notified_by, phase_missing, waiting, is_acknowledgement}
 use Rattle.vm_rounds.proofs.Arriving.{behind_one, failed_stays, live_receives, some_failure}
 
 -- one entry less is missing
@@ -45,14 +45,15 @@ counts_to s given aside k cs ns = λ i. machine_fed s given (missing (one_less k
 
 -- ---- one frame
 
-abbrev pub message_by : RawMessage → Phase → Machine → Bool → Bool → Bool → Outcome Unit
-message_by raw phase v a b c =
+abbrev pub message_by : RawMessage → Phase → Machine → Bool → Bool → Bool → Bool → Outcome Unit
+message_by raw phase v a b c d =
     if a then start_step raw phase v
     else if b then entry_step raw phase v
     else if c then notification_step raw phase v
+    else if d then acknowledgement_step raw phase v
     else refused fault.UnexpectedInputMessage v
 
-pub receives_by : (v : Machine) (raw : RawMessage) → v.failure ≡ None → received raw v ≡ left_by (settled (message_by raw v.phase v (type_number raw.ty == 1) (is_command raw) (is_notification raw)))
+pub receives_by : (v : Machine) (raw : RawMessage) → v.failure ≡ None → received raw v ≡ left_by (settled (message_by raw v.phase v (type_number raw.ty == 1) (is_command raw) (is_notification raw) (is_acknowledgement raw)))
 unfolding message_step
 receives_by v raw is = live_receives v raw is
 
@@ -73,18 +74,19 @@ queued_counts : (s : Setup) (given : StateMap) (aside : Aside) (k : ℕ) (cs : L
 queued_counts s given aside k cs ns None = inl refl
 queued_counts s given aside k cs ns (Some n) = inr (counts_to s given aside k cs (ns ++ n ∷ []) ∙ λ i. waiting s given aside k (sym (append-nil cs) i) (ns ++ n ∷ []))
 
-entry_counts : (s : Setup) (given : StateMap) (aside : Aside) (k : ℕ) (cs : List RawMessage) (ns : List Notification) (raw : RawMessage) (a b c : Bool) → (b ≡ true → c ≡ false)
-    → Counts s given aside k (cs ++ cond b (raw ∷ []) []) (ns ++ cond c (notified_by (notification_in raw.body) []) []) (left_by (settled (message_by raw WaitingReplayEntries (machine_fed s given (missing (suc k) aside) cs ns WaitingReplayEntries) a b c)))
-entry_counts s given aside k cs ns raw true b c one = inl refl
-entry_counts s given aside k cs ns raw false true true one = absurd (let z : true ≡ false = one refl in cc)
-entry_counts s given aside k cs ns raw false true false one = inr (counts_to s given aside k (cs ++ raw ∷ []) ns ∙ λ i. waiting s given aside k (cs ++ raw ∷ []) (sym (append-nil ns) i))
-entry_counts s given aside k cs ns raw false false true one = queued_counts s given aside k cs ns (notification_in raw.body)
-entry_counts s given aside k cs ns raw false false false one = inl refl
+entry_counts : (s : Setup) (given : StateMap) (aside : Aside) (k : ℕ) (cs : List RawMessage) (ns : List Notification) (raw : RawMessage) (a b c d : Bool) → (b ≡ true → c ≡ false)
+    → Counts s given aside k (cs ++ cond b (raw ∷ []) []) (ns ++ cond c (notified_by (notification_in raw.body) []) []) (left_by (settled (message_by raw WaitingReplayEntries (machine_fed s given (missing (suc k) aside) cs ns WaitingReplayEntries) a b c d)))
+entry_counts s given aside k cs ns raw true b c d one = inl refl
+entry_counts s given aside k cs ns raw false true true d one = absurd (let z : true ≡ false = one refl in cc)
+entry_counts s given aside k cs ns raw false true false d one = inr (counts_to s given aside k (cs ++ raw ∷ []) ns ∙ λ i. waiting s given aside k (cs ++ raw ∷ []) (sym (append-nil ns) i))
+entry_counts s given aside k cs ns raw false false true d one = queued_counts s given aside k cs ns (notification_in raw.body)
+entry_counts s given aside k cs ns raw false false false true one = inl refl
+entry_counts s given aside k cs ns raw false false false false one = inl refl
 
 entry_comes : (s : Setup) (given : StateMap) (aside : Aside) (k : ℕ) (cs : List RawMessage) (ns : List Notification) (raw : RawMessage) → Counts s given aside k (cs ++ commands_among (raw ∷ [])) (ns ++ notifications_among (raw ∷ [])) (received raw (waiting s given aside (suc k) cs ns))
 entry_comes s given aside k cs ns raw =
     let v = waiting s given aside (suc k) cs ns in
-    subst (Counts s given aside k (cs ++ commands_among (raw ∷ [])) (ns ++ notifications_among (raw ∷ []))) (sym (receives_by v raw refl)) (entry_counts s given aside k cs ns raw (type_number raw.ty == 1) (is_command raw) (is_notification raw) (not_both (type_number raw.ty)))
+    subst (Counts s given aside k (cs ++ commands_among (raw ∷ [])) (ns ++ notifications_among (raw ∷ []))) (sym (receives_by v raw refl)) (entry_counts s given aside k cs ns raw (type_number raw.ty == 1) (is_command raw) (is_notification raw) (is_acknowledgement raw) (not_both (type_number raw.ty)))
 
 -- once all entries have come, a further notification is queued
 queued_stays : (s : Setup) (given : StateMap) (aside : Aside) (cs : List RawMessage) (ns : List Notification) (o : Option Notification)
@@ -92,17 +94,18 @@ queued_stays : (s : Setup) (given : StateMap) (aside : Aside) (cs : List RawMess
 queued_stays s given aside cs ns None = inl refl
 queued_stays s given aside cs ns (Some n) = inr refl
 
-more_counts : (s : Setup) (given : StateMap) (aside : Aside) (cs : List RawMessage) (ns : List Notification) (raw : RawMessage) (a b c : Bool) → (b ≡ true → c ≡ false)
-    → Counts s given aside 0 cs (ns ++ cond c (notified_by (notification_in raw.body) []) []) (left_by (settled (message_by raw Replaying (waiting s given aside 0 cs ns) a b c)))
-more_counts s given aside cs ns raw true b c one = inl refl
-more_counts s given aside cs ns raw false true c one = inl refl
-more_counts s given aside cs ns raw false false true one = queued_stays s given aside cs ns (notification_in raw.body)
-more_counts s given aside cs ns raw false false false one = inl refl
+more_counts : (s : Setup) (given : StateMap) (aside : Aside) (cs : List RawMessage) (ns : List Notification) (raw : RawMessage) (a b c d : Bool) → (b ≡ true → c ≡ false)
+    → Counts s given aside 0 cs (ns ++ cond c (notified_by (notification_in raw.body) []) []) (left_by (settled (message_by raw Replaying (waiting s given aside 0 cs ns) a b c d)))
+more_counts s given aside cs ns raw true b c d one = inl refl
+more_counts s given aside cs ns raw false true c d one = inl refl
+more_counts s given aside cs ns raw false false true d one = queued_stays s given aside cs ns (notification_in raw.body)
+more_counts s given aside cs ns raw false false false true one = inl refl
+more_counts s given aside cs ns raw false false false false one = inl refl
 
 more_comes : (s : Setup) (given : StateMap) (aside : Aside) (cs : List RawMessage) (ns : List Notification) (raw : RawMessage) → Counts s given aside 0 cs (ns ++ notifications_among (raw ∷ [])) (received raw (waiting s given aside 0 cs ns))
 more_comes s given aside cs ns raw =
     let v = waiting s given aside 0 cs ns in
-    subst (Counts s given aside 0 cs (ns ++ notifications_among (raw ∷ []))) (sym (receives_by v raw refl)) (more_counts s given aside cs ns raw (type_number raw.ty == 1) (is_command raw) (is_notification raw) (not_both (type_number raw.ty)))
+    subst (Counts s given aside 0 cs (ns ++ notifications_among (raw ∷ []))) (sym (receives_by v raw refl)) (more_counts s given aside cs ns raw (type_number raw.ty == 1) (is_command raw) (is_notification raw) (is_acknowledgement raw) (not_both (type_number raw.ty)))
 
 -- ---- all frames
 
@@ -193,14 +196,15 @@ starts_with alloc version options raw (Some st) is = by_entries (entries_in st.s
     by_entries None e = inl refl
     by_entries (Some entries) e = by_test entries e (st.known_entries == 0) refl
 
-first_by : (alloc : Global) (version : Version) (options : VMOptions) (raw : RawMessage) (a b c : Bool) → StartCame alloc version options raw (left_by (settled (message_by raw WaitingStart (fresh alloc version options) a b c)))
-first_by alloc version options raw true b c = starts_with alloc version options raw (start_in raw.body) refl
-first_by alloc version options raw false true c = inl refl
-first_by alloc version options raw false false true = inl refl
-first_by alloc version options raw false false false = inl refl
+first_by : (alloc : Global) (version : Version) (options : VMOptions) (raw : RawMessage) (a b c d : Bool) → StartCame alloc version options raw (left_by (settled (message_by raw WaitingStart (fresh alloc version options) a b c d)))
+first_by alloc version options raw true b c d = starts_with alloc version options raw (start_in raw.body) refl
+first_by alloc version options raw false true c d = inl refl
+first_by alloc version options raw false false true d = inl refl
+first_by alloc version options raw false false false true = inl refl
+first_by alloc version options raw false false false false = inl refl
 
 first_comes : (alloc : Global) (version : Version) (options : VMOptions) (raw : RawMessage) → StartCame alloc version options raw (received raw (fresh alloc version options))
-first_comes alloc version options raw = subst (StartCame alloc version options raw) (sym (receives_by (fresh alloc version options) raw refl)) (first_by alloc version options raw (type_number raw.ty == 1) (is_command raw) (is_notification raw))
+first_comes alloc version options raw = subst (StartCame alloc version options raw) (sym (receives_by (fresh alloc version options) raw refl)) (first_by alloc version options raw (type_number raw.ty == 1) (is_command raw) (is_notification raw) (is_acknowledgement raw))
 
 -- frames that come to a new machine
 pub journals_come : (alloc : Global) (version : Version) (options : VMOptions) (first : RawMessage) (raws : List RawMessage) → Started alloc version options first raws (all_received (first ∷ raws) (fresh alloc version options))

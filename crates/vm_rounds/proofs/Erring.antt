@@ -216,6 +216,7 @@ asks_blamed m version options old result new runs live (x, w, does, is, made) = 
     by_reply : (x : Result Reply Error) → IsLeft old.vm.machine x w.machine → DoesBy (Performs (step_asked m old) old.vm.machine) x old.vm.machine w.machine → IsBlamed m version options (stepping.replied old (future_in (step_asked m old)) x w)
     by_reply (Ok (reply.Answer a)) h d = running (old.answers ++ a ∷ []) h.failure h.left
     by_reply (Ok (reply.Waiting input run)) h d = running old.answers h.failure h.left
+    by_reply (Ok (reply.Execute run)) h d = running old.answers h.failure h.left
     by_reply (Ok reply.Suspended) h d = over_blamed m version options progress.Suspended _ _ _ _
     by_reply (Ok reply.Ended) h d = over_blamed m version options progress.Ended _ _ _ _
     by_reply (Err e) h d =
@@ -286,6 +287,7 @@ asks_errs m old result new live (x, w, does, is, made) = subst (λ z. Errs old z
     by_reply : (x : Result Reply Error) → IsLeft old.vm.machine x w.machine → new ≡ stepping.replied old (future_in (step_asked m old)) x w → Errs old (progress_of x) new
     by_reply (Ok (reply.Answer a)) h at = tt
     by_reply (Ok (reply.Waiting input run)) h at = tt
+    by_reply (Ok (reply.Execute run)) h at = tt
     by_reply (Ok reply.Suspended) h at = tt
     by_reply (Ok reply.Ended) h at = tt
     by_reply (Err e) h at = inr (ap (λ (z : Record). z.vm.machine.failure) at ∙ h.1, ap (λ (z : Record). z.over) at)

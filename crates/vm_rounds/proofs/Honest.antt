@@ -32,7 +32,7 @@ use Rattle.vm_model.specs.Journal.{Entry, Recorded, Notified, commands_in, input
 use Rattle.vm_rounds.specs.declared.progress.Fed.{Fed}
 use Rattle.vm_rounds.specs.Blames.{Began, IsHonest, Place, fault_by, frame_fault, notification_fault, refused_start, start_fault}
 use Rattle.vm_rounds.specs.Honest.{FeedsHonestly, IsEntry, entry_frame, frame_bytes, notification_frame}
-use Rattle.vm_rounds.specs.Journals.{as_entries, is_notification, notifications_among, notified_by, recorded_by, setup_for, told_by}
+use Rattle.vm_rounds.specs.Journals.{is_acknowledgement, as_entries, is_notification, notifications_among, notified_by, recorded_by, setup_for, told_by}
 use Rattle.vm_rounds.specs.Told.{NoneHasTwo, arrivals, begun, bytes_fed, frames_fed, handed_out}
 use Rattle.vm_rounds.proofs.Pieces.{notifications_append}
 use Rattle.vm_rounds.proofs.Replayed.{commands_same, head_same, notes_same, tail_same}
@@ -124,7 +124,7 @@ record TakenBehind (raw : RawMessage) : Type 0 where
 entries_taken : (journal : List Entry) → AllByRecursion IsEntry journal → AllByRecursion TakenAsEntry (map entry_frame journal)
 entries_taken [] all = tt
 entries_taken (Recorded raw ∷ journal) all =
-    ((λ i. fault_by WaitingReplayEntries raw (other_number (type_number raw.ty) all.0.0 i) (all.0.0 i) (is_notification raw)), entries_taken journal all.1)
+    ((λ i. fault_by [] WaitingReplayEntries raw (other_number (type_number raw.ty) all.0.0 i) (all.0.0 i) (is_notification raw) (is_acknowledgement raw)), entries_taken journal all.1)
 entries_taken (Notified n ∷ journal) all = (ap notification_fault (reads_note n all.0), entries_taken journal all.1)
 
 notes_taken : (more : List Notification) → Wholes more → AllByRecursion TakenBehind (map notification_frame more)

@@ -25,7 +25,7 @@ use Rattle.invocation_vm.proofs.Feeds.{among_failed, among_output}
 use Rattle.invocation_vm.proofs.Cuts.{frames_of-append}
 use Rattle.vm_rounds.specs.declared.progress.Fed.{Fed}
 use Rattle.vm_rounds.specs.Agreement.{Aside}
-use Rattle.vm_rounds.specs.Journals.{HasAll, StillWaits, is_command, is_notification, setup_for}
+use Rattle.vm_rounds.specs.Journals.{HasAll, StillWaits, is_command, is_notification, setup_for, is_acknowledgement}
 use Rattle.vm_rounds.specs.Record.{Record}
 use Rattle.vm_rounds.specs.Stepping.{CloseDoes, Closes, FeedDoes, Feeds, Takes, emptied, kept, kept_at, with_vm}
 use Rattle.vm_parts.specs.Outboxes.{WholeFrames}
@@ -49,11 +49,12 @@ before_dead version options fed to answers waiting taken v w b q dead = record {
 
 -- ---- a VM that is closed
 
-closed_by : (raw : RawMessage) (v : Machine) (a b c : Bool) → (left_by (settled (message_by raw Closed v a b c))).phase ≡ v.phase
-closed_by raw v true b c = refl
-closed_by raw v false true c = refl
-closed_by raw v false false true = refl
-closed_by raw v false false false = refl
+closed_by : (raw : RawMessage) (v : Machine) (a b c d : Bool) → (left_by (settled (message_by raw Closed v a b c d))).phase ≡ v.phase
+closed_by raw v true b c d = refl
+closed_by raw v false true c d = refl
+closed_by raw v false false true d = refl
+closed_by raw v false false false true = refl
+closed_by raw v false false false false = refl
 
 closed_received : (raw : RawMessage) (v : Machine) → v.phase ≡ Closed → (received raw v).phase ≡ Closed
 closed_received raw v closed = by_option v.failure refl
@@ -62,8 +63,8 @@ closed_received raw v closed = by_option v.failure refl
     by_option (Some e) is = ap (λ w. w.phase) (failed_receives e v raw is) ∙ closed
     by_option None is =
         ap (λ w. w.phase) (receives_by v raw is)
-        ∙ ap (λ ph. (left_by (settled (message_by raw ph v (type_number raw.ty == 1) (is_command raw) (is_notification raw)))).phase) closed
-        ∙ closed_by raw v (type_number raw.ty == 1) (is_command raw) (is_notification raw)
+        ∙ ap (λ ph. (left_by (settled (message_by raw ph v (type_number raw.ty == 1) (is_command raw) (is_notification raw) (is_acknowledgement raw)))).phase) closed
+        ∙ closed_by raw v (type_number raw.ty == 1) (is_command raw) (is_notification raw) (is_acknowledgement raw)
         ∙ closed
 
 closed_spoiled : (v : Machine) → v.phase ≡ Closed → (spoiled v).phase ≡ Closed

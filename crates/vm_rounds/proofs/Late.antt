@@ -1,4 +1,5 @@
 -- What comes to an attempt that is over: its VM ignores notifications, and fails by any other frame.
+use Rattle.vm_parts.specs.declared.run_state.KeptProposal.{KeptProposal}
 use Rattle.std.proofs.Common.{◌≡◌, ◌≢◌, ℕ, ◌+◌, ◌≤◌, Bool, true, false, List, [], ◌∷◌, ◌++◌, length, Option, Some, None, Result, Ok, Err, refl, sym, ap, ◌∙◌, subst, ⊎_elim, append_assoc, append-nil, length-append, arith}
 use Rattle.std.specs.Prelude.{◌⊎◌, ◌==◌, if◌then◌else◌, is_some, unwrap_or}
 use Rattle.std.proofs.lemmas.Option.{same_Some}
@@ -25,9 +26,9 @@ use Rattle.vm_rounds.specs.declared.progress.Fed.{Fed}
 use Rattle.vm_rounds.specs.declared.progress.Progress.{Progress}
 use Rattle.vm_rounds.specs.declared.progress.Reply.{Reply}
 use Rattle.vm_rounds.specs.declared.progress.Reply.TheVariants as reply
-use Rattle.vm_rounds.specs.Blames.{BadFrame, Began, BehindEnd, Blame, FailsAt, IfError, IsBlamed, IsLate, LateBy, fault_by, frame_fault}
+use Rattle.vm_rounds.specs.Blames.{BadFrame, Began, BehindEnd, Blame, FailsAt, IfError, IsBlamed, IsLate, LateBy, fault_by, frame_fault, fault_among}
 use Rattle.vm_rounds.specs.Blames.Blame.{Memory, Frame, NoFrame}
-use Rattle.vm_rounds.specs.Journals.{is_command, is_notification}
+use Rattle.vm_rounds.specs.Journals.{is_command, is_notification, is_acknowledgement}
 use Rattle.vm_rounds.specs.Record.{Record, all_fed}
 use Rattle.vm_rounds.specs.Stepping.{Advances, Asks, CloseDoes, Closes, FeedDoes, Feeds, LacksMemory, Reads, StepAt, StepDoes, StepFrom, StepUnless, Takes, fed_now, future_in, kept, kept_at, replied, step_asked, taken_from, with_vm}
 use Rattle.vm_rounds.specs.Told.{BeforeInput, Came, HasCome, IsKeptUnder, IsLive, bytes_fed, frames_fed}
@@ -41,11 +42,12 @@ use Rattle.vm_rounds.proofs.Sending.{IsLeft, step_leaves}
 -- ---- a frame that comes behind the end
 
 -- what a closed VM refuses is refused in Processing too
-closed_fault : (raw : RawMessage) (a b c : Bool) (why : NamedFault) → fault_by Closed raw a b c ≡ Some why → fault_by Processing raw a b c ≡ Some why
-closed_fault raw true b c why is = is
-closed_fault raw false true c why is = is
-closed_fault raw false false true why is = absurd (cc)
-closed_fault raw false false false why is = is
+closed_fault : (kept : List KeptProposal) (raw : RawMessage) (a b c d : Bool) (why : NamedFault) → fault_by kept Closed raw a b c d ≡ Some why → fault_by [] Processing raw a b c d ≡ Some why
+closed_fault kept raw true b c d why is = is
+closed_fault kept raw false true c d why is = is
+closed_fault kept raw false false true d why is = absurd (cc)
+closed_fault kept raw false false false true why is = absurd (cc)
+closed_fault kept raw false false false false why is = is
 
 began_more : (F G : List RawMessage) → Began F (λ n known. known ≤ n) → Began (F ++ G) (λ n known. known ≤ n)
 began_more F G b = record { first = b.first; others = b.others ++ G; is = ap (λ l. l ++ G) b.is; start = b.start; reads = b.reads; counts = more (length b.others) (length G) (length (b.others ++ G)) b.start.known_entries (length-append b.others G) b.counts }
@@ -63,7 +65,7 @@ late_frame F G v m e closed b f is = record {
   missing = 0;
   place = began_more F f.before b;
   why = f.why;
-  reason = closed_fault f.raw (type_number f.raw.ty == 1) (is_command f.raw) (is_notification f.raw) f.why (subst (λ ph. frame_fault ph f.raw ≡ Some f.why) (closed_all f.before v closed) f.reason);
+  reason = closed_fault (all_received f.before v).proposals f.raw (type_number f.raw.ty == 1) (is_command f.raw) (is_notification f.raw) (is_acknowledgement f.raw) f.why (subst (λ ph. fault_among (all_received f.before v).proposals ph f.raw ≡ Some f.why) (closed_all f.before v closed) f.reason);
   error = same_Some e _ (sym is ∙ f.failure);
 }
 
@@ -263,6 +265,7 @@ asks_late m version options old result new c live going none (x, w, does, is, ma
     by_reply : (x : Result Reply Error) → IsLeft old.vm.machine x w.machine → IsLate m version options (replied old (future_in (step_asked m old)) x w)
     by_reply (Ok (reply.Answer a)) h = on (replied old (future_in (step_asked m old)) (Ok (reply.Answer a)) w) refl refl
     by_reply (Ok (reply.Waiting input run)) h = on (replied old (future_in (step_asked m old)) (Ok (reply.Waiting input run)) w) refl refl
+    by_reply (Ok (reply.Execute run)) h = on (replied old (future_in (step_asked m old)) (Ok (reply.Execute run)) w) refl refl
     by_reply (Ok reply.Suspended) h = ends_behind m version options old w c live none does.0.1 h.failure h.left h.sends.version h.sends.options
     by_reply (Ok reply.Ended) h = ends_behind m version options old w c live none does.0.1 h.failure h.left h.sends.version h.sends.options
     by_reply (Err e) h = on (replied old (future_in (step_asked m old)) (Err e) w) refl refl

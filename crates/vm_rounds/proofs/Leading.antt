@@ -1,5 +1,4 @@
 -- An event of a machine that agrees with a point does what the next move does.
-use Rattle.vm_parts.specs.declared.context.LastCommand.{LastCommand}
 use Rattle.std.proofs.Common.{◌≡◌, ◌⊎◌, ⊎_elim, ℕ, zero, suc, false, List, [], ◌∷◌, ◌++◌, Option, Some, None, refl, sym, ap, ◌∙◌, subst, inl, inr, append-nil}
 use Rattle.journal_errors.specs.declared.error.Error.{Error}
 use Rattle.journal_errors.specs.declared.error.RelatedCommand.{RelatedCommand}
@@ -22,16 +21,16 @@ use Rattle.vm_model.specs.Histories.{Made, Handed, Knowledge}
 use Rattle.vm_model.proofs.Runs.{made_spent, next_spent}
 use Rattle.vm_model.specs.Refusals.{IsRefusedFor}
 use Rattle.vm_rounds.specs.declared.progress.Reply.TheVariants as reply
-use Rattle.vm_rounds.specs.Agreement.{Aside, Follows, MovesOn, command_frames, machine_at}
+use Rattle.vm_rounds.specs.Agreement.{Aside, Beside, Follows, MovesOn, command_frames, machine_at}
 use Rattle.vm_rounds.specs.Steps.{mapped}
 
 -- what stands aside, with these frames written
 abbrev pub with_frames : List RawMessage → Aside → Aside
 with_frames made aside = record aside { output = aside.output ++ command_frames made }
 
--- what stands aside, with this as the last command
-abbrev pub with_last : LastCommand → Aside → Aside
-with_last last aside = record aside { last = last }
+-- what stands aside, with this left by the last call
+abbrev pub with_beside : Beside → Aside → Aside
+with_beside beside aside = record aside { beside = beside }
 
 -- the state that an attempt knows at a point
 abbrev pub state_at : StateMap → Point → StateMap
@@ -51,7 +50,7 @@ pub record Refusing (s : Setup) (before : List (List ℕ)) (queue : List Notific
 -- An outcome is what a move leads to: the machine at the next point, or a refusal where there is none.
 abbrev pub Leads : {A : Type 0} → Setup → StateMap → List RawMessage → Aside → Point → Move → List RawMessage → List RawMessage → (A → List Answer) → Option Point → Outcome A → Type 0
 Leads s given written aside p mv left made gives (Some q) (Done a w) =
-    (q.answers ≡ p.answers ++ gives a) × ((last : LastCommand) × (w ≡ machine_at s given (written ++ made) (with_last last (with_frames made aside)) q))
+    (q.answers ≡ p.answers ++ gives a) × ((beside : Beside) × (w ≡ machine_at s given (written ++ made) (with_beside beside (with_frames made aside)) q))
 Leads s given written aside p mv left made gives None (Failed e w) = Refusing s aside.output p.queue mv left e w
 Leads s given written aside p mv left made gives (Some q) (Failed e w) = ⊥
 Leads s given written aside p mv left made gives None (Done a w) = ⊥
@@ -115,7 +114,7 @@ follows_from s m given written aside p gives mv o identity is h = by_cases (move
           made = supply (state_at given p) mv p.left;
           none_before = subst (λ l. (l ≡ []) ⊎ (q.left ≡ [])) supplies (none_or_spent s m (state_at given p) p q (leads (Some q) e));
           moves = record { moves = 1; run = subst (λ l. Made s m (Handed given) 1 p l q) supplies (one_move s m given p q (leads (Some q) e)); answers = g.0 };
-          agrees = record { aside = with_last g.1.0 (with_frames (supply (state_at given p) mv p.left) aside); machine = g.1.1; identity = identity };
+          agrees = record { aside = with_beside g.1.0 (with_frames (supply (state_at given p) mv p.left) aside); machine = g.1.1; identity = identity };
           output = ap (λ w. w.output) g.1.1;
         }
     by_cases None e (Failed f w) g =

@@ -1,4 +1,8 @@
 -- In which phase each frame of an attempt comes.
+use Rattle.std.specs.List.{find}
+use Rattle.runs.specs.Kept.{is_for}
+use Rattle.vm_parts.specs.declared.run_state.KeptProposal.{KeptProposal}
+use Rattle.journal_attempt.specs.declared.runs.ProposeRunCompletionAck.{ProposeRunCompletionAck}
 use Rattle.std.proofs.Common.{◌≡◌, ◌≢◌, ℕ, zero, suc, ◌+◌, ◌-◌, ◌<◌, ◌≤◌, Bool, true, false, List, [], ◌∷◌, ◌++◌, length, Option, Some, None, refl, sym, ap, ◌∙◌, subst, ⊎_elim, append_assoc, append-nil, arith, length-append, Global}
 use Rattle.std.specs.Prelude.{◌==◌, if◌then◌else◌, nat_le}
 use Rattle.std.proofs.lemmas.Bool.Decides.{nat_tests}
@@ -10,24 +14,24 @@ use Rattle.journal_values.specs.declared.notification.Notification.{Notification
 use Rattle.journal_attempt.specs.declared.start.Start.{Start}
 use Rattle.journal_errors.specs.declared.version.Version.{Version}
 use Rattle.journal_errors.specs.Errors.{named_error}
-use Rattle.journal_messages.specs.Reading.{notification_in, start_in}
+use Rattle.journal_messages.specs.Reading.{notification_in, start_in, acknowledgement_in}
 use Rattle.journal_errors.specs.Types.{type_number}
 use Rattle.vm_parts.specs.declared.options.VMOptions.{VMOptions}
 use Rattle.vm_machine.specs.declared.machine.Machine.{Machine}
 use Rattle.vm_machine.specs.declared.phase.Phase.{Phase}
 use Rattle.vm_machine.specs.declared.phase.Phase.TheVariants.{WaitingStart, WaitingReplayEntries, Replaying, Processing, Closed}
-use Rattle.vm_machine.specs.Inputs.{counted_entry, coverage_of, entries_in, info_of, queued, started, started_with}
+use Rattle.vm_machine.specs.Inputs.{counted_entry, coverage_of, entries_in, info_of, queued, started, started_with, acknowledged, acknowledged_by}
 use Rattle.vm_machine.specs.Making.{fresh}
 use Rattle.vm_machine.specs.Outcomes.{Done, refused, ruled, settled}
 use Rattle.vm_machine.specs.Phases.{is_running}
 use Rattle.invocation_vm.specs.Views.{all_received, left_by, received}
-use Rattle.vm_rounds.specs.Journals.{HasAll, StillWaits, is_command, is_notification, setup_for}
+use Rattle.vm_rounds.specs.Journals.{HasAll, StillWaits, is_command, is_notification, setup_for, is_acknowledgement}
 use Rattle.vm_rounds.specs.Record.{Record}
 use Rattle.vm_rounds.specs.declared.progress.Fed.{Fed}
 use Rattle.vm_rounds.specs.Told.{BeforeInput, Begun, Came, Comes, HasCome, frames_fed}
-use Rattle.vm_rounds.specs.Blames.{BadFrame, Began, FailsAt, Place, frame_fault}
+use Rattle.vm_rounds.specs.Blames.{BadFrame, Began, FailsAt, Place, frame_fault, fault_among}
 use Rattle.vm_rounds.proofs.Arriving.{failed_stays}
-use Rattle.vm_rounds.proofs.Blaming.{one_comes}
+use Rattle.vm_rounds.proofs.Blaming.{one_comes, none_kept}
 use Rattle.vm_rounds.proofs.Entries.{message_by, receives_by}
 
 one_longer : (others : List RawMessage) (raw : RawMessage) → length (others ++ raw ∷ []) ≡ length others + 1
@@ -86,27 +90,39 @@ queued_behind : (F : List RawMessage) (raw : RawMessage) (v : Machine) → Place
 queued_behind F raw v p None h = no_failure _ h
 queued_behind F raw v p (Some n) h = p
 
-next_by : (F : List RawMessage) (raw : RawMessage) (phase : Phase) (v : Machine) → v.phase ≡ phase → Place phase v.entries_missing F → (a b c : Bool) → Stands (F ++ raw ∷ []) (left_by (settled (message_by raw phase v a b c)))
-next_by F raw WaitingStart v at p true b c = starts F raw v p (start_in raw.body) refl
-next_by F raw WaitingReplayEntries v at p true b c = λ h. no_failure _ h
-next_by F raw Replaying v at p true b c = λ h. no_failure _ h
-next_by F raw Processing v at p true b c = λ h. no_failure _ h
-next_by F raw Closed v at p a b c = absurd p
-next_by F raw WaitingStart v at p false true c = λ h. no_failure _ h
-next_by F raw WaitingReplayEntries v at p false true c = λ h. counted_place F raw v.entries_missing p
-next_by F raw Replaying v at p false true c = λ h. no_failure _ h
-next_by F raw Processing v at p false true c = λ h. no_failure _ h
-next_by F raw WaitingStart v at p false false true = λ h. no_failure _ h
-next_by F raw WaitingReplayEntries v at p false false true = queued_counts F raw v p (notification_in raw.body)
-next_by F raw Replaying v at p false false true = queued_behind F raw v (subst (λ ph. Place ph v.entries_missing (F ++ raw ∷ [])) (sym at) (still_behind F raw p)) (notification_in raw.body)
-next_by F raw Processing v at p false false true = queued_behind F raw v (subst (λ ph. Place ph v.entries_missing (F ++ raw ∷ [])) (sym at) (still_behind F raw p)) (notification_in raw.body)
-next_by F raw WaitingStart v at p false false false = λ h. no_failure _ h
-next_by F raw WaitingReplayEntries v at p false false false = λ h. no_failure _ h
-next_by F raw Replaying v at p false false false = λ h. no_failure _ h
-next_by F raw Processing v at p false false false = λ h. no_failure _ h
+kept_behind : (F : List RawMessage) (raw : RawMessage) (v : Machine) → Place v.phase v.entries_missing (F ++ raw ∷ []) → (id : ℕ) (kept : Option KeptProposal) → Stands (F ++ raw ∷ []) (left_by (settled (acknowledged id kept v)))
+kept_behind F raw v p id None h = no_failure _ h
+kept_behind F raw v p id (Some kept) h = p
+
+acknowledged_behind : (F : List RawMessage) (raw : RawMessage) (v : Machine) → Place v.phase v.entries_missing (F ++ raw ∷ []) → (ack : Option ProposeRunCompletionAck) → Stands (F ++ raw ∷ []) (left_by (settled (acknowledged_by ack v)))
+acknowledged_behind F raw v p None h = no_failure _ h
+acknowledged_behind F raw v p (Some ack) h = kept_behind F raw v p ack.id (find (is_for ack.id) v.proposals) h
+
+next_by : (F : List RawMessage) (raw : RawMessage) (phase : Phase) (v : Machine) → v.phase ≡ phase → Place phase v.entries_missing F → (a b c d : Bool) → Stands (F ++ raw ∷ []) (left_by (settled (message_by raw phase v a b c d)))
+next_by F raw WaitingStart v at p true b c d = starts F raw v p (start_in raw.body) refl
+next_by F raw WaitingReplayEntries v at p true b c d = λ h. no_failure _ h
+next_by F raw Replaying v at p true b c d = λ h. no_failure _ h
+next_by F raw Processing v at p true b c d = λ h. no_failure _ h
+next_by F raw Closed v at p a b c d = absurd p
+next_by F raw WaitingStart v at p false true c d = λ h. no_failure _ h
+next_by F raw WaitingReplayEntries v at p false true c d = λ h. counted_place F raw v.entries_missing p
+next_by F raw Replaying v at p false true c d = λ h. no_failure _ h
+next_by F raw Processing v at p false true c d = λ h. no_failure _ h
+next_by F raw WaitingStart v at p false false true d = λ h. no_failure _ h
+next_by F raw WaitingReplayEntries v at p false false true d = queued_counts F raw v p (notification_in raw.body)
+next_by F raw Replaying v at p false false true d = queued_behind F raw v (subst (λ ph. Place ph v.entries_missing (F ++ raw ∷ [])) (sym at) (still_behind F raw p)) (notification_in raw.body)
+next_by F raw Processing v at p false false true d = queued_behind F raw v (subst (λ ph. Place ph v.entries_missing (F ++ raw ∷ [])) (sym at) (still_behind F raw p)) (notification_in raw.body)
+next_by F raw WaitingStart v at p false false false true = λ h. no_failure _ h
+next_by F raw WaitingStart v at p false false false false = λ h. no_failure _ h
+next_by F raw WaitingReplayEntries v at p false false false true = λ h. no_failure _ h
+next_by F raw WaitingReplayEntries v at p false false false false = λ h. no_failure _ h
+next_by F raw Replaying v at p false false false true = λ h. no_failure _ h
+next_by F raw Replaying v at p false false false false = λ h. no_failure _ h
+next_by F raw Processing v at p false false false true = acknowledged_behind F raw v (subst (λ ph. Place ph v.entries_missing (F ++ raw ∷ [])) (sym at) (still_behind F raw p)) (acknowledgement_in raw.body)
+next_by F raw Processing v at p false false false false = λ h. no_failure _ h
 
 place_next : (F : List RawMessage) (raw : RawMessage) (v : Machine) → v.failure ≡ None → Place v.phase v.entries_missing F → Stands (F ++ raw ∷ []) (received raw v)
-place_next F raw v live p = subst (Stands (F ++ raw ∷ [])) (sym (receives_by v raw live)) (next_by F raw v.phase v refl p (type_number raw.ty == 1) (is_command raw) (is_notification raw))
+place_next F raw v live p = subst (Stands (F ++ raw ∷ [])) (sym (receives_by v raw live)) (next_by F raw v.phase v refl p (type_number raw.ty == 1) (is_command raw) (is_notification raw) (is_acknowledgement raw))
 
 -- where a machine stands once further frames have come
 pub place_all : (raws F : List RawMessage) (v : Machine) → v.failure ≡ None → Place v.phase v.entries_missing F → Stands (F ++ raws) (all_received raws v)
@@ -116,7 +132,7 @@ place_all (raw ∷ raws) F v live p h =
     ⊎_elim
     (λ (x : (w.failure ≡ None) × ((w.version ≡ v.version) × (w.options ≡ v.options))).
     subst (Place (all_received raws w).phase (all_received raws w).entries_missing) (append_assoc F (raw ∷ []) raws) (place_all raws (F ++ raw ∷ []) w x.0 (place_next F raw v live p x.0) h))
-    (λ (x : (why : _) × (frame_fault v.phase raw ≡ Some why) × (w.failure ≡ Some (ruled v (named_error why None)))).
+    (λ (x : (why : _) × (fault_among v.proposals v.phase raw ≡ Some why) × (w.failure ≡ Some (ruled v (named_error why None)))).
     no_failure (ruled v (named_error x.0 None)) (sym x.2 ∙ ap (λ (u : Machine). u.failure) (sym (failed_stays (ruled v (named_error x.0 None)) w raws x.2)) ∙ h))
     (one_comes raw v live)
 
@@ -131,7 +147,7 @@ bad_frame F G v m e live p f is = record {
   missing = (all_received f.before v).entries_missing;
   place = place_all f.before F v live p f.live;
   why = f.why;
-  reason = f.reason;
+  reason = none_kept (all_received f.before v).proposals (all_received f.before v).phase f.raw f.why f.reason;
   error = same_Some e _ (sym is ∙ f.failure);
 }
 

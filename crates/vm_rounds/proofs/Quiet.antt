@@ -1,4 +1,8 @@
 -- Input writes no command: what it writes is one Error at most.
+use Rattle.std.specs.List.{find}
+use Rattle.runs.specs.Kept.{is_for}
+use Rattle.vm_parts.specs.declared.run_state.KeptProposal.{KeptProposal}
+use Rattle.journal_attempt.specs.declared.runs.ProposeRunCompletionAck.{ProposeRunCompletionAck}
 use Rattle.std.proofs.Common.{◌≡◌, ℕ, Bool, true, false, cond, List, [], ◌∷◌, ◌++◌, map, Option, Some, None, refl, sym, ap, ◌∙◌, subst, append_assoc, append-nil}
 use Rattle.std.specs.Prelude.{◌==◌, ◌&&◌, if◌then◌else◌, nat_le, nat_lt}
 use Rattle.journal_errors.specs.declared.error.Error.{Error}
@@ -10,12 +14,12 @@ use Rattle.journal_values.specs.declared.notification.Notification.{Notification
 use Rattle.journal_attempt.specs.declared.start.Start.{Start}
 use Rattle.journal_errors.specs.Errors.{error_message}
 use Rattle.journal_messages.specs.Message.{body, encoding, type_of}
-use Rattle.journal_messages.specs.Reading.{notification_in, start_in}
+use Rattle.journal_messages.specs.Reading.{notification_in, start_in, acknowledgement_in}
 use Rattle.journal_errors.specs.Types.{type_number}
 use Rattle.vm_machine.specs.declared.machine.Machine.{Machine}
 use Rattle.vm_machine.specs.declared.phase.Phase.{Phase}
 use Rattle.vm_machine.specs.declared.phase.Phase.TheVariants.{WaitingStart, WaitingReplayEntries, Replaying, Processing, Closed}
-use Rattle.vm_machine.specs.Inputs.{close_step, closed_at, counted_entry, coverage_of, entries_in, entry_step, info_of, malformed_step, message_step, notification_step, queued, start_step, started, started_with}
+use Rattle.vm_machine.specs.Inputs.{close_step, closed_at, counted_entry, coverage_of, entries_in, entry_step, info_of, malformed_step, message_step, notification_step, queued, start_step, started, started_with, acknowledged, acknowledged_by, acknowledgement_step}
 use Rattle.vm_machine.specs.Outcomes.{Outcome, Done, Failed, called, called_at, failed, refused, ruled, settled}
 use Rattle.vm_machine.specs.Phases.{is_closed}
 use Rattle.invocation_vm.specs.Frames.{Tail, Rest, Garbage, frames_of}
@@ -110,15 +114,31 @@ notification_step_silent raw Replaying v = (queued_silent (notification_in raw.b
 notification_step_silent raw Processing v = (queued_silent (notification_in raw.body) v).1
 notification_step_silent raw Closed v = refl
 
+kept_silent : (id : ℕ) (kept : Option KeptProposal) (v : Machine) → Silent v (acknowledged id kept v)
+kept_silent id None v = refl
+kept_silent id (Some kept) v = refl
+
+acknowledged_silent : (ack : Option ProposeRunCompletionAck) (v : Machine) → Silent v (acknowledged_by ack v)
+acknowledged_silent None v = refl
+acknowledged_silent (Some ack) v = kept_silent ack.id (find (is_for ack.id) v.proposals) v
+
+acknowledgement_step_silent : (raw : RawMessage) (phase : Phase) (v : Machine) → Silent v (acknowledgement_step raw phase v)
+acknowledgement_step_silent raw WaitingStart v = refl
+acknowledgement_step_silent raw WaitingReplayEntries v = refl
+acknowledgement_step_silent raw Replaying v = refl
+acknowledgement_step_silent raw Processing v = acknowledged_silent (acknowledgement_in raw.body) v
+acknowledgement_step_silent raw Closed v = refl
+
 message_silent : (raw : RawMessage) (v : Machine) → Silent v (message_step raw v)
 unfolding message_step
-message_silent raw v = by_tests (type_number raw.ty == 1) (nat_le 10 (type_number raw.ty) && nat_lt (type_number raw.ty) 30) (type_number raw.ty == 30)
+message_silent raw v = by_tests (type_number raw.ty == 1) (nat_le 10 (type_number raw.ty) && nat_lt (type_number raw.ty) 30) (type_number raw.ty == 30) (type_number raw.ty == 6)
   where
-    by_tests : (a b c : Bool) → Silent v (if a then start_step raw v.phase v else if b then entry_step raw v.phase v else if c then notification_step raw v.phase v else refused fault.UnexpectedInputMessage v)
-    by_tests true b c = start_step_silent raw v.phase v
-    by_tests false true c = entry_step_silent raw v.phase v
-    by_tests false false true = notification_step_silent raw v.phase v
-    by_tests false false false = refl
+    by_tests : (a b c d : Bool) → Silent v (if a then start_step raw v.phase v else if b then entry_step raw v.phase v else if c then notification_step raw v.phase v else if d then acknowledgement_step raw v.phase v else refused fault.UnexpectedInputMessage v)
+    by_tests true b c d = start_step_silent raw v.phase v
+    by_tests false true c d = entry_step_silent raw v.phase v
+    by_tests false false true d = notification_step_silent raw v.phase v
+    by_tests false false false true = acknowledgement_step_silent raw v.phase v
+    by_tests false false false false = refl
 
 received_quiet : (raw : RawMessage) (v : Machine) → Quiet v (received raw v)
 unfolding received

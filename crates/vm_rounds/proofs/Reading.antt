@@ -6,7 +6,6 @@ use Rattle.journal_messages.specs.declared.message.Message.{Message}
 use Rattle.journal_messages.specs.declared.message.RawMessage.{RawMessage}
 use Rattle.journal_values.specs.declared.notification.NotificationResult.{NotificationResult}
 use Rattle.journal_messages.specs.Message.{type_of}
-use Rattle.vm_parts.specs.declared.context.LastCommand.{LastCommand}
 use Rattle.vm_parts.specs.declared.context.StateMap.{StateMap}
 use Rattle.vm_parts.specs.declared.steps.Answer.{Answer}
 use Rattle.vm_parts.specs.declared.steps.Answer.TheVariants as answer
@@ -26,9 +25,9 @@ use Rattle.vm_model.specs.Calls.Move.{Needs}
 use Rattle.vm_model.specs.Journal.{stored_form}
 use Rattle.vm_model.specs.Moves.{Point, brought, changed_by, command_used, found, longer, moved, supply}
 use Rattle.vm_model.proofs.Standing.{read_stands}
-use Rattle.vm_rounds.specs.Agreement.{Aside, machine_at}
+use Rattle.vm_rounds.specs.Agreement.{Aside, Beside, machine_at}
 use Rattle.vm_rounds.specs.Steps.{IfDone}
-use Rattle.vm_rounds.proofs.Leading.{Leads, open_after, state_at, with_frames, with_last}
+use Rattle.vm_rounds.proofs.Leading.{Leads, open_after, state_at, with_beside, with_frames}
 use Rattle.vm_rounds.proofs.Requesting.{changed_behind, runs_at, some_behind, uses_next, uses_own}
 
 -- what a read needs, and what it is answered
@@ -62,8 +61,8 @@ past r o left p = record { answers = p.answers ++ gives (handle_at p); derived =
 
 -- ---- no recorded command is left: the read's own is written
 
-shown : StateMap → StateRead → Point → LastCommand
-shown given r p = record { ty = type_of (own_at given r p); name = name_read r }
+shown : StateMap → Aside → StateRead → Point → Beside
+shown given aside r p = record { last = record { ty = type_of (own_at given r p); name = name_read r }; runs = aside.beside.runs }
 
 writes : (s : Setup) (given : StateMap) (written : List RawMessage) (aside : Aside) (r : StateRead) (p : Point) → p.left ≡ [] → (o : Option NotificationResult)
     → Leads s given written aside p (needing r p) [] (stored_form (own_at given r p) ∷ []) gives (command_used (Ok o) (needed r p) (gives (handle_at p)) (counted 1 p.derived) [] p)
@@ -73,16 +72,16 @@ writes s given written aside r p spent None =
     let m = own_at given r p in (
       refl,
       (
-        shown given r p,
-        λ i. record (machine_at s given written (with_last (shown given r p) (with_frames (stored_form m ∷ []) aside)) (past r None [] p)) { commands = spent i; phase = phase_after (spent i); wrote_command = sym (some_behind written (stored_form m)) i; state = sym (same_state given r p) i },
+        shown given aside r p,
+        λ i. record (machine_at s given written (with_beside (shown given aside r p) (with_frames (stored_form m ∷ []) aside)) (past r None [] p)) { commands = spent i; phase = phase_after (spent i); wrote_command = sym (some_behind written (stored_form m)) i; state = sym (same_state given r p) i },
       ),
     )
 writes s given written aside r p spent (Some result) =
     let m = own_at given r p in (
       refl,
       (
-        shown given r p,
-        λ i. record (machine_at s given written (with_last (shown given r p) (with_frames (stored_form m ∷ []) aside)) (past r (Some result) [] p)) { commands = spent i; phase = phase_after (spent i); wrote_command = sym (some_behind written (stored_form m)) i; state = sym (same_state given r p) i },
+        shown given aside r p,
+        λ i. record (machine_at s given written (with_beside (shown given aside r p) (with_frames (stored_form m ∷ []) aside)) (past r (Some result) [] p)) { commands = spent i; phase = phase_after (spent i); wrote_command = sym (some_behind written (stored_form m)) i; state = sym (same_state given r p) i },
       ),
     )
 
@@ -98,11 +97,11 @@ pops s given written aside r p c left (Err name) is =
     let w = popped s given written aside r c left p in
     record { why = name; related = Some (last_related w); reason = is; error = refl; output = refl; open_yet = open_after left; version = refl; options = refl }
 pops s given written aside r p c left (Ok None) is =
-    let last : LastCommand = record { ty = recorded_type r c; name = [] } in
-    (refl, (last, λ i. record (machine_at s given (sym (append-nil written) i) (record (with_last last aside) { output = sym (append-nil aside.output) i }) (past r None left p)) { state = sym (same_state given r p) i }))
+    let last : Beside = record { last = record { ty = recorded_type r c; name = [] }; runs = aside.beside.runs } in
+    (refl, (last, λ i. record (machine_at s given (sym (append-nil written) i) (record (with_beside last aside) { output = sym (append-nil aside.output) i }) (past r None left p)) { state = sym (same_state given r p) i }))
 pops s given written aside r p c left (Ok (Some result)) is =
-    let last : LastCommand = record { ty = recorded_type r c; name = [] } in
-    (refl, (last, λ i. record (machine_at s given (sym (append-nil written) i) (record (with_last last aside) { output = sym (append-nil aside.output) i }) (past r (Some result) left p)) { state = sym (same_state given r p) i }))
+    let last : Beside = record { last = record { ty = recorded_type r c; name = [] }; runs = aside.beside.runs } in
+    (refl, (last, λ i. record (machine_at s given (sym (append-nil written) i) (record (with_beside last aside) { output = sym (append-nil aside.output) i }) (past r (Some result) left p)) { state = sym (same_state given r p) i }))
 
 -- ---- the whole event
 

@@ -1,4 +1,5 @@
 -- The calls with a command, in a machine that agrees with a point.
+use Rattle.journal_values.specs.declared.notification.NotificationId.TheVariants.{CompletionId}
 use Rattle.std.proofs.Common.{◌≡◌, Bool, true, false, List, [], ◌∷◌, ◌++◌, Option, Some, None, refl, sym, ap, ◌∙◌, subst, append-nil}
 use Rattle.std.specs.Prelude.{◌==◌, if◌then◌else◌, Result, Ok, Err}
 use Rattle.journal_errors.specs.declared.faults.NamedFault.{NamedFault}
@@ -10,27 +11,27 @@ use Rattle.journal_messages.specs.Message.{type_of}
 use Rattle.journal_messages.specs.Reading.{message_in}
 use Rattle.journal_errors.specs.Types.{type_number}
 use Rattle.journal_values.specs.declared.notification.NotificationResult.{NotificationResult}
-use Rattle.vm_parts.specs.declared.context.LastCommand.{LastCommand}
 use Rattle.vm_parts.specs.declared.context.StateMap.{StateMap}
 use Rattle.vm_parts.specs.declared.steps.Answer.{Answer}
 use Rattle.await_trees.specs.declared.handle.NotificationHandle.{NotificationHandle}
-use Rattle.vm_parts.specs.Counting.{missing}
+use Rattle.vm_parts.specs.Counting.{missing, next_index}
+use Rattle.vm_parts.specs.Deliveries.{is_known}
 use Rattle.vm_machine.specs.declared.machine.Machine.{Machine}
 use Rattle.vm_machine.specs.declared.asks.Command.{Command}
 use Rattle.vm_machine.specs.declared.phase.Phase.TheVariants.{Replaying, Processing}
 use Rattle.vm_machine.specs.Commands.{carried_out, compared, counted as counted_event, entered, ignores_payloads, issued, phase_after, popped, popped_from, prepared, replayed, typed, written as wrote}
 use Rattle.vm_machine.specs.Phases.{is_processing, is_running, state_fault}
 use Rattle.vm_machine.specs.Outcomes.{Outcome, Done, Failed, ◌>>=◌, about_last, last_related}
-use Rattle.vm_machine.specs.Requests.{changed, ids_of, name_of, shown_type, tracked_after, with_ids}
-use Rattle.vm_model.specs.Calls.{Setup, Demand, Derived, Move, answer_of, counted, demand_of, numbered, requested}
+use Rattle.vm_machine.specs.Requests.{changed, ids_of, name_of, runs_after, shown_type, tracked_after, with_ids}
+use Rattle.vm_model.specs.Calls.{Setup, Demand, Derived, Move, answer_of, counted, demand_of, numbered, requested, ready_in}
 use Rattle.vm_model.specs.Calls.Demand.{Exactly}
 use Rattle.vm_model.specs.Calls.Move.{Needs}
 use Rattle.vm_model.specs.Journal.{stored_form}
 use Rattle.vm_model.specs.Moves.{Point, changed_by, command_used, found, longer, moved, reads_as, supply, uses_command}
 use Rattle.vm_model.proofs.Runs.{longer_nothing}
-use Rattle.vm_rounds.specs.Agreement.{Aside, is_some_command, machine_at}
+use Rattle.vm_rounds.specs.Agreement.{Aside, Beside, is_some_command, machine_at}
 use Rattle.vm_rounds.specs.Steps.{IfDone}
-use Rattle.vm_rounds.proofs.Leading.{Leads, Refusing, open_after, state_at, with_frames, with_last}
+use Rattle.vm_rounds.proofs.Leading.{Leads, Refusing, open_after, state_at, with_beside, with_frames}
 
 -- ---- the event, by what is left
 
@@ -54,13 +55,20 @@ pub some_behind : (cs : List RawMessage) (c : RawMessage) → is_some_command (c
 some_behind [] c = refl
 some_behind (x ∷ cs) c = refl
 
--- how errors show a call's command
-abbrev shown : Command → LastCommand
-shown r = record { ty = shown_type r.message; name = name_of r.message }
+-- whether the next completion id has a result already
+abbrev knows_at : Setup → Point → Bool
+knows_at s p = is_known (CompletionId p.derived.counters.completion) (record { queued = p.queue; ready = ready_in s p.derived; handles = p.derived.handles })
+
+-- how errors show a call's command, and the runs that are pending behind it
+abbrev shown : Setup → Aside → Command → Point → Beside
+shown s aside r p = record {
+  last = record { ty = shown_type r.message; name = name_of r.message };
+  runs = runs_after r.message (record { 0 = p.derived.counters.handle }) p.derived.counters.completion (next_index p.derived.counters.command) (knows_at s p) aside.beside.runs;
+}
 
 -- what stands aside once the command is shown
-abbrev noted : Command → Aside → Aside
-noted r aside = with_last (shown r) aside
+abbrev noted : Setup → Command → Point → Aside → Aside
+noted s r p aside = with_beside (shown s aside r p) aside
 
 -- what follows behind a command: it is counted, and tracked where its invocation is cancelled with the handler's
 abbrev after : Setup → Command → Point → Derived
@@ -75,10 +83,10 @@ abbrev past : Setup → Command → List Answer → List RawMessage → Point �
 past s r gives left p = record { answers = p.answers ++ gives; derived = after s r p; said = p.said ++ with_ids p.derived.counters.completion r.message ∷ []; queue = p.queue; left = left }
 
 abbrev state_said : Setup → StateMap → List RawMessage → Aside → Command → Point → StateMap → Machine
-state_said s given written aside r p state = record (machine_at s given written (noted r aside) (said_by s r p)) { state = state }
+state_said s given written aside r p state = record (machine_at s given written (noted s r p aside) (said_by s r p)) { state = state }
 
 -- what a call changes before its command
-prepares : (s : Setup) (given : StateMap) (written : List RawMessage) (aside : Aside) (r : Command) (p : Point) → prepared r.message (machine_at s given written aside p) ≡ machine_at s given written (noted r aside) (said_by s r p)
+prepares : (s : Setup) (given : StateMap) (written : List RawMessage) (aside : Aside) (r : Command) (p : Point) → prepared r.message (machine_at s given written aside p) ≡ machine_at s given written (noted s r p aside) (said_by s r p)
 prepares s given written aside r p = ap (state_said s given written aside r p) (sym (changed_behind p.said (with_ids p.derived.counters.completion r.message) given))
 
 -- the outcome of a call whose command was carried out
@@ -97,15 +105,15 @@ ignores s r = ignores_payloads s.options.non_determinism_checks r.unstable
 
 writes : (s : Setup) (given : StateMap) (written : List RawMessage) (aside : Aside) (r : Command) (p : Point) (gives : NotificationHandle → List Answer) → gives (record { 0 = p.derived.counters.handle }) ≡ answer_of r p.derived ∷ [] → p.left ≡ []
     → (o : Result (Option NotificationResult) NamedFault) → o ≡ Ok None
-    → Leads s given written aside p (needing s r p) [] (stored_form (with_ids p.derived.counters.completion r.message) ∷ []) gives (command_used o (demand_of s r p.derived) (answer_of r p.derived ∷ []) (after s r p) [] p) (handed p (Done tt (wrote (with_ids p.derived.counters.completion r.message) (machine_at s given written (noted r aside) (said_by s r p)))))
+    → Leads s given written aside p (needing s r p) [] (stored_form (with_ids p.derived.counters.completion r.message) ∷ []) gives (command_used o (demand_of s r p.derived) (answer_of r p.derived ∷ []) (after s r p) [] p) (handed p (Done tt (wrote (with_ids p.derived.counters.completion r.message) (machine_at s given written (noted s r p aside) (said_by s r p)))))
 writes s given written aside r p gives answer spent (Err name) e = absurd (cc)
 writes s given written aside r p gives answer spent (Ok (Some x)) e = absurd (cc)
 writes s given written aside r p gives answer spent (Ok None) e =
     let m = with_ids p.derived.counters.completion r.message in (
       ap (λ l. p.answers ++ l) (sym answer),
       (
-        shown r,
-        λ i. record (machine_at s given written (with_frames (stored_form m ∷ []) (noted r aside)) (past s r (answer_of r p.derived ∷ []) [] p)) { commands = spent i; phase = phase_after (spent i); wrote_command = sym (some_behind written (stored_form m)) i },
+        shown s aside r p,
+        λ i. record (machine_at s given written (with_frames (stored_form m ∷ []) (noted s r p aside)) (past s r (answer_of r p.derived ∷ []) [] p)) { commands = spent i; phase = phase_after (spent i); wrote_command = sym (some_behind written (stored_form m)) i },
       ),
     )
 
@@ -113,7 +121,7 @@ writes s given written aside r p gives answer spent (Ok None) e =
 
 -- what the machine is once it has popped a command
 abbrev popped_to : Setup → StateMap → List RawMessage → Aside → Command → List RawMessage → Point → Machine
-popped_to s given written aside r left p = record (machine_at s given written (noted r aside) (said_by s r p)) { commands = left; phase = phase_after left }
+popped_to s given written aside r left p = record (machine_at s given written (noted s r p aside) (said_by s r p)) { commands = left; phase = phase_after left }
 
 -- the next recorded command doesn't stand for the call's
 unlike : (s : Setup) (given : StateMap) (written : List RawMessage) (aside : Aside) (r : Command) (p : Point) (c : RawMessage) (left : List RawMessage) (name : NamedFault) → found (demand_of s r p.derived) c ≡ Err name
@@ -139,7 +147,7 @@ reads s given written aside r p c left gives answer same (Some recorded) is = by
     by_test false other =
         unlike s given written aside r p c left fault.CommandMismatch
         (found_same m (ignores s r) c same ∙ ap (reads_as (ignores s r) m) is ∙ ap (λ b. if b then Ok None else Err fault.CommandMismatch) other)
-    by_test true equal = (ap (λ l. p.answers ++ l) (sym answer), (shown r, λ i. machine_at s given (sym (append-nil written) i) (record (noted r aside) { output = sym (append-nil aside.output) i }) (past s r (answer_of r p.derived ∷ []) left p)))
+    by_test true equal = (ap (λ l. p.answers ++ l) (sym answer), (shown s aside r p, λ i. machine_at s given (sym (append-nil written) i) (record (noted s r p aside) { output = sym (append-nil aside.output) i }) (past s r (answer_of r p.derived ∷ []) left p)))
 
 replays : (s : Setup) (given : StateMap) (written : List RawMessage) (aside : Aside) (r : Command) (p : Point) (c : RawMessage) (left : List RawMessage) (gives : NotificationHandle → List Answer) → gives (record { 0 = p.derived.counters.handle }) ≡ answer_of r p.derived ∷ []
     → Leads s given written aside p (needing s r p) (c ∷ left) [] gives (command_used (found (demand_of s r p.derived) c) (demand_of s r p.derived) (answer_of r p.derived ∷ []) (after s r p) left p)
@@ -177,21 +185,21 @@ uses_next e gives d c left p is = ap (moved (Needs e gives d)) (longer_nothing p
 -- the counters suffice: the command is written or popped
 carries : (s : Setup) (given : StateMap) (written : List RawMessage) (aside : Aside) (r : Command) (p : Point) (gives : NotificationHandle → List Answer) → gives (record { 0 = p.derived.counters.handle }) ≡ answer_of r p.derived ∷ []
     → (P : Type 0) → (P → p.left ≡ [] → found (demand_of s r p.derived) (stored_form (with_ids p.derived.counters.completion r.message)) ≡ Ok None)
-    → IfDone (handed p (carried_out (with_ids p.derived.counters.completion r.message) (ignores s r) (machine_at s given written (noted r aside) (said_by s r p)))) P
+    → IfDone (handed p (carried_out (with_ids p.derived.counters.completion r.message) (ignores s r) (machine_at s given written (noted s r p aside) (said_by s r p)))) P
     → (left : List RawMessage) → p.left ≡ left
     → Leads s given written aside p (needing s r p) left (supply (state_at given p) (needing s r p) left) gives (moved (needing s r p) (longer (supply (state_at given p) (needing s r p) left) p))
-    (handed p (carried_out (with_ids p.derived.counters.completion r.message) (ignores s r) (machine_at s given written (noted r aside) (said_by s r p))))
+    (handed p (carried_out (with_ids p.derived.counters.completion r.message) (ignores s r) (machine_at s given written (noted s r p aside) (said_by s r p))))
 carries s given written aside r p gives answer P own whole [] is =
     let m = with_ids p.derived.counters.completion r.message in
     let e = demand_of s r p.derived in
-    let w = machine_at s given written (noted r aside) (said_by s r p) in
+    let w = machine_at s given written (noted s r p aside) (said_by s r p) in
     let next : moved (needing s r p) (longer (stored_form m ∷ []) p) ≡ command_used (found e (stored_form m)) e (answer_of r p.derived ∷ []) (after s r p) [] p = uses_own e (answer_of r p.derived ∷ []) (after s r p) (stored_form m) p is in
     let spent = carries_spent m (ignores s r) w (ap phase_after is) in
     rw (next, spent) (writes s given written aside r p gives answer is (found e (stored_form m)) (own (subst (λ o. IfDone (handed p o) P) spent whole) is))
 carries s given written aside r p gives answer P own whole (c ∷ left) is =
     let m = with_ids p.derived.counters.completion r.message in
     let e = demand_of s r p.derived in
-    let w = machine_at s given written (noted r aside) (said_by s r p) in
+    let w = machine_at s given written (noted s r p aside) (said_by s r p) in
     let next : moved (needing s r p) (longer [] p) ≡ command_used (found e c) e (answer_of r p.derived ∷ []) (after s r p) left p = uses_next e (answer_of r p.derived ∷ []) (after s r p) c left p is in
     rw (next, carries_recorded m (ignores s r) w (ap phase_after is), replays_next m (ignores s r) c left w is) (replays s given written aside r p c left gives answer)
 

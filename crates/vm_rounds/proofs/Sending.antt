@@ -1,4 +1,8 @@
 -- What a call of a step writes and leaves, whatever came before it: frames of messages, and a VM that runs, is closed or has failed.
+use Rattle.vm_parts.specs.declared.run_state.PendingRun.{PendingRun}
+use Rattle.runs.specs.Pending.{is_executing, is_executing_in, may_execute, handle_of}
+use Rattle.await_trees.specs.Handles.{handles_of}
+use Rattle.std.specs.List.{find, list_any}
 use Rattle.vm_machine.specs.declared.reads.StateRead.{StateRead}
 use Rattle.vm_machine.specs.Reads.{eager_type, lazy_type, name_read, own_form, own_result, read_back, read_counted, read_numbered, read_popped, read_step, read_written, recorded_as, recorded_type, result_in, with_result}
 use Rattle.std.proofs.Common.{◌≡◌, length, ℕ, Bool, true, false, List, [], ◌∷◌, ◌++◌, map, Option, Some, None, Result, Ok, Err, refl, sym, ap, ◌∙◌, subst, ⊎_elim, append_assoc, append-nil}
@@ -16,7 +20,7 @@ use Rattle.journal_messages.specs.Message.{encoding, type_of}
 use Rattle.journal_messages.specs.Reading.{message_in}
 use Rattle.journal_errors.specs.Types.{type_number}
 use Rattle.vm_parts.specs.declared.types.AwaitResponse.{AwaitResponse}
-use Rattle.vm_parts.specs.declared.types.AwaitResponse.TheVariants.{AnyCompleted, CancelSignalReceived, WaitingExternalProgress}
+use Rattle.vm_parts.specs.declared.types.AwaitResponse.TheVariants.{AnyCompleted, CancelSignalReceived, ExecuteRun, WaitingExternalProgress}
 use Rattle.vm_parts.specs.declared.types.AwakeableHandle.{AwakeableHandle}
 use Rattle.await_trees.specs.declared.handle.NotificationHandle.{NotificationHandle}
 use Rattle.await_trees.specs.declared.tree.UnresolvedFuture.{UnresolvedFuture}
@@ -34,7 +38,7 @@ use Rattle.vm_machine.specs.declared.machine.Machine.{Machine}
 use Rattle.vm_machine.specs.declared.phase.Phase.{Phase}
 use Rattle.vm_machine.specs.declared.phase.Phase.TheVariants.{WaitingStart, WaitingReplayEntries, Replaying, Processing, Closed}
 use Rattle.vm_machine.specs.Asks.{ask_of, cancel_invocation_command}
-use Rattle.vm_machine.specs.Awaits.{Awaits, AwaitsAt, AwaitsBy, Behind, Ends, EndsBy, Gathers, ReadsId, StaysPending, Tries, id_read, is_cancelled, or_cancelled, pending_on, result_at, said_waiting, suspended, waiting, with_used}
+use Rattle.vm_machine.specs.Awaits.{Awaits, AwaitsAt, AwaitsBy, Behind, Ends, EndsBy, Gathers, ReadsId, StaysPending, Tries, id_read, is_cancelled, or_cancelled, pending_on, result_at, said_waiting, suspended, waiting, with_used, waits_by, waits_on, executed, pending_in_replay}
 use Rattle.vm_machine.specs.Cancels.{AwaitsWhole, Cancels, FinishesIf, Onward, SendsCancel, cancel_taken, sends_cancels}
 use Rattle.vm_machine.proofs.Cancelling.{Keeps, read_keeps, woken_keeps}
 use Rattle.vm_parts.specs.Options.{ends_awaits}
@@ -271,25 +275,34 @@ module _ (left : Tree) (v u : Machine) (same : Stays v u) (failure : u.failure �
         left = refl;
       }
 
-  waits : Leaves AwaitLeaves v (Ok (WaitingExternalProgress true false)) (waiting left u)
-  waits =
-      let said = said_waiting u.version u.options.awaiting_on_policy (ids u.results) left in
+  waits : (executing : Bool) → Leaves AwaitLeaves v (Ok (WaitingExternalProgress true executing)) (waiting left u)
+  waits executing =
+      let said = said_waiting u.version u.options.awaiting_on_policy (list_any is_executing u.runs) (ids u.results) left in
       record {
         sends = record { messages = said; output = ap (λ l. l ++ map encoding said) same.0; version = same.1; options = same.2 };
         failure = failure;
         left = runs;
       }
 
+  goes_on : (response : AwaitResponse) (w : Machine) → Stays v w → w.failure ≡ v.failure → is_running w.phase ≡ true → Leaves AwaitLeaves v (Ok response) w
+  goes_on response w stays failed running = record { sends = stays_sends v w stays; failure = failed; left = running }
+
+  waits_so : (closed executing : Bool) → Happens AwaitLeaves v (waits_by closed executing left u)
+  waits_so false executing = waits executing
+  waits_so true true = goes_on (WaitingExternalProgress false true) u same failure runs
+  waits_so true false = suspends
+
+  runs_so : (run : Option PendingRun) (executing : Bool) → Happens AwaitLeaves v (waits_on run executing left u)
+  runs_so (Some run) executing = goes_on (ExecuteRun (handle_of run)) (executed (handles_of left) u) same failure runs
+  runs_so None executing = waits_so u.input_closed executing
+
   pends : Happens AwaitLeaves v (pending_on left u)
-  pends = by_tests (is_replaying u.phase) u.input_closed
+  pends = by_tests (is_replaying u.phase) (find (may_execute (handles_of left)) u.runs) (list_any (is_executing_in (handles_of left)) u.runs)
     where
-      by_tests : (a b : Bool)
-          → Happens AwaitLeaves v (if a then refused fault.UncompletedDoProgressDuringReplay u
-          else if b then Done (Err (named_error fault.Suspended None)) (suspended (sent (ids u.results) left) u)
-          else Done (Ok (WaitingExternalProgress true false)) (waiting left u))
-      by_tests true b = same
-      by_tests false true = suspends
-      by_tests false false = waits
+      by_tests : (replaying : Bool) (run : Option PendingRun) (executing : Bool)
+          → Happens AwaitLeaves v (if replaying then pending_in_replay (handles_of left) u else waits_on run executing left u)
+      by_tests true run executing = same
+      by_tests false run executing = runs_so run executing
 
 tries : (t : Tree) (v : Machine) (x : Outcome (Result AwaitResponse Error)) → is_running v.phase ≡ true → Tries t v x → Happens AwaitLeaves v x
 tries t v x runs comes = ⊎_elim
@@ -313,6 +326,7 @@ behind : (v : Machine) (Next : Machine → Outcome (Result AwaitResponse Error) 
 behind v Next (Done (Ok AnyCompleted) w) o h f on = f w refl on
 behind v Next (Done (Ok CancelSignalReceived) w) o h f on = subst (Happens AwaitLeaves v) (sym on) h
 behind v Next (Done (Ok (WaitingExternalProgress input run)) w) o h f on = subst (Happens AwaitLeaves v) (sym on) h
+behind v Next (Done (Ok (ExecuteRun run)) w) o h f on = subst (Happens AwaitLeaves v) (sym on) h
 behind v Next (Done (Err e) w) o h f on = subst (Happens AwaitLeaves v) (sym on) h
 behind v Next (Failed e w) o h f on = subst (Happens AwaitLeaves v) (sym on) h
 
@@ -397,6 +411,7 @@ ends Closed v e = record { sends = stays_sends v v (refl, refl, refl); failure =
 abbrev pub StandsBy : Reply → Machine → Type 0
 StandsBy (reply.Answer a) w = is_running w.phase ≡ true
 StandsBy (reply.Waiting input run) w = is_running w.phase ≡ true
+StandsBy (reply.Execute run) w = is_running w.phase ≡ true
 StandsBy reply.Suspended w = w.phase ≡ Closed
 StandsBy reply.Ended w = w.phase ≡ Closed
 
@@ -404,6 +419,7 @@ await_stands : (a : Result AwaitResponse Error) (w : Machine) → AwaitLeaves a 
 await_stands (Ok AnyCompleted) w h = h
 await_stands (Ok CancelSignalReceived) w h = h
 await_stands (Ok (WaitingExternalProgress input run)) w h = h
+await_stands (Ok (ExecuteRun run)) w h = h
 await_stands (Err e) w h = h
 
 -- what a call of an await leaves
@@ -468,6 +484,7 @@ await_whole t v live r w (first, mid, does, fin) = by_first first (first_part t 
     by_first : (first : Result (Result AwaitResponse Error) Error) → AwaitIs v first mid → FinishesIf (sends_cancels first) first r mid w → AwaitIs v r w
     by_first (Ok (Ok AnyCompleted)) h on = stays_so (Ok (Ok AnyCompleted)) h on
     by_first (Ok (Ok (WaitingExternalProgress input run))) h on = stays_so (Ok (Ok (WaitingExternalProgress input run))) h on
+    by_first (Ok (Ok (ExecuteRun run))) h on = stays_so (Ok (Ok (ExecuteRun run))) h on
     by_first (Ok (Err e)) h on = stays_so (Ok (Err e)) h on
     by_first (Err e) h on = stays_so (Err e) h on
     by_first (Ok (Ok CancelSignalReceived)) h on =

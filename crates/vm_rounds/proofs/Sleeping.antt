@@ -32,6 +32,7 @@ use Rattle.vm_rounds.proofs.Written.{takes_wrote}
 
 waits_map : (P Q : Type 0) → (P → Q) → (result : Result Progress Error) → IfWaits result P → IfWaits result Q
 waits_map P Q f (Ok (progress.Waiting input run)) h = f h
+waits_map P Q f (Ok (progress.ExecuteRun run)) h = f h
 waits_map P Q f (Ok progress.Suspended) h = f h
 waits_map P Q f (Ok progress.NotReady) h = tt
 waits_map P Q f (Ok progress.Stepped) h = tt
@@ -130,6 +131,7 @@ asks_ends m old result new (x, w, does, is, made) = by_reply x is made
     by_reply : (x : Result Reply Error) → new ≡ replied old (future_in (step_asked m old)) x w → result ≡ progress_of x → Ends old result new
     by_reply (Ok (reply.Answer a)) at made = inl (ap (λ (r : Record). r.over) at)
     by_reply (Ok (reply.Waiting input run)) at made = inl (ap (λ (r : Record). r.over) at)
+    by_reply (Ok (reply.Execute run)) at made = inl (ap (λ (r : Record). r.over) at)
     by_reply (Ok reply.Suspended) at made = inr (progress.Suspended, made, ap (λ (r : Record). r.over) at)
     by_reply (Ok reply.Ended) at made = inr (progress.Ended, made, ap (λ (r : Record). r.over) at)
     by_reply (Err e) at made = inl (ap (λ (r : Record). r.over) at)

@@ -1,4 +1,6 @@
 -- A step keeps what is kept of an attempt.
+use Rattle.runs.specs.Pending.{is_executing}
+use Rattle.std.specs.List.{list_any}
 use Rattle.vm_machine.specs.declared.reads.StateRead.{StateRead}
 use Rattle.vm_parts.specs.declared.context.StateMap.{StateMap}
 use Rattle.std.proofs.Common.{◌≡◌, ◌⊎◌, ℕ, zero, suc, ◌+◌, Bool, true, false, cond, List, [], ◌∷◌, ◌++◌, map, Option, Some, None, Result, Ok, Err, refl, sym, ap, ◌∙◌, subst, inl, inr, ⊎_elim, append-nil}
@@ -237,8 +239,9 @@ same_awaits m p q None same a = tt
 same_awaits m p q (Some future) same a = ap m (same ∙ append-nil p.answers) ∙ a
 
 -- what an await that waits says is no command
-no_command_said : (s : Setup) (left : Tree) (d : Derived) → commands_of (waiting_on s left d) ≡ []
-no_command_said s left d = by_test (says_so s.version s.options.awaiting_on_policy left)
+no_command_said : (input : Bool) (s : Setup) (executing : Bool) (left : Tree) (d : Derived) → commands_of (waiting_on input s executing left d) ≡ []
+no_command_said false s executing left d = refl
+no_command_said true s executing left d = by_test (says_so s.version s.options.awaiting_on_policy executing left)
   where
     by_test : (b : Bool) → commands_of (if b then message.AwaitingOn (record { future = sent (λ handle. id_at handle d.handles) left; executing_side_effects = false }) ∷ [] else []) ≡ []
     by_test true = refl
@@ -258,10 +261,10 @@ module _ (m : Meaning) (version : Version) (options : VMOptions) (r : Record) (k
   no_answer : (waiting : Option UnresolvedFuture) → Runs m version options r.fed (r.answers ++ []) waiting r.taken w → Runs m version options r.fed r.answers waiting r.taken w
   no_answer waiting = subst (λ l. Runs m version options r.fed l waiting r.taken w) (append-nil r.answers)
 
-  waits_keeps : (st : Step) → m k.at.answers ≡ st → StillAgrees s m (handed_out k.journal) k.written k.at r.vm.machine w.machine → Runs m version options r.fed r.answers (future_in st) r.taken w
-  waits_keeps st is f =
+  waits_keeps : (input : Bool) (st : Step) → m k.at.answers ≡ st → StillAgrees input s m (handed_out k.journal) k.written k.at r.vm.machine w.machine → Runs m version options r.fed r.answers (future_in st) r.taken w
+  waits_keeps input st is f =
       no_answer (future_in st)
-      (runs_on m version options r.fed r.answers r.waiting (future_in st) r.taken r.vm w k live und f.at [] [] f.waits.moves (waiting_on s f.left f.at.derived) (no_command_said s f.left f.at.derived) f.output (future_awaits m k.at f.at st is f.waits.moves.answers)
+      (runs_on m version options r.fed r.answers r.waiting (future_in st) r.taken r.vm w k live und f.at [] [] f.waits.moves (waiting_on input s (list_any is_executing w.machine.runs) f.left f.at.derived) (no_command_said input s (list_any is_executing w.machine.runs) f.left f.at.derived) f.output (future_awaits m k.at f.at st is f.waits.moves.answers)
       (λ _. subst (λ l. Agrees s (handed_out k.journal) l w.machine f.at) (sym (append-nil k.written)) f.agrees)
       (λ _. inl (agrees_running s (handed_out k.journal) k.written w.machine f.at f.agrees)))
 
@@ -303,7 +306,8 @@ module _ (m : Meaning) (version : Version) (options : VMOptions) (r : Record) (k
 
   replied_keeps : (P : Type 0) (st : Step) → m k.at.answers ≡ st → (x : Result Reply Error) → (R : Outcome Reply → Type 0) → AllFollow P R → DoesBy R x r.vm.machine w.machine → OnOk x P → IsKept m version options (replied r (future_in st) x w)
   replied_keeps P st is (Ok (reply.Answer a)) R f does h = inr (answered_keeps a (f (Done (reply.Answer a) w.machine) does h))
-  replied_keeps P st is (Ok (reply.Waiting input run)) R f does h = inr (waits_keeps st is (f (Done (reply.Waiting input run) w.machine) does h))
+  replied_keeps P st is (Ok (reply.Waiting input run)) R f does h = inr (waits_keeps input st is (f (Done (reply.Waiting input run) w.machine) does h))
+  replied_keeps P st is (Ok (reply.Execute run)) R f does h = inr (waits_keeps false st is (f (Done (reply.Execute run) w.machine) does h))
   replied_keeps P st is (Ok reply.Suspended) R f does h = inr (suspended_keeps (f (Done reply.Suspended w.machine) does h))
   replied_keeps P st is (Ok reply.Ended) R f does h = inr (ended_keeps (f (Done reply.Ended w.machine) does h))
   replied_keeps P st is (Err e) R f does h =
@@ -342,8 +346,12 @@ module _ (m : Meaning) (version : Version) (options : VMOptions) (r : Record) (k
   replied_waits : (P : Type 0) (x : Result Reply Error) → (R : Outcome Reply → Type 0) → AllFollow P R → DoesBy R x r.vm.machine w.machine → OnOk x P → IfWaits (progress_of x) (Sleeps m version options r.fed r.answers r.taken w)
   replied_waits P (Ok (reply.Answer a)) R f does h = tt
   replied_waits P (Ok (reply.Waiting input run)) R f does h =
-      let g : StillAgrees s m (handed_out k.journal) k.written k.at r.vm.machine w.machine = f (Done (reply.Waiting input run) w.machine) does h in
-      waits_so g.at g.waits (waiting_on s g.left g.at.derived) (no_command_said s g.left g.at.derived) g.output
+      let g : StillAgrees input s m (handed_out k.journal) k.written k.at r.vm.machine w.machine = f (Done (reply.Waiting input run) w.machine) does h in
+      let executing = list_any is_executing w.machine.runs in
+      waits_so g.at g.waits (waiting_on input s executing g.left g.at.derived) (no_command_said input s executing g.left g.at.derived) g.output
+  replied_waits P (Ok (reply.Execute run)) R f does h =
+      let g : StillAgrees false s m (handed_out k.journal) k.written k.at r.vm.machine w.machine = f (Done (reply.Execute run) w.machine) does h in
+      waits_so g.at g.waits [] refl g.output
   replied_waits P (Ok reply.Suspended) R f does h =
       let g : IsSuspended s m (handed_out k.journal) k.at r.vm.machine w.machine = f (Done reply.Suspended w.machine) does h in
       waits_so g.at g.waits (message.Suspension (suspended_on g.left g.at.derived) ∷ []) refl g.output
@@ -410,7 +418,11 @@ module _ (m : Meaning) (version : Version) (options : VMOptions) (r : Record) (k
   replied_replays : (P : Type 0) (future : Option UnresolvedFuture) (c : RawMessage) (further : List RawMessage) → k.at.left ≡ c ∷ further → (x : Result Reply Error) → (R : Outcome Reply → Type 0) → AllFollow P R → DoesBy R x r.vm.machine w.machine → OnOk x P → Replays m version options r (progress_of x) (replied r future x w)
   replied_replays P future c further some (Ok (reply.Answer a)) R f does h = nothing_made a (f (Done (reply.Answer a) w.machine) does h)
   replied_replays P future c further some (Ok (reply.Waiting input run)) R f does h =
-      let g : StillAgrees s m (handed_out k.journal) k.written k.at r.vm.machine w.machine = f (Done (reply.Waiting input run) w.machine) does h in
+      let g : StillAgrees input s m (handed_out k.journal) k.written k.at r.vm.machine w.machine = f (Done (reply.Waiting input run) w.machine) does h in
+      let z : [] ≡ c ∷ further = sym g.waits.none_recorded ∙ some in
+      cc
+  replied_replays P future c further some (Ok (reply.Execute run)) R f does h =
+      let g : StillAgrees false s m (handed_out k.journal) k.written k.at r.vm.machine w.machine = f (Done (reply.Execute run) w.machine) does h in
       let z : [] ≡ c ∷ further = sym g.waits.none_recorded ∙ some in
       cc
   replied_replays P future c further some (Ok reply.Suspended) R f does h =
@@ -450,6 +462,7 @@ settled_waits : (m : Meaning) (version : Version) (options : VMOptions) (old : R
     → IfWaits (progress_of x) (Sleeps m version options (replied old future x w).fed (replied old future x w).answers (replied old future x w).taken (replied old future x w).vm)
 settled_waits m version options old future w (Ok (reply.Answer a)) h = tt
 settled_waits m version options old future w (Ok (reply.Waiting input run)) h = h
+settled_waits m version options old future w (Ok (reply.Execute run)) h = h
 settled_waits m version options old future w (Ok reply.Suspended) h = h
 settled_waits m version options old future w (Ok reply.Ended) h = tt
 settled_waits m version options old future w (Err e) h = tt

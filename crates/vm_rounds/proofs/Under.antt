@@ -108,6 +108,7 @@ take_fed old (Err e) new does = ap (λ (r : Record). r.fed) does
 settled_fed : (r : Record) (future : Option UnresolvedFuture) (x : Result Reply Error) (w : View) → (replied r future x w).fed ≡ r.fed
 settled_fed r future (Ok (reply.Answer a)) w = refl
 settled_fed r future (Ok (reply.Waiting input run)) w = refl
+settled_fed r future (Ok (reply.Execute run)) w = refl
 settled_fed r future (Ok reply.Suspended) w = refl
 settled_fed r future (Ok reply.Ended) w = refl
 settled_fed r future (Err e) w = refl

@@ -1,4 +1,11 @@
 -- An await, in a machine that agrees with a point: it uses arrivals until its tree wakes or none is left.
+use Rattle.std.specs.Option.{option_map}
+use Rattle.runs.specs.Settling.{run_command}
+use Rattle.runs.specs.Firsts.{with_first}
+use Rattle.vm_parts.specs.declared.run_state.PendingRun.{PendingRun}
+use Rattle.runs.specs.Pending.{is_executing, is_executing_in, may_execute, started}
+use Rattle.await_trees.specs.Handles.{handles_of}
+use Rattle.std.specs.List.{find, list_any}
 use Rattle.std.proofs.Common.{◌≡◌, ◌<◌, ◌≤◌, ℕ, zero, suc, ◌+◌, Bool, true, false, List, [], ◌∷◌, ◌++◌, map, take, drop, length, Option, Some, None, refl, sym, ap, ◌∙◌, subst, ⊎_elim, append-nil, Ok, Err, arith}
 use Rattle.std.specs.Prelude.{if◌then◌else◌, Result}
 use Rattle.await_trees.specs.declared.tree.UnresolvedFuture.{UnresolvedFuture}
@@ -20,9 +27,9 @@ use Rattle.vm_parts.specs.declared.options.SignalDelivery.TheVariants.{Queued}
 use Rattle.vm_parts.specs.declared.steps.Answer.{Answer}
 use Rattle.vm_parts.specs.declared.steps.Step.TheVariants as step
 use Rattle.vm_parts.specs.declared.types.AwaitResponse.{AwaitResponse}
-use Rattle.vm_parts.specs.declared.types.AwaitResponse.TheVariants.{AnyCompleted, CancelSignalReceived, WaitingExternalProgress}
+use Rattle.vm_parts.specs.declared.types.AwaitResponse.TheVariants.{AnyCompleted, CancelSignalReceived, ExecuteRun, WaitingExternalProgress}
 use Rattle.vm_machine.specs.declared.machine.Machine.{Machine}
-use Rattle.vm_machine.specs.Awaits.{Ends, StaysPending, Tries, pending_on, suspended, waiting, with_used}
+use Rattle.vm_machine.specs.Awaits.{Ends, StaysPending, Tries, pending_on, suspended, waiting, with_used, waits_by, waits_on, last_run}
 use Rattle.vm_machine.specs.Commands.{phase_after}
 use Rattle.vm_machine.specs.Outcomes.{Outcome, Done, Failed}
 use Rattle.vm_machine.specs.Phases.{is_closed}
@@ -34,7 +41,7 @@ use Rattle.vm_model.specs.Histories.{Made, Handed, IsLeast, arrivals_used}
 use Rattle.vm_model.specs.Refusals.{IsRefusedFor}
 use Rattle.vm_model.proofs.Runs.{longer_nothing, made_add}
 use Rattle.vm_model.proofs.Trees.{all_used, counters_more, left_at, tree_least, tree_never, used_at}
-use Rattle.vm_rounds.specs.Agreement.{Aside, IsLeftOf, IsSuspended, MovesOn, StillAgrees, Waits, awaited_tree, machine_at, waiting_on}
+use Rattle.vm_rounds.specs.Agreement.{Agrees, Aside, IsLeftOf, IsSuspended, MovesOn, StillAgrees, Waits, awaited_tree, machine_at, waiting_on}
 use Rattle.vm_rounds.proofs.Leading.{state_at}
 
 -- a move that brings no command
@@ -112,7 +119,8 @@ module _ (s : Setup) (m : Meaning) (given : StateMap) (written : List RawMessage
   abbrev pub TriesTo : Outcome (Result AwaitResponse Error) → Type 0
   TriesTo (Done (Ok AnyCompleted) w) = Wakes w
   TriesTo (Done (Ok CancelSignalReceived) w) = ⊥
-  TriesTo (Done (Ok (WaitingExternalProgress input run)) w) = StillAgrees s m given written p v w
+  TriesTo (Done (Ok (WaitingExternalProgress input run)) w) = StillAgrees input s m given written p v w
+  TriesTo (Done (Ok (ExecuteRun run)) w) = StillAgrees false s m given written p v w
   TriesTo (Done (Err e) w) = IsSuspended s m given p v w
   TriesTo (Failed e w) = RefusesAt s m given p v e w
 
@@ -169,15 +177,24 @@ module _ (s : Setup) (m : Meaning) (given : StateMap) (written : List RawMessage
 
     pends : (others : List RawMessage) → p.left ≡ others → TriesTo (pending_on left (sends others))
     unfolding stands
-    pends (c ∷ others) e = record { at = last; moves = to_last; why = fault.UncompletedDoProgressDuringReplay; reason = stuck c others e; related = None; error = refl; output = refl; open_yet = refl; version = refl; options = refl }
-    pends [] e = by_test aside.input_closed refl
+    pends (c ∷ others) e = record { at = last; moves = to_last; why = fault.UncompletedDoProgressDuringReplay; reason = stuck c others e; related = option_map run_command (last_run (handles_of left) (sends (c ∷ others))); error = refl; output = refl; open_yet = refl; version = refl; options = refl }
+    pends [] e = by_run (find (may_execute (handles_of left)) aside.beside.runs) (list_any (is_executing_in (handles_of left)) aside.beside.runs)
       where
-        by_test : (b : Bool) → aside.input_closed ≡ b → TriesTo (if b then Done (Err (named_error fault.Suspended None)) (suspended (sent (ids (arrived_at s last)) left) (sends [])) else Done (Ok (WaitingExternalProgress true false)) (waiting left (sends [])))
-        by_test true closed = record { at = last; waits = stands e; left = left; is_left = is_left; output = refl; closed = refl }
-        by_test false closed =
-            let said = map encoding (waiting_on s left last.derived) in
-            let after : Aside = record aside { output = aside.output ++ said } in
-            record { at = last; waits = stands e; left = left; is_left = is_left; agrees = record { aside = after; machine = λ i. record (machine_at s given written after last) { phase = phase_after (sym e i) }; identity = identity }; output = refl }
+        agrees_by : (after : Aside) → after.start ≡ aside.start → Agrees s given written (record (machine_at s given written after last) { phase = phase_after [] }) last
+        agrees_by after started = record { aside = after; machine = λ i. record (machine_at s given written after last) { phase = phase_after (sym e i) }; identity = identity ∙ ap identity_of (sym started) }
+
+        by_closed : (closed executing : Bool) → TriesTo (waits_by closed executing left (sends []))
+        by_closed false executing =
+            let said = map encoding (waiting_on true s (list_any is_executing aside.beside.runs) left last.derived) in
+            record { at = last; waits = stands e; left = left; is_left = is_left; agrees = agrees_by (record aside { output = aside.output ++ said }) refl; output = refl }
+        by_closed true true = record { at = last; waits = stands e; left = left; is_left = is_left; agrees = agrees_by aside refl; output = sym (append-nil aside.output) }
+        by_closed true false = record { at = last; waits = stands e; left = left; is_left = is_left; output = refl; closed = refl }
+
+        by_run : (run : Option PendingRun) (executing : Bool) → TriesTo (waits_on run executing left (sends []))
+        by_run (Some run) executing =
+            let runs = with_first (may_execute (handles_of left)) started aside.beside.runs in
+            record { at = last; waits = stands e; left = left; is_left = is_left; agrees = agrees_by (record aside { beside = record aside.beside { runs = runs } }) refl; output = sym (append-nil aside.output) }
+        by_run None executing = by_closed aside.input_closed executing
 
   -- ---- what it comes to
 

@@ -1,5 +1,6 @@
 -- When the machine of an attempt agrees with a point of the handler's run, and what a call then does.
 use Rattle.std.specs.Prelude.{◌≡◌, ◌⊎◌, ℕ, Bool, true, false, if◌then◌else◌, List, [], ◌∷◌, ◌++◌, map, Option, Some, None}
+use Rattle.std.specs.List.{list_any}
 use Rattle.std.proofs.Common.{Global}
 use Rattle.journal_attempt.specs.declared.control.Suspension.{Suspension}
 use Rattle.journal_errors.specs.declared.error.Error.{Error}
@@ -13,6 +14,7 @@ use Rattle.journal_messages.specs.Message.{encoding, frame}
 use Rattle.vm_parts.specs.declared.context.LastCommand.{LastCommand}
 use Rattle.vm_parts.specs.declared.context.StartInfo.{StartInfo}
 use Rattle.vm_parts.specs.declared.context.StateMap.{StateMap}
+use Rattle.vm_parts.specs.declared.run_state.PendingRun.{PendingRun}
 use Rattle.vm_parts.specs.declared.steps.Answer.{Answer}
 use Rattle.vm_parts.specs.declared.steps.Step.TheVariants as step
 use Rattle.await_trees.specs.declared.tree.UnresolvedFuture.{UnresolvedFuture}
@@ -20,6 +22,7 @@ use Rattle.await_trees.specs.Residual.{Residual}
 use Rattle.await_trees.specs.Tree.{Tree, leaf, tree_of}
 use Rattle.await_trees.specs.Wires.{sent}
 use Rattle.await_tries.specs.Await.{AwakeAlike}
+use Rattle.runs.specs.Pending.{is_executing}
 use Rattle.vm_parts.specs.Deliveries.{id_at}
 use Rattle.vm_parts.specs.Options.{ends_awaits}
 use Rattle.vm_parts.specs.Tracked.{unresolved}
@@ -36,13 +39,18 @@ use Rattle.vm_model.specs.Refusals.{IsRefusedFor}
 use Rattle.vm_rounds.specs.declared.progress.Reply.{Reply}
 use Rattle.vm_rounds.specs.declared.progress.Reply.TheVariants as reply
 
+-- what the calls so far left in a machine that no later move depends on: the last command, as errors show it, and the pending runs
+pub record Beside : Type 0 where
+  pub last : LastCommand
+  pub runs : List PendingRun
+
 -- what a machine has that no call of a run depends on
 pub record Aside : Type 0 where
   pub alloc : Global
   pub start : StartInfo
   pub input_closed : Bool
   pub entries_missing : ℕ
-  pub last : LastCommand
+  pub beside : Beside
   pub output : List (List ℕ)
 
 -- there is one
@@ -63,11 +71,11 @@ machine_at s given written aside p = record {
   entries_missing = aside.entries_missing;
   commands = p.left;
   counters = p.derived.counters;
-  last_command = aside.last;
+  last_command = aside.beside.last;
   wrote_command = is_some_command written;
   results = record { queued = p.queue; ready = ready_in s p.derived; handles = p.derived.handles };
   state = changed_by p.said given;
-  runs = [];
+  runs = aside.beside.runs;
   proposals = [];
   tracked = p.derived.tracked;
   ephemeral = [];
@@ -130,18 +138,21 @@ pub record IsLeftOf (s : Setup) (t : Tree) (d : Derived) (left : Tree) : Type 0 
   pub residual : Residual (leaf_in s d) t left
   pub alike : AwakeAlike (leaf_in s d) t left
 
--- what an await that waits says of what is left of it, by the ids of its handles
-abbrev pub waiting_on : Setup → Tree → Derived → List Message
-waiting_on s left d = said_waiting s.version s.options.awaiting_on_policy (λ handle. id_at handle d.handles) left
+-- What an await that waits says, where it waits for input: what is left of it, by the ids of its handles, and by whether a run is
+-- executing.
+abbrev pub waiting_on : Bool → Setup → Bool → Tree → Derived → List Message
+waiting_on true s executing left d = said_waiting s.version s.options.awaiting_on_policy executing (λ handle. id_at handle d.handles) left
+waiting_on false s executing left d = []
 
--- it waits in a machine that agrees with where that leads; all that is written is what it says of what is left of what it waits for
-pub record StillAgrees (s : Setup) (m : Meaning) (given : StateMap) (written : List RawMessage) (p : Point) (v w : Machine) : Type 0 where
+-- It waits, for input or for a run, in a machine that agrees with where that leads; all that is written is what it says of what is left of
+-- what it waits for.
+pub record StillAgrees (input : Bool) (s : Setup) (m : Meaning) (given : StateMap) (written : List RawMessage) (p : Point) (v w : Machine) : Type 0 where
   pub at : Point
   pub waits : Waits s m given p at
   pub left : Tree
   pub is_left : IsLeftOf s (awaited_tree s waits.future at.derived) at.derived left
   pub agrees : Agrees s given written w at
-  pub output : w.output ≡ v.output ++ map encoding (waiting_on s left at.derived)
+  pub output : w.output ≡ v.output ++ map encoding (waiting_on input s (list_any is_executing w.runs) left at.derived)
 
 -- what a suspension on this tree waits for, by the ids of its handles
 abbrev pub suspended_on : Tree → Derived → Suspension
@@ -192,7 +203,8 @@ pub record IsCutShort (s : Setup) (m : Meaning) (given : StateMap) (p : Point) (
 -- What a call does, by what it answers.
 abbrev pub Follows : Setup → Meaning → StateMap → List RawMessage → Point → Machine → Outcome Reply → Type 0
 Follows s m given written p v (Done (reply.Answer a) w) = Answered s m given written p v a w
-Follows s m given written p v (Done (reply.Waiting input run) w) = StillAgrees s m given written p v w
+Follows s m given written p v (Done (reply.Waiting input run) w) = StillAgrees input s m given written p v w
+Follows s m given written p v (Done (reply.Execute run) w) = StillAgrees false s m given written p v w
 Follows s m given written p v (Done reply.Suspended w) = IsSuspended s m given p v w
 Follows s m given written p v (Done reply.Ended w) = HasEnded m p v w
 Follows s m given written p v (Failed e w) = IsRefused s m given p v e w ⊎ IsCutShort s m given p v e w

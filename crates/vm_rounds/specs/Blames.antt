@@ -10,7 +10,11 @@ use Rattle.journal_values.specs.declared.notification.Notification.{Notification
 use Rattle.journal_attempt.specs.declared.start.Start.{Start}
 use Rattle.journal_errors.specs.declared.version.Version.{Version}
 use Rattle.journal_errors.specs.Errors.{named_error, no_memory}
-use Rattle.journal_messages.specs.Reading.{notification_in, start_in}
+use Rattle.journal_attempt.specs.declared.runs.ProposeRunCompletionAck.{ProposeRunCompletionAck}
+use Rattle.journal_messages.specs.Reading.{acknowledgement_in, notification_in, start_in}
+use Rattle.runs.specs.Kept.{is_for}
+use Rattle.vm_parts.specs.declared.run_state.KeptProposal.{KeptProposal}
+use Rattle.std.specs.List.{find}
 use Rattle.journal_errors.specs.Types.{type_number}
 use Rattle.vm_parts.specs.declared.options.VMOptions.{VMOptions}
 use Rattle.vm_parts.specs.declared.context.StateMap.{StateMap}
@@ -30,7 +34,7 @@ use Rattle.vm_model.specs.Moves.{Point, move_at}
 use Rattle.vm_model.specs.Refusals.{IsRefusedFor}
 use Rattle.vm_rounds.specs.declared.progress.Fed.{Fed}
 use Rattle.vm_rounds.specs.declared.progress.Progress.{Progress}
-use Rattle.vm_rounds.specs.Journals.{as_entries, commands_among, is_command, is_notification, setup_for}
+use Rattle.vm_rounds.specs.Journals.{as_entries, commands_among, is_acknowledgement, is_command, is_notification, setup_for}
 use Rattle.vm_rounds.specs.Record.{Record, all_fed}
 use Rattle.vm_rounds.specs.Told.{handed_out, Journal, Premises, begun, bytes_fed, frames_fed}
 
@@ -51,20 +55,46 @@ abbrev pub notification_fault : Option Notification → Option NamedFault
 notification_fault None = Some fault.BadMessage
 notification_fault (Some n) = None
 
--- why a frame is refused in this phase, by whether it is a Start, a command or a notification
-abbrev pub fault_by : Phase → RawMessage → Bool → Bool → Bool → Option NamedFault
-fault_by WaitingStart raw true b c = start_fault (start_in raw.body)
-fault_by phase raw true b c = Some fault.UnexpectedInputMessage
-fault_by WaitingReplayEntries raw false true c = None
-fault_by phase raw false true c = Some fault.UnexpectedEntryMessage
-fault_by WaitingStart raw false false true = Some fault.UnexpectedState
-fault_by Closed raw false false true = None
-fault_by phase raw false false true = notification_fault (notification_in raw.body)
-fault_by phase raw false false false = Some fault.UnexpectedInputMessage
+-- why an acknowledgement is refused, by the kept proposal of its id
+abbrev pub kept_fault : Option KeptProposal → Option NamedFault
+kept_fault None = Some fault.BadProposeRunCompletionAck
+kept_fault (Some kept) = None
 
--- why a frame is refused in this phase, if it is
+-- why a body is refused as an acknowledgement, where these proposals are kept
+abbrev pub read_fault : List KeptProposal → Option ProposeRunCompletionAck → Option NamedFault
+read_fault kept None = Some fault.BadMessage
+read_fault kept (Some ack) = kept_fault (find (is_for ack.id) kept)
+
+-- why an acknowledgement is refused in this phase
+abbrev pub acknowledgement_fault : List KeptProposal → Phase → RawMessage → Option NamedFault
+acknowledgement_fault kept Processing raw = read_fault kept (acknowledgement_in raw.body)
+acknowledgement_fault kept Closed raw = None
+acknowledgement_fault kept phase raw = Some fault.UnexpectedState
+
+-- why another frame is refused: no such frame comes
+abbrev pub other_fault : List KeptProposal → Phase → RawMessage → Bool → Option NamedFault
+other_fault kept phase raw true = acknowledgement_fault kept phase raw
+other_fault kept phase raw false = Some fault.UnexpectedInputMessage
+
+-- why a frame is refused in this phase, where these proposals are kept, by whether it is a Start, a command, a notification or an
+-- acknowledgement
+abbrev pub fault_by : List KeptProposal → Phase → RawMessage → Bool → Bool → Bool → Bool → Option NamedFault
+fault_by kept WaitingStart raw true b c d = start_fault (start_in raw.body)
+fault_by kept phase raw true b c d = Some fault.UnexpectedInputMessage
+fault_by kept WaitingReplayEntries raw false true c d = None
+fault_by kept phase raw false true c d = Some fault.UnexpectedEntryMessage
+fault_by kept WaitingStart raw false false true d = Some fault.UnexpectedState
+fault_by kept Closed raw false false true d = None
+fault_by kept phase raw false false true d = notification_fault (notification_in raw.body)
+fault_by kept phase raw false false false d = other_fault kept phase raw d
+
+-- why a frame is refused in this phase, where these proposals are kept, if it is
+abbrev pub fault_among : List KeptProposal → Phase → RawMessage → Option NamedFault
+fault_among kept phase raw = fault_by kept phase raw (type_number raw.ty == 1) (is_command raw) (is_notification raw) (is_acknowledgement raw)
+
+-- Why a frame is refused in this phase of an attempt, if it is: an attempt proposes nothing yet, so no acknowledgement is taken.
 abbrev pub frame_fault : Phase → RawMessage → Option NamedFault
-frame_fault phase raw = fault_by phase raw (type_number raw.ty == 1) (is_command raw) (is_notification raw)
+frame_fault phase raw = fault_among [] phase raw
 
 -- The first of the frames that is refused in the phase in which it comes; the machine has failed for that reason.
 pub record FailsAt (raws : List RawMessage) (v m : Machine) : Type 0 where
@@ -74,7 +104,7 @@ pub record FailsAt (raws : List RawMessage) (v m : Machine) : Type 0 where
   pub split : raws ≡ before ++ raw ∷ behind
   pub live : (all_received before v).failure ≡ None
   pub why : NamedFault
-  pub reason : frame_fault (all_received before v).phase raw ≡ Some why
+  pub reason : fault_among (all_received before v).proposals (all_received before v).phase raw ≡ Some why
   pub failure : m.failure ≡ Some (ruled v (named_error why None))
 
 -- a Start came, and so many frames behind it

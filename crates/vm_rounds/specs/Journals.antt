@@ -32,6 +32,10 @@ is_command raw = nat_le 10 (type_number raw.ty) && nat_lt (type_number raw.ty) 3
 abbrev pub is_notification : RawMessage → Bool
 is_notification raw = type_number raw.ty == 30
 
+-- the frame is an acknowledgement of a proposal
+abbrev pub is_acknowledgement : RawMessage → Bool
+is_acknowledgement raw = type_number raw.ty == 6
+
 -- the commands among some frames
 abbrev pub commands_among : List RawMessage → List RawMessage
 commands_among [] = []
@@ -137,7 +141,7 @@ setup_for version options st = record { version = version; options = options; id
 
 -- what stands aside in an attempt with this Start
 abbrev pub aside_for : Global → Version → VMOptions → Start → Aside
-aside_for alloc version options st = record { alloc = alloc; start = info_of version options.fallback_random_seed st; input_closed = false; entries_missing = 0; last = record { ty = type.Start; name = [] }; output = [] }
+aside_for alloc version options st = record { alloc = alloc; start = info_of version options.fallback_random_seed st; input_closed = false; entries_missing = 0; beside = record { last = record { ty = type.Start; name = [] }; runs = [] }; output = [] }
 
 -- the first frame was a Start: its state is kept, and the machine waits for as many entries as it tells
 pub record HasStarted (alloc : Global) (version : Version) (options : VMOptions) (raw : RawMessage) (m : Machine) : Type 0 where

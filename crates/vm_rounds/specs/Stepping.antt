@@ -63,6 +63,7 @@ step_asked meaning r = asked_from r.waiting (meaning r.answers)
 abbrev pub progress_of : Result Reply Error → Result Progress Error
 progress_of (Ok (reply.Answer a)) = Ok progress.Stepped
 progress_of (Ok (reply.Waiting input run)) = Ok (progress.Waiting input run)
+progress_of (Ok (reply.Execute run)) = Ok (progress.ExecuteRun run)
 progress_of (Ok reply.Suspended) = Ok progress.Suspended
 progress_of (Ok reply.Ended) = Ok progress.Ended
 progress_of (Err e) = Err e
@@ -71,6 +72,7 @@ progress_of (Err e) = Err e
 abbrev pub replied : Record → Option UnresolvedFuture → Result Reply Error → View → Record
 replied r future (Ok (reply.Answer a)) w = record r { answers = r.answers ++ a ∷ []; waiting = None; vm = w }
 replied r future (Ok (reply.Waiting input run)) w = record r { waiting = future; vm = w }
+replied r future (Ok (reply.Execute run)) w = record r { waiting = future; vm = w }
 replied r future (Ok reply.Suspended) w = record r { over = Some progress.Suspended; vm = w }
 replied r future (Ok reply.Ended) w = record r { over = Some progress.Ended; vm = w }
 replied r future (Err e) w = record r { vm = w }
@@ -123,6 +125,7 @@ StepDoes meaning old result new = StepFrom old.starved meaning old result new
 -- a step by which the handler waits for input, or is suspended
 abbrev pub IfWaits : Result Progress Error → Type 0 → Type 0
 IfWaits (Ok (progress.Waiting input run)) P = P
+IfWaits (Ok (progress.ExecuteRun run)) P = P
 IfWaits (Ok progress.Suspended) P = P
 IfWaits (Ok progress.NotReady) P = Unit {0}
 IfWaits (Ok progress.Stepped) P = Unit {0}

@@ -4,7 +4,7 @@ use Rattle.journal_errors.specs.declared.error.Error.{Error}
 use Rattle.vm_parts.specs.declared.steps.Answer.TheVariants as answer
 use Rattle.vm_parts.specs.declared.steps.Step.{Step}
 use Rattle.vm_parts.specs.declared.types.AwaitResponse.{AwaitResponse}
-use Rattle.vm_parts.specs.declared.types.AwaitResponse.TheVariants.{AnyCompleted, CancelSignalReceived, WaitingExternalProgress}
+use Rattle.vm_parts.specs.declared.types.AwaitResponse.TheVariants.{AnyCompleted, CancelSignalReceived, ExecuteRun, WaitingExternalProgress}
 use Rattle.await_trees.specs.declared.handle.NotificationHandle.{NotificationHandle}
 use Rattle.await_trees.specs.declared.tree.UnresolvedFuture.{UnresolvedFuture}
 use Rattle.await_trees.specs.Tree.{tree_of}
@@ -57,6 +57,7 @@ abbrev pub await_reply : Result AwaitResponse Error → Reply
 await_reply (Ok AnyCompleted) = reply.Answer answer.Awake
 await_reply (Ok CancelSignalReceived) = reply.Answer answer.Cancelled
 await_reply (Ok (WaitingExternalProgress input run)) = reply.Waiting input run
+await_reply (Ok (ExecuteRun run)) = reply.Execute run
 await_reply (Err e) = reply.Suspended
 
 -- An await of a future: what its whole call may come to, as a reply. An error is that of the call, also where it found no memory for one

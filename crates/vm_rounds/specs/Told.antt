@@ -211,6 +211,7 @@ abbrev pub Replays : Meaning → Version → VMOptions → Record → Result Pro
 Replays m version options old (Ok progress.Stepped) new = (new.vm.machine.output ≡ old.vm.machine.output) ⊎ (new.vm.machine.phase ≡ Processing)
 Replays m version options old (Ok progress.NotReady) new = ⊥
 Replays m version options old (Ok (progress.Waiting input run)) new = ⊥
+Replays m version options old (Ok (progress.ExecuteRun run)) new = ⊥
 Replays m version options old (Ok progress.Suspended) new = ⊥
 Replays m version options old (Ok progress.Ended) new = ⊥
 Replays m version options old (Err e) new =

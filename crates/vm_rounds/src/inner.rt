@@ -102,6 +102,10 @@ impl<H: Handler> Inner<H> {
                 self.waiting = future;
                 Ok(Progress::Waiting { input, run })
             }
+            Ok(Reply::Execute(run)) => {
+                self.waiting = future;
+                Ok(Progress::ExecuteRun(run))
+            }
             Ok(Reply::Suspended) => {
                 self.over = Some(Progress::Suspended);
                 Ok(Progress::Suspended)

@@ -90,6 +90,7 @@ fn reply_of(response: VMResult<AwaitResponse>) -> Reply
             input: waiting_input,
             run: waiting_run_proposal,
         },
+        Ok(AwaitResponse::ExecuteRun(run)) => Reply::Execute(run),
         Err(_) => Reply::Suspended,
     }
 }

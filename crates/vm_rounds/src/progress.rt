@@ -1,7 +1,7 @@
 //! What a step of an attempt did, and what an attempt keeps of its input.
 
 use bytes::Bytes;
-use vm_parts::Answer;
+use vm_parts::{Answer, NotificationHandle};
 
 /// What a step of an attempt did.
 #[derive(Clone, Copy, Debug, PartialEq, Eq)]
@@ -12,6 +12,8 @@ pub enum Progress {
     Stepped,
     /// The handler's await waits: for input, for a run's result, or for both.
     Waiting { input: bool, run: bool },
+    /// The handler's await waits for the run of this handle, which is to be executed now, outside the attempt.
+    ExecuteRun(NotificationHandle),
     /// The invocation is suspended; the attempt is over.
     Suspended,
     /// The handler has ended; the attempt is over.
@@ -32,6 +34,7 @@ pub struct Fed {
 pub enum Reply {
     Answer(Answer),
     Waiting { input: bool, run: bool },
+    Execute(NotificationHandle),
     Suspended,
     Ended,
 }

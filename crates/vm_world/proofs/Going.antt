@@ -40,6 +40,7 @@ same_stepped r new e = record { fed = ap (λ x. x.fed) e; taken = ap (λ x. x.ta
 replied_fed : (r : Record) (future : Option UnresolvedFuture) (answer : Result Reply Error) (w : View) → ((replied r future answer w).fed ≡ r.fed) × ((replied r future answer w).taken ≡ r.taken)
 replied_fed r future (Ok (reply.Answer a)) w = (refl, refl)
 replied_fed r future (Ok (reply.Waiting input run)) w = (refl, refl)
+replied_fed r future (Ok (reply.Execute run)) w = (refl, refl)
 replied_fed r future (Ok reply.Suspended) w = (refl, refl)
 replied_fed r future (Ok reply.Ended) w = (refl, refl)
 replied_fed r future (Err e) w = (refl, refl)

@@ -100,6 +100,7 @@ wrote_vm r new w taken is h = (taken, subst (λ (x : View). Extends r.vm.machine
 replied_vm : (r : Record) (future : Option UnresolvedFuture) (answer : Result Reply Error) (w : View) → ((replied r future answer w).taken ≡ r.taken) × ((replied r future answer w).vm ≡ w)
 replied_vm r future (Ok (reply.Answer a)) w = (refl, refl)
 replied_vm r future (Ok (reply.Waiting input run)) w = (refl, refl)
+replied_vm r future (Ok (reply.Execute run)) w = (refl, refl)
 replied_vm r future (Ok reply.Suspended) w = (refl, refl)
 replied_vm r future (Ok reply.Ended) w = (refl, refl)
 replied_vm r future (Err e) w = (refl, refl)

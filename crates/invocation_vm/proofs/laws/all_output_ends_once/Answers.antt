@@ -1,4 +1,8 @@
-use Rattle.invocation_vm.proofs.Endings.{made_ends, taken_ends, untaken_stays, bytes_stay, closing_stays, error_stays, await_stays, take_stays, input_stays, command_stays, answer_stays, awakeable_stays, read_stays, signal_stays, end_stays}
+use Rattle.std.proofs.Common.{refl}
+use Rattle.vm_machine.specs.Asks.{run_command}
+use Rattle.vm_machine.specs.Commands.{knows_next}
+use Rattle.invocation_vm.specs.Calls.{run_handle}
+use Rattle.invocation_vm.proofs.Endings.{made_ends, taken_ends, untaken_stays, bytes_stay, closing_stays, error_stays, await_stays, take_stays, input_stays, command_stays, answer_stays, awakeable_stays, read_stays, proposal_stays, signal_stays, end_stays}
 use Rattle.invocation_vm.proofs.laws.all_output_ends_once.Goals as goal
 
 pub returns-clause-fresh : goal.returns-clause-fresh
@@ -39,6 +43,12 @@ returns-clause-calls c = answer_stays _
 
 pub returns-clause-sends : goal.returns-clause-sends
 returns-clause-sends c = answer_stays _
+
+pub returns-clause-runs : goal.returns-clause-runs
+returns-clause-runs c = λ name r old new h. answer_stays (run_handle (knows_next old.machine)) (run_command name) r old new refl h
+
+pub returns-clause-proposals : goal.returns-clause-proposals
+returns-clause-proposals c = proposal_stays
 
 pub returns-clause-reads : goal.returns-clause-reads
 returns-clause-reads c = read_stays

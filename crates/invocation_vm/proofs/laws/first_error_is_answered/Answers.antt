@@ -1,4 +1,4 @@
-use Rattle.invocation_vm.proofs.Lawful.{first_answered, first_awaited, first_fed}
+use Rattle.invocation_vm.proofs.Lawful.{first_answered, first_awaited, first_fed, first_proposed}
 use Rattle.invocation_vm.proofs.laws.first_error_is_answered.Goals as goal
 
 pub returns-clause-calls : goal.returns-clause-calls
@@ -6,6 +6,9 @@ returns-clause-calls g c = first_answered
 
 pub returns-clause-awaits : goal.returns-clause-awaits
 returns-clause-awaits g c = first_awaited
+
+pub returns-clause-proposals : goal.returns-clause-proposals
+returns-clause-proposals g c = first_proposed
 
 pub returns-clause-quiet : goal.returns-clause-quiet
 returns-clause-quiet g c = first_fed

@@ -1,13 +1,10 @@
-use Rattle.std.proofs.Common.{[], arith, subst}
-use Rattle.lines.specs.Atoms.{IsAtom}
-use Rattle.requests.proofs.Places.{word_at}
+use Rattle.std.proofs.Common.{[], arith}
+use Rattle.requests.proofs.Places.{text_is_at}
 use Rattle.requests.proofs.arguments.three_texts.Goals as goal
 
-pub returns-clause-third : goal.returns-clause-third
-returns-clause-third c = subst (λ t. IsAtom t c.in_ok-third.third) (word_at c.args.words.now 2 (record { ref_ptr = (0, 0); now = [] }) (omega (arith, c.in-len3-up.len_at_least))) c.in_ok-third.ensures
-
-pub returns-clause-first : goal.returns-clause-first
-returns-clause-first c = subst (λ t. IsAtom t c.in_ok-first.first) (word_at c.args.words.now 0 (record { ref_ptr = (0, 0); now = [] }) (omega (arith, c.in-len3-up.len_at_least))) c.in_ok-first.ensures
-
-pub returns-clause-second : goal.returns-clause-second
-returns-clause-second c = subst (λ t. IsAtom t c.in_ok-second.second) (word_at c.args.words.now 1 (record { ref_ptr = (0, 0); now = [] }) (omega (arith, c.in-len3-up.len_at_least))) c.in_ok-second.ensures
+pub returns-clause-texts : goal.returns-clause-texts
+returns-clause-texts c = (
+  text_is_at 0 c.args.words.now (record { ref_ptr = (0, 0); now = [] }) c.in_ok-first.first (omega (arith, c.in-len3-up.len_at_least)) c.in_ok-first.ensures.value,
+  text_is_at 1 c.args.words.now (record { ref_ptr = (0, 0); now = [] }) c.in_ok-second.second (omega (arith, c.in-len3-up.len_at_least)) c.in_ok-second.ensures.value,
+  text_is_at 2 c.args.words.now (record { ref_ptr = (0, 0); now = [] }) c.in_ok-third.third (omega (arith, c.in-len3-up.len_at_least)) c.in_ok-third.ensures.value,
+)

@@ -1,9 +1,14 @@
 use Rattle.std.proofs.Common.{length}
-use Rattle.requests.specs.OpenNodes.{StandsAt}
+use Rattle.await_trees.specs.Tree.{Tree}
+use Rattle.requests.specs.OpenNodes.{GoesOn, StandsAt}
+use Rattle.requests.specs.Trees.{SpellsTree}
 use Rattle.requests.proofs.trees.tree_of_word.Given as goal
 
 abbrev pub invariant-loop-rest : goal.invariant-loop-rest
-invariant-loop-rest l = StandsAt l.text l.nodes.items l.last l.rest
+invariant-loop-rest l = record {
+  stands : StandsAt l.text l.nodes.items l.last l.rest;
+  goes_on : (t : Tree) → SpellsTree l.text t → GoesOn (length l.nodes.items) l.last l.rest;
+}
 
 abbrev pub decreases-loop-rest : goal.decreases-loop-rest
 decreases-loop-rest l = length l.rest

@@ -1,4 +1,4 @@
-use Rattle.vm_machine.proofs.Endings.{issued_writes, awakeable_writes, signal_writes, read_writes, await_writes, take_writes, input_writes, end_writes, report_writes, message_writes, malformed_writes, close_writes}
+use Rattle.vm_machine.proofs.Endings.{issued_writes, awakeable_writes, signal_writes, read_writes, await_writes, take_writes, input_writes, end_writes, report_writes, message_writes, proposals_write, malformed_writes, close_writes}
 use Rattle.vm_machine.proofs.laws.output_ends_once.Goals as goal
 
 pub returns-clause-commands : goal.returns-clause-commands
@@ -36,3 +36,6 @@ returns-clause-malformed c = malformed_writes
 
 pub returns-clause-closings : goal.returns-clause-closings
 returns-clause-closings c = close_writes
+
+pub returns-clause-proposals : goal.returns-clause-proposals
+returns-clause-proposals c = proposals_write

@@ -1,0 +1,40 @@
+-- Words that ask for no call.
+use Rattle.std.proofs.Common.{◌≡◌, ◌≢◌, ◌<◌, inl, inr, ℕ, List, [], ◌∷◌, length, arith, Some, None, refl, subst, sym, ◌∙◌}
+use Rattle.std.specs.Borrow.{Bor}
+use Rattle.wire.specs.declared.fault.Fault.{Fault}
+use Rattle.wire.specs.declared.fault.Fault.TheVariants.{Malformed}
+use Rattle.lines.specs.Pieces.{AreWords, outside, place}
+use Rattle.lines.specs.Readings.{Blames}
+use Rattle.requests.specs.declared.verb.Verb.{Verb}
+use Rattle.requests.specs.Lines.{AskNothing, AsksNothing}
+use Rattle.requests.specs.Verbs.{IsLine, verb_name, verb_named}
+use Rattle.requests.specs.Words.{behind, text_at}
+
+-- no word
+nothing_named : verb_named [] ≡ None
+unfolding verb_named verb_name
+nothing_named = refl
+
+pub none_ask : (words : List (Bor (List ℕ))) → length words < 1 → AskNothing words
+none_ask [] h = record { nothing = λ call asked. absurd (cc (sym nothing_named ∙ asked.names)) }
+none_ask (w ∷ words) h = absurd (omega arith)
+
+-- a first word that names no call
+pub unnamed_ask : (words : List (Bor (List ℕ))) → verb_named (text_at 0 words) ≡ None → AskNothing words
+unnamed_ask words e = record { nothing = λ call asked. absurd (cc (sym e ∙ asked.names)) }
+
+some_once : (a b : Verb) → Some a ≡ Some b → a ≡ b
+some_once a b e = search e
+
+-- arguments that aren't those of the call
+pub blamed_ask : (words : List (Bor (List ℕ))) (named : Verb) (fault : Fault) → verb_named (text_at 0 words) ≡ Some named → Blames (IsLine named (behind words)) fault → fault ≡ Malformed → AskNothing words
+blamed_ask words named fault e blames bad = record {
+  nothing = λ call asked. blames.nothing bad call (subst (λ v. IsLine v (behind words) call) (sym (some_once named asked.named (sym e ∙ asked.names))) asked.line);
+}
+
+-- a line that has no words, and one whose words ask for nothing
+pub unclosed_asks : (text : List ℕ) → place text ≢ outside → AsksNothing text
+unclosed_asks text unclosed = inl unclosed
+
+pub words_ask : (text : List ℕ) (words : List (Bor (List ℕ))) → AreWords text words → AskNothing words → AsksNothing text
+words_ask text words are nothing = inr (words, are, nothing)

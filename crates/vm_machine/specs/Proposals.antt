@@ -1,0 +1,81 @@
+-- What executing a run came to: its result is proposed, or the attempt fails.
+use Rattle.std.specs.Prelude.{◌≡◌, ◌++◌, [], ◌∷◌, not, ◌&&◌, ◌||◌, if◌then◌else◌, ℕ, Option, Some, None}
+use Rattle.await_trees.specs.declared.handle.NotificationHandle.{NotificationHandle}
+use Rattle.journal_errors.specs.declared.faults.NamedFault.{NamedFault}
+use Rattle.journal_errors.specs.declared.faults.NamedFault.TheVariants as fault
+use Rattle.journal_errors.specs.declared.version.Version.{Version}
+use Rattle.journal_messages.specs.declared.message.Message.TheVariants as message
+use Rattle.journal_messages.specs.declared.message.RawMessage.{RawMessage}
+use Rattle.journal_attempt.specs.declared.runs.ProposeRunCompletionAck.{ProposeRunCompletionAck}
+use Rattle.journal_errors.specs.Types.{type_number}
+use Rattle.journal_messages.specs.Message.{encoding}
+use Rattle.journal_messages.specs.Reading.{acknowledgement_in}
+use Rattle.journal_values.specs.declared.parts.ValueOrFailure.{ValueOrFailure}
+use Rattle.retries.specs.declared.policy.RetryPolicy.{RetryPolicy}
+use Rattle.retries.specs.Policies.{pauses_on_max}
+use Rattle.runs.specs.declared.settling.Settlement.{Settlement}
+use Rattle.runs.specs.declared.settling.Settlement.TheVariants as settlement
+use Rattle.runs.specs.declared.types.RunExitResult.{RunExitResult}
+use Rattle.runs.specs.Firsts.{without_first}
+use Rattle.runs.specs.Pending.{has_handle}
+use Rattle.runs.specs.Settling.{Becomes, has_metadata}
+use Rattle.vm_parts.specs.declared.run_state.PendingRun.{PendingRun}
+use Rattle.vm_machine.specs.declared.machine.Machine.{Machine}
+use Rattle.vm_machine.specs.declared.phase.Phase.{Phase}
+use Rattle.vm_machine.specs.declared.phase.Phase.TheVariants.{Processing}
+use Rattle.vm_machine.specs.Awaits.{run_at}
+use Rattle.vm_machine.specs.Outcomes.{Outcome, Done, Failed, refused}
+use Rattle.vm_machine.specs.Phases.{is_from_v6, is_from_v7}
+
+-- why a version can't take a result: metadata on a failure needs V6, and a policy that may pause V7, whatever the result is
+abbrev pub proposal_fault : RunExitResult → RetryPolicy → Version → Option NamedFault
+proposal_fault exit policy version =
+    if (has_metadata exit && not (is_from_v6 version)) || (pauses_on_max policy && not (is_from_v7 version)) then Some fault.UnsupportedFeatureForNegotiatedVersion
+    else None
+
+-- From V7 on a proposed result is kept until it is acknowledged.
+abbrev pub kept : ℕ → ValueOrFailure → Machine → Machine
+kept id result v = if is_from_v7 v.version then record v { proposals = v.proposals ++ record { completion_id = id; result = result } ∷ [] } else v
+
+-- a result is proposed under the run's completion id
+abbrev pub proposed : ℕ → ValueOrFailure → Machine → Machine
+proposed id result v = record (kept id result v) { output = v.output ++ encoding (message.ProposeRunCompletion (record { id = id; result = result })) ∷ [] }
+
+-- what becomes of a run is done
+abbrev pub settled_as : ℕ → Settlement → Machine → Outcome Unit
+settled_as id (settlement.Proposed result) v = Done tt (proposed id result v)
+settled_as id (settlement.Failed e) v = Failed e v
+
+-- the run of this handle isn't pending any more
+abbrev pub without_run : NotificationHandle → Machine → Machine
+without_run handle v = record v { runs = without_first (has_handle handle) v.runs }
+
+-- what the run of a handle came to, if there is a pending one
+abbrev pub Settled : NotificationHandle → RunExitResult → RetryPolicy → Option PendingRun → Machine → Outcome Unit → Type 0
+Settled handle exit policy None v o = o ≡ refused fault.NoPendingRun v
+Settled handle exit policy (Some run) v o =
+    (s : Settlement) × Becomes run exit policy v.start v.wrote_command s × (o ≡ settled_as run.completion_id s (without_run handle v))
+
+-- Outside Processing what a run came to is ignored.
+abbrev pub SettledAt : Phase → NotificationHandle → RunExitResult → RetryPolicy → Machine → Outcome Unit → Type 0
+SettledAt Processing handle exit policy v o = Settled handle exit policy (run_at handle.0 v) v o
+SettledAt phase handle exit policy v o = o ≡ Done tt v
+
+-- unless the version can't take it
+abbrev pub SettledUnless : Option NamedFault → NotificationHandle → RunExitResult → RetryPolicy → Machine → Outcome Unit → Type 0
+SettledUnless (Some name) handle exit policy v o = o ≡ refused name v
+SettledUnless None handle exit policy v o = SettledAt v.phase handle exit policy v o
+
+-- what it may come to that a run's result is told
+abbrev pub Proposes : NotificationHandle → RunExitResult → RetryPolicy → Machine → Outcome Unit → Type 0
+Proposes handle exit policy v o = SettledUnless (proposal_fault exit policy v.version) handle exit policy v o
+
+-- ---- acknowledgements
+
+-- a frame acknowledges the proposal of this id, in Processing
+pub record Acknowledges (raw : RawMessage) (id : ℕ) (v : Machine) : Type 0 where
+  pub ack : ProposeRunCompletionAck
+  pub ty : type_number raw.ty ≡ 6
+  pub reads : acknowledgement_in raw.body ≡ Some ack
+  pub is : ack.id ≡ id
+  pub phase : v.phase ≡ Processing

@@ -1,0 +1,129 @@
+//! What executing a run came to: its result is proposed, or the attempt fails.
+ghost use Rattle.std.specs.Prelude.{◌≡◌, ◌++◌, ◌∷◌, [], Some, IfNone, IfOk, IfSome, OnOk, OnErr};
+ghost use Rattle.journal_messages.specs.Message.{encoding};
+ghost use Rattle.journal_messages.specs.declared.message.Message.TheVariants as message;
+ghost use Rattle.runs.specs.Pending.{has_handle};
+ghost use Rattle.vm_machine.specs.Awaits.{run_at};
+ghost use Rattle.vm_machine.specs.Outcomes.{GivesBy, Gives, lasting};
+ghost use Rattle.vm_machine.specs.Proposals.{Proposes, Settled, kept, proposal_fault, proposed, settled_as, without_run};
+
+use crate::fault::{Fault, refuse};
+use crate::machine::Machine;
+use journal_attempt::ProposeRunCompletion;
+use journal_errors::{NamedFault, Version};
+use journal_messages::Message;
+use journal_values::ValueOrFailure;
+use retries::RetryPolicy;
+use runs::{RunExitResult, Settlement, settle};
+use std::alloc::AllocError;
+use vm_parts::{NotificationHandle, PendingRun};
+
+/// Why the version can't take what a run came to, if it can't.
+fn proposal_fault(
+    exit: &RunExitResult,
+    policy: &RetryPolicy,
+    version: Version,
+) -> Option<NamedFault>
+    ensures { result ≡ proposal_fault exit.now policy.now version }
+{
+    let has_metadata = exit.has_metadata() && version < Version::V6;
+    let may_pause = policy.should_pause_on_max_attempts() && version < Version::V7;
+    if has_metadata || may_pause {
+        return Some(NamedFault::UnsupportedFeatureForNegotiatedVersion);
+    }
+    None
+}
+
+impl Machine {
+    /// The result is kept until it is acknowledged, where the version has acknowledgements.
+    fn keep_proposal(&mut self, id: u32, given: &ValueOrFailure) -> Result<(), AllocError>
+        ensures ok { OnOk result (self.new ≡ kept id given.now self.old) }
+        ensures err { OnErr result (lasting self.new ≡ lasting self.old) }
+    {
+        if self.version >= Version::V7 {
+            self.proposals.keep(id, given.clone()?)?;
+        }
+        Ok(())
+    }
+
+    /// A result is proposed under the run's completion id.
+    fn propose(&mut self, id: u32, given: ValueOrFailure) -> Result<(), AllocError>
+        ensures ok { OnOk result (self.new ≡ proposed id given self.old) }
+        ensures err { OnErr result (lasting self.new ≡ lasting self.old) }
+    {
+        self.keep_proposal(id, &given)?;
+        let message = Message::ProposeRunCompletion(ProposeRunCompletion { id, result: given });
+        let written = self.output.write(self.alloc, &message);
+        drop(message);
+        written
+    }
+
+    /// What becomes of a run is done.
+    fn settle_as(&mut self, id: u32, settlement: Settlement) -> Result<(), Fault>
+        ensures { Gives (settled_as id settlement self.old) result self.old self.new }
+    {
+        match settlement {
+            Settlement::Proposed(given) => Ok(self.propose(id, given)?),
+            Settlement::Failed(error) => Err(Fault::Refused(error)),
+        }
+    }
+
+    /// The pending run of a handle that wasn't taken, which isn't pending any more.
+    #[tactic(auto, using(crate::proofs::Running::not_found))]
+    fn take_run(&mut self, handle: NotificationHandle) -> Option<PendingRun>
+        ensures run { result ≡ run_at handle.0 self.old }
+        ensures some { IfSome result (λ run. self.new ≡ without_run handle self.old) }
+        ensures none { IfNone result (self.new ≡ self.old) }
+    {
+        if self.results.find(handle.0).is_none() {
+            return None;
+        }
+        match self.runs.notify_execution_completed(handle) {
+            Some(run) => Some(run),
+            None => None,
+        }
+    }
+
+    /// What the run of a handle came to.
+    #[tactic(auto, using(crate::proofs::Running::settled_none, crate::proofs::Running::settled_some))]
+    fn settle_run(
+        &mut self,
+        handle: NotificationHandle,
+        exit: RunExitResult,
+        policy: &RetryPolicy,
+    ) -> Result<(), Fault>
+        ensures { GivesBy (Settled handle exit policy.now (run_at handle.0 self.old) self.old) result self.old self.new }
+    {
+        let Some(run) = self.take_run(handle) else {
+            return Err(refuse(NamedFault::NoPendingRun));
+        };
+        let id = run.completion_id;
+        let settlement = settle(
+            self.alloc,
+            run,
+            exit,
+            policy,
+            &self.start,
+            self.wrote_command,
+        )?;
+        self.settle_as(id, settlement)
+    }
+
+    /// The handler's runner tells what executing a run came to.
+    pub fn finish_run(
+        &mut self,
+        handle: NotificationHandle,
+        exit: RunExitResult,
+        policy: &RetryPolicy,
+    ) -> Result<(), Fault>
+        ensures { GivesBy (Proposes handle exit policy.now self.old) result self.old self.new }
+    {
+        if let Some(fault) = proposal_fault(&exit, policy, self.version) {
+            return Err(refuse(fault));
+        }
+        if !self.phase.is_processing() {
+            return Ok(());
+        }
+        self.settle_run(handle, exit, policy)
+    }
+}
