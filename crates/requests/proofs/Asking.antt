@@ -1,14 +1,16 @@
 -- Words that ask for no call.
-use Rattle.std.proofs.Common.{◌≡◌, ◌≢◌, ◌<◌, inl, inr, ℕ, List, [], ◌∷◌, length, arith, Some, None, refl, subst, sym, ◌∙◌}
+use Rattle.std.proofs.Common.{◌≡◌, ◌≢◌, ◌<◌, inl, inr, ℕ, List, [], ◌∷◌, length, get_or, arith, Some, None, refl, subst, sym, ◌∙◌}
 use Rattle.std.specs.Borrow.{Bor}
 use Rattle.wire.specs.declared.fault.Fault.{Fault}
 use Rattle.wire.specs.declared.fault.Fault.TheVariants.{Malformed}
 use Rattle.lines.specs.Pieces.{AreWords, outside, place}
 use Rattle.lines.specs.Readings.{Blames}
 use Rattle.requests.specs.declared.verb.Verb.{Verb}
+use Rattle.line_parts.specs.Trees.{SpellsFuture}
+use Rattle.line_parts.proofs.Places.{word_at}
 use Rattle.requests.specs.Lines.{AskNothing, AsksNothing}
-use Rattle.requests.specs.Verbs.{IsLine, verb_name, verb_named}
-use Rattle.requests.specs.Words.{behind, text_at}
+use Rattle.requests.specs.Verbs.{IsAwaited, IsLine, verb_name, verb_named}
+use Rattle.line_parts.specs.Words.{behind, text_at}
 
 -- no word
 nothing_named : verb_named [] ≡ None
@@ -38,3 +40,9 @@ unclosed_asks text unclosed = inl unclosed
 
 pub words_ask : (text : List ℕ) (words : List (Bor (List ℕ))) → AreWords text words → AskNothing words → AsksNothing text
 words_ask text words are nothing = inr (words, are, nothing)
+
+-- the only word is no tree
+pub one_tree_blamed : (words : List (Bor (List ℕ))) (d : Bor (List ℕ)) (fault : Fault) → length words ≡ 1 → Blames (SpellsFuture (get_or words 0 d).now) fault → Blames (IsAwaited words) fault
+one_tree_blamed words d fault one blames = record {
+  nothing = λ bad future is. blames.nothing bad future (subst (λ t. SpellsFuture t future) (sym (word_at words 0 d (omega arith))) is.1);
+}

@@ -10,11 +10,11 @@ use Rattle.vm_parts.specs.declared.steps.Step.TheVariants as step
 use Rattle.vm_parts.specs.declared.values.Target.{Target}
 use Rattle.requests.specs.declared.request.Call.TheVariants as call
 use Rattle.requests.specs.declared.verb.Verb.TheVariants as verb
-use Rattle.requests.specs.Fields.{IsOptional, are_named, texts}
-use Rattle.requests.specs.Targets.{AreCallOptions, AreSendOptions, HasCallOptions, call_names}
-use Rattle.requests.specs.Values.{HasFlag, IsTime, without}
+use Rattle.line_parts.specs.Fields.{IsOptional, are_named, texts}
+use Rattle.line_parts.specs.Targets.{AreCallOptions, AreSendOptions, HasCallOptions, call_names}
+use Rattle.line_parts.specs.Values.{HasFlag, IsTime, without}
 use Rattle.requests.specs.Verbs.{HasCallee, IsCall, IsLine, IsSend}
-use Rattle.requests.specs.Words.{text_at}
+use Rattle.line_parts.specs.Words.{text_at}
 
 pub is_call : (words rest others : List (Bor (List ℕ))) (service handler input : List ℕ) (target : Target) (name : Option (List ℕ)) (options : PayloadOptions) → HasCallee words (service, handler, input)
     → target.service ≡ service → target.handler ≡ handler → rest ≡ drop 3 words → others ≡ without (codes "unstable") rest → HasFlag (codes "unstable") rest options.unstable_serialization

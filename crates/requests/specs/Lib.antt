@@ -1,14 +1,3 @@
 pub mod ContentTypes
-pub mod Durations
-pub mod Fields
-pub mod Words
-pub mod Values
-pub mod Targets
-pub mod Reports
-pub mod Policies
-pub mod Results
-pub mod Trees
-pub mod OpenNodes
 pub mod Verbs
-pub mod VmOptions
 pub mod Lines

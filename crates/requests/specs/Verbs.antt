@@ -7,19 +7,18 @@ use Rattle.lines.specs.Atoms.{IsAtom, IsText}
 use Rattle.lines.specs.Readings.{One, Two, Three}
 use Rattle.vm_parts.specs.declared.options.PayloadOptions.{PayloadOptions}
 use Rattle.vm_parts.specs.declared.values.Target.{Target}
-use Rattle.await_trees.specs.declared.handle.NotificationHandle.{NotificationHandle}
 use Rattle.vm_parts.specs.declared.steps.Step.TheVariants as step
 use Rattle.await_trees.specs.declared.tree.UnresolvedFuture.{UnresolvedFuture}
 use Rattle.requests.specs.declared.request.Call.{Call}
 use Rattle.requests.specs.declared.request.Call.TheVariants as call
 use Rattle.requests.specs.declared.verb.Verb.{Verb}
 use Rattle.requests.specs.declared.verb.Verb.TheVariants as verb
-use Rattle.requests.specs.Reports.{IsReport}
-use Rattle.requests.specs.Results.{IsProposal}
-use Rattle.requests.specs.Targets.{AreCallOptions, AreSendOptions, NamesInvocation}
-use Rattle.requests.specs.Trees.{SpellsFuture}
-use Rattle.requests.specs.Values.{HasExtras, HasName, HasNow, HasValue, IsTime, IsValue}
-use Rattle.requests.specs.Words.{IsNumberOf, IsOneAtom, IsOneText, behind, text_at}
+use Rattle.line_parts.specs.Reports.{IsReport}
+use Rattle.line_parts.specs.Results.{IsProposal}
+use Rattle.line_parts.specs.Targets.{AreCallOptions, AreSendOptions, NamesInvocation}
+use Rattle.line_parts.specs.Trees.{SpellsFuture}
+use Rattle.line_parts.specs.Values.{HasExtras, HasName, HasNow, HasValue, IsTime, IsValue}
+use Rattle.line_parts.specs.Words.{IsHandle, IsOneAtom, IsOneText, behind, text_at}
 
 -- the word that names a call
 unfoldable pub verb_name : Verb → List ℕ
@@ -66,10 +65,6 @@ verbs =
 -- the verb whose name this is
 unfoldable pub verb_named : List ℕ → Option Verb
 verb_named word = find (λ verb. pointwise nat_eq word (verb_name verb)) verbs
-
--- the digits of this handle, and no other word
-abbrev pub IsHandle : List (Bor (List ℕ)) → NotificationHandle → Type 0
-IsHandle words handle = (length words ≡ 1) × IsNumberOf 32 (text_at 0 words) handle.0
 
 -- one word that spells the tree that is awaited, and no other word
 abbrev pub IsAwaited : List (Bor (List ℕ)) → UnresolvedFuture → Type 0

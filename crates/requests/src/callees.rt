@@ -2,17 +2,17 @@
 ghost use Rattle.std.specs.Prelude.{◌≡◌, ◌∷◌, IfErr, IfOk, codes, drop};
 ghost use Rattle.lines.specs.Readings.{Blames};
 ghost use Rattle.requests.specs.declared.verb.Verb.TheVariants as verb;
-ghost use Rattle.requests.specs.Fields.{are_named, texts};
-ghost use Rattle.requests.specs.Targets.{AreHeaders, HasCallOptions, call_names};
+ghost use Rattle.line_parts.specs.Fields.{are_named, texts};
+ghost use Rattle.line_parts.specs.Targets.{AreHeaders, HasCallOptions, call_names};
 ghost use Rattle.requests.specs.Verbs.{HasCallee, IsLine};
 
-use crate::arguments::{optional_duration, optional_text, without_unstable};
-use crate::atoms::{shared_of, text_of};
-use crate::fields::{are_named, text_behind};
 use crate::request::Call;
-use crate::values::pair_of;
 use bytes::Bytes;
 use journal_values::Header;
+use line_parts::arguments::{optional_duration, optional_text, without_unstable};
+use line_parts::atoms::{shared_of, text_of};
+use line_parts::fields::{are_named, text_behind};
+use line_parts::values::pair_of;
 use std::alloc::Global;
 use vm_parts::{Step, Target};
 use wire::{Fault, Items, Text};
@@ -26,7 +26,7 @@ struct Callee {
 }
 
 /// `[header={T T}]..`, among other words.
-#[tactic(auto, using(crate::proofs::Pairs::headers_blamed))]
+#[tactic(auto, using(line_parts::proofs::Pairs::headers_blamed))]
 fn headers_of(alloc: Global, words: &[&[u8]]) -> Result<Items<Header>, Fault>
     ensures value { IfOk result (AreHeaders (texts (codes "header=") words.now)) }
     ensures none { IfErr result (Blames (AreHeaders (texts (codes "header=") words.now))) }
@@ -73,7 +73,7 @@ fn target_with(
 }
 
 /// `T T B`, and the words behind them.
-#[tactic(auto, using(crate::proofs::Calling::service_blamed, crate::proofs::Calling::handler_blamed, crate::proofs::Calling::input_blamed, crate::proofs::Missing::text_blamed_at, crate::proofs::Missing::atom_blamed_at, crate::proofs::Missing::no_atom_at))]
+#[tactic(auto, using(crate::proofs::Calling::service_blamed, crate::proofs::Calling::handler_blamed, crate::proofs::Calling::input_blamed, line_parts::proofs::Missing::text_blamed_at, line_parts::proofs::Missing::atom_blamed_at, line_parts::proofs::Missing::no_atom_at))]
 fn callee_of<'w, 'a>(
     alloc: Global,
     words: &'w [&'a [u8]],

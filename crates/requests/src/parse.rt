@@ -5,28 +5,30 @@ ghost use Rattle.requests.specs.Lines.{Asks, AsksCall, AskNothing, AsksNothing, 
 ghost use Rattle.lines.specs.Readings.{Blames};
 ghost use Rattle.wire.specs.declared.fault.Fault.TheVariants.{Malformed};
 ghost use Rattle.requests.specs.Verbs.{IsAsked, IsAwaited, IsBare, IsLine};
-ghost use Rattle.requests.specs.VmOptions.{AreOptions};
-ghost use Rattle.requests.specs.Words.{text_at};
+ghost use Rattle.line_parts.specs.VmOptions.{AreOptions};
+ghost use Rattle.line_parts.specs.Words.{text_at};
 
-use crate::arguments::{Extras, bytes_alone, extras_of, handle_alone, name_of, now_of, text_alone};
-use crate::atoms::{duration_of, shared_of, string_of, text_of};
 use crate::callees::{call_line, send_line};
 use crate::content_type::ContentType;
-use crate::options::options_of;
-use crate::report::error_line;
 use crate::request::{Call, Request};
-use crate::results::{Proposal, proposal_of};
-use crate::targets::target_of;
-use crate::trees::tree_of_word;
-use crate::values::{value_and_payload, value_of};
 use crate::verb::{Verb, verb_of_word};
 use bytes::Bytes;
+use line_parts::arguments::{
+    Extras, bytes_alone, extras_of, handle_alone, name_of, now_of, text_alone,
+};
+use line_parts::atoms::{duration_of, shared_of, string_of, text_of};
+use line_parts::options::options_of;
+use line_parts::report::report_of;
+use line_parts::results::{Proposal, proposal_of};
+use line_parts::targets::target_of;
+use line_parts::trees::tree_of_word;
+use line_parts::values::{value_and_payload, value_of};
 use lines::pieces::words;
 use std::alloc::{AllocError, Global};
 use vm_parts::{Step, UnresolvedFuture, VMOptions};
 use wire::{Fault, Text};
 
-#[tactic(auto, using(lines::proofs::Blaming::first_blamed, lines::proofs::Blaming::second_blamed, crate::proofs::Missing::no_text_at))]
+#[tactic(auto, using(lines::proofs::Blaming::first_blamed, lines::proofs::Blaming::second_blamed, line_parts::proofs::Missing::no_text_at))]
 fn get_of(alloc: Global, arguments: &[&[u8]]) -> Result<Call, Fault>
     ensures value { IfOk result (IsLine verb.Get arguments.now) }
     ensures none { IfErr result (Blames (IsLine verb.Get arguments.now)) }
@@ -52,7 +54,7 @@ fn keys_of(alloc: Global, arguments: &[&[u8]]) -> Result<Call, Fault>
     Ok(Call::Step(Step::StateGetKeys { name }))
 }
 
-#[tactic(auto, using(lines::proofs::Blaming::first_of_three_blamed, lines::proofs::Blaming::second_of_three_blamed, lines::proofs::Blaming::third_of_three_blamed, crate::proofs::Missing::no_text_at, crate::proofs::Missing::no_atom_at))]
+#[tactic(auto, using(lines::proofs::Blaming::first_of_three_blamed, lines::proofs::Blaming::second_of_three_blamed, lines::proofs::Blaming::third_of_three_blamed, line_parts::proofs::Missing::no_text_at, line_parts::proofs::Missing::no_atom_at))]
 fn set_of(alloc: Global, arguments: &[&[u8]]) -> Result<Call, Fault>
     ensures value { IfOk result (IsLine verb.Set arguments.now) }
     ensures none { IfErr result (Blames (IsLine verb.Set arguments.now)) }
@@ -71,7 +73,7 @@ fn set_of(alloc: Global, arguments: &[&[u8]]) -> Result<Call, Fault>
     }))
 }
 
-#[tactic(auto, using(lines::proofs::Blaming::first_blamed, lines::proofs::Blaming::second_blamed, crate::proofs::Missing::no_text_at))]
+#[tactic(auto, using(lines::proofs::Blaming::first_blamed, lines::proofs::Blaming::second_blamed, line_parts::proofs::Missing::no_text_at))]
 fn clear_of(alloc: Global, arguments: &[&[u8]]) -> Result<Call, Fault>
     ensures value { IfOk result (IsLine verb.Clear arguments.now) }
     ensures none { IfErr result (Blames (IsLine verb.Clear arguments.now)) }
@@ -84,7 +86,7 @@ fn clear_of(alloc: Global, arguments: &[&[u8]]) -> Result<Call, Fault>
     Ok(Call::Step(Step::StateClear { key, name }))
 }
 
-#[tactic(auto, using(lines::proofs::Blaming::first_of_three_blamed, lines::proofs::Blaming::second_of_three_blamed, lines::proofs::Blaming::third_of_three_blamed, crate::proofs::Missing::no_text_at))]
+#[tactic(auto, using(lines::proofs::Blaming::first_of_three_blamed, lines::proofs::Blaming::second_of_three_blamed, lines::proofs::Blaming::third_of_three_blamed, line_parts::proofs::Missing::no_text_at))]
 fn sleep_of(alloc: Global, arguments: &[&[u8]]) -> Result<Call, Fault>
     ensures value { IfOk result (IsLine verb.Sleep arguments.now) }
     ensures none { IfErr result (Blames (IsLine verb.Sleep arguments.now)) }
@@ -102,7 +104,7 @@ fn sleep_of(alloc: Global, arguments: &[&[u8]]) -> Result<Call, Fault>
     }))
 }
 
-#[tactic(auto, using(lines::proofs::Blaming::first_blamed, lines::proofs::Blaming::second_blamed, crate::proofs::Missing::no_text_at))]
+#[tactic(auto, using(lines::proofs::Blaming::first_blamed, lines::proofs::Blaming::second_blamed, line_parts::proofs::Missing::no_text_at))]
 fn complete_awakeable_of(alloc: Global, arguments: &[&[u8]]) -> Result<Call, Fault>
     ensures value { IfOk result (IsLine verb.CompleteAwakeable arguments.now) }
     ensures none { IfErr result (Blames (IsLine verb.CompleteAwakeable arguments.now)) }
@@ -115,7 +117,7 @@ fn complete_awakeable_of(alloc: Global, arguments: &[&[u8]]) -> Result<Call, Fau
     Ok(Call::Step(Step::CompleteAwakeable { id, value, options }))
 }
 
-#[tactic(auto, using(lines::proofs::Blaming::first_of_three_blamed, lines::proofs::Blaming::second_of_three_blamed, lines::proofs::Blaming::third_of_three_blamed, crate::proofs::Missing::no_text_at))]
+#[tactic(auto, using(lines::proofs::Blaming::first_of_three_blamed, lines::proofs::Blaming::second_of_three_blamed, lines::proofs::Blaming::third_of_three_blamed, line_parts::proofs::Missing::no_text_at))]
 fn complete_signal_of(alloc: Global, arguments: &[&[u8]]) -> Result<Call, Fault>
     ensures value { IfOk result (IsLine verb.CompleteSignal arguments.now) }
     ensures none { IfErr result (Blames (IsLine verb.CompleteSignal arguments.now)) }
@@ -171,7 +173,7 @@ fn peek_promise_of(alloc: Global, arguments: &[&[u8]]) -> Result<Call, Fault>
     Ok(Call::Step(Step::PeekPromise { key }))
 }
 
-#[tactic(auto, using(lines::proofs::Blaming::first_blamed, lines::proofs::Blaming::second_blamed, crate::proofs::Missing::no_text_at))]
+#[tactic(auto, using(lines::proofs::Blaming::first_blamed, lines::proofs::Blaming::second_blamed, line_parts::proofs::Missing::no_text_at))]
 fn complete_promise_of(alloc: Global, arguments: &[&[u8]]) -> Result<Call, Fault>
     ensures value { IfOk result (IsLine verb.CompletePromise arguments.now) }
     ensures none { IfErr result (Blames (IsLine verb.CompletePromise arguments.now)) }
@@ -242,7 +244,7 @@ fn write_output_of(alloc: Global, arguments: &[&[u8]]) -> Result<Call, Fault>
 }
 
 /// What is awaited: `TREE` alone.
-#[tactic(auto, using(crate::proofs::Missing::one_tree_blamed))]
+#[tactic(auto, using(crate::proofs::Asking::one_tree_blamed))]
 fn awaited(alloc: Global, arguments: &[&[u8]]) -> Result<UnresolvedFuture, Fault>
     ensures value { IfOk result (IsAwaited arguments.now) }
     ensures none { IfErr result (Blames (IsAwaited arguments.now)) }
@@ -310,6 +312,15 @@ fn clear_all_of(alloc: Global, arguments: &[&[u8]]) -> Result<Call, Fault>
     Ok(Call::Step(Step::StateClearAll { name }))
 }
 
+#[tactic(auto, using(lines::proofs::Blaming::one_blamed))]
+fn error_of(alloc: Global, arguments: &[&[u8]]) -> Result<Call, Fault>
+    ensures value { IfOk result (IsLine verb.Error arguments.now) }
+    ensures none { IfErr result (Blames (IsLine verb.Error arguments.now)) }
+{
+    let (error, relationship) = report_of(alloc, arguments)?;
+    Ok(Call::Error(error, relationship))
+}
+
 /// The call of this name, with the arguments behind it.
 #[inline(always)]
 fn call_named(alloc: Global, verb: Verb, arguments: &[&[u8]]) -> Result<Call, Fault>
@@ -327,7 +338,7 @@ fn call_named(alloc: Global, verb: Verb, arguments: &[&[u8]]) -> Result<Call, Fa
         Verb::Awakeable => bare(arguments, Call::Step(Step::Awakeable)),
         Verb::End => bare(arguments, Call::Step(Step::End)),
         Verb::Input => input_of(alloc, arguments),
-        Verb::Error => error_line(alloc, arguments),
+        Verb::Error => error_of(alloc, arguments),
         Verb::Await => await_of(alloc, arguments),
         Verb::Completed => completed_of(arguments),
         Verb::Take => take_of(arguments),

@@ -3,10 +3,10 @@ use Rattle.std.specs.Prelude.{◌≡◌, ◌/◌, ℕ, true, List, [], ◌∷◌
 use Rattle.std.specs.Borrow.{Bor}
 use Rattle.std.specs.List.{AllZip}
 use Rattle.lines.specs.Atoms.{IsText}
-use Rattle.requests.specs.Durations.{IsDuration}
-use Rattle.requests.specs.Fields.{IsSet, are_named, texts}
-use Rattle.requests.specs.Values.{HasFlag, without}
-use Rattle.requests.specs.Words.{IsNumberOf}
+use Rattle.line_parts.specs.Durations.{IsDuration}
+use Rattle.line_parts.specs.Fields.{IsSet, are_named, texts}
+use Rattle.line_parts.specs.Values.{HasFlag, without}
+use Rattle.line_parts.specs.Words.{IsNumberOf}
 use Rattle.vm_world.specs.declared.types.Round.{Round}
 
 -- texts that are these keys

@@ -4,7 +4,7 @@ use Rattle.std.specs.Borrow.{Bor}
 use Rattle.std.specs.Str.{IsTrimAscii}
 use Rattle.lines.specs.Pieces.{AreWords}
 use Rattle.requests.specs.Lines.{says_nothing}
-use Rattle.requests.specs.Words.{IsNumberOf, behind, text_at}
+use Rattle.line_parts.specs.Words.{IsNumberOf, behind, text_at}
 use Rattle.vm_world.specs.declared.types.Event.{Event}
 use Rattle.vm_world.specs.declared.types.Event.TheVariants as event
 use Rattle.round_scripts.specs.declared.script_line.ScriptLine.{ScriptLine}

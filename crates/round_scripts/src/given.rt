@@ -1,15 +1,15 @@
 //! The line `world`: what a world is made of, but for the version of its attempts.
 ghost use Rattle.std.specs.Prelude.{◌≡◌, IfOk, codes, string_bytes};
 ghost use Rattle.lines.specs.Atoms.{IsAtom, IsText};
-ghost use Rattle.requests.specs.Fields.{IsSet, are_named, texts};
+ghost use Rattle.line_parts.specs.Fields.{IsSet, are_named, texts};
 ghost use Rattle.round_scripts.specs.Worlds.{AreEntries, IsDefault, IsEntry, SaysIdentity, SaysWorld, default_identity, world_names};
 
 use bytes::Bytes;
+use line_parts::arguments::optional_text;
+use line_parts::atoms::{shared_of, string_of, text_of};
+use line_parts::fields::{are_named, field_of, text_behind};
+use line_parts::options::{policies_of, seed_in};
 use lines::pieces::words_within;
-use requests::arguments::optional_text;
-use requests::atoms::{shared_of, string_of, text_of};
-use requests::fields::{are_named, field_of, text_behind};
-use requests::options::{policies_of, seed_in};
 use std::alloc::{AllocError, Global};
 use vm_parts::VMOptions;
 use vm_world::Identity;

@@ -1,12 +1,12 @@
 //! The line `round`: with what a round begins.
 ghost use Rattle.std.specs.Prelude.{◌≡◌, IfOk, codes};
-ghost use Rattle.requests.specs.Fields.{IsSet, are_named, texts};
-ghost use Rattle.requests.specs.Words.{IsNumberOf};
+ghost use Rattle.line_parts.specs.Fields.{IsSet, are_named, texts};
+ghost use Rattle.line_parts.specs.Words.{IsNumberOf};
 ghost use Rattle.round_scripts.specs.Rounds.{AreKeys, IsWholeMilliseconds, SaysRound, round_names};
 
-use requests::arguments::without_flag;
-use requests::atoms::{duration_of, text_of, u32_of};
-use requests::fields::{are_named, field_of, text_behind};
+use line_parts::arguments::without_flag;
+use line_parts::atoms::{duration_of, text_of, u32_of};
+use line_parts::fields::{are_named, field_of, text_behind};
 use std::alloc::Global;
 use vm_world::Round;
 use wire::{Fault, Items, Text};

@@ -1,6 +1,6 @@
 use Rattle.std.proofs.Common.{rules, arith, subst}
 use Rattle.std.proofs.lemmas.Grind.{common_steps}
-use Rattle.requests.specs.Targets.{HasCallOptions}
+use Rattle.line_parts.specs.Targets.{HasCallOptions}
 use Rattle.requests.proofs.Calling.{is_call}
 use Rattle.requests.proofs.callees.call_line.Goals as goal
 

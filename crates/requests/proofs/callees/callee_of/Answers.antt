@@ -1,5 +1,5 @@
 use Rattle.std.proofs.Common.{[], arith}
-use Rattle.requests.proofs.Places.{atom_is_at, text_is_at}
+use Rattle.line_parts.proofs.Places.{atom_is_at, text_is_at}
 use Rattle.requests.proofs.callees.callee_of.Goals as goal
 
 pub returns-clause-callee : goal.returns-clause-callee

@@ -1,8 +1,8 @@
 use Rattle.std.proofs.Common.{[], arith, codes, take}
 use Rattle.std.proofs.lemmas.Grind.{common_steps}
-use Rattle.requests.specs.Fields.{texts}
-use Rattle.requests.proofs.Naming.{texts_none, texts_some}
-use Rattle.requests.proofs.Pairing.{headers_more}
+use Rattle.line_parts.specs.Fields.{texts}
+use Rattle.line_parts.proofs.Naming.{texts_none, texts_some}
+use Rattle.line_parts.proofs.Pairing.{headers_more}
 use Rattle.requests.proofs.callees.headers_of.Goals.{in-Some+in_ok-key+in_ok-push, in_default}
 use Rattle.requests.proofs.callees.headers_of.Goals as goal
 

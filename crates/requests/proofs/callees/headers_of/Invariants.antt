@@ -1,6 +1,6 @@
 use Rattle.std.proofs.Common.{codes, take}
-use Rattle.requests.specs.Fields.{texts}
-use Rattle.requests.specs.Targets.{AreHeaders}
+use Rattle.line_parts.specs.Fields.{texts}
+use Rattle.line_parts.specs.Targets.{AreHeaders}
 use Rattle.requests.proofs.callees.headers_of.Given as goal
 
 abbrev pub invariant-loop-word : goal.invariant-loop-word

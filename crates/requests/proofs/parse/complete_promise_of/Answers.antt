@@ -2,9 +2,9 @@ use Rattle.std.proofs.Common.{◌≡◌, Err, drop, subst, rules}
 use Rattle.lines.specs.Atoms.{IsText}
 use Rattle.lines.specs.Readings.{Blames}
 use Rattle.lines.proofs.Blaming.{second_blamed}
-use Rattle.requests.specs.Values.{HasValue}
-use Rattle.requests.specs.Words.{text_at}
-use Rattle.requests.proofs.Places.{behind_is}
+use Rattle.line_parts.specs.Values.{HasValue}
+use Rattle.line_parts.specs.Words.{text_at}
+use Rattle.line_parts.proofs.Places.{behind_is}
 use Rattle.requests.proofs.parse.complete_promise_of.Goals as goal
 
 pub returns-in_err-value-clause-none : goal.returns-in_err-value-clause-none

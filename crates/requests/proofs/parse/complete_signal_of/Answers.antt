@@ -1,6 +1,6 @@
 use Rattle.std.proofs.Common.{[], refl, arith, subst}
-use Rattle.requests.specs.Values.{IsValue}
-use Rattle.requests.proofs.Places.{behind_is, text_is_at}
+use Rattle.line_parts.specs.Values.{IsValue}
+use Rattle.line_parts.proofs.Places.{behind_is, text_is_at}
 use Rattle.requests.proofs.parse.complete_signal_of.Goals as goal
 
 pub returns-clause-value : goal.returns-clause-value

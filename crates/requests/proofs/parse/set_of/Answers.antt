@@ -1,6 +1,6 @@
 use Rattle.std.proofs.Common.{[], rules, arith, subst}
-use Rattle.requests.specs.Values.{HasExtras}
-use Rattle.requests.proofs.Places.{atom_is_at, behind_is, text_is_at}
+use Rattle.line_parts.specs.Values.{HasExtras}
+use Rattle.line_parts.proofs.Places.{atom_is_at, behind_is, text_is_at}
 use Rattle.requests.proofs.parse.set_of.Goals as goal
 
 pub returns-clause-value : goal.returns-clause-value

@@ -1,10 +1,10 @@
 use Rattle.std.proofs.Common.{[], drop, refl, arith, subst}
 use Rattle.lines.specs.Atoms.{IsText}
 use Rattle.lines.proofs.Blaming.{second_of_three_blamed}
-use Rattle.requests.specs.Values.{HasNow, IsTime}
-use Rattle.requests.specs.Words.{text_at}
-use Rattle.requests.proofs.Missing.{no_time_at}
-use Rattle.requests.proofs.Places.{behind_is, text_is_at, word_at}
+use Rattle.line_parts.specs.Values.{HasNow, IsTime}
+use Rattle.line_parts.specs.Words.{text_at}
+use Rattle.line_parts.proofs.Missing.{no_time_at}
+use Rattle.line_parts.proofs.Places.{behind_is, text_is_at, word_at}
 use Rattle.requests.proofs.parse.sleep_of.Goals as goal
 
 pub returns-in_default-clause-none : goal.returns-in_default-clause-none

@@ -2,7 +2,7 @@ use Rattle.std.proofs.Common.{◌≡◌, None, find, take, nat_eq, arith, subst,
 use Rattle.std.proofs.lemmas.Grind.{common_steps}
 use Rattle.std.specs.Cmp.Lexicographic.{pointwise}
 use Rattle.requests.specs.Verbs.{verb_name, verb_named, verbs}
-use Rattle.requests.proofs.Finding.{found_here, none_more}
+use Rattle.line_parts.proofs.Finding.{found_here, none_more}
 use Rattle.requests.proofs.verb.verb_of_word.Goals as goal
 
 pub returns-clause-none : goal.returns-clause-none

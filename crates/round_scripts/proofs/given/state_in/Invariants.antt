@@ -1,5 +1,5 @@
 use Rattle.std.proofs.Common.{codes, take}
-use Rattle.requests.specs.Fields.{texts}
+use Rattle.line_parts.specs.Fields.{texts}
 use Rattle.round_scripts.specs.Worlds.{AreEntries}
 use Rattle.round_scripts.proofs.given.state_in.Given as goal
 

@@ -1,0 +1,43 @@
+-- Words that name no invocation.
+use Rattle.std.proofs.Common.{◌≡◌, ℕ, List, codes, drop, sym, ◌∙◌}
+use Rattle.std.specs.Borrow.{Bor}
+use Rattle.wire.specs.declared.fault.Fault.{Fault}
+use Rattle.wire.specs.declared.fault.Fault.TheVariants.{Malformed}
+use Rattle.journal_calls.specs.declared.invocations.InvocationTarget.{InvocationTarget}
+use Rattle.journal_calls.specs.declared.invocations.InvocationTarget.TheVariants as target
+use Rattle.lines.specs.Readings.{Blames}
+use Rattle.line_parts.specs.Targets.{HasKeyAndScope, IsCallOf, IsWorkflow, NamesBehind}
+use Rattle.line_parts.specs.Words.{AreThreeTexts, AreTwoTexts, IsOneText}
+
+pub workflow_texts_blamed : (words : List (Bor (List ℕ))) (fault : Fault) → Blames (AreTwoTexts words) fault → Blames (IsWorkflow words) fault
+workflow_texts_blamed words fault blames = record { nothing = λ bad workflow is. blames.nothing bad (workflow.name, workflow.key) is.texts }
+
+pub call_texts_blamed : (words : List (Bor (List ℕ))) (fault : Fault) → Blames (AreThreeTexts words) fault → Blames (IsCallOf words) fault
+call_texts_blamed words fault blames = record { nothing = λ bad call is. blames.nothing bad (call.service_name, call.handler_name, call.idempotency_key) is.texts }
+
+pub call_options_blamed : (words : List (Bor (List ℕ))) (fault : Fault) → Blames (HasKeyAndScope (drop 3 words)) fault → Blames (IsCallOf words) fault
+call_options_blamed words fault blames = record { nothing = λ bad call is. blames.nothing bad (call.service_key, call.scope) is.options }
+
+pub id_blamed : (word : List ℕ) (others : List (Bor (List ℕ))) (fault : Fault) → word ≡ codes "id" → Blames (IsOneText others) fault → Blames (NamesBehind word others) fault
+id_blamed word others fault e blames = record { nothing = λ bad t is. go bad t is }
+  where
+    go : fault ≡ Malformed → (t : InvocationTarget) → NamesBehind word others t → ⊥
+    go bad (target.InvocationId id) is = blames.nothing bad id is.1
+    go bad (target.WorkflowId workflow) is = absurd (cc (sym e ∙ is.0))
+    go bad (target.IdempotencyId call) is = absurd (cc (sym e ∙ is.0))
+
+pub workflow_blamed : (word : List ℕ) (others : List (Bor (List ℕ))) (fault : Fault) → word ≡ codes "workflow" → Blames (IsWorkflow others) fault → Blames (NamesBehind word others) fault
+workflow_blamed word others fault e blames = record { nothing = λ bad t is. go bad t is }
+  where
+    go : fault ≡ Malformed → (t : InvocationTarget) → NamesBehind word others t → ⊥
+    go bad (target.InvocationId id) is = absurd (cc (sym e ∙ is.0))
+    go bad (target.WorkflowId workflow) is = blames.nothing bad workflow is.1
+    go bad (target.IdempotencyId call) is = absurd (cc (sym e ∙ is.0))
+
+pub call_blamed : (word : List ℕ) (others : List (Bor (List ℕ))) (fault : Fault) → word ≡ codes "idem" → Blames (IsCallOf others) fault → Blames (NamesBehind word others) fault
+call_blamed word others fault e blames = record { nothing = λ bad t is. go bad t is }
+  where
+    go : fault ≡ Malformed → (t : InvocationTarget) → NamesBehind word others t → ⊥
+    go bad (target.InvocationId id) is = absurd (cc (sym e ∙ is.0))
+    go bad (target.WorkflowId workflow) is = absurd (cc (sym e ∙ is.0))
+    go bad (target.IdempotencyId call) is = blames.nothing bad call is.1

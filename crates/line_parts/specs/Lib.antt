@@ -1,0 +1,11 @@
+pub mod Durations
+pub mod Fields
+pub mod OpenNodes
+pub mod Policies
+pub mod Reports
+pub mod Results
+pub mod Targets
+pub mod Trees
+pub mod Values
+pub mod VmOptions
+pub mod Words

@@ -1,0 +1,40 @@
+-- The words of a line by their places.
+use Rattle.std.specs.Prelude.{◌≡◌, ◌<◌, ◌^◌, ℕ, zero, suc, List, [], ◌∷◌, length}
+use Rattle.std.specs.Borrow.{Bor}
+use Rattle.std.specs.Str.Parse.{IsNumeral, digits_value}
+use Rattle.lines.specs.Atoms.{IsAtom, IsText}
+use Rattle.await_trees.specs.declared.handle.NotificationHandle.{NotificationHandle}
+
+-- the text of a word, or nothing where there are no so many words
+abbrev pub text_at : ℕ → List (Bor (List ℕ)) → List ℕ
+text_at i [] = []
+text_at zero (word ∷ words) = word.now
+text_at (suc i) (word ∷ words) = text_at i words
+
+-- the words behind the first
+abbrev pub behind : List (Bor (List ℕ)) → List (Bor (List ℕ))
+behind [] = []
+behind (word ∷ words) = words
+
+-- the decimal digits of a number of so many bits
+abbrev pub IsNumberOf : ℕ → List ℕ → ℕ → Type 0
+IsNumberOf bits text number = IsNumeral 10 text × (number ≡ digits_value 10 text) × (number < 2 ^ bits)
+
+-- one atom of these bytes, and no other word
+abbrev pub IsOneAtom : List (Bor (List ℕ)) → List ℕ → Type 0
+IsOneAtom words bytes = (length words ≡ 1) × IsAtom (text_at 0 words) bytes
+
+-- one text, and no other word
+abbrev pub IsOneText : List (Bor (List ℕ)) → List ℕ → Type 0
+IsOneText words bytes = (length words ≡ 1) × IsText (text_at 0 words) bytes
+
+-- the words begin with these texts
+abbrev pub AreTwoTexts : List (Bor (List ℕ)) → List ℕ × List ℕ → Type 0
+AreTwoTexts words two = IsText (text_at 0 words) two.0 × IsText (text_at 1 words) two.1
+
+abbrev pub AreThreeTexts : List (Bor (List ℕ)) → List ℕ × List ℕ × List ℕ → Type 0
+AreThreeTexts words three = IsText (text_at 0 words) three.0 × IsText (text_at 1 words) three.1 × IsText (text_at 2 words) three.2
+
+-- the digits of this handle, and no other word
+abbrev pub IsHandle : List (Bor (List ℕ)) → NotificationHandle → Type 0
+IsHandle words handle = (length words ≡ 1) × IsNumberOf 32 (text_at 0 words) handle.0

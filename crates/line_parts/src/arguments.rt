@@ -1,0 +1,189 @@
+//! The arguments of a line: values, options and single atoms, in their places.
+ghost use Rattle.std.specs.Prelude.{◌≡◌, codes, drop, IfErr, IfOk};
+ghost use Rattle.lines.specs.Atoms.{IsText};
+ghost use Rattle.lines.specs.Readings.{Blames};
+ghost use Rattle.line_parts.specs.Fields.{IsOptional, texts};
+ghost use Rattle.line_parts.specs.Values.{HasExtras, HasFlag, HasName, HasNow, IsTime, without};
+ghost use Rattle.line_parts.specs.Words.{AreThreeTexts, AreTwoTexts, IsHandle, IsOneAtom, IsOneText};
+
+use crate::atoms::{duration_of, handle_of, shared_of, text_of};
+use crate::fields::{are_named, field_of};
+use bytes::Bytes;
+use std::alloc::Global;
+use std::time::Duration;
+use vm_parts::{NotificationHandle, PayloadOptions};
+use wire::{Fault, Text};
+
+/// The options behind a command's arguments.
+#[derive(Drop)]
+pub struct Extras {
+    pub name: Option<Text>,
+    pub payload: PayloadOptions,
+}
+
+/// The words but this one, which may stand once, and whether it stands there.
+#[tactic(auto, using(crate::proofs::Missing::twice_blamed))]
+pub fn without_flag<'a>(
+    alloc: Global,
+    words: &[&'a [u8]],
+    flag: &str,
+) -> Result<(Vec<&'a [u8]>, bool), Fault>
+    ensures others { IfOk result (λ found. found.0.items ≡ without flag.now words.now) }
+    ensures flag { IfOk result (λ found. HasFlag flag.now words.now found.1) }
+    ensures none { IfErr result (Blames (HasFlag flag.now words.now)) }
+{
+    let mut others = Vec::new(alloc);
+    let mut stands = false;
+    for word in words {
+        if *word == flag.as_bytes() {
+            if stands {
+                return Err(Fault::Malformed);
+            }
+            stands = true;
+        } else {
+            others.push(*word)?;
+        }
+    }
+    Ok((others, stands))
+}
+
+/// The words but `unstable`, and what is said of the payload.
+pub fn without_unstable<'a>(
+    alloc: Global,
+    words: &[&'a [u8]],
+) -> Result<(Vec<&'a [u8]>, PayloadOptions), Fault>
+    ensures others { IfOk result (λ found. found.0.items ≡ without (codes "unstable") words.now) }
+    ensures flag { IfOk result (λ found. HasFlag (codes "unstable") words.now found.1.unstable_serialization) }
+    ensures none { IfErr result (Blames (HasFlag (codes "unstable") words.now)) }
+{
+    let (others, unstable_serialization) = without_flag(alloc, words, "unstable")?;
+    let payload = PayloadOptions {
+        unstable_serialization,
+    };
+    Ok((others, payload))
+}
+
+/// `[NAME=T]`, among other words.
+#[tactic(auto, using(crate::proofs::Missing::optional_blamed))]
+pub fn optional_text(alloc: Global, words: &[&[u8]], name: &str) -> Result<Option<Text>, Fault>
+    ensures value { IfOk result (IsOptional IsText (texts name.now words.now)) }
+    ensures none { IfErr result (Blames (IsOptional IsText (texts name.now words.now))) }
+{
+    match field_of(words, name)? {
+        Some(text) => Ok(Some(text_of(alloc, text)?)),
+        None => Ok(None),
+    }
+}
+
+/// `[name=T]` alone.
+pub fn name_of(alloc: Global, words: &[&[u8]]) -> Result<Option<Text>, Fault>
+    ensures value { IfOk result (HasName words.now) }
+    ensures none { IfErr result (Blames (HasName words.now)) }
+{
+    if !are_named(words, &["name="]) {
+        return Err(Fault::Malformed);
+    }
+    optional_text(alloc, words, "name=")
+}
+
+/// `[name=T] [unstable]`.
+pub fn extras_of(alloc: Global, words: &[&[u8]]) -> Result<Extras, Fault>
+    ensures value { IfOk result (HasExtras words.now) }
+    ensures none { IfErr result (Blames (HasExtras words.now)) }
+{
+    let (others, payload) = without_unstable(alloc, words)?;
+    let name = name_of(alloc, others.as_slice())?;
+    Ok(Extras { name, payload })
+}
+
+/// `[NAME=D]`, among other words.
+pub fn optional_duration(words: &[&[u8]], name: &str) -> Result<Option<Duration>, Fault>
+    ensures value { IfOk result (IsOptional IsTime (texts name.now words.now)) }
+    ensures none { IfErr result (Blames (IsOptional IsTime (texts name.now words.now))) }
+{
+    match field_of(words, name)? {
+        Some(text) => Ok(Some(duration_of(text)?)),
+        None => Ok(None),
+    }
+}
+
+/// `[now=D]` alone.
+pub fn now_of(words: &[&[u8]]) -> Result<Option<Duration>, Fault>
+    ensures value { IfOk result (HasNow words.now) }
+    ensures none { IfErr result (Blames (HasNow words.now)) }
+{
+    if !are_named(words, &["now="]) {
+        return Err(Fault::Malformed);
+    }
+    optional_duration(words, "now=")
+}
+
+/// `H` alone.
+pub fn handle_alone(arguments: &[&[u8]]) -> Result<NotificationHandle, Fault>
+    ensures value { IfOk result (IsHandle arguments.now) }
+    ensures none { IfErr result (Blames (IsHandle arguments.now)) }
+{
+    match arguments {
+        [handle] => handle_of(*handle),
+        _ => Err(Fault::Malformed),
+    }
+}
+
+/// `T` alone.
+pub fn text_alone(alloc: Global, arguments: &[&[u8]]) -> Result<Text, Fault>
+    ensures value { IfOk result (IsOneText arguments.now) }
+    ensures none { IfErr result (Blames (IsOneText arguments.now)) }
+{
+    match arguments {
+        [text] => text_of(alloc, *text),
+        _ => Err(Fault::Malformed),
+    }
+}
+
+/// `T T`, and the words behind them.
+#[tactic(auto, using(crate::proofs::Missing::first_of_two, crate::proofs::Missing::second_of_two, crate::proofs::Missing::text_blamed_at, crate::proofs::Missing::no_text_at))]
+pub fn two_texts<'w, 'a>(
+    alloc: Global,
+    words: &'w [&'a [u8]],
+) -> Result<(Text, Text, &'w [&'a [u8]]), Fault>
+    ensures texts { IfOk result (λ found. AreTwoTexts words.now (found.0, found.1)) }
+    ensures rest { IfOk result (λ found. found.2.now ≡ drop 2 words.now) }
+    ensures none { IfErr result (Blames (AreTwoTexts words.now)) }
+{
+    let [first, second, rest @ ..] = words else {
+        return Err(Fault::Malformed);
+    };
+    let first = text_of(alloc, *first)?;
+    let second = text_of(alloc, *second)?;
+    Ok((first, second, rest))
+}
+
+/// `T T T`, and the words behind them.
+#[tactic(auto, using(crate::proofs::Missing::first_of_three, crate::proofs::Missing::second_of_three, crate::proofs::Missing::third_of_three, crate::proofs::Missing::text_blamed_at, crate::proofs::Missing::no_text_at))]
+pub fn three_texts<'w, 'a>(
+    alloc: Global,
+    words: &'w [&'a [u8]],
+) -> Result<(Text, Text, Text, &'w [&'a [u8]]), Fault>
+    ensures texts { IfOk result (λ found. AreThreeTexts words.now (found.0, found.1, found.2)) }
+    ensures rest { IfOk result (λ found. found.3.now ≡ drop 3 words.now) }
+    ensures none { IfErr result (Blames (AreThreeTexts words.now)) }
+{
+    let [first, second, third, rest @ ..] = words else {
+        return Err(Fault::Malformed);
+    };
+    let first = text_of(alloc, *first)?;
+    let second = text_of(alloc, *second)?;
+    let third = text_of(alloc, *third)?;
+    Ok((first, second, third, rest))
+}
+
+/// `B` alone.
+pub fn bytes_alone(alloc: Global, arguments: &[&[u8]]) -> Result<Bytes, Fault>
+    ensures value { IfOk result (IsOneAtom arguments.now) }
+    ensures none { IfErr result (Blames (IsOneAtom arguments.now)) }
+{
+    match arguments {
+        [bytes] => shared_of(alloc, *bytes),
+        _ => Err(Fault::Malformed),
+    }
+}

@@ -1,0 +1,13 @@
+//! The parts of a script's line: what its words spell, and that a word is refused only where it spells nothing.
+#![tactic(auto)]
+
+pub mod arguments;
+pub mod atoms;
+pub mod fields;
+pub mod options;
+pub mod policies;
+pub mod report;
+pub mod results;
+pub mod targets;
+pub mod trees;
+pub mod values;

@@ -1,0 +1,298 @@
+//! The options of a `vm` line.
+ghost use Rattle.std.specs.Prelude.{◌≡◌, IfErr, IfOk, codes};
+ghost use Rattle.lines.specs.Readings.{Blames};
+ghost use Rattle.vm_parts.specs.Options.{default_options};
+ghost use Rattle.vm_parts.specs.declared.options.ImplicitCancellationOption.TheVariants as cancellation;
+ghost use Rattle.line_parts.specs.Fields.{IsSet, are_named, texts};
+ghost use Rattle.line_parts.specs.Words.{IsNumberOf};
+ghost use Rattle.line_parts.specs.VmOptions.{AreOptions, ArePolicies, IsAwaiting, IsCancel, IsChecks, IsDelivery, IsMismatch, IsReplay, IsSkip, option_names};
+
+use crate::atoms::u64_of;
+use crate::fields::{are_named, field_of};
+use vm_parts::{
+    AwaitingOnPolicy, ImplicitCancellationOption, JournalMismatchRetryBehavior, JournalReplay,
+    NonDeterministicChecksOption, SignalDelivery, VMOptions,
+};
+use wire::Fault;
+
+/// The built-in cancel signal ends awaits, and cancels these children too.
+fn cancelling(calls: bool, one_way_calls: bool) -> ImplicitCancellationOption
+    ensures { result ≡ cancellation.Enabled calls one_way_calls }
+{
+    ImplicitCancellationOption::Enabled {
+        cancel_children_calls: calls,
+        cancel_children_one_way_calls: one_way_calls,
+    }
+}
+
+/// Whether the built-in cancel signal ends awaits, and which children are cancelled too.
+#[tactic(auto, using(crate::proofs::Choices::no_cancel))]
+fn cancellation_of(text: &[u8]) -> Result<ImplicitCancellationOption, Fault>
+    ensures value { IfOk result (IsCancel text.now) }
+    ensures none { IfErr result (Blames (IsCancel text.now)) }
+{
+    if text == b"calls".as_slice() {
+        return Ok(cancelling(true, false));
+    }
+    if text == b"none".as_slice() {
+        return Ok(cancelling(false, false));
+    }
+    if text == b"sends".as_slice() {
+        return Ok(cancelling(false, true));
+    }
+    if text == b"both".as_slice() {
+        return Ok(cancelling(true, true));
+    }
+    if text == b"off".as_slice() {
+        return Ok(ImplicitCancellationOption::Disabled);
+    }
+    Err(Fault::Malformed)
+}
+
+/// `[cancel=..]`, among other words.
+#[tactic(auto, using(crate::proofs::Missing::set_blamed, crate::proofs::Missing::twice_set))]
+fn cancellation_in(words: &[&[u8]]) -> Result<ImplicitCancellationOption, Fault>
+    ensures value { IfOk result (IsSet IsCancel default_options.implicit_cancellation (texts (codes "cancel=") words.now)) }
+    ensures none { IfErr result (Blames (IsSet IsCancel default_options.implicit_cancellation (texts (codes "cancel=") words.now))) }
+{
+    match field_of(words, "cancel=")? {
+        Some(text) => cancellation_of(text),
+        None => Ok(cancelling(true, false)),
+    }
+}
+
+/// Whether replay compares payloads.
+#[tactic(auto, using(crate::proofs::Choices::no_checks))]
+fn checks_of(text: &[u8]) -> Result<NonDeterministicChecksOption, Fault>
+    ensures value { IfOk result (IsChecks text.now) }
+    ensures none { IfErr result (Blames (IsChecks text.now)) }
+{
+    if text == b"on".as_slice() {
+        return Ok(NonDeterministicChecksOption::Enabled);
+    }
+    if text == b"off".as_slice() {
+        return Ok(NonDeterministicChecksOption::PayloadChecksDisabled);
+    }
+    Err(Fault::Malformed)
+}
+
+/// `[checks=..]`, among other words.
+#[tactic(auto, using(crate::proofs::Missing::set_blamed, crate::proofs::Missing::twice_set))]
+fn checks_in(words: &[&[u8]]) -> Result<NonDeterministicChecksOption, Fault>
+    ensures value { IfOk result (IsSet IsChecks default_options.non_determinism_checks (texts (codes "checks=") words.now)) }
+    ensures none { IfErr result (Blames (IsSet IsChecks default_options.non_determinism_checks (texts (codes "checks=") words.now))) }
+{
+    match field_of(words, "checks=")? {
+        Some(text) => checks_of(text),
+        None => Ok(NonDeterministicChecksOption::Enabled),
+    }
+}
+
+/// When an await that waits for input says what it waits for.
+#[tactic(auto, using(crate::proofs::Choices::no_awaiting))]
+fn awaiting_of(text: &[u8]) -> Result<AwaitingOnPolicy, Fault>
+    ensures value { IfOk result (IsAwaiting text.now) }
+    ensures none { IfErr result (Blames (IsAwaiting text.now)) }
+{
+    if text == b"norun".as_slice() {
+        return Ok(AwaitingOnPolicy::DontSendWhenExecutingRun);
+    }
+    if text == b"always".as_slice() {
+        return Ok(AwaitingOnPolicy::SendAlways);
+    }
+    if text == b"never".as_slice() {
+        return Ok(AwaitingOnPolicy::DontSend);
+    }
+    Err(Fault::Malformed)
+}
+
+/// `[awaiting=..]`, among other words.
+#[tactic(auto, using(crate::proofs::Missing::set_blamed, crate::proofs::Missing::twice_set))]
+fn awaiting_in(words: &[&[u8]]) -> Result<AwaitingOnPolicy, Fault>
+    ensures value { IfOk result (IsSet IsAwaiting default_options.awaiting_on_policy (texts (codes "awaiting=") words.now)) }
+    ensures none { IfErr result (Blames (IsSet IsAwaiting default_options.awaiting_on_policy (texts (codes "awaiting=") words.now))) }
+{
+    match field_of(words, "awaiting=")? {
+        Some(text) => awaiting_of(text),
+        None => Ok(AwaitingOnPolicy::DontSendWhenExecutingRun),
+    }
+}
+
+/// What becomes of an invocation whose journal doesn't fit its handler.
+#[tactic(auto, using(crate::proofs::Choices::no_mismatch))]
+fn mismatch_of(text: &[u8]) -> Result<JournalMismatchRetryBehavior, Fault>
+    ensures value { IfOk result (IsMismatch text.now) }
+    ensures none { IfErr result (Blames (IsMismatch text.now)) }
+{
+    if text == b"follow".as_slice() {
+        return Ok(JournalMismatchRetryBehavior::FollowRetryPolicy);
+    }
+    if text == b"pause".as_slice() {
+        return Ok(JournalMismatchRetryBehavior::Pause);
+    }
+    if text == b"fail".as_slice() {
+        return Ok(JournalMismatchRetryBehavior::FailTerminally);
+    }
+    Err(Fault::Malformed)
+}
+
+/// `[mismatch=..]`, among other words.
+#[tactic(auto, using(crate::proofs::Missing::set_blamed, crate::proofs::Missing::twice_set))]
+fn mismatch_in(words: &[&[u8]]) -> Result<JournalMismatchRetryBehavior, Fault>
+    ensures value { IfOk result (IsSet IsMismatch default_options.journal_mismatch_retry_behavior (texts (codes "mismatch=") words.now)) }
+    ensures none { IfErr result (Blames (IsSet IsMismatch default_options.journal_mismatch_retry_behavior (texts (codes "mismatch=") words.now))) }
+{
+    match field_of(words, "mismatch=")? {
+        Some(text) => mismatch_of(text),
+        None => Ok(JournalMismatchRetryBehavior::FollowRetryPolicy),
+    }
+}
+
+/// Whether recorded commands are replayed or skipped.
+#[tactic(auto, using(crate::proofs::Choices::no_replay))]
+fn replay_of(text: &[u8]) -> Result<JournalReplay, Fault>
+    ensures value { IfOk result (IsReplay text.now) }
+    ensures none { IfErr result (Blames (IsReplay text.now)) }
+{
+    if text == b"on".as_slice() {
+        return Ok(JournalReplay::Enabled);
+    }
+    if text == b"off".as_slice() {
+        return Ok(JournalReplay::Disabled);
+    }
+    Err(Fault::Malformed)
+}
+
+/// `[replay=..]`, among other words.
+#[tactic(auto, using(crate::proofs::Missing::set_blamed, crate::proofs::Missing::twice_set))]
+fn replay_in(words: &[&[u8]]) -> Result<JournalReplay, Fault>
+    ensures value { IfOk result (IsSet IsReplay default_options.journal_replay (texts (codes "replay=") words.now)) }
+    ensures none { IfErr result (Blames (IsSet IsReplay default_options.journal_replay (texts (codes "replay=") words.now))) }
+{
+    match field_of(words, "replay=")? {
+        Some(text) => replay_of(text),
+        None => Ok(JournalReplay::Enabled),
+    }
+}
+
+/// Whether several deliveries of one signal queue up or the newest replaces the others.
+#[tactic(auto, using(crate::proofs::Choices::no_delivery))]
+fn delivery_of(text: &[u8]) -> Result<SignalDelivery, Fault>
+    ensures value { IfOk result (IsDelivery text.now) }
+    ensures none { IfErr result (Blames (IsDelivery text.now)) }
+{
+    if text == b"queued".as_slice() {
+        return Ok(SignalDelivery::Queued);
+    }
+    if text == b"overwrite".as_slice() {
+        return Ok(SignalDelivery::Overwrite);
+    }
+    Err(Fault::Malformed)
+}
+
+/// `[delivery=..]`, among other words.
+#[tactic(auto, using(crate::proofs::Missing::set_blamed, crate::proofs::Missing::twice_set))]
+fn delivery_in(words: &[&[u8]]) -> Result<SignalDelivery, Fault>
+    ensures value { IfOk result (IsSet IsDelivery default_options.signal_delivery (texts (codes "delivery=") words.now)) }
+    ensures none { IfErr result (Blames (IsSet IsDelivery default_options.signal_delivery (texts (codes "delivery=") words.now))) }
+{
+    match field_of(words, "delivery=")? {
+        Some(text) => delivery_of(text),
+        None => Ok(SignalDelivery::Queued),
+    }
+}
+
+/// What a caller that skips commands does, which is no option of the VM.
+#[tactic(auto, using(crate::proofs::Choices::no_skip))]
+fn skip_of(text: &[u8]) -> Result<(), Fault>
+    ensures value { IfOk result (λ _. IsSkip text.now (tt {0})) }
+    ensures none { IfErr result (Blames (IsSkip text.now)) }
+{
+    if text == b"double".as_slice() || text == b"carried".as_slice() {
+        return Ok(());
+    }
+    Err(Fault::Malformed)
+}
+
+/// `[skip=..]`, among other words.
+#[tactic(auto, using(crate::proofs::Missing::set_blamed, crate::proofs::Missing::twice_set))]
+fn check_skip(words: &[&[u8]]) -> Result<(), Fault>
+    ensures value { IfOk result (λ _. IsSet IsSkip (tt {0}) (texts (codes "skip=") words.now) (tt {0})) }
+    ensures none { IfErr result (Blames (IsSet IsSkip (tt {0}) (texts (codes "skip=") words.now))) }
+{
+    match field_of(words, "skip=")? {
+        Some(text) => skip_of(text),
+        None => Ok(()),
+    }
+}
+
+/// `[seed=N]`, by default 0.
+#[tactic(auto, using(crate::proofs::Missing::set_blamed, crate::proofs::Missing::twice_set))]
+pub fn seed_in(words: &[&[u8]]) -> Result<u64, Fault>
+    ensures value { IfOk result (IsSet (IsNumberOf 64) 0 (texts (codes "seed=") words.now)) }
+    ensures none { IfErr result (Blames (IsSet (IsNumberOf 64) 0 (texts (codes "seed=") words.now))) }
+{
+    match field_of(words, "seed=")? {
+        Some(text) => u64_of(text),
+        None => Ok(0),
+    }
+}
+
+/// The options that the words name, but for the seed; those that aren't named are at their default.
+pub fn policies_of(words: &[&[u8]]) -> Result<VMOptions, Fault>
+    ensures policies { IfOk result (λ options. ArePolicies words.now options) }
+    ensures seed { IfOk result (λ options. options.fallback_random_seed ≡ default_options.fallback_random_seed) }
+    ensures none { IfErr result (Blames (ArePolicies words.now)) }
+{
+    let implicit_cancellation = cancellation_in(words)?;
+    let non_determinism_checks = checks_in(words)?;
+    let awaiting_on_policy = awaiting_in(words)?;
+    let journal_mismatch_retry_behavior = mismatch_in(words)?;
+    let journal_replay = replay_in(words)?;
+    let signal_delivery = delivery_in(words)?;
+    check_skip(words)?;
+    Ok(VMOptions {
+        implicit_cancellation,
+        non_determinism_checks,
+        awaiting_on_policy,
+        journal_mismatch_retry_behavior,
+        journal_replay,
+        signal_delivery,
+        fallback_random_seed: 0,
+    })
+}
+
+/// Whether the words name options of a `vm` line alone.
+fn are_options(words: &[&[u8]]) -> bool
+    ensures { result ≡ are_named option_names words.now }
+{
+    are_named(
+        words,
+        &[
+            "cancel=",
+            "checks=",
+            "awaiting=",
+            "mismatch=",
+            "replay=",
+            "delivery=",
+            "skip=",
+            "seed=",
+        ],
+    )
+}
+
+/// The options that the words name, and no others.
+pub fn options_of(words: &[&[u8]]) -> Result<VMOptions, Fault>
+    ensures value { IfOk result (AreOptions words.now) }
+    ensures none { IfErr result (Blames (AreOptions words.now)) }
+{
+    if !are_options(words) {
+        return Err(Fault::Malformed);
+    }
+    let policies = policies_of(words)?;
+    let fallback_random_seed = seed_in(words)?;
+    Ok(VMOptions {
+        fallback_random_seed,
+        ..policies
+    })
+}

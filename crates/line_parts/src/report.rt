@@ -1,0 +1,301 @@
+//! The words behind `error`: what the handler's runner reports.
+ghost use Rattle.std.specs.Prelude.{◌≡◌, [], IfErr, IfOk, codes, string_bytes};
+ghost use Rattle.journal_errors.specs.declared.error.ErrorBehavior.TheVariants as behavior;
+ghost use Rattle.lines.specs.Atoms.{IsText};
+ghost use Rattle.lines.specs.Readings.{Blames};
+ghost use Rattle.line_parts.specs.Fields.{IsOptional, IsSet, are_named, texts};
+ghost use Rattle.line_parts.specs.Reports.{AreDetails, IsBehavior, IsCommand, IsCommandAt, IsCommandName, IsError, IsRelated, IsReport, IsType, delay_or, error_names, reported, stack_or, type_name};
+ghost use Rattle.line_parts.specs.Values.{IsTime};
+
+use crate::arguments::optional_duration;
+use crate::atoms::{string_of, text_of, u16_of, u32_of};
+use crate::fields::{are_named, field_of, text_behind};
+use journal_errors::{Error, ErrorBehavior};
+use lines::pieces::words_within;
+use std::alloc::Global;
+use std::time::Duration;
+use vm_parts::{CommandRelationship, CommandType};
+use wire::{Fault, Text};
+
+/// The options of an error but the command that it relates to.
+#[derive(Drop)]
+pub struct Details {
+    pub stack: Option<String>,
+    pub behavior: ErrorBehavior,
+    pub delay: Option<Duration>,
+}
+
+/// What is to be done after the error.
+#[tactic(auto, using(crate::proofs::Reporting::no_behavior))]
+fn behavior_of(text: &[u8]) -> Result<ErrorBehavior, Fault>
+    ensures value { IfOk result (IsBehavior text.now) }
+    ensures none { IfErr result (Blames (IsBehavior text.now)) }
+{
+    if text == b"retry".as_slice() {
+        return Ok(ErrorBehavior::Retry);
+    }
+    if text == b"pause".as_slice() {
+        return Ok(ErrorBehavior::Pause);
+    }
+    if text == b"fail".as_slice() {
+        return Ok(ErrorBehavior::Fail);
+    }
+    Err(Fault::Malformed)
+}
+
+/// Each type of command.
+static TYPES: [CommandType; 19] = [
+    CommandType::Input,
+    CommandType::Output,
+    CommandType::GetState,
+    CommandType::GetStateKeys,
+    CommandType::SetState,
+    CommandType::ClearState,
+    CommandType::ClearAllState,
+    CommandType::GetPromise,
+    CommandType::PeekPromise,
+    CommandType::CompletePromise,
+    CommandType::Sleep,
+    CommandType::Call,
+    CommandType::OneWayCall,
+    CommandType::SendSignal,
+    CommandType::Run,
+    CommandType::AttachInvocation,
+    CommandType::GetInvocationOutput,
+    CommandType::CompleteAwakeable,
+    CommandType::CancelInvocation,
+];
+
+/// The name of a type of command.
+#[tactic(auto, unfolding(crate::specs::Reports::type_name))]
+fn name_of_type(ty: CommandType) -> &'static str
+    ensures { result.now ≡ type_name ty }
+{
+    match ty {
+        CommandType::Input => "Input",
+        CommandType::Output => "Output",
+        CommandType::GetState => "GetState",
+        CommandType::GetStateKeys => "GetStateKeys",
+        CommandType::SetState => "SetState",
+        CommandType::ClearState => "ClearState",
+        CommandType::ClearAllState => "ClearAllState",
+        CommandType::GetPromise => "GetPromise",
+        CommandType::PeekPromise => "PeekPromise",
+        CommandType::CompletePromise => "CompletePromise",
+        CommandType::Sleep => "Sleep",
+        CommandType::Call => "Call",
+        CommandType::OneWayCall => "OneWayCall",
+        CommandType::SendSignal => "SendSignal",
+        CommandType::Run => "Run",
+        CommandType::AttachInvocation => "AttachInvocation",
+        CommandType::GetInvocationOutput => "GetInvocationOutput",
+        CommandType::CompleteAwakeable => "CompleteAwakeable",
+        CommandType::CancelInvocation => "CancelInvocation",
+    }
+}
+
+/// The type of command of this name.
+fn command_type_of(text: &[u8]) -> Result<CommandType, Fault>
+    ensures value { IfOk result (IsType text.now) }
+    ensures none { IfErr result (Blames (IsType text.now)) }
+{
+    for ty in &TYPES {
+        if text == name_of_type(*ty).as_bytes() {
+            return Ok(*ty);
+        }
+    }
+    Err(Fault::Malformed)
+}
+
+/// A text, or `-` for none.
+#[tactic(auto, using(crate::proofs::Reporting::name_blamed), unfolding(crate::specs::Reports::IsCommandName))]
+fn optional_of(alloc: Global, text: &[u8]) -> Result<Option<Text>, Fault>
+    ensures value { IfOk result (IsCommandName text.now) }
+    ensures none { IfErr result (Blames (IsCommandName text.now)) }
+{
+    if text == b"-".as_slice() {
+        return Ok(None);
+    }
+    Ok(Some(text_of(alloc, text)?))
+}
+
+/// `(TYPE NAME)`.
+#[tactic(auto, using(crate::proofs::Commands::unbracketed_blamed, crate::proofs::Commands::type_blamed, crate::proofs::Commands::name_blamed))]
+fn next_of(alloc: Global, text: &[u8]) -> Result<(CommandType, Option<Text>), Fault>
+    ensures value { IfOk result (IsCommand text.now) }
+    ensures none { IfErr result (Blames (IsCommand text.now)) }
+{
+    let words = words_within(alloc, text, b'(', b')')?;
+    let [ty, name] = words.as_slice() else {
+        return Err(Fault::Malformed);
+    };
+    let ty = command_type_of(*ty)?;
+    let name = optional_of(alloc, *name)?;
+    Ok((ty, name))
+}
+
+/// `(N TYPE NAME)`.
+#[tactic(auto, using(crate::proofs::Commands::at_unbracketed_blamed, crate::proofs::Commands::at_index_blamed, crate::proofs::Commands::at_type_blamed, crate::proofs::Commands::at_name_blamed))]
+fn specific_of(alloc: Global, text: &[u8]) -> Result<(u32, CommandType, Option<Text>), Fault>
+    ensures value { IfOk result (IsCommandAt text.now) }
+    ensures none { IfErr result (Blames (IsCommandAt text.now)) }
+{
+    let words = words_within(alloc, text, b'(', b')')?;
+    let [index, ty, name] = words.as_slice() else {
+        return Err(Fault::Malformed);
+    };
+    let index = u32_of(*index)?;
+    let ty = command_type_of(*ty)?;
+    let name = optional_of(alloc, *name)?;
+    Ok((index, ty, name))
+}
+
+/// The command that an error relates to.
+#[tactic(auto, using(crate::proofs::Reporting::next_blamed, crate::proofs::Reporting::at_blamed, crate::proofs::Reporting::unrelated_blamed))]
+fn relationship_of(alloc: Global, text: &[u8]) -> Result<CommandRelationship, Fault>
+    ensures value { IfOk result (IsRelated text.now) }
+    ensures none { IfErr result (Blames (IsRelated text.now)) }
+{
+    if text == b"last".as_slice() {
+        return Ok(CommandRelationship::Last);
+    }
+    if let Some(command) = text_behind(text, "next") {
+        let (ty, name) = next_of(alloc, command)?;
+        return Ok(CommandRelationship::Next { ty, name });
+    }
+    if let Some(command) = text_behind(text, "at") {
+        let (command_index, ty, name) = specific_of(alloc, command)?;
+        return Ok(CommandRelationship::Specific {
+            command_index,
+            ty,
+            name,
+        });
+    }
+    Err(Fault::Malformed)
+}
+
+/// `[rel=R]`, among other words.
+#[tactic(auto, using(crate::proofs::Missing::optional_blamed))]
+fn related_in(alloc: Global, words: &[&[u8]]) -> Result<Option<CommandRelationship>, Fault>
+    ensures value { IfOk result (IsOptional IsRelated (texts (codes "rel=") words.now)) }
+    ensures none { IfErr result (Blames (IsOptional IsRelated (texts (codes "rel=") words.now))) }
+{
+    match field_of(words, "rel=")? {
+        Some(text) => Ok(Some(relationship_of(alloc, text)?)),
+        None => Ok(None),
+    }
+}
+
+/// `[stack=T]`, among other words.
+#[tactic(auto, using(crate::proofs::Missing::set_blamed, crate::proofs::Missing::twice_set))]
+fn stack_in(alloc: Global, words: &[&[u8]]) -> Result<Option<String>, Fault>
+    ensures value { IfOk result (λ stack. IsSet IsText [] (texts (codes "stack=") words.now) (stack_or stack [])) }
+    ensures none { IfErr result (Blames (IsSet IsText [] (texts (codes "stack=") words.now))) }
+{
+    match field_of(words, "stack=")? {
+        Some(text) => Ok(Some(string_of(alloc, text)?)),
+        None => Ok(None),
+    }
+}
+
+/// `[behaviour=..]`, among other words.
+#[tactic(auto, using(crate::proofs::Missing::set_blamed, crate::proofs::Missing::twice_set))]
+fn behavior_in(words: &[&[u8]]) -> Result<ErrorBehavior, Fault>
+    ensures value { IfOk result (IsSet IsBehavior behavior.Retry (texts (codes "behaviour=") words.now)) }
+    ensures none { IfErr result (Blames (IsSet IsBehavior behavior.Retry (texts (codes "behaviour=") words.now))) }
+{
+    match field_of(words, "behaviour=")? {
+        Some(text) => behavior_of(text),
+        None => Ok(ErrorBehavior::Retry),
+    }
+}
+
+/// `[stack=T] [behaviour=..] [delay=D]`, among other words.
+fn details_in(alloc: Global, words: &[&[u8]]) -> Result<Details, Fault>
+    ensures stack { IfOk result (λ details. IsSet IsText [] (texts (codes "stack=") words.now) (stack_or details.stack [])) }
+    ensures behavior { IfOk result (λ details. IsSet IsBehavior behavior.Retry (texts (codes "behaviour=") words.now) details.behavior) }
+    ensures delay { IfOk result (λ details. IsOptional IsTime (texts (codes "delay=") words.now) details.delay) }
+    ensures none { IfErr result (Blames (AreDetails words.now)) }
+{
+    let stack = stack_in(alloc, words)?;
+    let behavior = behavior_in(words)?;
+    let delay = optional_duration(words, "delay=")?;
+    Ok(Details {
+        stack,
+        behavior,
+        delay,
+    })
+}
+
+/// The error with a stack trace, if there is one.
+fn stacked(error: Error, stack: Option<String>) -> Error
+    ensures { result ≡ record error { stacktrace = stack_or stack error.stacktrace } }
+{
+    match stack {
+        Some(stack) => error.with_stacktrace(stack),
+        None => error,
+    }
+}
+
+/// The error with a delay, if there is one.
+fn delayed(error: Error, delay: Option<Duration>) -> Error
+    ensures { result ≡ record error { next_retry_delay = delay_or delay error.next_retry_delay } }
+{
+    match delay {
+        Some(delay) => error.with_next_retry_delay(delay),
+        None => error,
+    }
+}
+
+/// The error of these parts.
+fn error_with(code: u16, message: String, details: Details) -> Error
+    ensures { result ≡ reported code (string_bytes message) details }
+{
+    let Details {
+        stack,
+        behavior,
+        delay,
+    } = details;
+    let error = Error::new(code, message).with_behavior(behavior);
+    delayed(stacked(error, stack), delay)
+}
+
+/// `N T`, and among the words behind them `[stack=T] [behaviour=..] [delay=D]`.
+#[tactic(auto, using(crate::proofs::Reporting::code_blamed, crate::proofs::Reporting::message_blamed, crate::proofs::Reporting::details_blamed, crate::proofs::Missing::no_text_at))]
+pub fn error_of(alloc: Global, words: &[&[u8]]) -> Result<Error, Fault>
+    ensures value { IfOk result (IsError words.now) }
+    ensures none { IfErr result (Blames (IsError words.now)) }
+{
+    let [code, message, options @ ..] = words else {
+        return Err(Fault::Malformed);
+    };
+    let code = u16_of(*code)?;
+    let message = string_of(alloc, *message)?;
+    let details = details_in(alloc, options)?;
+    Ok(error_with(code, message, details))
+}
+
+/// Whether the words name options of an `error` line alone.
+fn are_options(words: &[&[u8]]) -> bool
+    ensures { result ≡ are_named error_names words.now }
+{
+    are_named(words, &["stack=", "behaviour=", "delay=", "rel="])
+}
+
+/// The error that is reported, and the command that it relates to.
+#[tactic(auto, using(crate::proofs::Reporting::error_blamed, crate::proofs::Reporting::options_blamed, crate::proofs::Reporting::related_blamed))]
+pub fn report_of(
+    alloc: Global,
+    words: &[&[u8]],
+) -> Result<(Error, Option<CommandRelationship>), Fault>
+    ensures value { IfOk result (IsReport words.now) }
+    ensures none { IfErr result (Blames (IsReport words.now)) }
+{
+    let error = error_of(alloc, words)?;
+    let options = words.get(2..).unwrap_or_default();
+    if !are_options(options) {
+        return Err(Fault::Malformed);
+    }
+    let relationship = related_in(alloc, options)?;
+    Ok((error, relationship))
+}

@@ -1,0 +1,113 @@
+//! What executing a run came to, as it is proposed: `H RESULT [policy=P]`.
+ghost use Rattle.std.specs.Prelude.{◌≡◌, IfErr, IfOk};
+ghost use Rattle.lines.specs.Readings.{Blames};
+ghost use Rattle.line_parts.specs.Fields.{are_named};
+ghost use Rattle.line_parts.specs.Results.{IsProposal, IsResult, IsRetryable, is_policy, retryable_names, settled};
+ghost use Rattle.line_parts.specs.Values.{but_last};
+
+use crate::atoms::{duration_of, handle_of};
+use crate::fields::are_named;
+use crate::policies::policy_in;
+use crate::report::error_of;
+use crate::values::value_of;
+use journal_errors::Error;
+use retries::RetryPolicy;
+use runs::RunExitResult;
+use std::alloc::Global;
+use std::time::Duration;
+use vm_parts::{NonEmptyValue, NotificationHandle};
+use wire::Fault;
+
+/// The result of a run, as it is proposed.
+#[derive(Drop)]
+pub struct Proposal {
+    pub handle: NotificationHandle,
+    pub result: RunExitResult,
+    pub policy: RetryPolicy,
+}
+
+/// Whether the words name options of a failure that may be retried alone.
+fn are_options(words: &[&[u8]]) -> bool
+    ensures { result ≡ are_named retryable_names words.now }
+{
+    are_named(words, &["stack=", "behaviour=", "delay=", "policy="])
+}
+
+/// `D N T [stack=T] [behaviour=..] [delay=D]`, with or without a policy.
+#[tactic(auto, using(crate::proofs::Proposing::duration_blamed, crate::proofs::Proposing::error_blamed, crate::proofs::Proposing::options_blamed, crate::proofs::Missing::no_time_at, crate::proofs::Missing::time_blamed_at))]
+fn retryable_of(alloc: Global, words: &[&[u8]]) -> Result<(Duration, Error), Fault>
+    ensures value { IfOk result (IsRetryable words.now) }
+    ensures none { IfErr result (Blames (IsRetryable words.now)) }
+{
+    let [duration, others @ ..] = words else {
+        return Err(Fault::Malformed);
+    };
+    let duration = duration_of(*duration)?;
+    let error = error_of(alloc, others)?;
+    if !are_options(words.get(3..).unwrap_or_default()) {
+        return Err(Fault::Malformed);
+    }
+    Ok((duration, error))
+}
+
+/// The words in front of a last one that names a policy.
+fn before_policy<'w, 'a>(words: &'w [&'a [u8]]) -> &'w [&'a [u8]]
+    ensures { result.now ≡ but_last is_policy words.now }
+{
+    let Some((last, front)) = words.split_last() else {
+        return words;
+    };
+    if last.starts_with(b"policy=") {
+        return front;
+    }
+    words
+}
+
+/// The result that a value is.
+fn settled(value: NonEmptyValue) -> RunExitResult
+    ensures { result ≡ settled value }
+{
+    match value {
+        NonEmptyValue::Success(bytes) => RunExitResult::Success(bytes),
+        NonEmptyValue::Failure(failure) => RunExitResult::TerminalFailure(failure),
+    }
+}
+
+/// `V`, or `retryable` and what is told of the failure, with or without a policy.
+#[tactic(auto, using(crate::proofs::Proposing::retryable_blamed, crate::proofs::Proposing::value_blamed, crate::proofs::Proposing::nothing_blamed))]
+fn result_of(alloc: Global, words: &[&[u8]]) -> Result<RunExitResult, Fault>
+    ensures value { IfOk result (IsResult words.now) }
+    ensures none { IfErr result (Blames (IsResult words.now)) }
+{
+    let [word, others @ ..] = words else {
+        return Err(Fault::Malformed);
+    };
+    if *word == b"retryable".as_slice() {
+        let (attempt_duration, error) = retryable_of(alloc, others)?;
+        return Ok(RunExitResult::RetryableFailure {
+            attempt_duration,
+            error,
+        });
+    }
+    let value = value_of(alloc, before_policy(words))?;
+    Ok(settled(value))
+}
+
+/// `H RESULT [policy=P]`.
+#[tactic(auto, using(crate::proofs::Proposing::handle_blamed, crate::proofs::Proposing::result_blamed, crate::proofs::Proposing::policy_blamed, crate::proofs::Missing::no_number_at, crate::proofs::Missing::number_blamed_at))]
+pub fn proposal_of(alloc: Global, arguments: &[&[u8]]) -> Result<Proposal, Fault>
+    ensures value { IfOk result (IsProposal arguments.now) }
+    ensures none { IfErr result (Blames (IsProposal arguments.now)) }
+{
+    let [handle, others @ ..] = arguments else {
+        return Err(Fault::Malformed);
+    };
+    let handle = handle_of(*handle)?;
+    let result = result_of(alloc, others)?;
+    let policy = policy_in(alloc, others)?;
+    Ok(Proposal {
+        handle,
+        result,
+        policy,
+    })
+}

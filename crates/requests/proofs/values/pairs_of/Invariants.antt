@@ -1,6 +1,0 @@
-use Rattle.std.proofs.Common.{take}
-use Rattle.requests.specs.Values.{ArePairs}
-use Rattle.requests.proofs.values.pairs_of.Given as goal
-
-abbrev pub invariant-loop-word : goal.invariant-loop-word
-invariant-loop-word l = ArePairs (take l.word-index l.words) l.pairs
