@@ -169,13 +169,14 @@ read_begins m version options fed before taken v w b h i is none wrote tail (fir
               reads_input = reads;
             };
             written = [];
-            wrote = wrote_quiet taken v.machine w.machine [] (quiet_same v.machine w.machine (g.1.1 ∙ sym (ap (λ (z : Machine). z.output) h.machine))) wrote;
+            wrote = wrote_quiet taken v.machine w.machine [] (quiet_same v.machine w.machine (g.1.1.0 ∙ sym (ap (λ (z : Machine). z.output) h.machine))) wrote;
             at = start s c (notifications_among (h.entries ++ h.others)) rest;
             moves = 0;
             run = (refl, refl);
             answers = ap (λ x. answer.Input x ∷ []) (sym g.0);
             awaits = subst (StillAwaits m (start s c (notifications_among (h.entries ++ h.others)) rest)) (sym none) tt;
             agrees = λ _. agrees;
+            none_proposed = λ _. g.1.1.1;
             phase = λ _. inl (agrees_running s (record { entries = b.state; coverage = coverage_of b.start.partial }) [] w.machine (start s c (notifications_among (h.entries ++ h.others)) rest) agrees);
             tail = λ _. tail;
           },

@@ -1,6 +1,9 @@
--- What frames bring to a machine: arrivals, where they are notifications; else it fails.
+-- What frames bring to a machine: arrivals, where they are notifications or acknowledge what it has proposed; else it fails.
 use Rattle.std.specs.List.{find}
+use Rattle.core.specs.Option.{option_map}
+use Rattle.runs.specs.Firsts.{without_first}
 use Rattle.runs.specs.Kept.{is_for}
+use Rattle.vm_parts.specs.declared.run_state.KeptProposal.{KeptProposal}
 use Rattle.journal_attempt.specs.declared.runs.ProposeRunCompletionAck.{ProposeRunCompletionAck}
 use Rattle.std.proofs.Common.{◌≡◌, ◌⊎◌, ℕ, Bool, true, false, cond, List, [], ◌∷◌, ◌++◌, Option, Some, None, refl, sym, ap, ◌∙◌, subst, inl, inr, ⊎_elim, append_assoc, append-nil}
 use Rattle.std.specs.Prelude.{◌==◌, ◌&&◌, if◌then◌else◌, is_some, nat_le, nat_lt, IsSome}
@@ -16,14 +19,15 @@ use Rattle.vm_parts.specs.declared.context.StateMap.{StateMap}
 use Rattle.vm_machine.specs.declared.machine.Machine.{Machine}
 use Rattle.vm_machine.specs.declared.phase.Phase.{Phase}
 use Rattle.vm_machine.specs.declared.phase.Phase.TheVariants.{WaitingStart, WaitingReplayEntries, Replaying, Processing, Closed}
-use Rattle.vm_machine.specs.Inputs.{entry_step, message_step, notification_step, queued, start_step, acknowledged, acknowledged_by, acknowledgement_step}
+use Rattle.vm_machine.specs.Inputs.{entry_step, message_step, notification_step, queued, start_step, acknowledged, acknowledged_by, acknowledgement_step, completion_of}
 use Rattle.vm_machine.specs.Outcomes.{Outcome, called, called_at, refused, settled}
 use Rattle.vm_machine.specs.Phases.{is_running}
 use Rattle.invocation_vm.specs.Views.{all_received, left_by, received}
 use Rattle.vm_model.specs.Calls.{Setup, identity_of}
 use Rattle.vm_model.specs.Moves.{Point, later}
 use Rattle.vm_rounds.specs.Agreement.{Agrees, Aside, machine_at}
-use Rattle.vm_rounds.specs.Journals.{is_notification, notifications_among, notified_by}
+use Rattle.vm_rounds.specs.Arrivals.{arriving, brought_by, kept_after, kept_behind, stands_for, unacknowledged}
+use Rattle.vm_rounds.specs.Journals.{is_acknowledgement, is_notification, notifications_among, notified_by}
 use Rattle.vm_rounds.proofs.Requesting.{runs_at}
 
 -- a machine that has failed stays as it is
@@ -54,29 +58,14 @@ notification_is : (v : Machine) (raw : RawMessage) → is_notification raw ≡ t
 unfolding message_step
 notification_is v raw e = ap (λ n. by_number raw n v) (eqb-true (type_number raw.ty) 30 e)
 
--- where the handler runs and no proposal is kept, another message is refused
-refuses_acknowledged : (v : Machine) → v.proposals ≡ [] → (ack : Option ProposeRunCompletionAck) → (name : NamedFault) × (acknowledged_by ack v ≡ refused name v)
-refuses_acknowledged v none None = (fault.BadMessage, refl)
-refuses_acknowledged v none (Some ack) = (fault.BadProposeRunCompletionAck, ap (λ kept. acknowledged ack.id (find (is_for ack.id) kept) v) none)
-
-refuses_other : (raw : RawMessage) (phase : Phase) (v : Machine) → is_running phase ≡ true → v.proposals ≡ [] → (a b d : Bool)
-    → (name : NamedFault) × ((if a then start_step raw phase v else if b then entry_step raw phase v else if d then acknowledgement_step raw phase v else refused fault.UnexpectedInputMessage v) ≡ refused name v)
-refuses_other raw WaitingStart v e none a b d = absurd (cc)
-refuses_other raw WaitingReplayEntries v e none a b d = absurd (cc)
-refuses_other raw Closed v e none a b d = absurd (cc)
-refuses_other raw Replaying v e none true b d = (fault.UnexpectedInputMessage, refl)
-refuses_other raw Replaying v e none false true d = (fault.UnexpectedEntryMessage, refl)
-refuses_other raw Replaying v e none false false true = (fault.UnexpectedState, refl)
-refuses_other raw Replaying v e none false false false = (fault.UnexpectedInputMessage, refl)
-refuses_other raw Processing v e none true b d = (fault.UnexpectedInputMessage, refl)
-refuses_other raw Processing v e none false true d = (fault.UnexpectedEntryMessage, refl)
-refuses_other raw Processing v e none false false true = refuses_acknowledged v none (acknowledgement_in raw.body)
-refuses_other raw Processing v e none false false false = (fault.UnexpectedInputMessage, refl)
-
 other_is : (v : Machine) (raw : RawMessage) → is_notification raw ≡ false
     → message_step raw v ≡ (if type_number raw.ty == 1 then start_step raw v.phase v else if nat_le 10 (type_number raw.ty) && nat_lt (type_number raw.ty) 30 then entry_step raw v.phase v else if type_number raw.ty == 6 then acknowledgement_step raw v.phase v else refused fault.UnexpectedInputMessage v)
 unfolding message_step
 other_is v raw e = ap (λ b. if type_number raw.ty == 1 then start_step raw v.phase v else if nat_le 10 (type_number raw.ty) && nat_lt (type_number raw.ty) 30 then entry_step raw v.phase v else if b then notification_step raw v.phase v else if type_number raw.ty == 6 then acknowledgement_step raw v.phase v else refused fault.UnexpectedInputMessage v) e
+
+-- a frame isn't both
+not_both : (raw : RawMessage) → is_notification raw ≡ true → is_acknowledgement raw ≡ false
+not_both raw e = ap (λ n. n == 6) (eqb-true (type_number raw.ty) 30 e)
 
 -- a notification comes to a machine whose handler runs
 notified_step : (raw : RawMessage) (phase : Phase) (v : Machine) → is_running phase ≡ true → notification_step raw phase v ≡ queued (notification_in raw.body) (λ w. w) v
@@ -88,24 +77,57 @@ notified_step raw Processing v e = refl
 
 -- ---- frames that come to a machine that agrees with a point
 
--- one more arrival, or a machine that has failed
-abbrev Comes : Setup → StateMap → List RawMessage → Machine → List Notification → Point → Type 0
-Comes s given written v ns p = Agrees s given written v (later ns p) ⊎ IsSome v.failure
+-- these arrivals more, with these proposals kept, or a machine that has failed
+abbrev Comes : Setup → StateMap → List RawMessage → Machine → List Notification → List KeptProposal → Point → Type 0
+Comes s given written v ns kept p = (Agrees s given written v (later ns p) × (v.proposals ≡ kept)) ⊎ IsSome v.failure
 
-queued_comes : (s : Setup) (given : StateMap) (written : List RawMessage) (aside : Aside) (p : Point) → s.identity ≡ identity_of aside.start → (o : Option Notification) → Comes s given written (left_by (settled (queued o (λ w. w) (machine_at s given written aside p)))) (notified_by o []) p
-queued_comes s given written aside p identity None = inr refl
-queued_comes s given written aside p identity (Some n) = inl (record { aside = aside; machine = refl; identity = identity })
+module _ (s : Setup) (given : StateMap) (written : List RawMessage) (aside : Aside) (p : Point) (identity : s.identity ≡ identity_of aside.start) where
+  abbrev here : Machine
+  here = machine_at s given written aside p
 
-one_comes : (s : Setup) (given : StateMap) (written : List RawMessage) (aside : Aside) (p : Point) (raw : RawMessage) → s.identity ≡ identity_of aside.start → (b : Bool) → is_notification raw ≡ b → Comes s given written (received raw (machine_at s given written aside p)) (cond b (notified_by (notification_in raw.body) []) []) p
-one_comes s given written aside p raw identity true e =
-    let v = machine_at s given written aside p in
-    let is : received raw v ≡ left_by (settled (queued (notification_in raw.body) (λ w. w) v)) = live_receives v raw refl ∙ ap (λ o. left_by (settled o)) (notification_is v raw e ∙ notified_step raw v.phase v (runs_at p.left)) in
-    subst (λ w. Comes s given written w (notified_by (notification_in raw.body) []) p) (sym is) (queued_comes s given written aside p identity (notification_in raw.body))
-one_comes s given written aside p raw identity false e =
-    let v = machine_at s given written aside p in
-    let no = refuses_other raw v.phase v (runs_at p.left) refl (type_number raw.ty == 1) (nat_le 10 (type_number raw.ty) && nat_lt (type_number raw.ty) 30) (type_number raw.ty == 6) in
-    let is : received raw v ≡ left_by (settled (refused {A = Unit {0}} no.0 v)) = live_receives v raw refl ∙ ap (λ o. left_by (settled o)) (other_is v raw e ∙ no.1) in
-    inr (ap (λ w. is_some w.failure) is)
+  queued_comes : (o : Option Notification) → Comes s given written (left_by (settled (queued o (λ w. w) here))) (notified_by o []) aside.proposals p
+  queued_comes None = inr refl
+  queued_comes (Some n) = inl (record { aside = aside; machine = refl; identity = identity }, refl)
+
+  -- what was proposed is one more arrival
+  kept_comes : (id : ℕ) (o : Option KeptProposal) → Comes s given written (left_by (settled (acknowledged id o here))) (notified_by (option_map (completion_of id) o) []) (without_first (is_for id) aside.proposals) p
+  kept_comes id None = inr refl
+  kept_comes id (Some kept) = inl (record { aside = record aside { proposals = without_first (is_for id) aside.proposals }; machine = refl; identity = identity }, refl)
+
+  acknowledged_comes : (ack : Option ProposeRunCompletionAck) → Comes s given written (left_by (settled (acknowledged_by ack here))) (notified_by (stands_for aside.proposals ack) []) (unacknowledged aside.proposals ack) p
+  acknowledged_comes None = inr refl
+  acknowledged_comes (Some ack) = kept_comes ack.id (find (is_for ack.id) aside.proposals)
+
+  -- another message than a notification is refused, but for an acknowledgement in Processing
+  other_comes : (raw : RawMessage) (phase : Phase) → is_running phase ≡ true → (a b d : Bool)
+      → Comes s given written (left_by (settled (if a then start_step raw phase here else if b then entry_step raw phase here else if d then acknowledgement_step raw phase here else refused fault.UnexpectedInputMessage here)))
+      (notified_by (if d then stands_for aside.proposals (acknowledgement_in raw.body) else None) []) (if d then unacknowledged aside.proposals (acknowledgement_in raw.body) else aside.proposals) p
+  other_comes raw WaitingStart e a b d = absurd (cc)
+  other_comes raw WaitingReplayEntries e a b d = absurd (cc)
+  other_comes raw Closed e a b d = absurd (cc)
+  other_comes raw Replaying e true b d = inr refl
+  other_comes raw Replaying e false true d = inr refl
+  other_comes raw Replaying e false false true = inr refl
+  other_comes raw Replaying e false false false = inr refl
+  other_comes raw Processing e true b d = inr refl
+  other_comes raw Processing e false true d = inr refl
+  other_comes raw Processing e false false true = acknowledged_comes (acknowledgement_in raw.body)
+  other_comes raw Processing e false false false = inr refl
+
+  one_comes : (raw : RawMessage) → Comes s given written (received raw here) (notified_by (brought_by aside.proposals raw) []) (kept_behind aside.proposals raw) p
+  one_comes raw = by_kind (is_notification raw) refl
+    where
+      by_kind : (b : Bool) → is_notification raw ≡ b → Comes s given written (received raw here) (notified_by (brought_by aside.proposals raw) []) (kept_behind aside.proposals raw) p
+      by_kind true e =
+          let is : received raw here ≡ left_by (settled (queued (notification_in raw.body) (λ w. w) here)) = live_receives here raw refl ∙ ap (λ o. left_by (settled o)) (notification_is here raw e ∙ notified_step raw here.phase here (runs_at p.left)) in
+          let brings : brought_by aside.proposals raw ≡ notification_in raw.body = ap (λ b. if b then notification_in raw.body else if is_acknowledgement raw then stands_for aside.proposals (acknowledgement_in raw.body) else None) e in
+          let keeps : kept_behind aside.proposals raw ≡ aside.proposals = ap (λ b. if b then unacknowledged aside.proposals (acknowledgement_in raw.body) else aside.proposals) (not_both raw e) in
+          subst (λ (x : Machine × List Notification × List KeptProposal). Comes s given written x.0 x.1 x.2 p) (λ i. (sym is i, notified_by (sym brings i) [], sym keeps i)) (queued_comes (notification_in raw.body))
+      by_kind false e =
+          let is = live_receives here raw refl ∙ ap (λ o. left_by (settled o)) (other_is here raw e) in
+          let brings : brought_by aside.proposals raw ≡ (if is_acknowledgement raw then stands_for aside.proposals (acknowledgement_in raw.body) else None) = ap (λ b. if b then notification_in raw.body else if is_acknowledgement raw then stands_for aside.proposals (acknowledgement_in raw.body) else None) e in
+          subst (λ (x : Machine × List Notification). Comes s given written x.0 x.1 (kept_behind aside.proposals raw) p) (λ i. (sym is i, notified_by (sym brings i) []))
+          (other_comes raw here.phase (runs_at p.left) (type_number raw.ty == 1) (nat_le 10 (type_number raw.ty) && nat_lt (type_number raw.ty) 30) (is_acknowledgement raw))
 
 pub behind_one : (b : Bool) (o : Option Notification) (ns : List Notification) → cond b (notified_by o []) [] ++ ns ≡ cond b (notified_by o ns) ns
 behind_one false o ns = refl
@@ -122,17 +144,53 @@ some_failure v h = by_option v.failure h
     by_option None h = absurd (cc)
     by_option (Some e) h = (e, refl)
 
+behind_brought : (o : Option Notification) (ns : List Notification) → notified_by o [] ++ ns ≡ notified_by o ns
+behind_brought None ns = refl
+behind_brought (Some n) ns = refl
+
 -- frames that come are more arrivals, or one of them fails the machine
-pub frames_come : (s : Setup) (given : StateMap) (written : List RawMessage) (v : Machine) (p : Point) (raws : List RawMessage) → Agrees s given written v p → Comes s given written (all_received raws v) (notifications_among raws) p
-frames_come s given written v p [] a = inl (subst (Agrees s given written v) (λ i. record p { queue = sym (append-nil p.queue) i }) a)
+pub frames_come : (s : Setup) (given : StateMap) (written : List RawMessage) (v : Machine) (p : Point) (raws : List RawMessage) → Agrees s given written v p → Comes s given written (all_received raws v) (arriving v.proposals raws) (kept_after v.proposals raws) p
+frames_come s given written v p [] a = inl (subst (Agrees s given written v) (λ i. record p { queue = sym (append-nil p.queue) i }) a, refl)
 frames_come s given written v p (raw ∷ raws) a =
-    let first : cond (is_notification raw) (notified_by (notification_in raw.body) []) [] ++ notifications_among raws ≡ notifications_among (raw ∷ raws) = behind_one (is_notification raw) (notification_in raw.body) (notifications_among raws) in
-    let one : Comes s given written (received raw v) (cond (is_notification raw) (notified_by (notification_in raw.body) []) []) p = rw a.machine (one_comes s given written a.aside p raw a.identity (is_notification raw) refl) in
+    let one : Comes s given written (received raw v) (notified_by (brought_by v.proposals raw) []) (kept_behind v.proposals raw) p = rw a.machine (one_comes s given written a.aside p a.identity raw) in
     ⊎_elim
-    (λ (b : Agrees s given written (received raw v) (later (cond (is_notification raw) (notified_by (notification_in raw.body) []) []) p)).
-    let on = frames_come s given written (received raw v) (later (cond (is_notification raw) (notified_by (notification_in raw.body) []) []) p) raws b in
-    subst (λ q. Agrees s given written (all_received raws (received raw v)) q ⊎ IsSome (all_received raws (received raw v)).failure) (later_twice (cond (is_notification raw) (notified_by (notification_in raw.body) []) []) (notifications_among raws) p ∙ ap (λ ns. later ns p) first) on)
+    (λ (b : Agrees s given written (received raw v) (later (notified_by (brought_by v.proposals raw) []) p) × ((received raw v).proposals ≡ kept_behind v.proposals raw)).
+    let on = frames_come s given written (received raw v) (later (notified_by (brought_by v.proposals raw) []) p) raws b.0 in
+    let there : Comes s given written (all_received raws (received raw v)) (arriving (kept_behind v.proposals raw) raws) (kept_after (kept_behind v.proposals raw) raws) (later (notified_by (brought_by v.proposals raw) []) p) =
+    subst (λ kept. Comes s given written (all_received raws (received raw v)) (arriving kept raws) (kept_after kept raws) (later (notified_by (brought_by v.proposals raw) []) p)) b.1 on
+    in
+    subst (λ q. (Agrees s given written (all_received raws (received raw v)) q × ((all_received raws (received raw v)).proposals ≡ kept_after (kept_behind v.proposals raw) raws)) ⊎ IsSome (all_received raws (received raw v)).failure)
+    (later_twice (notified_by (brought_by v.proposals raw) []) (arriving (kept_behind v.proposals raw) raws) p ∙ ap (λ ns. later ns p) (behind_brought (brought_by v.proposals raw) (arriving (kept_behind v.proposals raw) raws)))
+    there)
     (λ (f : IsSome (received raw v).failure).
     let e = some_failure (received raw v) f in
     inr (ap (λ w. is_some w.failure) (failed_stays e.0 (received raw v) raws e.1) ∙ f))
     one
+
+-- ---- where nothing was proposed
+
+brings_none : (raw : RawMessage) (ns : List Notification) → notified_by (brought_by [] raw) ns ≡ cond (is_notification raw) (notified_by (notification_in raw.body) ns) ns
+brings_none raw ns = by_kind (is_notification raw) (is_acknowledgement raw) (acknowledgement_in raw.body)
+  where
+    by_kind : (a d : Bool) (ack : Option ProposeRunCompletionAck) → notified_by (if a then notification_in raw.body else if d then stands_for [] ack else None) ns ≡ cond a (notified_by (notification_in raw.body) ns) ns
+    by_kind true d ack = refl
+    by_kind false true None = refl
+    by_kind false true (Some ack) = refl
+    by_kind false false ack = refl
+
+keeps_none : (raw : RawMessage) → kept_behind [] raw ≡ []
+keeps_none raw = by_kind (is_acknowledgement raw) (acknowledgement_in raw.body)
+  where
+    by_kind : (d : Bool) (ack : Option ProposeRunCompletionAck) → (if d then unacknowledged [] ack else []) ≡ []
+    by_kind true None = refl
+    by_kind true (Some ack) = refl
+    by_kind false ack = refl
+
+-- the arrivals are the notifications
+pub arriving_alone : (raws : List RawMessage) → arriving [] raws ≡ notifications_among raws
+arriving_alone [] = refl
+arriving_alone (raw ∷ raws) = brings_none raw (arriving (kept_behind [] raw) raws) ∙ ap (λ ns. cond (is_notification raw) (notified_by (notification_in raw.body) ns) ns) (ap (λ kept. arriving kept raws) (keeps_none raw) ∙ arriving_alone raws)
+
+pub kept_none : (raws : List RawMessage) → kept_after [] raws ≡ []
+kept_none [] = refl
+kept_none (raw ∷ raws) = ap (λ kept. kept_after kept raws) (keeps_none raw) ∙ kept_none raws

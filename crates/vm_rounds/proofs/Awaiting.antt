@@ -145,11 +145,12 @@ module _ (s : Setup) (m : Meaning) (given : StateMap) (written : List RawMessage
     left = h.left;
     is_left = h.is_left;
     agrees = h.agrees;
+    kept = h.kept;
     output = h.output;
   }
 
   part_behind : (p q : Point) → Reached p q → (o : Outcome (Result AwaitResponse Error)) → PartTo q o → PartTo p o
-  part_behind p q a (Done (Ok AnyCompleted) w) h = record { at = h.at; made = h.made; none_before = h.none_before; moves = moves_behind s m given p q h.at (answer.Awake ∷ []) h.made a.moves h.moves; agrees = h.agrees; output = h.output }
+  part_behind p q a (Done (Ok AnyCompleted) w) h = record { at = h.at; made = h.made; none_before = h.none_before; moves = moves_behind s m given p q h.at (answer.Awake ∷ []) h.made a.moves h.moves; agrees = h.agrees; kept = h.kept; output = h.output }
   part_behind p q a (Done (Ok CancelSignalReceived) w) h = record { at = h.at; reached = one_behind p q h.at a h.reached; machine = h.machine; is_cancelled = h.is_cancelled; known = h.known }
   part_behind p q a (Done (Ok (WaitingExternalProgress input run)) w) h = still_behind input p q a w h
   part_behind p q a (Done (Ok (ExecuteRun run)) w) h = still_behind false p q a w h
@@ -178,6 +179,7 @@ module _ (s : Setup) (m : Meaning) (given : StateMap) (written : List RawMessage
         none_before = inl refl;
         moves = record { moves = 1; run = quiet_move s m given p to (ap (λ mv. supply (state_at given p) mv p.left) wake) (ap (λ mv. moved mv p) wake); answers = refl };
         agrees = record { aside = aside; machine = λ i. machine_at s given (sym (append-nil written) i) aside to; identity = identity };
+        kept = refl;
         output = sym (append-nil aside.output);
       }
 

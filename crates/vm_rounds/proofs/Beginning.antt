@@ -25,7 +25,7 @@ abbrev popped_first : Setup → StateMap → Aside → List RawMessage → List 
 popped_first s given aside rest ns = record (entered type.InputCommand [] (machine_fed s given aside rest ns Replaying)) { phase = phase_after rest }
 
 reads_input : (s : Setup) (given : StateMap) (aside : Aside) (rest : List RawMessage) (ns : List Notification) → s.identity ≡ identity_of aside.start → (o : Option InputCommand) → BeginsOrFails s given aside rest ns o (input_read o (popped_first s given aside rest ns))
-reads_input s given aside rest ns identity (Some c) = (ap (λ i. told_input i c) (sym identity), (record { aside = record aside { beside = record { last = record { ty = type.InputCommand; name = [] }; runs = [] } }; machine = refl; identity = identity }, refl))
+reads_input s given aside rest ns identity (Some c) = (ap (λ i. told_input i c) (sym identity), (record { aside = record aside { beside = record { last = record { ty = type.InputCommand; name = [] }; runs = [] }; proposals = [] }; machine = refl; identity = identity }, (refl, refl)))
 reads_input s given aside rest ns identity None = tt
 
 -- the input of a machine that has the whole journal

@@ -27,7 +27,7 @@ use Rattle.vm_parts.specs.declared.context.StateMap.{StateMap}
 use Rattle.vm_model.specs.Calls.{Setup}
 use Rattle.vm_model.specs.Moves.{Point, later}
 use Rattle.vm_rounds.specs.Agreement.{Agrees}
-use Rattle.vm_rounds.specs.Journals.{notifications_among}
+use Rattle.vm_rounds.specs.Arrivals.{arriving, kept_after}
 use Rattle.vm_rounds.proofs.Arriving.{failed_stays, frames_come}
 use Rattle.vm_rounds.proofs.Entries.{message_by, receives_by}
 
@@ -205,9 +205,9 @@ frames_fail raws v live some =
     (frames_fit raws v live)
 
 -- frames that come to a machine that agrees with a point are arrivals, or one of them is refused
-pub frames_arrive : (s : Setup) (given : StateMap) (written : List RawMessage) (v : Machine) (p : Point) (raws : List RawMessage) → Agrees s given written v p → Agrees s given written (all_received raws v) (later (notifications_among raws) p) ⊎ FailsAt raws v (all_received raws v)
+pub frames_arrive : (s : Setup) (given : StateMap) (written : List RawMessage) (v : Machine) (p : Point) (raws : List RawMessage) → Agrees s given written v p → (Agrees s given written (all_received raws v) (later (arriving v.proposals raws) p) × ((all_received raws v).proposals ≡ kept_after v.proposals raws)) ⊎ FailsAt raws v (all_received raws v)
 frames_arrive s given written v p raws a =
     ⊎_elim
-    (λ (x : Agrees s given written (all_received raws v) (later (notifications_among raws) p)). inl x)
+    (λ (x : Agrees s given written (all_received raws v) (later (arriving v.proposals raws) p) × ((all_received raws v).proposals ≡ kept_after v.proposals raws)). inl x)
     (λ (f : IsSome (all_received raws v).failure). inr (frames_fail raws v (ap (λ (w : Machine). w.failure) a.machine) f))
     (frames_come s given written v p raws a)

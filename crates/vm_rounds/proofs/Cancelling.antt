@@ -171,6 +171,7 @@ module _ (s : Setup) (m : Meaning) (given : StateMap) (future : UnresolvedFuture
     pub machine : w ≡ cleared (written ++ made) beside at
     pub output : beside.output ≡ aside.output ++ command_frames made
     pub start : beside.start ≡ aside.start
+    pub kept : beside.proposals ≡ aside.proposals
     pub cancelling : Cancelling at ids
 
   abbrev SentTo : List RawMessage → Aside → Point → List (List ℕ) → Result NotificationHandle Error → Machine → Type 0
@@ -224,6 +225,7 @@ module _ (s : Setup) (m : Meaning) (given : StateMap) (future : UnresolvedFuture
           machine = g.1.1 ∙ (λ i. record (machine_at s given (written ++ brought) beside q) { tracked = none i });
           output = refl;
           start = refl;
+          kept = refl;
           cancelling = record {
             is = ap m (append-nil p.answers) ∙ c.is;
             is_cancelled = cancelled_same s p.derived r.derived sent.handles sent.usage c.is_cancelled;
@@ -327,8 +329,8 @@ module _ (s : Setup) (m : Meaning) (given : StateMap) (future : UnresolvedFuture
       (λ (x : IsCutShort s m given q u e w). inr (cut_behind p q made v u a output e w x))
       h
 
-  answered_behind : (written : List RawMessage) (p q : Point) (made : List RawMessage) (v u : Machine) → MovesOn s m given p [] made q → u.output ≡ v.output ++ command_frames made → (a : Answer) (w : Machine) → Answered s m given (written ++ made) q u a w → Answered s m given written p v a w
-  answered_behind written p q made v u moved_to output a w h =
+  answered_behind : (written : List RawMessage) (p q : Point) (made : List RawMessage) (v u : Machine) → MovesOn s m given p [] made q → u.output ≡ v.output ++ command_frames made → u.proposals ≡ v.proposals → (a : Answer) (w : Machine) → Answered s m given (written ++ made) q u a w → Answered s m given written p v a w
+  answered_behind written p q made v u moved_to output kept a w h =
       let moves = moves_on p q h.at (a ∷ []) made h.made moved_to h.moves in
       record {
         at = h.at;
@@ -336,11 +338,12 @@ module _ (s : Setup) (m : Meaning) (given : StateMap) (future : UnresolvedFuture
         none_before = made_or_spent s m (Handed given) moves.moves p (made ++ h.made) h.at moves.run;
         moves = moves;
         agrees = record { aside = h.agrees.aside; machine = h.agrees.machine ∙ (λ i. machine_at s given (append_assoc written made h.made i) h.agrees.aside h.at); identity = h.agrees.identity };
+        kept = h.kept ∙ kept;
         output = h.output ∙ ap (λ l. l ++ command_frames h.made) output ∙ append_assoc v.output (command_frames made) (command_frames h.made) ∙ ap (λ l. v.output ++ l) (sym (frames_both made h.made));
       }
 
   cancels_behind : (written : List RawMessage) (aside : Aside) (p : Point) (ids : List (List ℕ)) (mid : Machine) (x : HasSent written aside p ids mid) (r : Result (Result AwaitResponse Error) Error) (w : Machine) → CancelsTo (written ++ x.made) x.beside x.at r w → CancelsTo written aside p r w
-  cancels_behind written aside p ids mid x (Ok (Ok CancelSignalReceived)) w h = answered_behind written p x.at x.made (cleared written aside p) (cleared (written ++ x.made) x.beside x.at) x.moves x.output answer.Cancelled w h
+  cancels_behind written aside p ids mid x (Ok (Ok CancelSignalReceived)) w h = answered_behind written p x.at x.made (cleared written aside p) (cleared (written ++ x.made) x.beside x.at) x.moves x.output x.kept answer.Cancelled w h
   cancels_behind written aside p ids mid x (Ok (Ok AnyCompleted)) w h = absurd h
   cancels_behind written aside p ids mid x (Ok (Ok (WaitingExternalProgress input run))) w h = absurd h
   cancels_behind written aside p ids mid x (Ok (Ok (ExecuteRun run))) w h = absurd h
@@ -378,6 +381,7 @@ module _ (s : Setup) (m : Meaning) (given : StateMap) (future : UnresolvedFuture
           none_before = inl refl;
           moves = record { moves = 1; run = quiet_move s m given p to (ap (λ mv. supply (state_at given p) mv p.left) move_is_last) (ap (λ mv. moved mv p) move_is_last); answers = refl };
           agrees = record { aside = aside; machine = there ∙ (λ i. machine_at s given (sym (append-nil written) i) aside to); identity = identity };
+          kept = ap (λ (x : Machine). x.proposals) there;
           output = ap (λ (x : Machine). x.output) there ∙ sym (append-nil aside.output);
         }
 
@@ -449,7 +453,7 @@ module _ (s : Setup) (m : Meaning) (given : StateMap) (written : List RawMessage
       x = first_done (Ok CancelSignalReceived) mid does
 
       by_answer : (a : Result AwaitResponse Error) → CancelsTo s m given future written aside x.at (Ok a) w → Follows s m given written p here (Done (await_reply a) w)
-      by_answer (Ok CancelSignalReceived) h = answered_behind s m given future written p x.at [] here (cleared s m given future written aside x.at) x.reached.moves (sym (append-nil aside.output)) answer.Cancelled w (subst (λ l. Answered s m given l x.at (cleared s m given future written aside x.at) answer.Cancelled w) (sym (append-nil written)) h)
+      by_answer (Ok CancelSignalReceived) h = answered_behind s m given future written p x.at [] here (cleared s m given future written aside x.at) x.reached.moves (sym (append-nil aside.output)) refl answer.Cancelled w (subst (λ l. Answered s m given l x.at (cleared s m given future written aside x.at) answer.Cancelled w) (sym (append-nil written)) h)
       by_answer (Ok AnyCompleted) h = absurd h
       by_answer (Ok (WaitingExternalProgress input run)) h = absurd h
       by_answer (Ok (ExecuteRun run)) h = absurd h

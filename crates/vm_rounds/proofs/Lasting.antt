@@ -56,6 +56,7 @@ runs_dead m version options fed to G frames answers waiting taken v w k q dead =
   answers = k.answers;
   awaits = still_awaits m k.at (notifications_among G) waiting k.awaits;
   agrees = λ alive. not_failed w.machine dead alive.failure;
+  none_proposed = λ alive. not_failed w.machine dead alive.failure;
   phase = λ alive. not_failed w.machine dead alive;
   tail = λ alive. not_failed w.machine dead alive.failure;
 }
@@ -72,6 +73,7 @@ runs_closed m version options fed answers waiting taken v w k q closed = record 
   answers = k.answers;
   awaits = k.awaits;
   agrees = λ live. not_live w.machine closed live;
+  none_proposed = λ live. not_live w.machine closed live;
   phase = λ alive. inr closed;
   tail = λ live. not_live w.machine closed live;
 }
@@ -93,6 +95,7 @@ runs_takes m version options fed answers waiting taken v f k = record {
   answers = k.answers;
   awaits = k.awaits;
   agrees = λ live. agrees_emptied (setup_for version options k.journal.start) (handed_out k.journal) k.written v.machine k.at (k.agrees (record { failure = live.failure; phase = live.phase }));
+  none_proposed = λ live. k.none_proposed (record { failure = live.failure; phase = live.phase });
   phase = k.phase;
   tail = λ live. k.tail (record { failure = live.failure; phase = live.phase });
 }
@@ -108,6 +111,7 @@ runs_closes m version options fed answers waiting taken v k = record {
   answers = k.answers;
   awaits = k.awaits;
   agrees = λ live. agrees_closed (setup_for version options k.journal.start) (handed_out k.journal) k.written v.machine k.at (k.agrees (record { failure = live.failure; phase = live.phase }));
+  none_proposed = λ live. k.none_proposed (record { failure = live.failure; phase = live.phase });
   phase = k.phase;
   tail = λ live. k.tail (record { failure = live.failure; phase = live.phase });
 }

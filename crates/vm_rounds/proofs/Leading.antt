@@ -115,6 +115,7 @@ follows_from s m given written aside p gives mv o identity is h = by_cases (move
           none_before = subst (λ l. (l ≡ []) ⊎ (q.left ≡ [])) supplies (none_or_spent s m (state_at given p) p q (leads (Some q) e));
           moves = record { moves = 1; run = subst (λ l. Made s m (Handed given) 1 p l q) supplies (one_move s m given p q (leads (Some q) e)); answers = g.0 };
           agrees = record { aside = with_beside g.1.0 (with_frames (supply (state_at given p) mv p.left) aside); machine = g.1.1; identity = identity };
+          kept = ap (λ w. w.proposals) g.1.1;
           output = ap (λ w. w.output) g.1.1;
         }
     by_cases None e (Failed f w) g =

@@ -23,9 +23,10 @@ use Rattle.vm_model.specs.Moves.{Point, later, start}
 use Rattle.vm_model.proofs.Runs.{made_later}
 use Rattle.vm_rounds.specs.declared.progress.Fed.{Fed}
 use Rattle.vm_rounds.specs.Agreement.{Agrees, Aside}
+use Rattle.vm_rounds.specs.Arrivals.{arriving, kept_after}
 use Rattle.vm_rounds.specs.Journals.{HasAll, StartedWith, StillWaits, aside_for, commands_among, notifications_among, setup_for, waiting}
 use Rattle.vm_rounds.specs.Told.{BeforeInput, Begun, Comes, IsLive, Journal, Runs, StillAwaits, arrivals, bytes_fed, frames_fed, handed_out}
-use Rattle.vm_rounds.proofs.Arriving.{frames_come}
+use Rattle.vm_rounds.proofs.Arriving.{arriving_alone, frames_come, kept_none}
 use Rattle.vm_rounds.proofs.Entries.{commands_behind, entries_come, journals_come, more_come, notifications_behind}
 use Rattle.vm_rounds.proofs.Quiet.{input_quiet, wrote_quiet}
 use Rattle.vm_rounds.proofs.Requesting.{runs_at}
@@ -263,9 +264,18 @@ running_fed m version options fed answers waiting taken v f k live =
     let given = handed_out k.journal in
     let frames : frames_fed (fed ++ f ∷ []) ≡ frames_fed fed ++ G = ap (λ p. p.0) (fed_frames fed f v (k.tail live)) in
     let took = took_in fed f v live.failure (k.tail live) in
+    let brings : arriving v.machine.proposals G ≡ N = ap (λ kept. arriving kept G) (k.none_proposed live) ∙ arriving_alone G in
     let agrees : w.machine.failure ≡ None → Agrees s given k.written w.machine (later N k.at) = λ alive.
     ⊎_elim
-    (λ (x : Agrees s given k.written (all_received G v.machine) (later N k.at)). subst (λ u. Agrees s given k.written u (later N k.at)) (sym (took alive).0.machine) x)
+    (λ (x : Agrees s given k.written (all_received G v.machine) (later (arriving v.machine.proposals G) k.at) × ((all_received G v.machine).proposals ≡ kept_after v.machine.proposals G)).
+    subst (λ (y : Machine × List Notification). Agrees s given k.written y.0 (later y.1 k.at)) (λ i. (sym (took alive).0.machine i, brings i)) x.0)
+    (λ (x : IsSome (all_received G v.machine).failure). not_failed w.machine (ap (λ u. is_some u.failure) (took alive).0.machine ∙ x) alive)
+    (frames_come s given k.written v.machine k.at G (k.agrees live))
+    in
+    let keeps : w.machine.failure ≡ None → w.machine.proposals ≡ [] = λ alive.
+    ⊎_elim
+    (λ (x : Agrees s given k.written (all_received G v.machine) (later (arriving v.machine.proposals G) k.at) × ((all_received G v.machine).proposals ≡ kept_after v.machine.proposals G)).
+    ap (λ (u : Machine). u.proposals) (took alive).0.machine ∙ x.1 ∙ ap (λ kept. kept_after kept G) (k.none_proposed live) ∙ kept_none G)
     (λ (x : IsSome (all_received G v.machine).failure). not_failed w.machine (ap (λ u. is_some u.failure) (took alive).0.machine ∙ x) alive)
     (frames_come s given k.written v.machine k.at G (k.agrees live))
     in
@@ -279,6 +289,7 @@ running_fed m version options fed answers waiting taken v f k live =
       answers = k.answers;
       awaits = still_awaits m k.at N waiting k.awaits;
       agrees = λ alive. agrees alive.failure;
+      none_proposed = λ alive. keeps alive.failure;
       phase = λ alive. inl (agrees_running s given k.written w.machine (later N k.at) (agrees alive));
       tail = λ alive. (took alive.failure).1;
     }

@@ -192,9 +192,9 @@ made_made s m K (suc n) p made q (state, r, rest, knows, is, moves, further) =
 
 runs_on : (m : Meaning) (version : Version) (options : VMOptions) (fed : List Fed) (answers : List Answer) (waiting to_wait : Option UnresolvedFuture) (taken : List (List ℕ)) (v w : View) (k : Runs m version options fed answers waiting taken v) → IsLive v.machine → w.undecoded ≡ v.undecoded
     → (to : Point) (gives : List Answer) (made : List RawMessage) → MovesOn (setup_for version options k.journal.start) m (handed_out k.journal) k.at gives made to → (ms : List Message) → commands_of ms ≡ made → w.machine.output ≡ v.machine.output ++ map encoding ms
-    → StillAwaits m to to_wait → (IsLive w.machine → Agrees (setup_for version options k.journal.start) (handed_out k.journal) (k.written ++ made) w.machine to) → (w.machine.failure ≡ None → (is_running w.machine.phase ≡ true) ⊎ (w.machine.phase ≡ Closed))
+    → StillAwaits m to to_wait → (IsLive w.machine → Agrees (setup_for version options k.journal.start) (handed_out k.journal) (k.written ++ made) w.machine to) → (IsLive w.machine → w.machine.proposals ≡ v.machine.proposals) → (w.machine.failure ≡ None → (is_running w.machine.phase ≡ true) ⊎ (w.machine.phase ≡ Closed))
     → Runs m version options fed (answers ++ gives) to_wait taken w
-runs_on m version options fed answers waiting to_wait taken v w k live und to gives made mo ms commands output awaits agrees phase = record {
+runs_on m version options fed answers waiting to_wait taken v w k live und to gives made mo ms commands output awaits agrees kept phase = record {
   journal = k.journal;
   written = k.written ++ made;
   wrote = subst (Wrote taken w.machine.output) (ap (λ l. k.written ++ l) commands) (wrote_more taken v.machine.output w.machine.output ms k.written output k.wrote);
@@ -204,6 +204,7 @@ runs_on m version options fed answers waiting to_wait taken v w k live und to gi
   answers = mo.answers ∙ ap (λ l. l ++ gives) k.answers;
   awaits = awaits;
   agrees = agrees;
+  none_proposed = λ alive. kept alive ∙ k.none_proposed live;
   phase = phase;
   tail = λ alive. k.tail live ∙ ap Rest (sym und);
 }
@@ -256,7 +257,7 @@ module _ (m : Meaning) (version : Version) (options : VMOptions) (r : Record) (k
   answered_keeps : (a : Answer) → Answered s m (handed_out k.journal) k.written k.at r.vm.machine a w.machine → Runs m version options r.fed (r.answers ++ a ∷ []) None r.taken w
   answered_keeps a f =
       let made = made_made s m (Handed (handed_out k.journal)) f.moves.moves k.at f.made f.at f.moves.run in
-      runs_on m version options r.fed r.answers r.waiting None r.taken r.vm w k live und f.at (a ∷ []) f.made f.moves made.0 made.1.commands (f.output ∙ ap (λ l. r.vm.machine.output ++ l) (sym made.1.frames)) tt (λ _. f.agrees) (λ _. inl (agrees_running s (handed_out k.journal) (k.written ++ f.made) w.machine f.at f.agrees))
+      runs_on m version options r.fed r.answers r.waiting None r.taken r.vm w k live und f.at (a ∷ []) f.made f.moves made.0 made.1.commands (f.output ∙ ap (λ l. r.vm.machine.output ++ l) (sym made.1.frames)) tt (λ _. f.agrees) (λ _. f.kept) (λ _. inl (agrees_running s (handed_out k.journal) (k.written ++ f.made) w.machine f.at f.agrees))
 
   no_answer : (waiting : Option UnresolvedFuture) → Runs m version options r.fed (r.answers ++ []) waiting r.taken w → Runs m version options r.fed r.answers waiting r.taken w
   no_answer waiting = subst (λ l. Runs m version options r.fed l waiting r.taken w) (append-nil r.answers)
@@ -266,18 +267,19 @@ module _ (m : Meaning) (version : Version) (options : VMOptions) (r : Record) (k
       no_answer (future_in st)
       (runs_on m version options r.fed r.answers r.waiting (future_in st) r.taken r.vm w k live und f.at [] [] f.waits.moves (waiting_on input s (list_any is_executing w.machine.runs) f.left f.at.derived) (no_command_said input s (list_any is_executing w.machine.runs) f.left f.at.derived) f.output (future_awaits m k.at f.at st is f.waits.moves.answers)
       (λ _. subst (λ l. Agrees s (handed_out k.journal) l w.machine f.at) (sym (append-nil k.written)) f.agrees)
+      (λ _. f.kept)
       (λ _. inl (agrees_running s (handed_out k.journal) k.written w.machine f.at f.agrees)))
 
   suspended_keeps : IsSuspended s m (handed_out k.journal) k.at r.vm.machine w.machine → Runs m version options r.fed r.answers r.waiting r.taken w
   suspended_keeps f =
       no_answer r.waiting
       (runs_on m version options r.fed r.answers r.waiting r.waiting r.taken r.vm w k live und f.at [] [] f.waits.moves (message.Suspension (suspended_on f.left f.at.derived) ∷ []) refl f.output (same_awaits m k.at f.at r.waiting f.waits.moves.answers k.awaits)
-      (λ alive. not_live w.machine f.closed alive) (λ _. inr f.closed))
+      (λ alive. not_live w.machine f.closed alive) (λ alive. not_live w.machine f.closed alive) (λ _. inr f.closed))
 
   ended_keeps : HasEnded m k.at r.vm.machine w.machine → Runs m version options r.fed r.answers r.waiting r.taken w
   ended_keeps f =
       no_answer r.waiting
-      (runs_on m version options r.fed r.answers r.waiting r.waiting r.taken r.vm w k live und k.at [] [] (no_move s m (handed_out k.journal) k.at) (message.End ∷ []) refl f.output k.awaits (λ alive. not_live w.machine f.closed alive) (λ _. inr f.closed))
+      (runs_on m version options r.fed r.answers r.waiting r.waiting r.taken r.vm w k live und k.at [] [] (no_move s m (handed_out k.journal) k.at) (message.End ∷ []) refl f.output k.awaits (λ alive. not_live w.machine f.closed alive) (λ alive. not_live w.machine f.closed alive) (λ _. inr f.closed))
 
   -- what a call that failed has made is kept
   failed_keeps : (e : Error) (at : Point) (made : List RawMessage) → MovesOn s m (handed_out k.journal) k.at [] made at → (behind : List Message) → commands_of behind ≡ [] → w.machine.output ≡ r.vm.machine.output ++ (command_frames made ++ map encoding behind) → w.machine.failure ≡ Some e → IsKept m version options (with_vm w r)
@@ -288,6 +290,7 @@ module _ (m : Meaning) (version : Version) (options : VMOptions) (r : Record) (k
       inr
       (no_answer r.waiting
       (runs_on m version options r.fed r.answers r.waiting r.waiting r.taken r.vm w k live und at [] made mo (ms.0 ++ behind) commands frames (same_awaits m k.at at r.waiting mo.answers k.awaits)
+      (λ alive. absurd (let z : None ≡ Some e = sym alive.failure ∙ failure in cc))
       (λ alive. absurd (let z : None ≡ Some e = sym alive.failure ∙ failure in cc))
       (λ none. absurd (let z : None ≡ Some e = sym none ∙ failure in cc))))
 

@@ -186,14 +186,14 @@ module _ (s : Setup) (m : Meaning) (given : StateMap) (written : List RawMessage
         by_closed : (closed executing : Bool) → TriesTo (waits_by closed executing left (sends []))
         by_closed false executing =
             let said = map encoding (waiting_on true s (list_any is_executing aside.beside.runs) left last.derived) in
-            record { at = last; waits = stands e; left = left; is_left = is_left; agrees = agrees_by (record aside { output = aside.output ++ said }) refl; output = refl }
-        by_closed true true = record { at = last; waits = stands e; left = left; is_left = is_left; agrees = agrees_by aside refl; output = sym (append-nil aside.output) }
+            record { at = last; waits = stands e; left = left; is_left = is_left; agrees = agrees_by (record aside { output = aside.output ++ said }) refl; kept = refl; output = refl }
+        by_closed true true = record { at = last; waits = stands e; left = left; is_left = is_left; agrees = agrees_by aside refl; kept = refl; output = sym (append-nil aside.output) }
         by_closed true false = record { at = last; waits = stands e; left = left; is_left = is_left; output = refl; closed = refl }
 
         by_run : (run : Option PendingRun) (executing : Bool) → TriesTo (waits_on run executing left (sends []))
         by_run (Some run) executing =
             let runs = with_first (may_execute (handles_of left)) started aside.beside.runs in
-            record { at = last; waits = stands e; left = left; is_left = is_left; agrees = agrees_by (record aside { beside = record aside.beside { runs = runs } }) refl; output = sym (append-nil aside.output) }
+            record { at = last; waits = stands e; left = left; is_left = is_left; agrees = agrees_by (record aside { beside = record aside.beside { runs = runs } }) refl; kept = refl; output = sym (append-nil aside.output) }
         by_run None executing = by_closed aside.input_closed executing
 
   -- ---- what it comes to

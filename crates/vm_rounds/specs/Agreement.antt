@@ -14,6 +14,7 @@ use Rattle.journal_messages.specs.Message.{encoding, frame}
 use Rattle.vm_parts.specs.declared.context.LastCommand.{LastCommand}
 use Rattle.vm_parts.specs.declared.context.StartInfo.{StartInfo}
 use Rattle.vm_parts.specs.declared.context.StateMap.{StateMap}
+use Rattle.vm_parts.specs.declared.run_state.KeptProposal.{KeptProposal}
 use Rattle.vm_parts.specs.declared.run_state.PendingRun.{PendingRun}
 use Rattle.vm_parts.specs.declared.steps.Answer.{Answer}
 use Rattle.vm_parts.specs.declared.steps.Step.TheVariants as step
@@ -51,6 +52,7 @@ pub record Aside : Type 0 where
   pub input_closed : Bool
   pub entries_missing : ℕ
   pub beside : Beside
+  pub proposals : List KeptProposal
   pub output : List (List ℕ)
 
 -- there is one
@@ -76,7 +78,7 @@ machine_at s given written aside p = record {
   results = record { queued = p.queue; ready = ready_in s p.derived; handles = p.derived.handles };
   state = changed_by p.said given;
   runs = aside.beside.runs;
-  proposals = [];
+  proposals = aside.proposals;
   tracked = p.derived.tracked;
   ephemeral = [];
   output = aside.output;
@@ -99,14 +101,15 @@ pub record MovesOn (s : Setup) (m : Meaning) (given : StateMap) (p : Point) (giv
   pub run : Made s m (Handed given) moves p made q
   pub answers : q.answers ≡ p.answers ++ gives
 
--- A call was answered: the run moves on by that answer, the machine agrees with where that leads, what was made is what
--- was written, and nothing was made, or no recorded command is left there.
+-- A call was answered: the run moves on by that answer, the machine agrees with where that leads and keeps its proposals, what was made is
+-- what was written, and nothing was made, or no recorded command is left there.
 pub record Answered (s : Setup) (m : Meaning) (given : StateMap) (written : List RawMessage) (p : Point) (v : Machine) (a : Answer) (w : Machine) : Type 0 where
   pub at : Point
   pub made : List RawMessage
   pub none_before : (made ≡ []) ⊎ (at.left ≡ [])
   pub moves : MovesOn s m given p (a ∷ []) made at
   pub agrees : Agrees s given (written ++ made) w at
+  pub kept : w.proposals ≡ v.proposals
   pub output : w.output ≡ v.output ++ command_frames made
 
 -- An await waits: no recorded command was left, and with all arrivals used it asks for one more.
@@ -144,7 +147,7 @@ abbrev pub waiting_on : Bool → Setup → Bool → Tree → Derived → List Me
 waiting_on true s executing left d = said_waiting s.version s.options.awaiting_on_policy executing (λ handle. id_at handle d.handles) left
 waiting_on false s executing left d = []
 
--- It waits, for input or for a run, in a machine that agrees with where that leads; all that is written is what it says of what is left of
+-- It waits, for input or for a run, in a machine that agrees with where that leads and keeps its proposals; all that is written is what it says of what is left of
 -- what it waits for.
 pub record StillAgrees (input : Bool) (s : Setup) (m : Meaning) (given : StateMap) (written : List RawMessage) (p : Point) (v w : Machine) : Type 0 where
   pub at : Point
@@ -152,6 +155,7 @@ pub record StillAgrees (input : Bool) (s : Setup) (m : Meaning) (given : StateMa
   pub left : Tree
   pub is_left : IsLeftOf s (awaited_tree s waits.future at.derived) at.derived left
   pub agrees : Agrees s given written w at
+  pub kept : w.proposals ≡ v.proposals
   pub output : w.output ≡ v.output ++ map encoding (waiting_on input s (list_any is_executing w.runs) left at.derived)
 
 -- what a suspension on this tree waits for, by the ids of its handles

@@ -91,10 +91,10 @@ machine_fed s given aside cs ns phase = record {
   output_ended = false;
 }
 
--- Where the first command is an input, the handler is told it, the machine agrees with the first point, and nothing is
--- written; else the call is refused.
+-- Where the first command is an input, the handler is told it, the machine agrees with the first point, nothing is written, and nothing
+-- was proposed; else the call is refused.
 abbrev pub BeginsOrFails : Setup → StateMap → Aside → List RawMessage → List Notification → Option InputCommand → Outcome Input → Type 0
-BeginsOrFails s given aside rest ns (Some c) (Done i w) = (i ≡ told_input s.identity c) × (Agrees s given [] w (start s c ns rest) × (w.output ≡ aside.output))
+BeginsOrFails s given aside rest ns (Some c) (Done i w) = (i ≡ told_input s.identity c) × (Agrees s given [] w (start s c ns rest) × ((w.output ≡ aside.output) × (w.proposals ≡ [])))
 BeginsOrFails s given aside rest ns None (Failed e w) = Unit {0}
 BeginsOrFails s given aside rest ns (Some c) (Failed e w) = ⊥
 BeginsOrFails s given aside rest ns None (Done i w) = ⊥
@@ -141,7 +141,7 @@ setup_for version options st = record { version = version; options = options; id
 
 -- what stands aside in an attempt with this Start
 abbrev pub aside_for : Global → Version → VMOptions → Start → Aside
-aside_for alloc version options st = record { alloc = alloc; start = info_of version options.fallback_random_seed st; input_closed = false; entries_missing = 0; beside = record { last = record { ty = type.Start; name = [] }; runs = [] }; output = [] }
+aside_for alloc version options st = record { alloc = alloc; start = info_of version options.fallback_random_seed st; input_closed = false; entries_missing = 0; beside = record { last = record { ty = type.Start; name = [] }; runs = [] }; proposals = []; output = [] }
 
 -- the first frame was a Start: its state is kept, and the machine waits for as many entries as it tells
 pub record HasStarted (alloc : Global) (version : Version) (options : VMOptions) (raw : RawMessage) (m : Machine) : Type 0 where

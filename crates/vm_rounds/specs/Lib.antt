@@ -1,4 +1,5 @@
 pub mod Agreement
+pub mod Arrivals
 pub mod Inside
 pub mod Journals
 pub mod Record

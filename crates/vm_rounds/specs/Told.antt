@@ -231,7 +231,7 @@ StillAwaits m p None = Unit {0}
 StillAwaits m p (Some future) = m p.answers ≡ step.Await future
 
 -- The handler runs: so many moves lead from the point after the input to one with the attempt's answers, and made what was
--- written; and as long as the VM can make calls it agrees with that point.
+-- written; and as long as the VM can make calls it agrees with that point, and has proposed nothing.
 pub record Runs (m : Meaning) (version : Version) (options : VMOptions) (fed : List Fed) (answers_so_far : List Answer) (waiting : Option UnresolvedFuture) (taken : List (List ℕ)) (vm : View) : Type 0 where
   pub journal : Journal fed
   pub written : List RawMessage
@@ -242,6 +242,7 @@ pub record Runs (m : Meaning) (version : Version) (options : VMOptions) (fed : L
   pub answers : at.answers ≡ answers_so_far
   pub awaits : StillAwaits m at waiting
   pub agrees : IsLive vm.machine → Agrees (setup_for version options journal.start) (handed_out journal) written vm.machine at
+  pub none_proposed : IsLive vm.machine → vm.machine.proposals ≡ []
   pub phase : vm.machine.failure ≡ None → (is_running vm.machine.phase ≡ true) ⊎ (vm.machine.phase ≡ Closed)
   pub tail : IsLive vm.machine → (frames_of (bytes_fed fed)).1 ≡ Rest vm.undecoded
 

@@ -23,7 +23,8 @@ ghost use Rattle.vm_parts.specs.Outboxes.{WholeFrames};
 ghost use Rattle.vm_rounds.specs.Agreement.{Agrees, Aside, Follows};
 ghost use Rattle.vm_rounds.specs.Blames.{Blame, FailsAt, IsHonest, IsOwnError};
 ghost use Rattle.vm_rounds.specs.Honest.{FeedsHonestly};
-ghost use Rattle.vm_rounds.specs.Journals.{BeginsOrFails, Started, as_entries, machine_fed, notifications_among, setup_for};
+ghost use Rattle.vm_rounds.specs.Arrivals.{arriving, kept_after};
+ghost use Rattle.vm_rounds.specs.Journals.{BeginsOrFails, Started, as_entries, machine_fed, setup_for};
 ghost use Rattle.vm_rounds.specs.Steps.{IfDone, Performs, ReadsBack};
 ghost use Rattle.vm_rounds.specs.Told.{AnswersAreTold, HasCome, IsKeptUnder, Premises, RefusesReplay};
 ghost use Rattle.vm_rounds.specs.declared.progress.Progress.{Progress};
@@ -49,10 +50,11 @@ pub fn calls_follow()
     ensures { (s : Setup) (m : Meaning) (given : StateMap) (written : List RawMessage) (v : Machine) (p : Point) (o : Outcome Reply) → ((future : UnresolvedFuture) → IsAwaiting m p future → (s.options.signal_delivery ≡ Queued) × HasNoTwo p) → Agrees s given written v p → Performs (m p.answers) v o → IfDone o (ReadsBack (m p.answers) v) → Follows s m given written p v o }
 {}
 
-/// Frames that come to a machine that agrees with a point are arrivals: the machine then agrees with that point and these
-/// arrivals behind its own; or it has failed, by the first frame that is refused in the phase in which it comes.
+/// Frames that come to a machine that agrees with a point are arrivals: a notification as it is, and an acknowledgement as the completion
+/// of its run, with the result that was proposed, once. The machine then agrees with that point and these arrivals behind its own, and keeps
+/// the proposals that weren't acknowledged; or it has failed, by the first frame that is refused in the phase in which it comes.
 pub fn frames_arrive()
-    ensures { (s : Setup) (given : StateMap) (written : List RawMessage) (v : Machine) (p : Point) (raws : List RawMessage) → Agrees s given written v p → Agrees s given written (all_received raws v) (later (notifications_among raws) p) ⊎ FailsAt raws v (all_received raws v) }
+    ensures { (s : Setup) (given : StateMap) (written : List RawMessage) (v : Machine) (p : Point) (raws : List RawMessage) → Agrees s given written v p → (Agrees s given written (all_received raws v) (later (arriving v.proposals raws) p) × ((all_received raws v).proposals ≡ kept_after v.proposals raws)) ⊎ FailsAt raws v (all_received raws v) }
 {}
 
 /// A machine that has the whole journal reads its input: where the first command is one, the handler is told it, and the
