@@ -8,8 +8,9 @@ ghost use Rattle.line_parts.specs.Words.{AreThreeTexts, AreTwoTexts, IsHandle, I
 
 use crate::atoms::{duration_of, handle_of, shared_of, text_of};
 use crate::fields::{are_named, field_of};
+use crate::words::{behind, text_in};
 use bytes::Bytes;
-use std::alloc::Global;
+use std::alloc::{AllocError, Global};
 use std::time::Duration;
 use vm_parts::{NotificationHandle, PayloadOptions};
 use wire::{Fault, Text};
@@ -21,8 +22,38 @@ pub struct Extras {
     pub payload: PayloadOptions,
 }
 
-/// The words but this one, which may stand once, and whether it stands there.
+/// Whether a word stands there, which may stand once.
 #[tactic(auto, using(crate::proofs::Missing::twice_blamed))]
+fn stands_once(words: &[&[u8]], flag: &str) -> Result<bool, Fault>
+    ensures flag { IfOk result (HasFlag flag.now words.now) }
+    ensures none { IfErr result (Blames (HasFlag flag.now words.now)) }
+{
+    let mut stands = false;
+    for word in words {
+        if *word == flag.as_bytes() {
+            if stands {
+                return Err(Fault::Malformed);
+            }
+            stands = true;
+        }
+    }
+    Ok(stands)
+}
+
+/// The words but this one.
+fn others<'a>(alloc: Global, words: &[&'a [u8]], flag: &str) -> Result<Vec<&'a [u8]>, AllocError>
+    ensures { IfOk result (λ others. others.items ≡ without flag.now words.now) }
+{
+    let mut others = Vec::new(alloc);
+    for word in words {
+        if *word != flag.as_bytes() {
+            others.push(*word)?;
+        }
+    }
+    Ok(others)
+}
+
+/// The words but this one, which may stand once, and whether it stands there.
 pub fn without_flag<'a>(
     alloc: Global,
     words: &[&'a [u8]],
@@ -32,18 +63,8 @@ pub fn without_flag<'a>(
     ensures flag { IfOk result (λ found. HasFlag flag.now words.now found.1) }
     ensures none { IfErr result (Blames (HasFlag flag.now words.now)) }
 {
-    let mut others = Vec::new(alloc);
-    let mut stands = false;
-    for word in words {
-        if *word == flag.as_bytes() {
-            if stands {
-                return Err(Fault::Malformed);
-            }
-            stands = true;
-        } else {
-            others.push(*word)?;
-        }
-    }
+    let stands = stands_once(words, flag)?;
+    let others = others(alloc, words, flag)?;
     Ok((others, stands))
 }
 
@@ -141,7 +162,7 @@ pub fn text_alone(alloc: Global, arguments: &[&[u8]]) -> Result<Text, Fault>
 }
 
 /// `T T`, and the words behind them.
-#[tactic(auto, using(crate::proofs::Missing::first_of_two, crate::proofs::Missing::second_of_two, crate::proofs::Missing::text_blamed_at, crate::proofs::Missing::no_text_at))]
+#[tactic(auto, using(crate::proofs::Missing::first_of_two, crate::proofs::Missing::second_of_two))]
 pub fn two_texts<'w, 'a>(
     alloc: Global,
     words: &'w [&'a [u8]],
@@ -150,16 +171,13 @@ pub fn two_texts<'w, 'a>(
     ensures rest { IfOk result (λ found. found.2.now ≡ drop 2 words.now) }
     ensures none { IfErr result (Blames (AreTwoTexts words.now)) }
 {
-    let [first, second, rest @ ..] = words else {
-        return Err(Fault::Malformed);
-    };
-    let first = text_of(alloc, *first)?;
-    let second = text_of(alloc, *second)?;
-    Ok((first, second, rest))
+    let first = text_in(alloc, words, 0)?;
+    let second = text_in(alloc, words, 1)?;
+    Ok((first, second, behind(words, 2)))
 }
 
 /// `T T T`, and the words behind them.
-#[tactic(auto, using(crate::proofs::Missing::first_of_three, crate::proofs::Missing::second_of_three, crate::proofs::Missing::third_of_three, crate::proofs::Missing::text_blamed_at, crate::proofs::Missing::no_text_at))]
+#[tactic(auto, using(crate::proofs::Missing::first_of_three, crate::proofs::Missing::second_of_three, crate::proofs::Missing::third_of_three))]
 pub fn three_texts<'w, 'a>(
     alloc: Global,
     words: &'w [&'a [u8]],
@@ -168,13 +186,10 @@ pub fn three_texts<'w, 'a>(
     ensures rest { IfOk result (λ found. found.3.now ≡ drop 3 words.now) }
     ensures none { IfErr result (Blames (AreThreeTexts words.now)) }
 {
-    let [first, second, third, rest @ ..] = words else {
-        return Err(Fault::Malformed);
-    };
-    let first = text_of(alloc, *first)?;
-    let second = text_of(alloc, *second)?;
-    let third = text_of(alloc, *third)?;
-    Ok((first, second, third, rest))
+    let first = text_in(alloc, words, 0)?;
+    let second = text_in(alloc, words, 1)?;
+    let third = text_in(alloc, words, 2)?;
+    Ok((first, second, third, behind(words, 3)))
 }
 
 /// `B` alone.

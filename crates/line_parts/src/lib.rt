@@ -11,3 +11,4 @@ pub mod results;
 pub mod targets;
 pub mod trees;
 pub mod values;
+pub mod words;

@@ -10,9 +10,9 @@ use crate::request::Call;
 use bytes::Bytes;
 use journal_values::Header;
 use line_parts::arguments::{optional_duration, optional_text, without_unstable};
-use line_parts::atoms::{shared_of, text_of};
 use line_parts::fields::{are_named, text_behind};
 use line_parts::values::pair_of;
+use line_parts::words::{behind, bytes_in, text_in};
 use std::alloc::Global;
 use vm_parts::{Step, Target};
 use wire::{Fault, Items, Text};
@@ -73,7 +73,7 @@ fn target_with(
 }
 
 /// `T T B`, and the words behind them.
-#[tactic(auto, using(crate::proofs::Calling::service_blamed, crate::proofs::Calling::handler_blamed, crate::proofs::Calling::input_blamed, line_parts::proofs::Missing::text_blamed_at, line_parts::proofs::Missing::atom_blamed_at, line_parts::proofs::Missing::no_atom_at))]
+#[tactic(auto, using(crate::proofs::Calling::service_blamed, crate::proofs::Calling::handler_blamed, crate::proofs::Calling::input_blamed))]
 fn callee_of<'w, 'a>(
     alloc: Global,
     words: &'w [&'a [u8]],
@@ -82,18 +82,15 @@ fn callee_of<'w, 'a>(
     ensures rest { IfOk result (λ found. found.1.now ≡ drop 3 words.now) }
     ensures none { IfErr result (Blames (HasCallee words.now)) }
 {
-    let [service, handler, input, options @ ..] = words else {
-        return Err(Fault::Malformed);
-    };
-    let service = text_of(alloc, *service)?;
-    let handler = text_of(alloc, *handler)?;
-    let input = shared_of(alloc, *input)?;
+    let service = text_in(alloc, words, 0)?;
+    let handler = text_in(alloc, words, 1)?;
+    let input = bytes_in(alloc, words, 2)?;
     let callee = Callee {
         service,
         handler,
         input,
     };
-    Ok((callee, options))
+    Ok((callee, behind(words, 3)))
 }
 
 /// Whether the words name options of a `call` line alone.

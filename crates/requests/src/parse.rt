@@ -1,5 +1,6 @@
 //! A line of the script, read as a whole: one row a call.
-ghost use Rattle.std.specs.Prelude.{◌≡◌, IfErr, IfOk, Ok, true, false, codes, drop};
+ghost use Rattle.std.specs.Prelude.{◌≡◌, IfErr, IfOk, Ok, true, false, codes, drop, length};
+ghost use Rattle.requests.specs.declared.request.Call.{Call};
 ghost use Rattle.requests.specs.declared.verb.Verb.TheVariants as verb;
 ghost use Rattle.requests.specs.Lines.{Asks, AsksCall, AskNothing, AsksNothing, IsContentType, IsMade, MakesNothing, MakesWith, Reads, begins_with_vm, says_nothing};
 ghost use Rattle.lines.specs.Readings.{Blames};
@@ -16,28 +17,26 @@ use bytes::Bytes;
 use line_parts::arguments::{
     Extras, bytes_alone, extras_of, handle_alone, name_of, now_of, text_alone,
 };
-use line_parts::atoms::{duration_of, shared_of, string_of, text_of};
+use line_parts::atoms::string_of;
 use line_parts::options::options_of;
 use line_parts::report::report_of;
 use line_parts::results::{Proposal, proposal_of};
 use line_parts::targets::target_of;
 use line_parts::trees::tree_of_word;
 use line_parts::values::{value_and_payload, value_of};
+use line_parts::words::{behind, bytes_in, text_in, time_in};
 use lines::pieces::words;
 use std::alloc::{AllocError, Global};
 use vm_parts::{Step, UnresolvedFuture, VMOptions};
 use wire::{Fault, Text};
 
-#[tactic(auto, using(lines::proofs::Blaming::first_blamed, lines::proofs::Blaming::second_blamed, line_parts::proofs::Missing::no_text_at))]
+#[tactic(auto, using(lines::proofs::Blaming::first_blamed, lines::proofs::Blaming::second_blamed))]
 fn get_of(alloc: Global, arguments: &[&[u8]]) -> Result<Call, Fault>
     ensures value { IfOk result (IsLine verb.Get arguments.now) }
     ensures none { IfErr result (Blames (IsLine verb.Get arguments.now)) }
 {
-    let [key, others @ ..] = arguments else {
-        return Err(Fault::Malformed);
-    };
-    let key = text_of(alloc, *key)?;
-    let Extras { name, payload } = extras_of(alloc, others)?;
+    let key = text_in(alloc, arguments, 0)?;
+    let Extras { name, payload } = extras_of(alloc, behind(arguments, 1))?;
     Ok(Call::Step(Step::StateGet {
         key,
         name,
@@ -54,17 +53,14 @@ fn keys_of(alloc: Global, arguments: &[&[u8]]) -> Result<Call, Fault>
     Ok(Call::Step(Step::StateGetKeys { name }))
 }
 
-#[tactic(auto, using(lines::proofs::Blaming::first_of_three_blamed, lines::proofs::Blaming::second_of_three_blamed, lines::proofs::Blaming::third_of_three_blamed, line_parts::proofs::Missing::no_text_at, line_parts::proofs::Missing::no_atom_at))]
+#[tactic(auto, using(lines::proofs::Blaming::first_of_three_blamed, lines::proofs::Blaming::second_of_three_blamed, lines::proofs::Blaming::third_of_three_blamed))]
 fn set_of(alloc: Global, arguments: &[&[u8]]) -> Result<Call, Fault>
     ensures value { IfOk result (IsLine verb.Set arguments.now) }
     ensures none { IfErr result (Blames (IsLine verb.Set arguments.now)) }
 {
-    let [key, value, others @ ..] = arguments else {
-        return Err(Fault::Malformed);
-    };
-    let key = text_of(alloc, *key)?;
-    let value = shared_of(alloc, *value)?;
-    let Extras { name, payload } = extras_of(alloc, others)?;
+    let key = text_in(alloc, arguments, 0)?;
+    let value = bytes_in(alloc, arguments, 1)?;
+    let Extras { name, payload } = extras_of(alloc, behind(arguments, 2))?;
     Ok(Call::Step(Step::StateSet {
         key,
         value,
@@ -73,30 +69,24 @@ fn set_of(alloc: Global, arguments: &[&[u8]]) -> Result<Call, Fault>
     }))
 }
 
-#[tactic(auto, using(lines::proofs::Blaming::first_blamed, lines::proofs::Blaming::second_blamed, line_parts::proofs::Missing::no_text_at))]
+#[tactic(auto, using(lines::proofs::Blaming::first_blamed, lines::proofs::Blaming::second_blamed))]
 fn clear_of(alloc: Global, arguments: &[&[u8]]) -> Result<Call, Fault>
     ensures value { IfOk result (IsLine verb.Clear arguments.now) }
     ensures none { IfErr result (Blames (IsLine verb.Clear arguments.now)) }
 {
-    let [key, others @ ..] = arguments else {
-        return Err(Fault::Malformed);
-    };
-    let key = text_of(alloc, *key)?;
-    let name = name_of(alloc, others)?;
+    let key = text_in(alloc, arguments, 0)?;
+    let name = name_of(alloc, behind(arguments, 1))?;
     Ok(Call::Step(Step::StateClear { key, name }))
 }
 
-#[tactic(auto, using(lines::proofs::Blaming::first_of_three_blamed, lines::proofs::Blaming::second_of_three_blamed, lines::proofs::Blaming::third_of_three_blamed, line_parts::proofs::Missing::no_text_at))]
+#[tactic(auto, using(lines::proofs::Blaming::first_of_three_blamed, lines::proofs::Blaming::second_of_three_blamed, lines::proofs::Blaming::third_of_three_blamed))]
 fn sleep_of(alloc: Global, arguments: &[&[u8]]) -> Result<Call, Fault>
     ensures value { IfOk result (IsLine verb.Sleep arguments.now) }
     ensures none { IfErr result (Blames (IsLine verb.Sleep arguments.now)) }
 {
-    let [name, until, others @ ..] = arguments else {
-        return Err(Fault::Malformed);
-    };
-    let name = text_of(alloc, *name)?;
-    let until = duration_of(*until)?;
-    let now = now_of(others)?;
+    let name = text_in(alloc, arguments, 0)?;
+    let until = time_in(arguments, 1)?;
+    let now = now_of(behind(arguments, 2))?;
     Ok(Call::Step(Step::Sleep {
         name,
         wake_up_time_since_unix_epoch: until,
@@ -104,30 +94,24 @@ fn sleep_of(alloc: Global, arguments: &[&[u8]]) -> Result<Call, Fault>
     }))
 }
 
-#[tactic(auto, using(lines::proofs::Blaming::first_blamed, lines::proofs::Blaming::second_blamed, line_parts::proofs::Missing::no_text_at))]
+#[tactic(auto, using(lines::proofs::Blaming::first_blamed, lines::proofs::Blaming::second_blamed))]
 fn complete_awakeable_of(alloc: Global, arguments: &[&[u8]]) -> Result<Call, Fault>
     ensures value { IfOk result (IsLine verb.CompleteAwakeable arguments.now) }
     ensures none { IfErr result (Blames (IsLine verb.CompleteAwakeable arguments.now)) }
 {
-    let [id, value @ ..] = arguments else {
-        return Err(Fault::Malformed);
-    };
-    let id = text_of(alloc, *id)?;
-    let (value, options) = value_and_payload(alloc, value)?;
+    let id = text_in(alloc, arguments, 0)?;
+    let (value, options) = value_and_payload(alloc, behind(arguments, 1))?;
     Ok(Call::Step(Step::CompleteAwakeable { id, value, options }))
 }
 
-#[tactic(auto, using(lines::proofs::Blaming::first_of_three_blamed, lines::proofs::Blaming::second_of_three_blamed, lines::proofs::Blaming::third_of_three_blamed, line_parts::proofs::Missing::no_text_at))]
+#[tactic(auto, using(lines::proofs::Blaming::first_of_three_blamed, lines::proofs::Blaming::second_of_three_blamed, lines::proofs::Blaming::third_of_three_blamed))]
 fn complete_signal_of(alloc: Global, arguments: &[&[u8]]) -> Result<Call, Fault>
     ensures value { IfOk result (IsLine verb.CompleteSignal arguments.now) }
     ensures none { IfErr result (Blames (IsLine verb.CompleteSignal arguments.now)) }
 {
-    let [target, name, value @ ..] = arguments else {
-        return Err(Fault::Malformed);
-    };
-    let target_invocation_id = text_of(alloc, *target)?;
-    let signal_name = text_of(alloc, *name)?;
-    let value = value_of(alloc, value)?;
+    let target_invocation_id = text_in(alloc, arguments, 0)?;
+    let signal_name = text_in(alloc, arguments, 1)?;
+    let value = value_of(alloc, behind(arguments, 2))?;
     Ok(Call::Step(Step::CompleteSignal {
         target_invocation_id,
         signal_name,
@@ -173,16 +157,13 @@ fn peek_promise_of(alloc: Global, arguments: &[&[u8]]) -> Result<Call, Fault>
     Ok(Call::Step(Step::PeekPromise { key }))
 }
 
-#[tactic(auto, using(lines::proofs::Blaming::first_blamed, lines::proofs::Blaming::second_blamed, line_parts::proofs::Missing::no_text_at))]
+#[tactic(auto, using(lines::proofs::Blaming::first_blamed, lines::proofs::Blaming::second_blamed))]
 fn complete_promise_of(alloc: Global, arguments: &[&[u8]]) -> Result<Call, Fault>
     ensures value { IfOk result (IsLine verb.CompletePromise arguments.now) }
     ensures none { IfErr result (Blames (IsLine verb.CompletePromise arguments.now)) }
 {
-    let [key, value @ ..] = arguments else {
-        return Err(Fault::Malformed);
-    };
-    let key = text_of(alloc, *key)?;
-    let (value, options) = value_and_payload(alloc, value)?;
+    let key = text_in(alloc, arguments, 0)?;
+    let (value, options) = value_and_payload(alloc, behind(arguments, 1))?;
     Ok(Call::Step(Step::CompletePromise {
         key,
         value,
@@ -264,13 +245,13 @@ fn await_of(alloc: Global, arguments: &[&[u8]]) -> Result<Call, Fault>
     Ok(Call::Step(Step::Await(future)))
 }
 
-/// A call that takes no arguments.
-fn bare(arguments: &[&[u8]], call: Call) -> Result<Call, Fault>
-    ensures value { IfOk result (IsBare arguments.now call) }
-    ensures none { IfErr result (Blames (IsBare arguments.now call)) }
+/// Nothing stands behind the name of a call that takes no arguments.
+fn nothing_in(arguments: &[&[u8]]) -> Result<(), Fault>
+    ensures value { IfOk result (λ _. length arguments.now ≡ 0) }
+    ensures none { (bare : Call) → IfErr result (Blames (IsBare arguments.now bare)) }
 {
     if arguments.is_empty() {
-        Ok(call)
+        Ok(())
     } else {
         Err(Fault::Malformed)
     }
@@ -328,15 +309,42 @@ fn call_named(alloc: Global, verb: Verb, arguments: &[&[u8]]) -> Result<Call, Fa
     ensures none { IfErr result (Blames (IsLine verb arguments.now)) }
 {
     match verb {
-        Verb::Head => bare(arguments, Call::Head),
-        Verb::Close => bare(arguments, Call::Close),
-        Verb::Output => bare(arguments, Call::Output),
-        Verb::Ready => bare(arguments, Call::Ready),
-        Verb::State => bare(arguments, Call::State),
-        Verb::Index => bare(arguments, Call::Index),
-        Verb::SysInput => bare(arguments, Call::SysInput),
-        Verb::Awakeable => bare(arguments, Call::Step(Step::Awakeable)),
-        Verb::End => bare(arguments, Call::Step(Step::End)),
+        Verb::Head => {
+            nothing_in(arguments)?;
+            Ok(Call::Head)
+        }
+        Verb::Close => {
+            nothing_in(arguments)?;
+            Ok(Call::Close)
+        }
+        Verb::Output => {
+            nothing_in(arguments)?;
+            Ok(Call::Output)
+        }
+        Verb::Ready => {
+            nothing_in(arguments)?;
+            Ok(Call::Ready)
+        }
+        Verb::State => {
+            nothing_in(arguments)?;
+            Ok(Call::State)
+        }
+        Verb::Index => {
+            nothing_in(arguments)?;
+            Ok(Call::Index)
+        }
+        Verb::SysInput => {
+            nothing_in(arguments)?;
+            Ok(Call::SysInput)
+        }
+        Verb::Awakeable => {
+            nothing_in(arguments)?;
+            Ok(Call::Step(Step::Awakeable))
+        }
+        Verb::End => {
+            nothing_in(arguments)?;
+            Ok(Call::Step(Step::End))
+        }
         Verb::Input => input_of(alloc, arguments),
         Verb::Error => error_of(alloc, arguments),
         Verb::Await => await_of(alloc, arguments),

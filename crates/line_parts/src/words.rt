@@ -1,0 +1,55 @@
+//! The words of a line by their places, the first at 0.
+ghost use Rattle.std.specs.Prelude.{◌≡◌, drop, IfErr, IfOk};
+ghost use Rattle.lines.specs.Atoms.{IsAtom, IsText};
+ghost use Rattle.lines.specs.Readings.{Blames};
+ghost use Rattle.line_parts.specs.Values.{IsTime};
+ghost use Rattle.line_parts.specs.Words.{text_at};
+
+use crate::atoms::{duration_of, shared_of, text_of};
+use bytes::Bytes;
+use std::alloc::Global;
+use std::time::Duration;
+use wire::{Fault, Text};
+
+/// `T` at this place.
+#[tactic(auto, using(crate::proofs::Missing::text_blamed_at, crate::proofs::Missing::no_text_at))]
+pub fn text_in(alloc: Global, words: &[&[u8]], place: usize) -> Result<Text, Fault>
+    ensures value { IfOk result (IsText (text_at place words.now)) }
+    ensures none { IfErr result (Blames (IsText (text_at place words.now))) }
+{
+    match words.get(place) {
+        Some(word) => text_of(alloc, *word),
+        None => Err(Fault::Malformed),
+    }
+}
+
+/// `B` at this place.
+#[tactic(auto, using(crate::proofs::Missing::atom_blamed_at, crate::proofs::Missing::no_atom_at))]
+pub fn bytes_in(alloc: Global, words: &[&[u8]], place: usize) -> Result<Bytes, Fault>
+    ensures value { IfOk result (IsAtom (text_at place words.now)) }
+    ensures none { IfErr result (Blames (IsAtom (text_at place words.now))) }
+{
+    match words.get(place) {
+        Some(word) => shared_of(alloc, *word),
+        None => Err(Fault::Malformed),
+    }
+}
+
+/// `D` at this place.
+#[tactic(auto, using(crate::proofs::Missing::time_blamed_at, crate::proofs::Missing::no_time_at))]
+pub fn time_in(words: &[&[u8]], place: usize) -> Result<Duration, Fault>
+    ensures value { IfOk result (IsTime (text_at place words.now)) }
+    ensures none { IfErr result (Blames (IsTime (text_at place words.now))) }
+{
+    match words.get(place) {
+        Some(word) => duration_of(*word),
+        None => Err(Fault::Malformed),
+    }
+}
+
+/// The words behind the first so many.
+pub fn behind<'w, 'a>(words: &'w [&'a [u8]], count: usize) -> &'w [&'a [u8]]
+    ensures { result.now ≡ drop count words.now }
+{
+    words.get(count..).unwrap_or_default()
+}
