@@ -7,7 +7,7 @@ pub mod chooser;
 pub mod frames;
 pub mod keeper;
 pub mod napper;
-pub mod runs;
 pub mod starving;
 mod steps;
 pub mod told;
+pub mod whole_runs;

@@ -1,7 +1,7 @@
 // Journals of whole runs, cut at each byte, and one byte at a time.
 // However a journal is cut, an attempt is ready when the known entries are there, and makes the same run.
-use attempt_bench::runs::{Ending, Replay, Run};
 use attempt_bench::told::{drive, expect_answers, expect_error, expect_frames, quiet_attempt_of};
+use attempt_bench::whole_runs::{Ending, Replay, Run};
 use bytes::Bytes;
 use std::alloc::{AllocError, Global};
 use std::process::Abort;

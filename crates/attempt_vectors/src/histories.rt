@@ -7,8 +7,8 @@ use attempt_bench::frames::{
     SUSPENSION_ON_SIGNAL_17,
 };
 use attempt_bench::keeper::Keeper;
-use attempt_bench::runs::{Ending, Entry, Run};
 use attempt_bench::told::Told;
+use attempt_bench::whole_runs::{Ending, Entry, Run};
 use std::test::Fail;
 use vectors::frames::{
     COMPLETION_1, INPUT_TILL, OUTPUT_EMPTY, OUTPUT_X, SIGNAL_17, SLEEP_TO_1000, SUSPENSION_ON_1,

@@ -8,8 +8,8 @@ use attempt_bench::frames::{
     NO_SLEEP_AT_2, NO_SLEEP_AT_3, OUTPUT_Y, SET_B, SET_B_TO_Y, SIGNAL_17_X,
 };
 use attempt_bench::keeper::Keeper;
-use attempt_bench::runs::{Ending, Entry, Run};
 use attempt_bench::told::Told;
+use attempt_bench::whole_runs::{Ending, Entry, Run};
 use std::test::Fail;
 use vectors::frames::{
     COMPLETION_1, ERROR_STATE, INPUT_TILL, OUTPUT_EMPTY, OUTPUT_X, SIGNAL_17, SLEEP_TO_1000,

@@ -8,4 +8,4 @@ mod children_frames;
 #[cfg(test)]
 mod counts;
 #[cfg(test)]
-mod runs;
+mod run_ends;

@@ -14,6 +14,8 @@ mod cancelled;
 #[cfg(test)]
 mod commands;
 #[cfg(test)]
+mod executed_runs;
+#[cfg(test)]
 mod journals;
 #[cfg(test)]
 mod meanings;
@@ -31,8 +33,6 @@ mod read_frames;
 mod refusals;
 #[cfg(test)]
 mod reports;
-#[cfg(test)]
-mod runs;
 #[cfg(test)]
 mod sleeps;
 #[cfg(test)]
