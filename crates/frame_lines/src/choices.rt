@@ -106,7 +106,7 @@ impl Value for VoidOrValue {
             return Ok(VoidOrValue::Void);
         }
         if let Some(inside) = case.inside("value") {
-            return Ok(VoidOrValue::Value(parse_value(alloc, inside)?));
+            return parse_value(alloc, inside).map(VoidOrValue::Value);
         }
         Err(Fault::Malformed)
     }
@@ -123,10 +123,10 @@ impl Value for ValueOrFailure {
     fn parse(alloc: Global, text: &[u8]) -> Result<ValueOrFailure, Fault> {
         let case = Case::of(text)?;
         if let Some(inside) = case.inside("value") {
-            return Ok(ValueOrFailure::Value(parse_value(alloc, inside)?));
+            return parse_value(alloc, inside).map(ValueOrFailure::Value);
         }
         if let Some(inside) = case.inside("failure") {
-            return Ok(ValueOrFailure::Failure(parse_form(alloc, inside)?));
+            return parse_form(alloc, inside).map(ValueOrFailure::Failure);
         }
         Err(Fault::Malformed)
     }
@@ -147,10 +147,10 @@ impl Value for SignalResult {
             return Ok(SignalResult::Void);
         }
         if let Some(inside) = case.inside("value") {
-            return Ok(SignalResult::Value(parse_value(alloc, inside)?));
+            return parse_value(alloc, inside).map(SignalResult::Value);
         }
         if let Some(inside) = case.inside("failure") {
-            return Ok(SignalResult::Failure(parse_form(alloc, inside)?));
+            return parse_form(alloc, inside).map(SignalResult::Failure);
         }
         Err(Fault::Malformed)
     }
@@ -173,16 +173,16 @@ impl Value for NotificationResult {
             return Ok(NotificationResult::Void);
         }
         if let Some(inside) = case.inside("value") {
-            return Ok(NotificationResult::Value(parse_value(alloc, inside)?));
+            return parse_value(alloc, inside).map(NotificationResult::Value);
         }
         if let Some(inside) = case.inside("failure") {
-            return Ok(NotificationResult::Failure(parse_form(alloc, inside)?));
+            return parse_form(alloc, inside).map(NotificationResult::Failure);
         }
         if let Some(inside) = case.inside("state_keys") {
-            return Ok(NotificationResult::StateKeys(parse_value(alloc, inside)?));
+            return parse_value(alloc, inside).map(NotificationResult::StateKeys);
         }
         if let Some(inside) = case.inside("invocation_id") {
-            return Ok(NotificationResult::InvocationId(parse_value(alloc, inside)?));
+            return parse_value(alloc, inside).map(NotificationResult::InvocationId);
         }
         Err(Fault::Malformed)
     }
@@ -200,13 +200,13 @@ impl Value for NotificationId {
     fn parse(alloc: Global, text: &[u8]) -> Result<NotificationId, Fault> {
         let case = Case::of(text)?;
         if let Some(inside) = case.inside("completion") {
-            return Ok(NotificationId::CompletionId(parse_value(alloc, inside)?));
+            return parse_value(alloc, inside).map(NotificationId::CompletionId);
         }
         if let Some(inside) = case.inside("signal") {
-            return Ok(NotificationId::SignalId(parse_value(alloc, inside)?));
+            return parse_value(alloc, inside).map(NotificationId::SignalId);
         }
         if let Some(inside) = case.inside("name") {
-            return Ok(NotificationId::SignalName(parse_value(alloc, inside)?));
+            return parse_value(alloc, inside).map(NotificationId::SignalName);
         }
         Err(Fault::Malformed)
     }
@@ -223,10 +223,10 @@ impl Value for Signal {
     fn parse(alloc: Global, text: &[u8]) -> Result<Signal, Fault> {
         let case = Case::of(text)?;
         if let Some(inside) = case.inside("index") {
-            return Ok(Signal::Index(parse_value(alloc, inside)?));
+            return parse_value(alloc, inside).map(Signal::Index);
         }
         if let Some(inside) = case.inside("name") {
-            return Ok(Signal::Name(parse_value(alloc, inside)?));
+            return parse_value(alloc, inside).map(Signal::Name);
         }
         Err(Fault::Malformed)
     }
@@ -244,13 +244,13 @@ impl Value for InvocationTarget {
     fn parse(alloc: Global, text: &[u8]) -> Result<InvocationTarget, Fault> {
         let case = Case::of(text)?;
         if let Some(inside) = case.inside("InvocationId") {
-            return Ok(InvocationTarget::InvocationId(parse_value(alloc, inside)?));
+            return parse_value(alloc, inside).map(InvocationTarget::InvocationId);
         }
         if let Some(inside) = case.inside("WorkflowId") {
-            return Ok(InvocationTarget::WorkflowId(parse_form(alloc, inside)?));
+            return parse_form(alloc, inside).map(InvocationTarget::WorkflowId);
         }
         if let Some(inside) = case.inside("IdempotencyId") {
-            return Ok(InvocationTarget::IdempotencyId(parse_form(alloc, inside)?));
+            return parse_form(alloc, inside).map(InvocationTarget::IdempotencyId);
         }
         Err(Fault::Malformed)
     }
