@@ -1,4 +1,5 @@
 // The small public types, where they are copied or shown. Conversions, names and defaults are in their contracts.
+use runs::RunHandle;
 use std::test::Fail;
 use vm_parts::{
     CommandType, NonEmptyValue, NotificationHandle, TerminalFailure, UnresolvedFuture, Value,
@@ -64,5 +65,16 @@ fn commands_have_texts(rt: HostRuntime) -> Result<(), Fail> {
         let shown = command.to_string(rt.alloc())?;
         assert_eq!(rt; shown.as_str(), *text);
     }
+    Ok(())
+}
+
+#[test]
+fn handles_of_runs_are_copied(rt: HostRuntime) -> Result<(), Fail> {
+    let handle = RunHandle {
+        replayed: true,
+        handle: NotificationHandle(17),
+    };
+    let copy = handle.clone()?;
+    assert_eq!(rt; copy, handle);
     Ok(())
 }

@@ -210,6 +210,35 @@ run "r"                                                                         
 propose 17 retryable 500 500 "boom" policy=fixed(interval=1000 max=4500)                                                               => ok
 output                                                                                                                                 => frames ProposeRunCompletion
 
+# Time that Start tells without a failure does not count.
+vm "application/vnd.restate.invocation.v7"                                                                                             => ok V7
+input 0x0001000000000000004200000000000000036162630000000000000003616263000000000000000000000002000000000000000001000000000000000000000fa00000000000000000000000 => ok
+input <input_till>                                                                                                                     => ok
+input 0x001a000000000000000d00000000000000017200000001                                                                                 => ok
+sys_input                                                                                                                              => ok id="abc" seed=0 key="" headers=[] value="Till" scope=- limit=- idem=-
+run "r"                                                                                                                                => ok 17 false
+propose 17 retryable 500 500 "boom" policy=fixed(interval=1000 max=501)                                                                => err 500 "boom"
+output                                                                                                                                 => frames Error
+
+vm "application/vnd.restate.invocation.v7"                                                                                             => ok V7
+input 0x0001000000000000004200000000000000036162630000000000000003616263000000000000000000000002000000000000000001000000000000000000000fa00000000000000000000000 => ok
+input <input_till>                                                                                                                     => ok
+input 0x001a000000000000000d00000000000000017200000001                                                                                 => ok
+sys_input                                                                                                                              => ok id="abc" seed=0 key="" headers=[] value="Till" scope=- limit=- idem=-
+run "r"                                                                                                                                => ok 17 false
+propose 17 retryable 500 500 "boom" policy=fixed(interval=1000 max=500)                                                                => ok
+output                                                                                                                                 => frames ProposeRunCompletion
+
+# Without a policy of retries a failure is proposed at once.
+vm "application/vnd.restate.invocation.v7"                                                                                             => ok V7
+input 0x0001000000000000004200000000000000036162630000000000000003616263000000000000000000000002000000000000000001000000000000000000000fa00000000000000000000000 => ok
+input <input_till>                                                                                                                     => ok
+input 0x001a000000000000000d00000000000000017200000001                                                                                 => ok
+sys_input                                                                                                                              => ok id="abc" seed=0 key="" headers=[] value="Till" scope=- limit=- idem=-
+run "r"                                                                                                                                => ok 17 false
+propose 17 retryable 500 500 "boom" policy=none                                                                                        => ok
+output                                                                                                                                 => frames ProposeRunCompletion
+
 # A run that was written in this attempt has failed once, in 500 ms, whatever Start tells.
 vm "application/vnd.restate.invocation.v7"                                                                                             => ok V7
 input 0x0001000000000000004200000000000000036162630000000000000003616263000000000000000000000001000000000000000001000000030000000000000fa00000000000000000000000 => ok
