@@ -10,7 +10,7 @@ use Rattle.journal_errors.specs.declared.version.Version.{Version}
 use Rattle.vm_parts.specs.Options.{default_options}
 use Rattle.vm_parts.specs.Outboxes.{WholeFrames}
 use Rattle.invocation_vm.specs.Making.{made}
-use Rattle.vm_rounds.specs.Record.{Record}
+use Rattle.vm_rounds.specs.Record.{Record, heard}
 use Rattle.vm_rounds.specs.Stepping.{Meaning, fresh_record, FeedDoes, CloseDoes, StepDoes}
 use Rattle.vm_rounds.specs.Told.{AnswersAreTold, NoneHasTwo}
 use Rattle.vm_rounds.specs.declared.progress.Progress.{Progress}
@@ -64,7 +64,7 @@ Serves holds_then meaning fresh left written ending =
 -- Where no completion has two results, the answers of an attempt with the options by default are told by the journal that it was
 -- fed and what it wrote.
 abbrev pub IsTold : Meaning → Version → Record → Type 0
-IsTold meaning version r = NoneHasTwo meaning version default_options r.fed → (r.answers ≡ []) ⊎ AnswersAreTold meaning version default_options r
+IsTold meaning version r = NoneHasTwo meaning version default_options (heard version r) → (r.answers ≡ []) ⊎ AnswersAreTold meaning version default_options r
 
 -- the same of a new attempt with the options by default, for the version that was asked for: its answers are told
 abbrev pub ServesAnew : Global → Result Version Error → Meaning → Option (List ℕ) → (List ℕ → Type 0) → AttemptEnd → Type 0

@@ -72,7 +72,7 @@ use Rattle.runs.specs.declared.settling.Settlement.{Settlement}
 use Rattle.runs.specs.declared.settling.Settlement.TheVariants as settlement
 use Rattle.runs.specs.declared.types.RunExitResult.{RunExitResult}
 use Rattle.journal_values.specs.declared.parts.ValueOrFailure.{ValueOrFailure}
-use Rattle.vm_machine.specs.Proposals.{Proposes, Settled, SettledAt, SettledUnless, proposal_fault, proposed, settled_as, without_run}
+use Rattle.vm_machine.specs.Proposals.{Proposes, Settled, SettledAt, SettledUnless, SettlesAs, proposal_fault, proposed, without_run}
 use Rattle.vm_machine.specs.Awaits.{Awaits, AwaitsAt, AwaitsBy, Behind, Ends, EndsBy, Gathers, ReadsId, StaysPending, Tries, id_read, is_cancelled, executed, or_cancelled, pending_in_replay, result_at, run_at, said_waiting, says_so, suspended, waiting, waits_by, waits_on, with_used}
 use Rattle.vm_machine.proofs.Cancelling.{Keeps, woken_keeps, read_keeps}
 use Rattle.vm_parts.specs.Options.{ends_awaits}
@@ -686,14 +686,14 @@ proposed_so id result v u s goes =
       ends_once = one_message (is_over v) m (is_over (proposed id result u)) goes refl;
     }
 
-settlement_so : (id : ℕ) (s : Settlement) (v u : Machine) → Same v u → is_over v ≡ false → Event v (settled_as id s u)
-settlement_so id (settlement.Proposed result) v u s goes = proposed_so id result v u s goes
-settlement_so id (settlement.Failed e) v u s goes = s
+settlement_so : (id : ℕ) (s : Settlement) (v u : Machine) (o : Outcome Unit) → Same v u → is_over v ≡ false → SettlesAs id s u o → Event v o
+settlement_so id (settlement.Proposed result) v u o s goes is = subst (Event v) (sym is.1) (proposed_so id result v u s goes)
+settlement_so id (settlement.Failed e) v u o s goes is = subst (Event v) (sym is) s
 
 settled_so : (handle : NotificationHandle) (exit : RunExitResult) (policy : RetryPolicy) (run : Option PendingRun) (v : Machine) (o : Outcome Unit) → is_over v ≡ false → Settled handle exit policy run v o → Event v o
 settled_so handle exit policy None v o goes is = subst (Event v) (sym is) (same v)
 settled_so handle exit policy (Some run) v o goes (s, becomes, is) =
-    subst (Event v) (sym is) (settlement_so run.completion_id s v (without_run handle v) (record { output = refl; closed = refl; failure = refl }) goes)
+    settlement_so run.completion_id s v (without_run handle v) o (record { output = refl; closed = refl; failure = refl }) goes is
 
 settled_at_so : (p : Phase) (handle : NotificationHandle) (exit : RunExitResult) (policy : RetryPolicy) (v : Machine) (o : Outcome Unit) → v.phase ≡ p → v.failure ≡ None → SettledAt p handle exit policy v o → Event v o
 settled_at_so WaitingStart handle exit policy v o e live is = subst (Event v) (sym is) (writes_nothing v v (same v))

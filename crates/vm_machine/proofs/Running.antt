@@ -31,7 +31,7 @@ use Rattle.vm_machine.specs.Phases.{is_from_v7, is_replaying}
 use Rattle.vm_machine.specs.Awaits.{executed, last_run, pending_in_replay, pending_on, run_at, waits_by, waits_on}
 use Rattle.vm_machine.specs.Inputs.{acknowledged, acknowledged_by, acknowledgement_step, completion_of, enqueued, entry_step, message_step, notification_step, start_step}
 use Rattle.vm_machine.specs.Outcomes.{Done, Failed, Gives, GivesBy, Outcome, lasting, refused}
-use Rattle.vm_machine.specs.Proposals.{Acknowledges, Settled, proposed, settled_as, without_run}
+use Rattle.vm_machine.specs.Proposals.{Acknowledges, Settled, SettlesAs, proposed, without_run}
 use Rattle.journal_messages.specs.declared.message.RawMessage.{RawMessage}
 
 -- ---- the first item that passes a test
@@ -89,15 +89,15 @@ settled_none handle exit policy v w none same =
     subst (λ (x : Option PendingRun × Machine). GivesBy (Settled handle exit policy x.0 v) (Err (Refused (named_error name.NoPendingRun None))) v x.1) (λ i. (none i, sym same i)) (refl, refl)
 
 pub settled_some : (handle : NotificationHandle) (exit : RunExitResult) (policy : RetryPolicy) (v mid new : Machine) (run : PendingRun) (s : Settlement) (r : Result (Unit {0}) Fault) → Some run ≡ run_at handle.0 v → mid ≡ without_run handle v
-    → Becomes run exit policy mid.start mid.wrote_command s → Gives (settled_as run.completion_id s mid) r mid new → GivesBy (Settled handle exit policy (run_at handle.0 v) v) r v new
+    → Becomes run exit policy mid.start mid.wrote_command s → GivesBy (SettlesAs run.completion_id s mid) r mid new → GivesBy (Settled handle exit policy (run_at handle.0 v) v) r v new
 settled_some handle exit policy v mid new run s r some is becomes gives = subst (λ o. GivesBy (Settled handle exit policy o v) r v new) some (by_result r gives)
   where
     there : Becomes run exit policy v.start v.wrote_command s
     there = subst (λ (m : Machine). Becomes run exit policy m.start m.wrote_command s) is becomes
 
-    by_result : (r : Result (Unit {0}) Fault) → Gives (settled_as run.completion_id s mid) r mid new → GivesBy (Settled handle exit policy (Some run) v) r v new
-    by_result (Ok t) g = (s, there, sym g ∙ ap (settled_as run.completion_id s) is)
-    by_result (Err (Refused e)) g = ((s, there, sym g.0 ∙ ap (settled_as run.completion_id s) is), g.1 ∙ ap lasting is)
+    by_result : (r : Result (Unit {0}) Fault) → GivesBy (SettlesAs run.completion_id s mid) r mid new → GivesBy (Settled handle exit policy (Some run) v) r v new
+    by_result (Ok t) g = (s, there, subst (λ u. SettlesAs run.completion_id s u (Done t new)) is g)
+    by_result (Err (Refused e)) g = ((s, there, subst (λ u. SettlesAs run.completion_id s u (Failed e new)) is g.0), g.1 ∙ ap lasting is)
     by_result (Err Memory) g = g ∙ ap lasting is
 
 -- ---- the last run that is waited for

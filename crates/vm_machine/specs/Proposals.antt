@@ -8,7 +8,7 @@ use Rattle.journal_messages.specs.declared.message.Message.TheVariants as messag
 use Rattle.journal_messages.specs.declared.message.RawMessage.{RawMessage}
 use Rattle.journal_attempt.specs.declared.runs.ProposeRunCompletionAck.{ProposeRunCompletionAck}
 use Rattle.journal_errors.specs.Types.{type_number}
-use Rattle.journal_messages.specs.Message.{encoding}
+use Rattle.journal_messages.specs.Message.{IsWhole, encoding}
 use Rattle.journal_messages.specs.Reading.{acknowledgement_in}
 use Rattle.journal_values.specs.declared.parts.ValueOrFailure.{ValueOrFailure}
 use Rattle.retries.specs.declared.policy.RetryPolicy.{RetryPolicy}
@@ -41,10 +41,10 @@ kept id result v = if is_from_v7 v.version then record v { proposals = v.proposa
 abbrev pub proposed : ℕ → ValueOrFailure → Machine → Machine
 proposed id result v = record (kept id result v) { output = v.output ++ encoding (message.ProposeRunCompletion (record { id = id; result = result })) ∷ [] }
 
--- what becomes of a run is done
-abbrev pub settled_as : ℕ → Settlement → Machine → Outcome Unit
-settled_as id (settlement.Proposed result) v = Done tt (proposed id result v)
-settled_as id (settlement.Failed e) v = Failed e v
+-- what becomes of a run is done: a result is proposed, by a frame from which it can be read back
+abbrev pub SettlesAs : ℕ → Settlement → Machine → Outcome Unit → Type 0
+SettlesAs id (settlement.Proposed result) v o = IsWhole (message.ProposeRunCompletion (record { id = id; result = result })) × (o ≡ Done tt (proposed id result v))
+SettlesAs id (settlement.Failed e) v o = o ≡ Failed e v
 
 -- the run of this handle isn't pending any more
 abbrev pub without_run : NotificationHandle → Machine → Machine
@@ -54,7 +54,7 @@ without_run handle v = record v { runs = without_first (has_handle handle) v.run
 abbrev pub Settled : NotificationHandle → RunExitResult → RetryPolicy → Option PendingRun → Machine → Outcome Unit → Type 0
 Settled handle exit policy None v o = o ≡ refused fault.NoPendingRun v
 Settled handle exit policy (Some run) v o =
-    (s : Settlement) × Becomes run exit policy v.start v.wrote_command s × (o ≡ settled_as run.completion_id s (without_run handle v))
+    (s : Settlement) × Becomes run exit policy v.start v.wrote_command s × SettlesAs run.completion_id s (without_run handle v) o
 
 -- Outside Processing what a run came to is ignored.
 abbrev pub SettledAt : Phase → NotificationHandle → RunExitResult → RetryPolicy → Machine → Outcome Unit → Type 0

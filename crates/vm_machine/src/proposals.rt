@@ -1,11 +1,11 @@
 //! What executing a run came to: its result is proposed, or the attempt fails.
 ghost use Rattle.std.specs.Prelude.{◌≡◌, ◌++◌, ◌∷◌, [], Some, IfNone, IfOk, IfSome, OnOk, OnErr};
-ghost use Rattle.journal_messages.specs.Message.{encoding};
+ghost use Rattle.journal_messages.specs.Message.{IsWhole, encoding};
 ghost use Rattle.journal_messages.specs.declared.message.Message.TheVariants as message;
 ghost use Rattle.runs.specs.Pending.{has_handle};
 ghost use Rattle.vm_machine.specs.Awaits.{run_at};
-ghost use Rattle.vm_machine.specs.Outcomes.{GivesBy, Gives, lasting};
-ghost use Rattle.vm_machine.specs.Proposals.{Proposes, Settled, kept, proposal_fault, proposed, settled_as, without_run};
+ghost use Rattle.vm_machine.specs.Outcomes.{GivesBy, lasting};
+ghost use Rattle.vm_machine.specs.Proposals.{Proposes, Settled, SettlesAs, kept, proposal_fault, proposed, without_run};
 
 use crate::fault::{Fault, refuse};
 use crate::machine::Machine;
@@ -49,6 +49,7 @@ impl Machine {
     /// A result is proposed under the run's completion id.
     fn propose(&mut self, id: u32, given: ValueOrFailure) -> Result<(), AllocError>
         ensures ok { OnOk result (self.new ≡ proposed id given self.old) }
+        ensures whole { OnOk result (IsWhole (message.ProposeRunCompletion (record { id = id; result = given }))) }
         ensures err { OnErr result (lasting self.new ≡ lasting self.old) }
     {
         self.keep_proposal(id, &given)?;
@@ -60,7 +61,7 @@ impl Machine {
 
     /// What becomes of a run is done.
     fn settle_as(&mut self, id: u32, settlement: Settlement) -> Result<(), Fault>
-        ensures { Gives (settled_as id settlement self.old) result self.old self.new }
+        ensures { GivesBy (SettlesAs id settlement self.old) result self.old self.new }
     {
         match settlement {
             Settlement::Proposed(given) => Ok(self.propose(id, given)?),

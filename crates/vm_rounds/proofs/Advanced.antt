@@ -36,12 +36,20 @@ use Rattle.vm_model.specs.Journal.{input_read_from}
 use Rattle.vm_model.specs.Moves.{longer, start, told_input}
 use Rattle.vm_model.proofs.Compared.{after_answers, attempt_is_told}
 use Rattle.vm_model.proofs.Runs.{made_after}
+use Rattle.std.specs.List.{AllByRecursion}
+use Rattle.vm_parts.specs.declared.run_state.KeptProposal.{KeptProposal}
+use Rattle.vm_machine.specs.Phases.{is_from_v7}
+use Rattle.vm_rounds.specs.Arrivals.{arriving, kept_after}
+use Rattle.vm_rounds.specs.Heard.{acknowledged_from}
+use Rattle.vm_rounds.proofs.Arriving.{arriving_alone, kept_none}
+use Rattle.vm_rounds.proofs.Proposed.{none_found, none_front}
+use Rattle.vm_rounds.specs.Heard.{Heard}
 use Rattle.vm_rounds.specs.declared.progress.Fed.{Fed}
 use Rattle.vm_rounds.specs.declared.progress.Progress.{Progress}
 use Rattle.vm_rounds.specs.declared.progress.Progress.TheVariants as progress
 use Rattle.vm_rounds.specs.Agreement.{Agrees, Aside}
-use Rattle.vm_rounds.specs.Journals.{BeginsOrFails, HasAll, StillWaits, commands_among, machine_fed, missing, notifications_among, setup_for}
-use Rattle.vm_rounds.specs.Record.{Record}
+use Rattle.vm_rounds.specs.Journals.{BeginsOrFails, HasAll, StillWaits, commands_among, machine_fed, missing, notifications_among, setup_for, AcknowledgesNothing}
+use Rattle.vm_rounds.specs.Record.{Record, heard}
 use Rattle.vm_rounds.specs.Stepping.{Advances, Asks, IfWaits, IsReplaying, LacksMemory, Reads, StepAt, StepDoes, StepFrom, StepUnless, fresh_record}
 use Rattle.vm_parts.specs.Outboxes.{WholeFrames}
 use Rattle.vm_rounds.specs.Told.{AnswersAreTold, BeforeInput, Begun, Comes, IsAsleep, IsKept, IsLive, NothingWakes, Premises, Quiet, Replays, Runs, Sleeps, StillAwaits, ToldBy, Wrote, arrivals, bytes_fed, frames_fed, handed_out}
@@ -55,7 +63,7 @@ use Rattle.vm_rounds.proofs.Stepped.{asks_keep, asks_replay, asks_wait}
 
 -- ---- an event that failed
 
-failed_quiet : {A : Type 0} (v : Machine) (o : Outcome A) (e : Error) (w : Machine) → Silent v o → called o v ≡ Failed e w → Quiet v w × IsSome w.failure
+pub failed_quiet : {A : Type 0} (v : Machine) (o : Outcome A) (e : Error) (w : Machine) → Silent v o → called o v ≡ Failed e w → Quiet v w × IsSome w.failure
 unfolding called
 failed_quiet {A} v o e w silent is = by_option v.failure refl is
   where
@@ -91,7 +99,7 @@ unfolding popped
 counted_silent (Some name) v = refl
 counted_silent None v = popped_silent v.commands v (entered type.InputCommand [] v) refl
 
-input_silent : (v : Machine) → Silent v (input_step v)
+pub input_silent : (v : Machine) → Silent v (input_step v)
 unfolding input_step
 input_silent v = by_phase v.phase
   where
@@ -104,7 +112,7 @@ input_silent v = by_phase v.phase
 
 -- ---- the input is read
 
-done_of : {A : Type 0} (v : Machine) (o : Outcome A) (a : A) (w : Machine) → v.failure ≡ None → called o v ≡ Done a w → o ≡ Done a w
+pub done_of : {A : Type 0} (v : Machine) (o : Outcome A) (a : A) (w : Machine) → v.failure ≡ None → called o v ≡ Done a w → o ≡ Done a w
 unfolding called
 done_of {A} v o a w live is = by_outcome o (ap (λ f. called_at f o v) (sym live) ∙ is)
   where
@@ -129,17 +137,17 @@ unfolding input_step popped
 no_command_reads s given aside ns i w is = absurd (cc)
 
 -- the handler runs, and nothing was written
-abbrev pub Begins : Meaning → Version → VMOptions → List Fed → List Answer → Option UnresolvedFuture → List (List ℕ) → View → Type 0
+abbrev pub Begins : Meaning → Version → VMOptions → Heard → List Answer → Option UnresolvedFuture → List (List ℕ) → View → Type 0
 Begins m version options fed answers waiting taken v = (k : Runs m version options fed answers waiting taken v) × (k.written ≡ [])
 
-read_begins : (m : Meaning) (version : Version) (options : VMOptions) (fed : List Fed) (before : Option UnresolvedFuture) (taken : List (List ℕ)) (v w : View) (b : Begun version options fed v.machine) (h : HasAll (setup_for version options b.start) (record { entries = b.state; coverage = coverage_of b.start.partial }) b.aside b.start.known_entries [] [] b.others v.machine)
+read_begins : (m : Meaning) (version : Version) (options : VMOptions) (fed : Heard) (nothing : fed.proposed ≡ []) (before : Option UnresolvedFuture) (taken : List (List ℕ)) (v w : View) (b : Begun version options fed v.machine) (h : HasAll (setup_for version options b.start) (record { entries = b.state; coverage = coverage_of b.start.partial }) b.aside b.start.known_entries [] [] b.others v.machine)
     → (i : Input) → input_step v.machine ≡ Done i w.machine → before ≡ None → Wrote taken v.machine.output [] → (frames_of (bytes_fed fed)).1 ≡ Rest w.undecoded
     → (cs : List RawMessage) → commands_among h.entries ≡ cs → Begins m version options fed (answer.Input i ∷ []) before taken w
-read_begins m version options fed before taken v w b h i is none wrote tail [] e =
+read_begins m version options fed nothing before taken v w b h i is none wrote tail [] e =
     let s = setup_for version options b.start in
     let given : StateMap = record { entries = b.state; coverage = coverage_of b.start.partial } in
     no_command_reads s given (missing 0 b.aside) (notifications_among b.others) i w.machine (sym (ap input_step (h.machine ∙ λ j. machine_fed s given (missing 0 b.aside) (e j) (notifications_among b.others) Replaying)) ∙ is)
-read_begins m version options fed before taken v w b h i is none wrote tail (first ∷ rest) e =
+read_begins m version options fed nothing before taken v w b h i is none wrote tail (first ∷ rest) e =
     let s = setup_for version options b.start in
     let given : StateMap = record { entries = b.state; coverage = coverage_of b.start.partial } in
     let ns = notifications_among b.others in
@@ -150,7 +158,9 @@ read_begins m version options fed before taken v w b h i is none wrote tail (fir
     by_input None reads g = absurd g
     by_input (Some c) reads g =
         let s = setup_for version options b.start in
-        let agrees = subst (λ l. Agrees s (record { entries = b.state; coverage = coverage_of b.start.partial }) [] w.machine (start s c (notifications_among l) rest)) h.split g.1.0 in (
+        let all = h.entries ++ h.others in
+        let brings : notifications_among b.others ≡ arriving fed.proposed all = ap notifications_among h.split ∙ sym (arriving_alone all) ∙ ap (λ kept. arriving kept all) (sym nothing) in
+        let agrees = subst (λ ns. Agrees s (record { entries = b.state; coverage = coverage_of b.start.partial }) [] w.machine (start s c ns rest)) brings g.1.0 in (
           record {
             journal = record {
               first_frame = b.first_frame;
@@ -160,6 +170,7 @@ read_begins m version options fed before taken v w b h i is none wrote tail (fir
               start = b.start;
               reads_start = b.reads_start;
               count = h.count;
+              none_acknowledge = none_front h.entries h.others (subst (AllByRecursion AcknowledgesNothing) h.split h.none_acknowledge);
               state = b.state;
               reads_state = b.reads_state;
               first = first;
@@ -170,34 +181,34 @@ read_begins m version options fed before taken v w b h i is none wrote tail (fir
             };
             written = [];
             wrote = wrote_quiet taken v.machine w.machine [] (quiet_same v.machine w.machine (g.1.1.0 ∙ sym (ap (λ (z : Machine). z.output) h.machine))) wrote;
-            at = start s c (notifications_among (h.entries ++ h.others)) rest;
+            at = start s c (arriving fed.proposed all) rest;
             moves = 0;
             run = (refl, refl);
             answers = ap (λ x. answer.Input x ∷ []) (sym g.0);
-            awaits = subst (StillAwaits m (start s c (notifications_among (h.entries ++ h.others)) rest)) (sym none) tt;
+            awaits = subst (StillAwaits m (start s c (arriving fed.proposed all) rest)) (sym none) tt;
             agrees = λ _. agrees;
-            none_proposed = λ _. g.1.1.1;
-            phase = λ _. inl (agrees_running s (record { entries = b.state; coverage = coverage_of b.start.partial }) [] w.machine (start s c (notifications_among (h.entries ++ h.others)) rest) agrees);
+            keeps = λ _. (g.1.1.1 ∙ sym (ap (λ kept. kept_after kept all) nothing ∙ kept_none all), none_found fed.proposed all (subst (AllByRecursion AcknowledgesNothing) h.split h.none_acknowledge));
+            phase = λ _. inl (agrees_running s (record { entries = b.state; coverage = coverage_of b.start.partial }) [] w.machine (start s c (arriving fed.proposed all) rest) agrees);
             tail = λ _. tail;
           },
           refl,
         )
 
-reads_done : (m : Meaning) (version : Version) (options : VMOptions) (fed : List Fed) (before : Option UnresolvedFuture) (taken : List (List ℕ)) (v w : View) (i : Input) → Comes version options fed v.machine → input_step v.machine ≡ Done i w.machine → before ≡ None → Wrote taken v.machine.output [] → (frames_of (bytes_fed fed)).1 ≡ Rest w.undecoded → Begins m version options fed (answer.Input i ∷ []) before taken w
-reads_done m version options fed before taken v w i comes is none wrote tail =
+reads_done : (m : Meaning) (version : Version) (options : VMOptions) (fed : Heard) (nothing : fed.proposed ≡ []) (before : Option UnresolvedFuture) (taken : List (List ℕ)) (v w : View) (i : Input) → Comes version options fed v.machine → input_step v.machine ≡ Done i w.machine → before ≡ None → Wrote taken v.machine.output [] → (frames_of (bytes_fed fed)).1 ≡ Rest w.undecoded → Begins m version options fed (answer.Input i ∷ []) before taken w
+reads_done m version options fed nothing before taken v w i comes is none wrote tail =
     ⊎_elim
     (λ (x : (frames_fed fed ≡ []) × ((alloc : Global) × (v.machine ≡ fresh alloc version options))). waits_reads v.machine i w.machine (ap (λ (z : Machine). is_running z.phase) x.1.1) is)
     (λ (b : Begun version options fed v.machine).
     ⊎_elim
     (λ (x : StillWaits (setup_for version options b.start) (record { entries = b.state; coverage = coverage_of b.start.partial }) b.aside b.start.known_entries [] [] b.others v.machine). waits_reads v.machine i w.machine (ap (λ (z : Machine). is_running z.phase) x.machine) is)
-    (λ (x : HasAll (setup_for version options b.start) (record { entries = b.state; coverage = coverage_of b.start.partial }) b.aside b.start.known_entries [] [] b.others v.machine). read_begins m version options fed before taken v w b x i is none wrote tail (commands_among x.entries) refl)
+    (λ (x : HasAll (setup_for version options b.start) (record { entries = b.state; coverage = coverage_of b.start.partial }) b.aside b.start.known_entries [] [] b.others v.machine). read_begins m version options fed nothing before taken v w b x i is none wrote tail (commands_among x.entries) refl)
     b.waits)
     comes
 
 -- ---- a step
 
 -- once the handler runs there is an answer
-pub runs_answered : (m : Meaning) (version : Version) (options : VMOptions) (fed : List Fed) (answers : List Answer) (before : Option UnresolvedFuture) (taken : List (List ℕ)) (v : View) → Runs m version options fed answers before taken v → answers ≢ []
+pub runs_answered : (m : Meaning) (version : Version) (options : VMOptions) (fed : Heard) (answers : List Answer) (before : Option UnresolvedFuture) (taken : List (List ℕ)) (v : View) → Runs m version options fed answers before taken v → answers ≢ []
 runs_answered m version options fed answers before taken v k none =
     let s = setup_for version options k.journal.start in
     let p = start s k.journal.input (arrivals k.journal) k.journal.rest in
@@ -207,16 +218,16 @@ runs_answered m version options fed answers before taken v k none =
 
 -- What is told of a handler that runs is kept by each step, where reading the input gives it, and each call keeps it, by what is asked of
 -- what was fed.
-module _ (R : Reading) (P : List Fed → Type 0) (l : Lasts R) (m : Meaning) (version : Version) (options : VMOptions)
-    (reads : (fed : List Fed) (answers : List Answer) (waiting : Option UnresolvedFuture) (taken : List (List ℕ)) (v : View) → Begins m version options fed answers waiting taken v → R fed answers waiting taken v)
-    (answered : (fed : List Fed) (answers : List Answer) (waiting : Option UnresolvedFuture) (taken : List (List ℕ)) (v : View) → R fed answers waiting taken v → answers ≢ [])
-    (asks : (old : Record) (result : Result Progress Error) (new : Record) → P old.fed → R old.fed old.answers old.waiting old.taken old.vm → IsLive old.vm.machine → Asks m old result new → KeptBy R version options new) where
+module _ (R : Reading) (P : Heard → Type 0) (l : Lasts R) (m : Meaning) (version : Version) (options : VMOptions)
+    (reads : (fed : Heard) (answers : List Answer) (waiting : Option UnresolvedFuture) (taken : List (List ℕ)) (v : View) → Begins m version options fed answers waiting taken v → R fed answers waiting taken v)
+    (answered : (fed : Heard) (answers : List Answer) (waiting : Option UnresolvedFuture) (taken : List (List ℕ)) (v : View) → R fed answers waiting taken v → answers ≢ [])
+    (asks : (old : Record) (result : Result Progress Error) (new : Record) → P (heard version old) → R (heard version old) old.answers old.waiting old.taken old.vm → IsLive old.vm.machine → Asks m old result new → KeptBy R version options new) where
   abbrev Kept : Record → Type 0
   Kept = KeptBy R version options
 
-  reads_keep : (old : Record) (result : Result Progress Error) (new : Record) → BeforeInput version options old.fed old.answers old.waiting old.taken old.vm → old.vm.machine.failure ≡ None → Reads old result new → Kept new
+  reads_keep : (old : Record) (result : Result Progress Error) (new : Record) → BeforeInput version options (heard version old) old.answers old.waiting old.taken old.vm → old.vm.machine.failure ≡ None → Reads old result new → Kept new
   reads_keep old (Ok progress) new b live (stepped, (i, w, does, is)) =
-      subst Kept (sym is) (inr (reads old.fed (answer.Input i ∷ []) old.waiting old.taken w (reads_done m version options old.fed old.waiting old.taken old.vm w i (b.comes live) (done_of old.vm.machine (input_step old.vm.machine) i w.machine live does.0) b.waits_not b.wrote (b.tail live ∙ ap Rest (sym does.1)))))
+      subst Kept (sym is) (inr (reads (heard version old) (answer.Input i ∷ []) old.waiting old.taken w (reads_done m version options (heard version old) b.none_proposed old.waiting old.taken old.vm w i (b.comes live) (done_of old.vm.machine (input_step old.vm.machine) i w.machine live does.0) b.waits_not b.wrote (b.tail live ∙ ap Rest (sym does.1)))))
   reads_keep old (Err e) new b live (w, does, is) =
       subst Kept (sym is)
       (⊎_elim
@@ -226,7 +237,7 @@ module _ (R : Reading) (P : List Fed → Type 0) (l : Lasts R) (m : Meaning) (ve
       (λ (x : IsStarved old.vm.machine e w.machine). dead_same R l version options old w (inl b) (quiet_same old.vm.machine w.machine x.output) (rw x.failure refl))
       does.0)
 
-  advances_keep : (old : Record) (result : Result Progress Error) (new : Record) → P old.fed → Kept old → IsLive old.vm.machine → Advances m old result new → Kept new
+  advances_keep : (old : Record) (result : Result Progress Error) (new : Record) → P (heard version old) → Kept old → IsLive old.vm.machine → Advances m old result new → Kept new
   advances_keep old result new under k live =
       ⊎_elim
       (λ (x : LacksMemory old result new). subst Kept (sym x.1) k)
@@ -234,29 +245,29 @@ module _ (R : Reading) (P : List Fed → Type 0) (l : Lasts R) (m : Meaning) (ve
       ⊎_elim
       (λ (x : (old.answers ≡ []) × Reads old result new).
       ⊎_elim
-      (λ (b : BeforeInput version options old.fed old.answers old.waiting old.taken old.vm). reads_keep old result new b live.failure x.1)
-      (λ (b : R old.fed old.answers old.waiting old.taken old.vm). absurd (answered old.fed old.answers old.waiting old.taken old.vm b x.0))
+      (λ (b : BeforeInput version options (heard version old) old.answers old.waiting old.taken old.vm). reads_keep old result new b live.failure x.1)
+      (λ (b : R (heard version old) old.answers old.waiting old.taken old.vm). absurd (answered (heard version old) old.answers old.waiting old.taken old.vm b x.0))
       k)
       (λ (x : (old.answers ≢ []) × Asks m old result new).
       ⊎_elim
-      (λ (b : BeforeInput version options old.fed old.answers old.waiting old.taken old.vm). absurd (x.0 b.answers))
-      (λ (b : R old.fed old.answers old.waiting old.taken old.vm). asks old result new under b live x.1)
+      (λ (b : BeforeInput version options (heard version old) old.answers old.waiting old.taken old.vm). absurd (x.0 b.answers))
+      (λ (b : R (heard version old) old.answers old.waiting old.taken old.vm). asks old result new under b live x.1)
       k)
       o)
 
-  step_at : (old : Record) (result : Result Progress Error) (new : Record) → P old.fed → Kept old → old.vm.machine.failure ≡ None → (ph : Phase) → old.vm.machine.phase ≡ ph → StepAt ph m old result new → Kept new
+  step_at : (old : Record) (result : Result Progress Error) (new : Record) → P (heard version old) → Kept old → old.vm.machine.failure ≡ None → (ph : Phase) → old.vm.machine.phase ≡ ph → StepAt ph m old result new → Kept new
   step_at old result new under k live WaitingStart at d = subst Kept (sym d.1) k
   step_at old result new under k live WaitingReplayEntries at d = subst Kept (sym d.1) k
   step_at old result new under k live Closed at d = subst Kept (sym d.1) k
   step_at old result new under k live Replaying at d = advances_keep old result new under k (record { failure = live; phase = ap is_running at }) d
   step_at old result new under k live Processing at d = advances_keep old result new under k (record { failure = live; phase = ap is_running at }) d
 
-  step_unless : (old : Record) (result : Result Progress Error) (new : Record) → P old.fed → Kept old → (f : Option Error) → old.vm.machine.failure ≡ f → (over : Option Progress) → StepUnless f over m old result new → Kept new
+  step_unless : (old : Record) (result : Result Progress Error) (new : Record) → P (heard version old) → Kept old → (f : Option Error) → old.vm.machine.failure ≡ f → (over : Option Progress) → StepUnless f over m old result new → Kept new
   step_unless old result new under k (Some e) is over d = subst Kept (sym d.1) k
   step_unless old result new under k None is (Some made) d = subst Kept (sym d.1) k
   step_unless old result new under k None is None d = step_at old result new under k is old.vm.machine.phase refl d
 
-  pub steps_keep : (old : Record) (result : Result Progress Error) (new : Record) → P old.fed → Kept old → StepDoes m old result new → Kept new
+  pub steps_keep : (old : Record) (result : Result Progress Error) (new : Record) → P (heard version old) → Kept old → StepDoes m old result new → Kept new
   steps_keep old result new under k does = by_test old.starved does
     where
       by_test : (b : Bool) → StepFrom b m old result new → Kept new
@@ -264,7 +275,7 @@ module _ (R : Reading) (P : List Fed → Type 0) (l : Lasts R) (m : Meaning) (ve
       by_test false d = step_unless old result new under k old.vm.machine.failure refl old.over d
 
 -- the run of a handler is kept by each step
-pub step_keeps : (m : Meaning) (version : Version) (options : VMOptions) (old : Record) (result : Result Progress Error) (new : Record) → Premises m version options old.fed → IsKept m version options old → StepDoes m old result new → IsKept m version options new
+pub step_keeps : (m : Meaning) (version : Version) (options : VMOptions) (old : Record) (result : Result Progress Error) (new : Record) → Premises m version options (heard version old) → IsKept m version options old → StepDoes m old result new → IsKept m version options new
 step_keeps m version options = steps_keep (Runs m version options) (Premises m version options) (runs_last m version options) m version options (λ fed answers waiting taken v k. k.0) (runs_answered m version options) (asks_keep m version options)
 
 -- ---- a step that waits
@@ -277,16 +288,16 @@ error_waits : (P : Type 0) (result : Result Progress Error) (e : Error) → resu
 error_waits P result e is = subst (λ z. IfWaits z P) (sym is) tt
 
 -- the handler runs, as it was answered
-pub runs_of : (m : Meaning) (version : Version) (options : VMOptions) (r : Record) → IsKept m version options r → r.answers ≢ [] → Runs m version options r.fed r.answers r.waiting r.taken r.vm
+pub runs_of : (m : Meaning) (version : Version) (options : VMOptions) (r : Record) → IsKept m version options r → r.answers ≢ [] → Runs m version options (heard version r) r.answers r.waiting r.taken r.vm
 runs_of m version options r k some =
     ⊎_elim
-    (λ (b : BeforeInput version options r.fed r.answers r.waiting r.taken r.vm). absurd (some b.answers))
-    (λ (b : Runs m version options r.fed r.answers r.waiting r.taken r.vm). b)
+    (λ (b : BeforeInput version options (heard version r) r.answers r.waiting r.taken r.vm). absurd (some b.answers))
+    (λ (b : Runs m version options (heard version r) r.answers r.waiting r.taken r.vm). b)
     k
 
-advances_wait : (m : Meaning) (version : Version) (options : VMOptions) (old : Record) (result : Result Progress Error) (new : Record) → Premises m version options old.fed → IsKept m version options old → IsLive old.vm.machine → Advances m old result new → IfWaits result (Sleeps m version options new.fed new.answers new.taken new.vm)
+advances_wait : (m : Meaning) (version : Version) (options : VMOptions) (old : Record) (result : Result Progress Error) (new : Record) → Premises m version options (heard version old) → IsKept m version options old → IsLive old.vm.machine → Advances m old result new → IfWaits result (Sleeps m version options (heard version new) new.answers new.taken new.vm)
 advances_wait m version options old result new under k live =
-    let P = Sleeps m version options new.fed new.answers new.taken new.vm in
+    let P = Sleeps m version options (heard version new) new.answers new.taken new.vm in
     ⊎_elim
     (λ (x : LacksMemory old result new). error_waits P result _ x.0)
     (λ (o : ((old.answers ≡ []) × Reads old result new) ⊎ ((old.answers ≢ []) × Asks m old result new)).
@@ -295,22 +306,22 @@ advances_wait m version options old result new under k live =
     (λ (x : (old.answers ≢ []) × Asks m old result new). asks_wait m version options old result new under (runs_of m version options old k x.0) live x.1)
     o)
 
-wait_at : (m : Meaning) (version : Version) (options : VMOptions) (old : Record) (result : Result Progress Error) (new : Record) → Premises m version options old.fed → IsKept m version options old → old.vm.machine.failure ≡ None → (ph : Phase) → old.vm.machine.phase ≡ ph → StepAt ph m old result new → IfWaits result (Sleeps m version options new.fed new.answers new.taken new.vm)
-wait_at m version options old result new under k live WaitingStart at d = subst (λ z. IfWaits z (Sleeps m version options new.fed new.answers new.taken new.vm)) (sym d.0) tt
-wait_at m version options old result new under k live WaitingReplayEntries at d = subst (λ z. IfWaits z (Sleeps m version options new.fed new.answers new.taken new.vm)) (sym d.0) tt
+wait_at : (m : Meaning) (version : Version) (options : VMOptions) (old : Record) (result : Result Progress Error) (new : Record) → Premises m version options (heard version old) → IsKept m version options old → old.vm.machine.failure ≡ None → (ph : Phase) → old.vm.machine.phase ≡ ph → StepAt ph m old result new → IfWaits result (Sleeps m version options (heard version new) new.answers new.taken new.vm)
+wait_at m version options old result new under k live WaitingStart at d = subst (λ z. IfWaits z (Sleeps m version options (heard version new) new.answers new.taken new.vm)) (sym d.0) tt
+wait_at m version options old result new under k live WaitingReplayEntries at d = subst (λ z. IfWaits z (Sleeps m version options (heard version new) new.answers new.taken new.vm)) (sym d.0) tt
 wait_at m version options old result new under k live Closed at d = error_waits _ result _ d.0
 wait_at m version options old result new under k live Replaying at d = advances_wait m version options old result new under k (record { failure = live; phase = ap is_running at }) d
 wait_at m version options old result new under k live Processing at d = advances_wait m version options old result new under k (record { failure = live; phase = ap is_running at }) d
 
-wait_unless : (m : Meaning) (version : Version) (options : VMOptions) (old : Record) (result : Result Progress Error) (new : Record) → Premises m version options old.fed → IsKept m version options old → (f : Option Error) → old.vm.machine.failure ≡ f → StepUnless f None m old result new → IfWaits result (Sleeps m version options new.fed new.answers new.taken new.vm)
+wait_unless : (m : Meaning) (version : Version) (options : VMOptions) (old : Record) (result : Result Progress Error) (new : Record) → Premises m version options (heard version old) → IsKept m version options old → (f : Option Error) → old.vm.machine.failure ≡ f → StepUnless f None m old result new → IfWaits result (Sleeps m version options (heard version new) new.answers new.taken new.vm)
 wait_unless m version options old result new under k (Some e) is d = ⊎_elim (λ (x : result ≡ Err e). error_waits _ result e x) (λ (x : result ≡ Err no_memory). error_waits _ result no_memory x) d.0
 wait_unless m version options old result new under k None is d = wait_at m version options old result new under k is old.vm.machine.phase refl d
 
 -- a step waits only where nothing wakes
-pub step_waits : (m : Meaning) (version : Version) (options : VMOptions) (old : Record) (result : Result Progress Error) (new : Record) → Premises m version options old.fed → IsKept m version options old → old.over ≡ None → StepDoes m old result new → IfWaits result (Sleeps m version options new.fed new.answers new.taken new.vm)
+pub step_waits : (m : Meaning) (version : Version) (options : VMOptions) (old : Record) (result : Result Progress Error) (new : Record) → Premises m version options (heard version old) → IsKept m version options old → old.over ≡ None → StepDoes m old result new → IfWaits result (Sleeps m version options (heard version new) new.answers new.taken new.vm)
 step_waits m version options old result new under k going does = by_test old.starved does
   where
-    by_test : (b : Bool) → StepFrom b m old result new → IfWaits result (Sleeps m version options new.fed new.answers new.taken new.vm)
+    by_test : (b : Bool) → StepFrom b m old result new → IfWaits result (Sleeps m version options (heard version new) new.answers new.taken new.vm)
     by_test true d = error_waits _ result no_memory d.0
     by_test false d = wait_unless m version options old result new under k old.vm.machine.failure refl (subst (λ over. StepUnless old.vm.machine.failure over m old result new) going d)
 
@@ -326,7 +337,7 @@ replays_advance m old result new is d =
     (subst (λ f. StepUnless f None m old result new) is.failure
     (subst (λ over. StepUnless old.vm.machine.failure over m old result new) is.over (subst (λ b. StepFrom b m old result new) is.starved d)))
 
-pub step_replays : (m : Meaning) (version : Version) (options : VMOptions) (old : Record) (result : Result Progress Error) (new : Record) → Premises m version options old.fed → IsKept m version options old → IsReplaying old → StepDoes m old result new → Replays m version options old result new
+pub step_replays : (m : Meaning) (version : Version) (options : VMOptions) (old : Record) (result : Result Progress Error) (new : Record) → Premises m version options (heard version old) → IsKept m version options old → IsReplaying old → StepDoes m old result new → Replays m version options old result new
 step_replays m version options old result new under k is does =
     ⊎_elim
     (λ (x : LacksMemory old result new). lacks_replay m version options old result new x)
@@ -341,12 +352,23 @@ step_replays m version options old result new under k is does =
 
 -- nothing was answered or written yet
 abbrev pub IsNew : Version → VMOptions → Record → Type 0
-IsNew version options r = BeforeInput version options r.fed r.answers r.waiting r.taken r.vm
+IsNew version options r = BeforeInput version options (heard version r) r.answers r.waiting r.taken r.vm
+
+pub nothing_acknowledged : (version : Version) → acknowledged_from version [] ≡ []
+nothing_acknowledged version = by_test (is_from_v7 version)
+  where
+    nothing : List KeptProposal
+    nothing = []
+
+    by_test : (b : Bool) → (if b then nothing else []) ≡ nothing
+    by_test true = refl
+    by_test false = refl
 
 pub made_new : (alloc : Global) (version : Version) (options : VMOptions) → IsNew version options (fresh_record (made alloc options version))
 unfolding frames_of
 made_new alloc version options = record {
   answers = refl;
+  none_proposed = nothing_acknowledged version;
   waits_not = refl;
   wrote = record { sent = []; bytes = refl; whole = tt; waiting = []; frames = refl; commands = refl };
   comes = λ _. inl (refl, (alloc, refl));
@@ -361,20 +383,25 @@ pub new_is_new : {S : Type 0} (alloc : Global) (options : VMOptions) (wanted : R
 new_is_new alloc options (Ok version) view vm is = subst (λ (x : View). IsNew x.machine.version options (fresh_record x)) (sym is) (made_new alloc version options)
 new_is_new alloc options (Err refusal) view vm is = absurd is
 
+-- it has written nothing
+pub new_whole : {S : Type 0} (alloc : Global) (options : VMOptions) (wanted : Result Version Error) (view : S → View) (vm : S) → Makes alloc options wanted view (Ok vm) → WholeFrames (view vm).machine.output
+new_whole alloc options (Ok version) view vm is = subst (λ (x : View). WholeFrames x.machine.output) (sym is) (record { messages = []; are = refl; each = tt })
+new_whole alloc options (Err refusal) view vm is = absurd is
+
 -- the answers of an attempt are told by what is read from its output
 pub kept_told : (m : Meaning) (version : Version) (options : VMOptions) (r : Record) → WholeFrames r.vm.machine.output → IsKept m version options r → (r.answers ≡ []) ⊎ AnswersAreTold m version options r
 kept_told m version options r f =
     ⊎_elim
-    (λ (b : BeforeInput version options r.fed r.answers r.waiting r.taken r.vm). inl b.answers)
-    (λ (k : Runs m version options r.fed r.answers r.waiting r.taken r.vm).
+    (λ (b : BeforeInput version options (heard version r) r.answers r.waiting r.taken r.vm). inl b.answers)
+    (λ (k : Runs m version options (heard version r) r.answers r.waiting r.taken r.vm).
     let told = attempt_is_told (setup_for version options k.journal.start) m (handed_out k.journal) k.journal.input k.moves (arrivals k.journal) k.journal.rest k.written k.at k.run in
-    inr (subst (ToldBy m version options r.fed r.answers) (written_is r.taken r.vm.machine.output k.written k.wrote f) (record { journal = k.journal; at = k.at; told = told.0; answers = k.answers; moves = k.moves; made = k.run; in_order = told.1 })))
+    inr (subst (ToldBy m version options (heard version r) r.answers) (written_is r.taken r.vm.machine.output k.written k.wrote f) (record { journal = k.journal; at = k.at; told = told.0; answers = k.answers; moves = k.moves; made = k.run; in_order = told.1 })))
 
 -- an await sleeps by what is read from its output
-sleeps_on : (m : Meaning) (version : Version) (options : VMOptions) (r : Record) → WholeFrames r.vm.machine.output → Sleeps m version options r.fed r.answers r.taken r.vm → NothingWakes m version options r
-sleeps_on m version options r f (written, wrote, asleep) = subst (IsAsleep m version options r.fed r.answers) (written_is r.taken r.vm.machine.output written wrote f) asleep
+sleeps_on : (m : Meaning) (version : Version) (options : VMOptions) (r : Record) → WholeFrames r.vm.machine.output → Sleeps m version options (heard version r) r.answers r.taken r.vm → NothingWakes m version options r
+sleeps_on m version options r f (written, wrote, asleep) = subst (IsAsleep m version options (heard version r) r.answers) (written_is r.taken r.vm.machine.output written wrote f) asleep
 
-pub asleep_waits : (m : Meaning) (version : Version) (options : VMOptions) (r : Record) (result : Result Progress Error) → WholeFrames r.vm.machine.output → IfWaits result (Sleeps m version options r.fed r.answers r.taken r.vm) → IfWaits result (NothingWakes m version options r)
+pub asleep_waits : (m : Meaning) (version : Version) (options : VMOptions) (r : Record) (result : Result Progress Error) → WholeFrames r.vm.machine.output → IfWaits result (Sleeps m version options (heard version r) r.answers r.taken r.vm) → IfWaits result (NothingWakes m version options r)
 asleep_waits m version options r (Ok (progress.Waiting input run)) f h = sleeps_on m version options r f h
 asleep_waits m version options r (Ok (progress.ExecuteRun run)) f h = sleeps_on m version options r f h
 asleep_waits m version options r (Ok progress.Suspended) f h = sleeps_on m version options r f h

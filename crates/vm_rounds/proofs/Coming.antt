@@ -12,11 +12,12 @@ use Rattle.invocation_vm.specs.Frames.{Rest}
 use Rattle.invocation_vm.specs.Making.{made}
 use Rattle.invocation_vm.specs.Views.{View}
 use Rattle.vm_model.specs.Calls.{Meaning}
+use Rattle.vm_rounds.specs.Heard.{Heard}
 use Rattle.vm_rounds.specs.declared.progress.Fed.{Fed}
 use Rattle.vm_rounds.specs.declared.progress.Progress.{Progress}
 use Rattle.vm_rounds.specs.declared.progress.Reply.{Reply}
 use Rattle.vm_rounds.specs.declared.progress.Reply.TheVariants as reply
-use Rattle.vm_rounds.specs.Record.{Record}
+use Rattle.vm_rounds.specs.Record.{Record, heard}
 use Rattle.vm_rounds.specs.Stepping.{Asks, CloseDoes, FeedDoes, StepDoes, Takes, step_asked, fresh_record, future_in, replied}
 use Rattle.vm_rounds.specs.Told.{HasCome, IsLive, commands_of}
 use Rattle.vm_rounds.proofs.Advanced.{Begins, made_new, runs_answered, steps_keep}
@@ -27,13 +28,14 @@ use Rattle.vm_rounds.proofs.Sending.{IsLeft, Sends, step_leaves}
 
 -- ---- the input is read
 
-came_begins : (m : Meaning) (version : Version) (options : VMOptions) (fed : List Fed) (answers : List Answer) (waiting : Option UnresolvedFuture) (taken : List (List ℕ)) (v : View) → Begins m version options fed answers waiting taken v → CameBy version options fed answers waiting taken v
+came_begins : (m : Meaning) (version : Version) (options : VMOptions) (fed : Heard) (answers : List Answer) (waiting : Option UnresolvedFuture) (taken : List (List ℕ)) (v : View) → Begins m version options fed answers waiting taken v → CameBy version options fed answers waiting taken v
 came_begins m version options fed answers waiting taken v (k, none) = record {
   journal = k.journal;
   answered = runs_answered m version options fed answers waiting taken v k;
   written = k.written;
   wrote = k.wrote;
   made_for = λ live. let a = k.agrees live in (ap (λ z. z.version) a.machine, ap (λ z. z.options) a.machine);
+  keeps = k.keeps;
   phase = k.phase;
   tail = k.tail;
 }
@@ -44,32 +46,33 @@ never_empty : (answers : List Answer) (a : Answer) → answers ++ a ∷ [] ≢ [
 never_empty [] a = λ h. absurd (cc)
 never_empty (b ∷ answers) a = λ h. absurd (cc)
 
-module _ (version : Version) (options : VMOptions) (fed : List Fed) (before : List Answer) (waiting : Option UnresolvedFuture) (taken : List (List ℕ)) (v w : View) (k : CameBy version options fed before waiting taken v) (live : IsLive v.machine) (und : w.undecoded ≡ v.undecoded) where
+module _ (version : Version) (options : VMOptions) (fed : Heard) (before : List Answer) (waiting : Option UnresolvedFuture) (taken : List (List ℕ)) (v w : View) (k : CameBy version options fed before waiting taken v) (live : IsLive v.machine) (und : w.undecoded ≡ v.undecoded) where
   -- what was sent is written behind what was
-  came_on : (answers : List Answer) (waits : Option UnresolvedFuture) → answers ≢ [] → Sends v.machine w.machine → (w.machine.failure ≡ None → (is_running w.machine.phase ≡ true) ⊎ (w.machine.phase ≡ Closed)) → CameBy version options fed answers waits taken w
-  came_on answers waits answered s phase = record {
+  came_on : (answers : List Answer) (waits : Option UnresolvedFuture) → answers ≢ [] → Sends v.machine w.machine → (w.machine.failure ≡ None → w.machine.proposals ≡ v.machine.proposals) → (w.machine.failure ≡ None → (is_running w.machine.phase ≡ true) ⊎ (w.machine.phase ≡ Closed)) → CameBy version options fed answers waits taken w
+  came_on answers waits answered s kept phase = record {
     journal = k.journal;
     answered = answered;
     written = k.written ++ commands_of s.messages;
     wrote = wrote_more taken v.machine.output w.machine.output s.messages k.written s.output k.wrote;
     made_for = λ _. (s.version ∙ (k.made_for live).0, s.options ∙ (k.made_for live).1);
+    keeps = λ alive. let before = k.keeps live in (kept alive.failure ∙ before.0, before.1);
     phase = phase;
     tail = λ _. k.tail live ∙ ap Rest (sym und);
   }
 
-asks_come : (m : Meaning) (version : Version) (options : VMOptions) (old : Record) (result : Result Progress Error) (new : Record) → CameBy version options old.fed old.answers old.waiting old.taken old.vm → IsLive old.vm.machine → Asks m old result new → KeptBy (CameBy version options) version options new
+asks_come : (m : Meaning) (version : Version) (options : VMOptions) (old : Record) (result : Result Progress Error) (new : Record) → CameBy version options (heard version old) old.answers old.waiting old.taken old.vm → IsLive old.vm.machine → Asks m old result new → KeptBy (CameBy version options) version options new
 asks_come m version options old result new k live (x, w, does, is, made) = subst (KeptBy (CameBy version options) version options) (sym is) (inr (by_reply x (step_leaves (step_asked m old) old.vm.machine live x w.machine does.0.0)))
   where
-    on : (answers : List Answer) (waits : Option UnresolvedFuture) → answers ≢ [] → Sends old.vm.machine w.machine → (w.machine.failure ≡ None → (is_running w.machine.phase ≡ true) ⊎ (w.machine.phase ≡ Closed)) → CameBy version options old.fed answers waits old.taken w
-    on = came_on version options old.fed old.answers old.waiting old.taken old.vm w k live does.0.1
+    on : (answers : List Answer) (waits : Option UnresolvedFuture) → answers ≢ [] → Sends old.vm.machine w.machine → (w.machine.failure ≡ None → w.machine.proposals ≡ old.vm.machine.proposals) → (w.machine.failure ≡ None → (is_running w.machine.phase ≡ true) ⊎ (w.machine.phase ≡ Closed)) → CameBy version options (heard version old) answers waits old.taken w
+    on = came_on version options (heard version old) old.answers old.waiting old.taken old.vm w k live does.0.1
 
-    by_reply : (x : Result Reply Error) → IsLeft old.vm.machine x w.machine → (let r = replied old (future_in (step_asked m old)) x w in CameBy version options r.fed r.answers r.waiting r.taken r.vm)
-    by_reply (Ok (reply.Answer a)) h = on (old.answers ++ a ∷ []) None (never_empty old.answers a) h.sends (λ _. inl h.left)
-    by_reply (Ok (reply.Waiting input run)) h = on old.answers (future_in (step_asked m old)) k.answered h.sends (λ _. inl h.left)
-    by_reply (Ok (reply.Execute run)) h = on old.answers (future_in (step_asked m old)) k.answered h.sends (λ _. inl h.left)
-    by_reply (Ok reply.Suspended) h = on old.answers old.waiting k.answered h.sends (λ _. inr h.left)
-    by_reply (Ok reply.Ended) h = on old.answers old.waiting k.answered h.sends (λ _. inr h.left)
-    by_reply (Err e) h = on old.answers old.waiting k.answered h.0 (λ alive. absurd (let z : None ≡ Some e = sym alive ∙ h.1 in cc))
+    by_reply : (x : Result Reply Error) → IsLeft old.vm.machine x w.machine → (let r = replied old (future_in (step_asked m old)) x w in CameBy version options (heard version r) r.answers r.waiting r.taken r.vm)
+    by_reply (Ok (reply.Answer a)) h = on (old.answers ++ a ∷ []) None (never_empty old.answers a) h.sends (λ _. h.kept) (λ _. inl h.left)
+    by_reply (Ok (reply.Waiting input run)) h = on old.answers (future_in (step_asked m old)) k.answered h.sends (λ _. h.kept) (λ _. inl h.left)
+    by_reply (Ok (reply.Execute run)) h = on old.answers (future_in (step_asked m old)) k.answered h.sends (λ _. h.kept) (λ _. inl h.left)
+    by_reply (Ok reply.Suspended) h = on old.answers old.waiting k.answered h.sends (λ _. h.kept) (λ _. inr h.left)
+    by_reply (Ok reply.Ended) h = on old.answers old.waiting k.answered h.sends (λ _. h.kept) (λ _. inr h.left)
+    by_reply (Err e) h = on old.answers old.waiting k.answered h.0 (λ alive. absurd (let z : None ≡ Some e = sym alive ∙ h.1 in cc)) (λ alive. absurd (let z : None ≡ Some e = sym alive ∙ h.1 in cc))
 
 -- ---- each call
 

@@ -2,6 +2,7 @@
 use Rattle.std.proofs.Common.{◌≡◌, ◌⊎◌, ℕ, zero, suc, ◌-◌, Bool, true, false, cond, List, [], ◌∷◌, ◌++◌, length, Option, Some, None, refl, sym, ap, ◌∙◌, subst, inl, inr, ⊎_elim, append_assoc, append-nil, arith}
 use Rattle.std.specs.Prelude.{◌==◌, ◌&&◌, if◌then◌else◌, is_some, nat_le, nat_lt, IsSome}
 use native.Mathlib.Nat.{zero-add, suc-add}
+use Rattle.std.specs.List.{AllByRecursion}
 use Rattle.std.proofs.lemmas.Bool.{eqb-true}
 use Rattle.std.proofs.lemmas.Bool.Decides.{nat_tests}
 use Rattle.journal_errors.specs.declared.faults.NamedFault.TheVariants as fault
@@ -23,7 +24,7 @@ use Rattle.vm_machine.specs.Outcomes.{Outcome, Done, refused, settled}
 use Rattle.invocation_vm.specs.Views.{all_received, left_by, received}
 use Rattle.vm_model.specs.Calls.{Setup}
 use Rattle.vm_rounds.specs.Agreement.{Aside}
-use Rattle.vm_rounds.specs.Journals.{TakenIn, HasAll, HasStarted, StartCame, aside_for, setup_for, Started, StillWaits, commands_among, is_command, is_notification, machine_fed, missing, notifications_among, notified_by, phase_missing, waiting, is_acknowledgement}
+use Rattle.vm_rounds.specs.Journals.{AcknowledgesNothing, TakenIn, HasAll, HasStarted, StartCame, aside_for, setup_for, Started, StillWaits, commands_among, is_command, is_notification, machine_fed, missing, notifications_among, notified_by, phase_missing, waiting, is_acknowledgement}
 use Rattle.vm_rounds.proofs.Arriving.{behind_one, failed_stays, live_receives, some_failure}
 
 -- one entry less is missing
@@ -57,55 +58,67 @@ pub receives_by : (v : Machine) (raw : RawMessage) → v.failure ≡ None → re
 unfolding message_step
 receives_by v raw is = live_receives v raw is
 
--- a command is no notification
-not_both : (n : ℕ) → nat_le 10 n && nat_lt n 30 ≡ true → (n == 30) ≡ false
-not_both n e = by_test (n == 30) refl
+-- a frame is a command, a notification or an acknowledgement, and no two of them
+record Alone (b c d : Bool) : Type 0 where
+  no_note : b ≡ true → c ≡ false
+  no_acknowledgement : b ≡ true → d ≡ false
+  note_acknowledges_nothing : c ≡ true → d ≡ false
+
+pub not_both : (n m : ℕ) → (nat_le 10 m && nat_lt m 30) ≡ false → nat_le 10 n && nat_lt n 30 ≡ true → (n == m) ≡ false
+not_both n m outside e = by_test (n == m) refl
   where
-    by_test : (b : Bool) → (n == 30) ≡ b → b ≡ false
+    by_test : (b : Bool) → (n == m) ≡ b → b ≡ false
     by_test false is = refl
-    by_test true is = absurd (let z : nat_le 10 30 && nat_lt 30 30 ≡ true = subst (λ k. nat_le 10 k && nat_lt k 30 ≡ true) (eqb-true n 30 is) e in cc)
+    by_test true is = absurd (let z : false ≡ true = sym outside ∙ subst (λ k. nat_le 10 k && nat_lt k 30 ≡ true) (eqb-true n m is) e in cc)
 
--- one more entry came, or the machine has failed
-abbrev Counts : Setup → StateMap → Aside → ℕ → List RawMessage → List Notification → Machine → Type 0
-Counts s given aside k cs ns m = IsSome m.failure ⊎ (m ≡ waiting s given aside k cs ns)
+alone : (n : ℕ) → Alone (nat_le 10 n && nat_lt n 30) (n == 30) (n == 6)
+alone n = record {
+  no_note = not_both n 30 refl;
+  no_acknowledgement = not_both n 6 refl;
+  note_acknowledges_nothing = λ e. ap (λ k. k == 6) (eqb-true n 30 e);
+}
 
-queued_counts : (s : Setup) (given : StateMap) (aside : Aside) (k : ℕ) (cs : List RawMessage) (ns : List Notification) (o : Option Notification)
-    → Counts s given aside k (cs ++ []) (ns ++ notified_by o []) (left_by (settled (queued o counted_entry (machine_fed s given (missing (suc k) aside) cs ns WaitingReplayEntries))))
-queued_counts s given aside k cs ns None = inl refl
-queued_counts s given aside k cs ns (Some n) = inr (counts_to s given aside k cs (ns ++ n ∷ []) ∙ λ i. waiting s given aside k (sym (append-nil cs) i) (ns ++ n ∷ []))
+-- one more entry came, of which this is so, or the machine has failed
+abbrev Counts : Setup → StateMap → Aside → ℕ → List RawMessage → List Notification → Type 0 → Machine → Type 0
+Counts s given aside k cs ns N m = IsSome m.failure ⊎ ((m ≡ waiting s given aside k cs ns) × N)
 
-entry_counts : (s : Setup) (given : StateMap) (aside : Aside) (k : ℕ) (cs : List RawMessage) (ns : List Notification) (raw : RawMessage) (a b c d : Bool) → (b ≡ true → c ≡ false)
-    → Counts s given aside k (cs ++ cond b (raw ∷ []) []) (ns ++ cond c (notified_by (notification_in raw.body) []) []) (left_by (settled (message_by raw WaitingReplayEntries (machine_fed s given (missing (suc k) aside) cs ns WaitingReplayEntries) a b c d)))
+queued_counts : (s : Setup) (given : StateMap) (aside : Aside) (k : ℕ) (cs : List RawMessage) (ns : List Notification) (N : Type 0) → N → (o : Option Notification)
+    → Counts s given aside k (cs ++ []) (ns ++ notified_by o []) N (left_by (settled (queued o counted_entry (machine_fed s given (missing (suc k) aside) cs ns WaitingReplayEntries))))
+queued_counts s given aside k cs ns N is None = inl refl
+queued_counts s given aside k cs ns N is (Some n) = inr ((counts_to s given aside k cs (ns ++ n ∷ []) ∙ λ i. waiting s given aside k (sym (append-nil cs) i) (ns ++ n ∷ [])), is)
+
+entry_counts : (s : Setup) (given : StateMap) (aside : Aside) (k : ℕ) (cs : List RawMessage) (ns : List Notification) (raw : RawMessage) (a b c d : Bool) → Alone b c d
+    → Counts s given aside k (cs ++ cond b (raw ∷ []) []) (ns ++ cond c (notified_by (notification_in raw.body) []) []) (d ≡ false) (left_by (settled (message_by raw WaitingReplayEntries (machine_fed s given (missing (suc k) aside) cs ns WaitingReplayEntries) a b c d)))
 entry_counts s given aside k cs ns raw true b c d one = inl refl
-entry_counts s given aside k cs ns raw false true true d one = absurd (let z : true ≡ false = one refl in cc)
-entry_counts s given aside k cs ns raw false true false d one = inr (counts_to s given aside k (cs ++ raw ∷ []) ns ∙ λ i. waiting s given aside k (cs ++ raw ∷ []) (sym (append-nil ns) i))
-entry_counts s given aside k cs ns raw false false true d one = queued_counts s given aside k cs ns (notification_in raw.body)
+entry_counts s given aside k cs ns raw false true true d one = absurd (let z : true ≡ false = one.no_note refl in cc)
+entry_counts s given aside k cs ns raw false true false d one = inr ((counts_to s given aside k (cs ++ raw ∷ []) ns ∙ λ i. waiting s given aside k (cs ++ raw ∷ []) (sym (append-nil ns) i)), one.no_acknowledgement refl)
+entry_counts s given aside k cs ns raw false false true d one = queued_counts s given aside k cs ns (d ≡ false) (one.note_acknowledges_nothing refl) (notification_in raw.body)
 entry_counts s given aside k cs ns raw false false false true one = inl refl
 entry_counts s given aside k cs ns raw false false false false one = inl refl
 
-entry_comes : (s : Setup) (given : StateMap) (aside : Aside) (k : ℕ) (cs : List RawMessage) (ns : List Notification) (raw : RawMessage) → Counts s given aside k (cs ++ commands_among (raw ∷ [])) (ns ++ notifications_among (raw ∷ [])) (received raw (waiting s given aside (suc k) cs ns))
+entry_comes : (s : Setup) (given : StateMap) (aside : Aside) (k : ℕ) (cs : List RawMessage) (ns : List Notification) (raw : RawMessage) → Counts s given aside k (cs ++ commands_among (raw ∷ [])) (ns ++ notifications_among (raw ∷ [])) (AcknowledgesNothing raw) (received raw (waiting s given aside (suc k) cs ns))
 entry_comes s given aside k cs ns raw =
     let v = waiting s given aside (suc k) cs ns in
-    subst (Counts s given aside k (cs ++ commands_among (raw ∷ [])) (ns ++ notifications_among (raw ∷ []))) (sym (receives_by v raw refl)) (entry_counts s given aside k cs ns raw (type_number raw.ty == 1) (is_command raw) (is_notification raw) (is_acknowledgement raw) (not_both (type_number raw.ty)))
+    subst (Counts s given aside k (cs ++ commands_among (raw ∷ [])) (ns ++ notifications_among (raw ∷ [])) (AcknowledgesNothing raw)) (sym (receives_by v raw refl)) (entry_counts s given aside k cs ns raw (type_number raw.ty == 1) (is_command raw) (is_notification raw) (is_acknowledgement raw) (alone (type_number raw.ty)))
 
 -- once all entries have come, a further notification is queued
-queued_stays : (s : Setup) (given : StateMap) (aside : Aside) (cs : List RawMessage) (ns : List Notification) (o : Option Notification)
-    → Counts s given aside 0 cs (ns ++ notified_by o []) (left_by (settled (queued o (λ w. w) (waiting s given aside 0 cs ns))))
-queued_stays s given aside cs ns None = inl refl
-queued_stays s given aside cs ns (Some n) = inr refl
+queued_stays : (s : Setup) (given : StateMap) (aside : Aside) (cs : List RawMessage) (ns : List Notification) (N : Type 0) → N → (o : Option Notification)
+    → Counts s given aside 0 cs (ns ++ notified_by o []) N (left_by (settled (queued o (λ w. w) (waiting s given aside 0 cs ns))))
+queued_stays s given aside cs ns N is None = inl refl
+queued_stays s given aside cs ns N is (Some n) = inr (refl, is)
 
-more_counts : (s : Setup) (given : StateMap) (aside : Aside) (cs : List RawMessage) (ns : List Notification) (raw : RawMessage) (a b c d : Bool) → (b ≡ true → c ≡ false)
-    → Counts s given aside 0 cs (ns ++ cond c (notified_by (notification_in raw.body) []) []) (left_by (settled (message_by raw Replaying (waiting s given aside 0 cs ns) a b c d)))
+more_counts : (s : Setup) (given : StateMap) (aside : Aside) (cs : List RawMessage) (ns : List Notification) (raw : RawMessage) (a b c d : Bool) → Alone b c d
+    → Counts s given aside 0 cs (ns ++ cond c (notified_by (notification_in raw.body) []) []) (d ≡ false) (left_by (settled (message_by raw Replaying (waiting s given aside 0 cs ns) a b c d)))
 more_counts s given aside cs ns raw true b c d one = inl refl
 more_counts s given aside cs ns raw false true c d one = inl refl
-more_counts s given aside cs ns raw false false true d one = queued_stays s given aside cs ns (notification_in raw.body)
+more_counts s given aside cs ns raw false false true d one = queued_stays s given aside cs ns (d ≡ false) (one.note_acknowledges_nothing refl) (notification_in raw.body)
 more_counts s given aside cs ns raw false false false true one = inl refl
 more_counts s given aside cs ns raw false false false false one = inl refl
 
-more_comes : (s : Setup) (given : StateMap) (aside : Aside) (cs : List RawMessage) (ns : List Notification) (raw : RawMessage) → Counts s given aside 0 cs (ns ++ notifications_among (raw ∷ [])) (received raw (waiting s given aside 0 cs ns))
+more_comes : (s : Setup) (given : StateMap) (aside : Aside) (cs : List RawMessage) (ns : List Notification) (raw : RawMessage) → Counts s given aside 0 cs (ns ++ notifications_among (raw ∷ [])) (AcknowledgesNothing raw) (received raw (waiting s given aside 0 cs ns))
 more_comes s given aside cs ns raw =
     let v = waiting s given aside 0 cs ns in
-    subst (Counts s given aside 0 cs (ns ++ notifications_among (raw ∷ []))) (sym (receives_by v raw refl)) (more_counts s given aside cs ns raw (type_number raw.ty == 1) (is_command raw) (is_notification raw) (is_acknowledgement raw) (not_both (type_number raw.ty)))
+    subst (Counts s given aside 0 cs (ns ++ notifications_among (raw ∷ [])) (AcknowledgesNothing raw)) (sym (receives_by v raw refl)) (more_counts s given aside cs ns raw (type_number raw.ty == 1) (is_command raw) (is_notification raw) (is_acknowledgement raw) (alone (type_number raw.ty)))
 
 -- ---- all frames
 
@@ -124,29 +137,35 @@ fails_on : (v : Machine) (raws : List RawMessage) → IsSome v.failure → IsSom
 fails_on v raws f = let e = some_failure v f in ap (λ w. is_some w.failure) (failed_stays e.0 v raws e.1) ∙ f
 
 -- behind the known entries all frames are later arrivals
-pub more_come : (s : Setup) (given : StateMap) (aside : Aside) (cs : List RawMessage) (ns : List Notification) (raws : List RawMessage) → Counts s given aside 0 cs (ns ++ notifications_among raws) (all_received raws (waiting s given aside 0 cs ns))
-more_come s given aside cs ns [] = inr (λ i. waiting s given aside 0 cs (sym (append-nil ns) i))
+pub more_come : (s : Setup) (given : StateMap) (aside : Aside) (cs : List RawMessage) (ns : List Notification) (raws : List RawMessage) → Counts s given aside 0 cs (ns ++ notifications_among raws) (AllByRecursion AcknowledgesNothing raws) (all_received raws (waiting s given aside 0 cs ns))
+more_come s given aside cs ns [] = inr ((λ i. waiting s given aside 0 cs (sym (append-nil ns) i)), tt)
 more_come s given aside cs ns (raw ∷ raws) =
     ⊎_elim
     (λ (f : IsSome (received raw (waiting s given aside 0 cs ns)).failure). inl (fails_on (received raw (waiting s given aside 0 cs ns)) raws f))
-    (λ (e : received raw (waiting s given aside 0 cs ns) ≡ waiting s given aside 0 cs (ns ++ notifications_among (raw ∷ []))).
-    subst (λ l. Counts s given aside 0 cs l (all_received raws (received raw (waiting s given aside 0 cs ns)))) (append_assoc ns (notifications_among (raw ∷ [])) (notifications_among raws) ∙ ap (λ l. ns ++ l) (notifications_behind raw raws))
-    (rw e (more_come s given aside cs (ns ++ notifications_among (raw ∷ [])) raws)))
+    (λ (e : (received raw (waiting s given aside 0 cs ns) ≡ waiting s given aside 0 cs (ns ++ notifications_among (raw ∷ []))) × AcknowledgesNothing raw).
+    subst (λ l. Counts s given aside 0 cs l (AcknowledgesNothing raw × AllByRecursion AcknowledgesNothing raws) (all_received raws (received raw (waiting s given aside 0 cs ns)))) (append_assoc ns (notifications_among (raw ∷ [])) (notifications_among raws) ∙ ap (λ l. ns ++ l) (notifications_behind raw raws))
+    (rw e.0 (also (all_received raws (waiting s given aside 0 cs (ns ++ notifications_among (raw ∷ [])))) e.1 (more_come s given aside cs (ns ++ notifications_among (raw ∷ [])) raws))))
     (more_comes s given aside cs ns raw)
+  where
+    also : (m : Machine) → AcknowledgesNothing raw → Counts s given aside 0 cs ((ns ++ notifications_among (raw ∷ [])) ++ notifications_among raws) (AllByRecursion AcknowledgesNothing raws) m
+        → Counts s given aside 0 cs ((ns ++ notifications_among (raw ∷ [])) ++ notifications_among raws) (AcknowledgesNothing raw × AllByRecursion AcknowledgesNothing raws) m
+    also m none = ⊎_elim
+        (λ (f : IsSome m.failure). inl f)
+        (λ (x : (m ≡ waiting s given aside 0 cs ((ns ++ notifications_among (raw ∷ [])) ++ notifications_among raws)) × AllByRecursion AcknowledgesNothing raws). inr (x.0, (none, x.1)))
 
 pub entries_come : (s : Setup) (given : StateMap) (aside : Aside) (k : ℕ) (cs : List RawMessage) (ns : List Notification) (raws : List RawMessage) → TakenIn s given aside k cs ns raws (all_received raws (waiting s given aside k cs ns))
 entries_come s given aside zero cs ns raws =
     ⊎_elim
     (λ (f : IsSome (all_received raws (waiting s given aside 0 cs ns)).failure). inl f)
-    (λ (e : all_received raws (waiting s given aside 0 cs ns) ≡ waiting s given aside 0 cs (ns ++ notifications_among raws)).
-    inr (inr (record { entries = []; others = raws; split = refl; count = refl; machine = e ∙ λ i. waiting s given aside 0 (sym (append-nil cs) i) (ns ++ notifications_among raws) })))
+    (λ (e : (all_received raws (waiting s given aside 0 cs ns) ≡ waiting s given aside 0 cs (ns ++ notifications_among raws)) × AllByRecursion AcknowledgesNothing raws).
+    inr (inr (record { entries = []; others = raws; split = refl; none_acknowledge = e.1; count = refl; machine = e.0 ∙ λ i. waiting s given aside 0 (sym (append-nil cs) i) (ns ++ notifications_among raws) })))
     (more_come s given aside cs ns raws)
-entries_come s given aside (suc k) cs ns [] = inr (inl (record { left = k; count = sym (zero-add (suc k)); machine = λ i. waiting s given aside (suc k) (sym (append-nil cs) i) (sym (append-nil ns) i) }))
+entries_come s given aside (suc k) cs ns [] = inr (inl (record { left = k; none_acknowledge = tt; count = sym (zero-add (suc k)); machine = λ i. waiting s given aside (suc k) (sym (append-nil cs) i) (sym (append-nil ns) i) }))
 entries_come s given aside (suc k) cs ns (raw ∷ raws) =
     ⊎_elim
     (λ (f : IsSome (received raw (waiting s given aside (suc k) cs ns)).failure). inl (fails_on (received raw (waiting s given aside (suc k) cs ns)) raws f))
-    (λ (e : received raw (waiting s given aside (suc k) cs ns) ≡ waiting s given aside k (cs ++ commands_among (raw ∷ [])) (ns ++ notifications_among (raw ∷ []))).
-    subst (λ w. TakenIn s given aside (suc k) cs ns (raw ∷ raws) (all_received raws w)) (sym e) (goes_on (all_received raws (waiting s given aside k (cs ++ commands_among (raw ∷ [])) (ns ++ notifications_among (raw ∷ [])))) (entries_come s given aside k (cs ++ commands_among (raw ∷ [])) (ns ++ notifications_among (raw ∷ [])) raws)))
+    (λ (e : (received raw (waiting s given aside (suc k) cs ns) ≡ waiting s given aside k (cs ++ commands_among (raw ∷ [])) (ns ++ notifications_among (raw ∷ []))) × AcknowledgesNothing raw).
+    subst (λ w. TakenIn s given aside (suc k) cs ns (raw ∷ raws) (all_received raws w)) (sym e.0) (goes_on e.1 (all_received raws (waiting s given aside k (cs ++ commands_among (raw ∷ [])) (ns ++ notifications_among (raw ∷ [])))) (entries_come s given aside k (cs ++ commands_among (raw ∷ [])) (ns ++ notifications_among (raw ∷ [])) raws)))
     (entry_comes s given aside k cs ns raw)
   where
     commands_are : (es : List RawMessage) → (cs ++ commands_among (raw ∷ [])) ++ commands_among es ≡ cs ++ commands_among (raw ∷ es)
@@ -155,16 +174,16 @@ entries_come s given aside (suc k) cs ns (raw ∷ raws) =
     notifications_are : (ns ++ notifications_among (raw ∷ [])) ++ notifications_among raws ≡ ns ++ notifications_among (raw ∷ raws)
     notifications_are = append_assoc ns (notifications_among (raw ∷ [])) (notifications_among raws) ∙ ap (λ l. ns ++ l) (notifications_behind raw raws)
 
-    goes_on : (m : Machine) → TakenIn s given aside k (cs ++ commands_among (raw ∷ [])) (ns ++ notifications_among (raw ∷ [])) raws m → TakenIn s given aside (suc k) cs ns (raw ∷ raws) m
-    goes_on m =
+    goes_on : AcknowledgesNothing raw → (m : Machine) → TakenIn s given aside k (cs ++ commands_among (raw ∷ [])) (ns ++ notifications_among (raw ∷ [])) raws m → TakenIn s given aside (suc k) cs ns (raw ∷ raws) m
+    goes_on none m =
         ⊎_elim
         (λ (f : IsSome m.failure). inl f)
         (λ (o : StillWaits s given aside k (cs ++ commands_among (raw ∷ [])) (ns ++ notifications_among (raw ∷ [])) raws m ⊎ HasAll s given aside k (cs ++ commands_among (raw ∷ [])) (ns ++ notifications_among (raw ∷ [])) raws m).
         inr (⊎_elim
         (λ (w : StillWaits s given aside k (cs ++ commands_among (raw ∷ [])) (ns ++ notifications_among (raw ∷ [])) raws m).
-        inl (record { left = w.left; count = ap suc w.count ∙ sym (suc-add (length raws) (suc w.left)); machine = w.machine ∙ λ i. waiting s given aside (suc w.left) (commands_are raws i) (notifications_are i) }))
+        inl (record { left = w.left; none_acknowledge = (none, w.none_acknowledge); count = ap suc w.count ∙ sym (suc-add (length raws) (suc w.left)); machine = w.machine ∙ λ i. waiting s given aside (suc w.left) (commands_are raws i) (notifications_are i) }))
         (λ (h : HasAll s given aside k (cs ++ commands_among (raw ∷ [])) (ns ++ notifications_among (raw ∷ [])) raws m).
-        inr (record { entries = raw ∷ h.entries; others = h.others; split = ap (λ l. raw ∷ l) h.split; count = ap suc h.count; machine = h.machine ∙ λ i. waiting s given aside 0 (commands_are h.entries i) (notifications_are i) }))
+        inr (record { entries = raw ∷ h.entries; others = h.others; split = ap (λ l. raw ∷ l) h.split; none_acknowledge = (none, h.none_acknowledge); count = ap suc h.count; machine = h.machine ∙ λ i. waiting s given aside 0 (commands_are h.entries i) (notifications_are i) }))
         o))
 
 -- ---- from the first frame on

@@ -29,6 +29,7 @@ use Rattle.invocation_vm.specs.Views.{View}
 use Rattle.vm_model.specs.Calls.{Setup, Meaning, identity_of}
 use Rattle.vm_model.specs.Journal.{input_read_from}
 use Rattle.vm_model.proofs.Runs.{made_add}
+use Rattle.vm_rounds.specs.Heard.{Heard}
 use Rattle.vm_rounds.specs.declared.progress.Fed.{Fed}
 use Rattle.vm_rounds.specs.declared.progress.Progress.{Progress}
 use Rattle.vm_rounds.specs.declared.progress.Progress.TheVariants as progress
@@ -38,7 +39,7 @@ use Rattle.vm_rounds.specs.Agreement.{IsCutShort, IsRefused}
 use Rattle.vm_rounds.specs.Blames.{Blame, BlamedAt, IfError, IsBlamed, LacksInput, RefusedCall, first_input}
 use Rattle.vm_rounds.specs.Blames.Blame.{Memory, NoInput, Call}
 use Rattle.vm_rounds.specs.Journals.{BeginsOrFails, HasAll, StillWaits, commands_among, machine_fed, missing, notifications_among, setup_for}
-use Rattle.vm_rounds.specs.Record.{Record}
+use Rattle.vm_rounds.specs.Record.{Record, heard}
 use Rattle.vm_rounds.specs.Stepping.{Advances, Asks, LacksMemory, Reads, StepAt, StepDoes, StepFrom, StepUnless, step_asked, future_in, progress_of}
 use Rattle.vm_rounds.specs.Stepping as stepping
 use Rattle.vm_rounds.specs.Steps.{Performs}
@@ -71,7 +72,7 @@ called_done {A} v o a w live is = by_outcome o (ap (λ f. called_at f o v) (sym 
     by_outcome (Failed e x) h = absurd (cc)
 
 -- a machine whose only failure is this error, and the reason for it
-error_blamed : (m : Meaning) (version : Version) (options : VMOptions) (over : Option Progress) (fed : List Fed) (closed : Bool) (answers : List Answer) (w : Machine) (e : Error) → w.failure ≡ Some e → Blame m version options fed closed answers e → BlamedAt m version options over fed closed answers w
+pub error_blamed : (m : Meaning) (version : Version) (options : VMOptions) (over : Option Progress) (fed : Heard) (closed : Bool) (answers : List Answer) (w : Machine) (e : Error) → w.failure ≡ Some e → Blame m version options fed closed answers e → BlamedAt m version options over fed closed answers w
 error_blamed m version options over fed closed answers w e is b = record {
   open_yet = λ going none. none_some e (sym none ∙ is);
   blame = λ going d some. subst (Blame m version options fed closed answers) (same_Some e d (sym is ∙ some)) b;
@@ -120,7 +121,7 @@ input_opens v = by_phase v.phase
     by_phase Closed = tt
 
 -- an input that isn't read: the journal has none
-read_lacks : (version : Version) (options : VMOptions) (fed : List Fed) (v : Machine) (b : Begun version options fed v) (h : HasAll (setup_for version options b.start) (record { entries = b.state; coverage = coverage_of b.start.partial }) b.aside b.start.known_entries [] [] b.others v)
+read_lacks : (version : Version) (options : VMOptions) (fed : Heard) (v : Machine) (b : Begun version options fed v) (h : HasAll (setup_for version options b.start) (record { entries = b.state; coverage = coverage_of b.start.partial }) b.aside b.start.known_entries [] [] b.others v)
     → (d : Error) (u : Machine) → input_step v ≡ Failed d u → (cs : List RawMessage) → commands_among h.entries ≡ cs → LacksInput (frames_fed fed)
 read_lacks version options fed v b h d u is cs e = record {
   first = b.first_frame;
@@ -152,7 +153,7 @@ read_lacks version options fed v b h d u is cs e = record {
 waits_not : {A : Type 0} (v : Machine) → is_running v.phase ≡ true → is_running v.phase ≡ false → A
 waits_not v runs not_yet = absurd (let z : true ≡ false = sym runs ∙ not_yet in cc)
 
-input_lacks : (version : Version) (options : VMOptions) (fed : List Fed) (v : Machine) → is_running v.phase ≡ true → (d : Error) (u : Machine) → input_step v ≡ Failed d u → Comes version options fed v → LacksInput (frames_fed fed)
+input_lacks : (version : Version) (options : VMOptions) (fed : Heard) (v : Machine) → is_running v.phase ≡ true → (d : Error) (u : Machine) → input_step v ≡ Failed d u → Comes version options fed v → LacksInput (frames_fed fed)
 input_lacks version options fed v runs d u is =
     ⊎_elim
     (λ (x : (frames_fed fed ≡ []) × ((alloc : Global) × (v ≡ fresh alloc version options))). waits_not v runs (ap (λ (z : Machine). is_running z.phase) x.1.1))
@@ -162,7 +163,7 @@ input_lacks version options fed v runs d u is =
     (λ (x : HasAll (setup_for version options b.start) (record { entries = b.state; coverage = coverage_of b.start.partial }) b.aside b.start.known_entries [] [] b.others v). read_lacks version options fed v b x d u is (commands_among x.entries) refl)
     b.waits)
 
-reads_blamed : (m : Meaning) (version : Version) (options : VMOptions) (old : Record) (result : Result Progress Error) (new : Record) → BeforeInput version options old.fed old.answers old.waiting old.taken old.vm → IsLive old.vm.machine → Reads old result new → IsBlamed m version options new
+reads_blamed : (m : Meaning) (version : Version) (options : VMOptions) (old : Record) (result : Result Progress Error) (new : Record) → BeforeInput version options (heard version old) old.answers old.waiting old.taken old.vm → IsLive old.vm.machine → Reads old result new → IsBlamed m version options new
 reads_blamed m version options old (Ok made) new b live (stepped, (i, w, does, is)) =
     let o = subst (Opens old.vm.machine) (called_done old.vm.machine (input_step old.vm.machine) i w.machine live.failure does.0) (input_opens old.vm.machine) in
     subst (IsBlamed m version options) (sym is) (alive_blamed m version options _ _ _ _ w.machine (o.0 ∙ live.failure) (λ closed. let z : false ≡ true = sym o.1 ∙ ap is_closed closed in absurd (cc)))
@@ -171,17 +172,17 @@ reads_blamed m version options old (Err e) new b live (w, does, is) =
     (⊎_elim
     (λ (x : called (input_step old.vm.machine) old.vm.machine ≡ Failed e w.machine).
     let f = called_failed old.vm.machine (input_step old.vm.machine) e w.machine live.failure x in
-    error_blamed m version options _ _ _ _ w.machine e f.0 (NoInput (input_lacks version options old.fed old.vm.machine live.phase f.1.0 f.1.1 f.1.2 (b.comes live.failure))))
+    error_blamed m version options _ _ _ _ w.machine e f.0 (NoInput (input_lacks version options (heard version old) old.vm.machine live.phase f.1.0 f.1.1 f.1.2 (b.comes live.failure))))
     (λ (x : IsStarved old.vm.machine e w.machine). starves m version options old w e live.failure x)
     does.0)
   where
-    starves : (m : Meaning) (version : Version) (options : VMOptions) (r : Record) (w : View) (e : Error) → r.vm.machine.failure ≡ None → IsStarved r.vm.machine e w.machine → BlamedAt m version options r.over r.fed r.closed r.answers w.machine
+    starves : (m : Meaning) (version : Version) (options : VMOptions) (r : Record) (w : View) (e : Error) → r.vm.machine.failure ≡ None → IsStarved r.vm.machine e w.machine → BlamedAt m version options r.over (heard version r) r.closed r.answers w.machine
     starves m version options r w e live x = error_blamed m version options _ _ _ _ w.machine no_memory (x.failure ∙ ap (λ (f : Option Error). Some (unwrap_or f no_memory)) live) (Memory refl)
 
 -- ---- the handler's call
 
-module _ (m : Meaning) (version : Version) (options : VMOptions) (r : Record) (under : Premises m version options r.fed) (k : Runs m version options r.fed r.answers r.waiting r.taken r.vm) (live : IsLive r.vm.machine) (w : View) where
-  refused_call : (e : Error) → IsRefused (setup_for version options k.journal.start) m (handed_out k.journal) k.at r.vm.machine e w.machine → RefusedCall m version options r.fed r.answers e
+module _ (m : Meaning) (version : Version) (options : VMOptions) (r : Record) (under : Premises m version options (heard version r)) (k : Runs m version options (heard version r) r.answers r.waiting r.taken r.vm) (live : IsLive r.vm.machine) (w : View) where
+  refused_call : (e : Error) → IsRefused (setup_for version options k.journal.start) m (handed_out k.journal) k.at r.vm.machine e w.machine → RefusedCall m version options (heard version r) r.answers e
   refused_call e g =
       let a = k.agrees live in
       record {
@@ -198,7 +199,7 @@ module _ (m : Meaning) (version : Version) (options : VMOptions) (r : Record) (u
       }
 
   -- the handler's call was refused, or memory was lacking
-  call_refused : (e : Error) → Performs (step_asked m r) r.vm.machine (Failed e w.machine) → (e ≡ no_memory) ⊎ RefusedCall m version options r.fed r.answers e
+  call_refused : (e : Error) → Performs (step_asked m r) r.vm.machine (Failed e w.machine) → (e ≡ no_memory) ⊎ RefusedCall m version options (heard version r) r.answers e
   call_refused e does =
       let same : step_asked m r ≡ m k.at.answers = asks_next m k.at r.answers r.waiting k.answers k.awaits in
       ⊎_elim
@@ -206,12 +207,12 @@ module _ (m : Meaning) (version : Version) (options : VMOptions) (r : Record) (u
       (λ (x : IsCutShort (setup_for version options k.journal.start) m (handed_out k.journal) k.at r.vm.machine e w.machine). inl x.error)
       (agreeing_follows (setup_for version options k.journal.start) m (handed_out k.journal) k.written r.vm.machine k.at (Failed e w.machine) (λ future _. (under.queues, under.once k.journal k.moves k.written k.at k.run)) (k.agrees live) (subst (λ q. Performs q r.vm.machine (Failed e w.machine)) same does) (tt {0}))
 
-asks_blamed : (m : Meaning) (version : Version) (options : VMOptions) (old : Record) (result : Result Progress Error) (new : Record) → (Premises m version options old.fed → Runs m version options old.fed old.answers old.waiting old.taken old.vm) → IsLive old.vm.machine → Asks m old result new → IsBlamed m version options new
+asks_blamed : (m : Meaning) (version : Version) (options : VMOptions) (old : Record) (result : Result Progress Error) (new : Record) → (Premises m version options (heard version old) → Runs m version options (heard version old) old.answers old.waiting old.taken old.vm) → IsLive old.vm.machine → Asks m old result new → IsBlamed m version options new
 asks_blamed m version options old result new runs live (x, w, does, is, made) = subst (IsBlamed m version options) (sym is) (by_reply x (step_leaves (step_asked m old) old.vm.machine live x w.machine does.0.0) does.0.0)
   where
     -- a VM whose handler runs
-    running : (answers : List Answer) → w.machine.failure ≡ old.vm.machine.failure → is_running w.machine.phase ≡ true → BlamedAt m version options old.over old.fed old.closed answers w.machine
-    running answers failure at = alive_blamed m version options old.over old.fed old.closed answers w.machine (failure ∙ live.failure) (λ closed. absurd (let z : false ≡ true = sym (ap is_running closed) ∙ at in cc))
+    running : (answers : List Answer) → w.machine.failure ≡ old.vm.machine.failure → is_running w.machine.phase ≡ true → BlamedAt m version options old.over (heard version old) old.closed answers w.machine
+    running answers failure at = alive_blamed m version options old.over (heard version old) old.closed answers w.machine (failure ∙ live.failure) (λ closed. absurd (let z : false ≡ true = sym (ap is_running closed) ∙ at in cc))
 
     by_reply : (x : Result Reply Error) → IsLeft old.vm.machine x w.machine → DoesBy (Performs (step_asked m old) old.vm.machine) x old.vm.machine w.machine → IsBlamed m version options (stepping.replied old (future_in (step_asked m old)) x w)
     by_reply (Ok (reply.Answer a)) h d = running (old.answers ++ a ∷ []) h.failure h.left
@@ -220,7 +221,7 @@ asks_blamed m version options old result new runs live (x, w, does, is, made) = 
     by_reply (Ok reply.Suspended) h d = over_blamed m version options progress.Suspended _ _ _ _
     by_reply (Ok reply.Ended) h d = over_blamed m version options progress.Ended _ _ _ _
     by_reply (Err e) h d =
-        error_blamed m version options old.over old.fed old.closed old.answers w.machine e h.1
+        error_blamed m version options old.over (heard version old) old.closed old.answers w.machine e h.1
         (⊎_elim
         (λ (y : Performs (step_asked m old) old.vm.machine (Failed e w.machine)). Call (λ p. call_refused m version options old p (runs p) live w e y))
         (λ (y : IsStarved old.vm.machine e w.machine). Memory y.error)
@@ -236,8 +237,8 @@ advances_blamed m version options old result new k u b live =
     ⊎_elim
     (λ (x : (old.answers ≡ []) × Reads old result new).
     ⊎_elim
-    (λ (y : BeforeInput version options old.fed old.answers old.waiting old.taken old.vm). reads_blamed m version options old result new y live x.1)
-    (λ (y : Came version options old.fed old.answers old.taken old.vm). absurd (y.answered x.0))
+    (λ (y : BeforeInput version options (heard version old) old.answers old.waiting old.taken old.vm). reads_blamed m version options old result new y live x.1)
+    (λ (y : Came version options (heard version old) old.answers old.taken old.vm). absurd (y.answered x.0))
     k)
     (λ (x : (old.answers ≢ []) × Asks m old result new). asks_blamed m version options old result new (λ p. runs_of m version options old (u p) x.0) live x.1)
     o)

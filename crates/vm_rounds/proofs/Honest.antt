@@ -29,12 +29,15 @@ use Rattle.vm_model.specs.Moves.{later, start as first_point}
 use Rattle.vm_model.proofs.Runs.{made_later}
 use Rattle.journal_attempt.specs.declared.commands.InputCommand.{InputCommand}
 use Rattle.vm_model.specs.Journal.{Entry, Recorded, Notified, commands_in, input_read_from, notifications_in, stored_form}
+use Rattle.vm_rounds.specs.Heard.{Heard}
 use Rattle.vm_rounds.specs.declared.progress.Fed.{Fed}
 use Rattle.vm_rounds.specs.Blames.{Began, IsHonest, Place, fault_by, frame_fault, notification_fault, refused_start, start_fault}
 use Rattle.vm_rounds.specs.Honest.{FeedsHonestly, IsEntry, entry_frame, frame_bytes, notification_frame}
-use Rattle.vm_rounds.specs.Journals.{is_acknowledgement, as_entries, is_notification, notifications_among, notified_by, recorded_by, setup_for, told_by}
+use Rattle.vm_rounds.specs.Journals.{AcknowledgesNothing, is_acknowledgement, as_entries, is_notification, notifications_among, notified_by, recorded_by, setup_for, told_by}
 use Rattle.vm_rounds.specs.Told.{NoneHasTwo, arrivals, begun, bytes_fed, frames_fed, handed_out}
-use Rattle.vm_rounds.proofs.Pieces.{notifications_append}
+use Rattle.vm_rounds.proofs.Entries.{not_both}
+use Rattle.vm_rounds.proofs.Proposed.{arriving_notified, none_front}
+use Rattle.vm_rounds.proofs.Pieces.{notifications_append, none_append}
 use Rattle.vm_rounds.proofs.Replayed.{commands_same, head_same, notes_same, tail_same}
 use Rattle.vm_rounds.proofs.Under.{fewer_waiting}
 use Rattle.vm_rounds.proofs.Written.{Fits, frames_spelled}
@@ -107,6 +110,16 @@ journal_read (Recorded raw ∷ journal) all =
 journal_read (Notified n ∷ journal) all =
     ap (λ o. told_by o (as_entries (map entry_frame journal))) (reads_note n all.0) ∙ ap (λ l. Notified n ∷ l) (journal_read journal all.1)
 
+-- no frame of them is an acknowledgement
+entries_acknowledge : (journal : List Entry) → AllByRecursion IsEntry journal → AllByRecursion AcknowledgesNothing (map entry_frame journal)
+entries_acknowledge [] all = tt
+entries_acknowledge (Recorded raw ∷ journal) all = (not_both (type_number raw.ty) 6 refl all.0.0, entries_acknowledge journal all.1)
+entries_acknowledge (Notified n ∷ journal) all = (refl, entries_acknowledge journal all.1)
+
+notes_acknowledge : (more : List Notification) → AllByRecursion AcknowledgesNothing (map notification_frame more)
+notes_acknowledge [] = tt
+notes_acknowledge (n ∷ more) = (refl, notes_acknowledge more)
+
 notes_read : (more : List Notification) → Wholes more → notifications_among (map notification_frame more) ≡ more
 notes_read [] all = refl
 notes_read (n ∷ more) all = (λ i. notified_by (reads_note n all.0 i) (notes_read more all.1 i))
@@ -167,7 +180,7 @@ some_entries : (journal : List Entry) (first : RawMessage) (rest : List RawMessa
 some_entries [] first rest is = absurd (cc)
 some_entries (e ∷ journal) first rest is = not_none (length journal)
 
-module _ (m : Meaning) (version : Version) (options : VMOptions) (fed : List Fed) (h : FeedsHonestly m version options fed) where
+module _ (m : Meaning) (version : Version) (options : VMOptions) (fed : Heard) (h : FeedsHonestly m version options fed) where
   abbrev J : List RawMessage
   J = map entry_frame h.journal
 
@@ -254,8 +267,13 @@ module _ (m : Meaning) (version : Version) (options : VMOptions) (fed : List Fed
       let rest = tail_same j.first h.history.first j.rest h.history.rest commands in
       let input : j.input ≡ h.history.input = same_Some j.input h.history.input (sym j.reads_input ∙ ap input_read_from first ∙ h.history.reads) in
       let more = notifications_among begins.others in
+      let quiet : AllByRecursion AcknowledgesNothing (j.entries ++ j.others) =
+      none_front (j.entries ++ j.others) begins.others
+      (subst (AllByRecursion AcknowledgesNothing) (sym (append_assoc j.entries j.others begins.others ∙ tail)) (none_append J N (entries_acknowledge h.journal h.journal_is_whole) (notes_acknowledge h.more)))
+      in
       let notes : arrivals j ++ more ≡ all_notes =
-      sym (notifications_append (j.entries ++ j.others) begins.others) ∙ ap notifications_among (append_assoc j.entries j.others begins.others ∙ tail) ∙ notifications_append J N
+      ap (λ l. l ++ more) (arriving_notified fed.proposed (j.entries ++ j.others) quiet)
+      ∙ sym (notifications_append (j.entries ++ j.others) begins.others) ∙ ap notifications_among (append_assoc j.entries j.others begins.others ∙ tail) ∙ notifications_append J N
       ∙ (λ i. (sym (notes_same J) ∙ ap notifications_in (journal_read h.journal h.journal_is_whole)) i ++ notes_read h.more h.more_is_whole i)
       in
       let state : j.state ≡ h.state = same_Some j.state h.state (sym j.reads_state ∙ ap (λ (x : Start). entries_in x.state) same ∙ h.reads_state) in

@@ -23,10 +23,11 @@ use Rattle.invocation_vm.specs.Frames.{Tail, Rest, Garbage, frames_of}
 use Rattle.invocation_vm.specs.Views.{StarvesAmong, brought, View, after_closing, after_input, all_received, consumed, has_failed, left_by, left_over, received, spoiled}
 use Rattle.invocation_vm.proofs.Feeds.{among_failed, among_output}
 use Rattle.invocation_vm.proofs.Cuts.{frames_of-append}
+use Rattle.vm_rounds.specs.Heard.{Heard, and_piece, with_pieces}
 use Rattle.vm_rounds.specs.declared.progress.Fed.{Fed}
 use Rattle.vm_rounds.specs.Agreement.{Aside}
 use Rattle.vm_rounds.specs.Journals.{HasAll, StillWaits, is_command, is_notification, setup_for, is_acknowledgement}
-use Rattle.vm_rounds.specs.Record.{Record}
+use Rattle.vm_rounds.specs.Record.{Record, heard}
 use Rattle.vm_rounds.specs.Stepping.{CloseDoes, Closes, FeedDoes, Feeds, Takes, emptied, kept, kept_at, with_vm}
 use Rattle.vm_parts.specs.Outboxes.{WholeFrames}
 use Rattle.vm_rounds.specs.Told.{BeforeInput, Begun, Comes, IsLive, Quiet, bytes_fed, frames_fed}
@@ -38,9 +39,10 @@ use Rattle.vm_rounds.proofs.Quiet.{closing_quiet, input_quiet, quiet_same, wrote
 
 -- ---- a VM that has failed
 
-before_dead : (version : Version) (options : VMOptions) (fed to : List Fed) (answers : List Answer) (waiting : Option UnresolvedFuture) (taken : List (List ℕ)) (v w : View) → BeforeInput version options fed answers waiting taken v → Quiet v.machine w.machine → IsSome w.machine.failure → BeforeInput version options to answers waiting taken w
+before_dead : (version : Version) (options : VMOptions) (fed : Heard) (to : List Fed) (answers : List Answer) (waiting : Option UnresolvedFuture) (taken : List (List ℕ)) (v w : View) → BeforeInput version options fed answers waiting taken v → Quiet v.machine w.machine → IsSome w.machine.failure → BeforeInput version options (with_pieces to fed) answers waiting taken w
 before_dead version options fed to answers waiting taken v w b q dead = record {
   answers = b.answers;
+  none_proposed = b.none_proposed;
   waits_not = b.waits_not;
   wrote = wrote_quiet taken v.machine w.machine [] q b.wrote;
   comes = λ alive. not_failed w.machine dead alive;
@@ -95,7 +97,7 @@ pub not_live : {A : Type 0} (v : Machine) → v.phase ≡ Closed → IsLive v �
 not_live v closed live = absurd (let z : false ≡ true = sym (ap is_running closed) ∙ live.phase in cc)
 
 -- before the input no VM is closed
-pub open_before : {A : Type 0} (version : Version) (options : VMOptions) (fed : List Fed) (v : Machine) → Comes version options fed v → v.phase ≡ Closed → A
+pub open_before : {A : Type 0} (version : Version) (options : VMOptions) (fed : Heard) (v : Machine) → Comes version options fed v → v.phase ≡ Closed → A
 open_before {A} version options fed v c closed =
     ⊎_elim
     (λ (x : (frames_fed fed ≡ []) × ((alloc : Global) × (v ≡ fresh alloc version options))). absurd (let z : WaitingStart ≡ Closed = sym (ap (λ w. w.phase) x.1.1) ∙ closed in cc))
@@ -115,7 +117,7 @@ piece_dropped v piece e is = ap (λ o. if is_some o then v else consumed (frames
 -- ---- the output is taken
 
 -- what came, beside something else
-with_aside : (version : Version) (options : VMOptions) (fed : List Fed) (v w : Machine) (b : Begun version options fed v) (aside : Aside) → aside.start ≡ info_of version options.fallback_random_seed b.start
+with_aside : (version : Version) (options : VMOptions) (fed : Heard) (v w : Machine) (b : Begun version options fed v) (aside : Aside) → aside.start ≡ info_of version options.fallback_random_seed b.start
     → StillWaits (setup_for version options b.start) (record { entries = b.state; coverage = coverage_of b.start.partial }) aside b.start.known_entries [] [] b.others w ⊎ HasAll (setup_for version options b.start) (record { entries = b.state; coverage = coverage_of b.start.partial }) aside b.start.known_entries [] [] b.others w → Begun version options fed w
 with_aside version options fed v w b aside is waits = record {
   first_frame = b.first_frame;
@@ -130,29 +132,30 @@ with_aside version options fed v w b aside is waits = record {
   waits = waits;
 }
 
-comes_emptied : (version : Version) (options : VMOptions) (fed : List Fed) (v : Machine) → Comes version options fed v → Comes version options fed (record v { output = [] })
+comes_emptied : (version : Version) (options : VMOptions) (fed : Heard) (v : Machine) → Comes version options fed v → Comes version options fed (record v { output = [] })
 comes_emptied version options fed v =
     ⊎_elim
     (λ (x : (frames_fed fed ≡ []) × ((alloc : Global) × (v ≡ fresh alloc version options))). inl (x.0, (x.1.0, ap (λ (w : Machine). record w { output = [] }) x.1.1)))
     (λ (b : Begun version options fed v). inr (with_aside version options fed v (record v { output = [] }) b (record b.aside { output = [] }) b.of_start
     (⊎_elim
-    (λ (x : StillWaits (setup_for version options b.start) (record { entries = b.state; coverage = coverage_of b.start.partial }) b.aside b.start.known_entries [] [] b.others v). inl (record { left = x.left; count = x.count; machine = ap (λ (w : Machine). record w { output = [] }) x.machine }))
-    (λ (x : HasAll (setup_for version options b.start) (record { entries = b.state; coverage = coverage_of b.start.partial }) b.aside b.start.known_entries [] [] b.others v). inr (record { entries = x.entries; others = x.others; split = x.split; count = x.count; machine = ap (λ (w : Machine). record w { output = [] }) x.machine }))
+    (λ (x : StillWaits (setup_for version options b.start) (record { entries = b.state; coverage = coverage_of b.start.partial }) b.aside b.start.known_entries [] [] b.others v). inl (record { left = x.left; count = x.count; none_acknowledge = x.none_acknowledge; machine = ap (λ (w : Machine). record w { output = [] }) x.machine }))
+    (λ (x : HasAll (setup_for version options b.start) (record { entries = b.state; coverage = coverage_of b.start.partial }) b.aside b.start.known_entries [] [] b.others v). inr (record { entries = x.entries; others = x.others; split = x.split; none_acknowledge = x.none_acknowledge; count = x.count; machine = ap (λ (w : Machine). record w { output = [] }) x.machine }))
     b.waits)))
 
-comes_closed : (version : Version) (options : VMOptions) (fed : List Fed) (v : Machine) → is_running v.phase ≡ true → Comes version options fed v → Comes version options fed (record v { input_closed = true })
+comes_closed : (version : Version) (options : VMOptions) (fed : Heard) (v : Machine) → is_running v.phase ≡ true → Comes version options fed v → Comes version options fed (record v { input_closed = true })
 comes_closed version options fed v runs =
     ⊎_elim
     (λ (x : (frames_fed fed ≡ []) × ((alloc : Global) × (v ≡ fresh alloc version options))). absurd (let z : false ≡ true = sym (ap (λ w. is_running w.phase) x.1.1) ∙ runs in cc))
     (λ (b : Begun version options fed v). inr (with_aside version options fed v (record v { input_closed = true }) b (record b.aside { input_closed = true }) b.of_start
     (⊎_elim
-    (λ (x : StillWaits (setup_for version options b.start) (record { entries = b.state; coverage = coverage_of b.start.partial }) b.aside b.start.known_entries [] [] b.others v). inl (record { left = x.left; count = x.count; machine = ap (λ (w : Machine). record w { input_closed = true }) x.machine }))
-    (λ (x : HasAll (setup_for version options b.start) (record { entries = b.state; coverage = coverage_of b.start.partial }) b.aside b.start.known_entries [] [] b.others v). inr (record { entries = x.entries; others = x.others; split = x.split; count = x.count; machine = ap (λ (w : Machine). record w { input_closed = true }) x.machine }))
+    (λ (x : StillWaits (setup_for version options b.start) (record { entries = b.state; coverage = coverage_of b.start.partial }) b.aside b.start.known_entries [] [] b.others v). inl (record { left = x.left; count = x.count; none_acknowledge = x.none_acknowledge; machine = ap (λ (w : Machine). record w { input_closed = true }) x.machine }))
+    (λ (x : HasAll (setup_for version options b.start) (record { entries = b.state; coverage = coverage_of b.start.partial }) b.aside b.start.known_entries [] [] b.others v). inr (record { entries = x.entries; others = x.others; split = x.split; none_acknowledge = x.none_acknowledge; count = x.count; machine = ap (λ (w : Machine). record w { input_closed = true }) x.machine }))
     b.waits)))
 
-before_takes : (version : Version) (options : VMOptions) (fed : List Fed) (answers : List Answer) (waiting : Option UnresolvedFuture) (taken : List (List ℕ)) (v : View) → WholeFrames v.machine.output → BeforeInput version options fed answers waiting taken v → BeforeInput version options fed answers waiting (taken ++ concat v.machine.output ∷ []) (emptied v)
+before_takes : (version : Version) (options : VMOptions) (fed : Heard) (answers : List Answer) (waiting : Option UnresolvedFuture) (taken : List (List ℕ)) (v : View) → WholeFrames v.machine.output → BeforeInput version options fed answers waiting taken v → BeforeInput version options fed answers waiting (taken ++ concat v.machine.output ∷ []) (emptied v)
 before_takes version options fed answers waiting taken v f b = record {
   answers = b.answers;
+  none_proposed = b.none_proposed;
   waits_not = b.waits_not;
   wrote = takes_wrote taken v.machine.output [] f b.wrote;
   comes = λ alive. comes_emptied version options fed v.machine (b.comes alive);
@@ -161,9 +164,10 @@ before_takes version options fed answers waiting taken v f b = record {
 
 -- ---- the input is closed
 
-before_closes : (version : Version) (options : VMOptions) (fed : List Fed) (answers : List Answer) (waiting : Option UnresolvedFuture) (taken : List (List ℕ)) (v : View) → BeforeInput version options fed answers waiting taken v → v.machine.failure ≡ None → is_running v.machine.phase ≡ true → BeforeInput version options fed answers waiting taken (record v { machine = record v.machine { input_closed = true } })
+before_closes : (version : Version) (options : VMOptions) (fed : Heard) (answers : List Answer) (waiting : Option UnresolvedFuture) (taken : List (List ℕ)) (v : View) → BeforeInput version options fed answers waiting taken v → v.machine.failure ≡ None → is_running v.machine.phase ≡ true → BeforeInput version options fed answers waiting taken (record v { machine = record v.machine { input_closed = true } })
 before_closes version options fed answers waiting taken v b live runs = record {
   answers = b.answers;
+  none_proposed = b.none_proposed;
   waits_not = b.waits_not;
   wrote = b.wrote;
   comes = λ alive. comes_closed version options fed v.machine runs (b.comes live);
@@ -183,20 +187,20 @@ closing_notes v live ph at = λ i. left_by (called_at (sym live i) (closed_at (s
 
 -- what is told of an attempt once its handler has read the input, by what was fed, answered, awaited and taken, and the VM
 abbrev pub Reading : Type 1
-Reading = List Fed → List Answer → Option UnresolvedFuture → List (List ℕ) → View → Type 0
+Reading = Heard → List Answer → Option UnresolvedFuture → List (List ℕ) → View → Type 0
 
 -- the handler hasn't read its input, or this holds
 abbrev pub KeptBy : Reading → Version → VMOptions → Record → Type 0
-KeptBy R version options r = BeforeInput version options r.fed r.answers r.waiting r.taken r.vm ⊎ R r.fed r.answers r.waiting r.taken r.vm
+KeptBy R version options r = BeforeInput version options (heard version r) r.answers r.waiting r.taken r.vm ⊎ R (heard version r) r.answers r.waiting r.taken r.vm
 
 -- It lasts: where the VM has failed or is closed, with further input, where the output is taken, and where the input is closed.
 pub record Lasts (R : Reading) : Type 0 where
-  pub dead : (fed to : List Fed) (G : List RawMessage) → frames_fed to ≡ frames_fed fed ++ G → (answers : List Answer) (waiting : Option UnresolvedFuture) (taken : List (List ℕ)) (v w : View) → R fed answers waiting taken v → Quiet v.machine w.machine → IsSome w.machine.failure → R to answers waiting taken w
-  pub closed : (fed : List Fed) (answers : List Answer) (waiting : Option UnresolvedFuture) (taken : List (List ℕ)) (v w : View) → R fed answers waiting taken v → Quiet v.machine w.machine → w.machine.phase ≡ Closed → R fed answers waiting taken w
-  pub more : (fed : List Fed) (answers : List Answer) (waiting : Option UnresolvedFuture) (taken : List (List ℕ)) (v : View) (f : Fed) → R fed answers waiting taken v → IsLive v.machine → R (fed ++ f ∷ []) answers waiting taken (after_input v f.piece)
-  pub takes : (fed : List Fed) (answers : List Answer) (waiting : Option UnresolvedFuture) (taken : List (List ℕ)) (v : View) → WholeFrames v.machine.output → R fed answers waiting taken v → R fed answers waiting (taken ++ concat v.machine.output ∷ []) (emptied v)
-  pub closes : (fed : List Fed) (answers : List Answer) (waiting : Option UnresolvedFuture) (taken : List (List ℕ)) (v : View) → R fed answers waiting taken v → R fed answers waiting taken (record v { machine = record v.machine { input_closed = true } })
-  pub phase : (fed : List Fed) (answers : List Answer) (waiting : Option UnresolvedFuture) (taken : List (List ℕ)) (v : View) → R fed answers waiting taken v → v.machine.failure ≡ None → (is_running v.machine.phase ≡ true) ⊎ (v.machine.phase ≡ Closed)
+  pub dead : (fed : Heard) (to : List Fed) (G : List RawMessage) → frames_fed (with_pieces to fed) ≡ frames_fed fed ++ G → (answers : List Answer) (waiting : Option UnresolvedFuture) (taken : List (List ℕ)) (v w : View) → R fed answers waiting taken v → Quiet v.machine w.machine → IsSome w.machine.failure → R (with_pieces to fed) answers waiting taken w
+  pub closed : (fed : Heard) (answers : List Answer) (waiting : Option UnresolvedFuture) (taken : List (List ℕ)) (v w : View) → R fed answers waiting taken v → Quiet v.machine w.machine → w.machine.phase ≡ Closed → R fed answers waiting taken w
+  pub more : (fed : Heard) (answers : List Answer) (waiting : Option UnresolvedFuture) (taken : List (List ℕ)) (v : View) (f : Fed) → R fed answers waiting taken v → IsLive v.machine → R (and_piece fed f) answers waiting taken (after_input v f.piece)
+  pub takes : (fed : Heard) (answers : List Answer) (waiting : Option UnresolvedFuture) (taken : List (List ℕ)) (v : View) → WholeFrames v.machine.output → R fed answers waiting taken v → R fed answers waiting (taken ++ concat v.machine.output ∷ []) (emptied v)
+  pub closes : (fed : Heard) (answers : List Answer) (waiting : Option UnresolvedFuture) (taken : List (List ℕ)) (v : View) → R fed answers waiting taken v → R fed answers waiting taken (record v { machine = record v.machine { input_closed = true } })
+  pub phase : (fed : Heard) (answers : List Answer) (waiting : Option UnresolvedFuture) (taken : List (List ℕ)) (v : View) → R fed answers waiting taken v → v.machine.failure ≡ None → (is_running v.machine.phase ≡ true) ⊎ (v.machine.phase ≡ Closed)
 
 module _ (R : Reading) (l : Lasts R) (version : Version) (options : VMOptions) where
   abbrev Kept : Record → Type 0
@@ -205,34 +209,34 @@ module _ (R : Reading) (l : Lasts R) (version : Version) (options : VMOptions) w
   pub dead_same : (r : Record) (w : View) → Kept r → Quiet r.vm.machine w.machine → IsSome w.machine.failure → Kept (with_vm w r)
   dead_same r w k q dead =
       ⊎_elim
-      (λ (b : BeforeInput version options r.fed r.answers r.waiting r.taken r.vm). inl (before_dead version options r.fed r.fed r.answers r.waiting r.taken r.vm w b q dead))
-      (λ (b : R r.fed r.answers r.waiting r.taken r.vm). inr (l.dead r.fed r.fed [] (sym (append-nil (frames_fed r.fed))) r.answers r.waiting r.taken r.vm w b q dead))
+      (λ (b : BeforeInput version options (heard version r) r.answers r.waiting r.taken r.vm). inl (before_dead version options (heard version r) r.fed r.answers r.waiting r.taken r.vm w b q dead))
+      (λ (b : R (heard version r) r.answers r.waiting r.taken r.vm). inr (l.dead (heard version r) r.fed [] (sym (append-nil (frames_fed (heard version r)))) r.answers r.waiting r.taken r.vm w b q dead))
       k
 
   dead_more : (r : Record) (f : Fed) (w : View) → Kept r → Quiet r.vm.machine w.machine → IsSome w.machine.failure → Kept (record r { fed = r.fed ++ f ∷ []; vm = w })
   dead_more r f w k q dead =
-      let more = more_frames (frames_of (bytes_fed r.fed)) f.piece in
-      let frames : frames_fed (r.fed ++ f ∷ []) ≡ frames_fed r.fed ++ more.0 = ap (λ l. (frames_of l).0) (bytes_behind r.fed f) ∙ ap (λ p. p.0) (frames_of-append (bytes_fed r.fed) f.piece) ∙ more.1 in
+      let more = more_frames (frames_of (bytes_fed (heard version r))) f.piece in
+      let frames : frames_fed (and_piece (heard version r) f) ≡ frames_fed (heard version r) ++ more.0 = ap (λ l. (frames_of l).0) (bytes_behind (heard version r) f) ∙ ap (λ p. p.0) (frames_of-append (bytes_fed (heard version r)) f.piece) ∙ more.1 in
       ⊎_elim
-      (λ (b : BeforeInput version options r.fed r.answers r.waiting r.taken r.vm). inl (before_dead version options r.fed (r.fed ++ f ∷ []) r.answers r.waiting r.taken r.vm w b q dead))
-      (λ (b : R r.fed r.answers r.waiting r.taken r.vm). inr (l.dead r.fed (r.fed ++ f ∷ []) more.0 frames r.answers r.waiting r.taken r.vm w b q dead))
+      (λ (b : BeforeInput version options (heard version r) r.answers r.waiting r.taken r.vm). inl (before_dead version options (heard version r) (r.fed ++ f ∷ []) r.answers r.waiting r.taken r.vm w b q dead))
+      (λ (b : R (heard version r) r.answers r.waiting r.taken r.vm). inr (l.dead (heard version r) (r.fed ++ f ∷ []) more.0 frames r.answers r.waiting r.taken r.vm w b q dead))
       k
 
   -- a piece that is kept
   piece_kept : (r : Record) (f : Fed) → Kept r → r.vm.machine.failure ≡ None → r.vm.machine.phase ≢ Closed → Kept (record r { fed = r.fed ++ f ∷ []; vm = after_input r.vm f.piece })
   piece_kept r f k live open_yet =
       ⊎_elim
-      (λ (b : BeforeInput version options r.fed r.answers r.waiting r.taken r.vm). inl (before_fed version options r.fed r.answers r.waiting r.taken r.vm f b live))
-      (λ (b : R r.fed r.answers r.waiting r.taken r.vm).
-      inr (l.more r.fed r.answers r.waiting r.taken r.vm f b (record { failure = live; phase = ⊎_elim (λ (x : is_running r.vm.machine.phase ≡ true). x) (λ (x : r.vm.machine.phase ≡ Closed). absurd (open_yet x)) (l.phase r.fed r.answers r.waiting r.taken r.vm b live) })))
+      (λ (b : BeforeInput version options (heard version r) r.answers r.waiting r.taken r.vm). inl (before_fed version options (heard version r) r.answers r.waiting r.taken r.vm f b live))
+      (λ (b : R (heard version r) r.answers r.waiting r.taken r.vm).
+      inr (l.more (heard version r) r.answers r.waiting r.taken r.vm f b (record { failure = live; phase = ⊎_elim (λ (x : is_running r.vm.machine.phase ≡ true). x) (λ (x : r.vm.machine.phase ≡ Closed). absurd (open_yet x)) (l.phase (heard version r) r.answers r.waiting r.taken r.vm b live) })))
       k
 
   -- a piece for a VM that is closed
   piece_closed : (r : Record) (piece : List ℕ) → Kept r → r.vm.machine.failure ≡ None → r.vm.machine.phase ≡ Closed → Kept (with_vm (after_input r.vm piece) r)
   piece_closed r piece k live closed =
       ⊎_elim
-      (λ (b : BeforeInput version options r.fed r.answers r.waiting r.taken r.vm). open_before version options r.fed r.vm.machine (b.comes live) closed)
-      (λ (b : R r.fed r.answers r.waiting r.taken r.vm). inr (l.closed r.fed r.answers r.waiting r.taken r.vm (after_input r.vm piece) b (input_quiet r.vm piece) (closed_input r.vm piece closed)))
+      (λ (b : BeforeInput version options (heard version r) r.answers r.waiting r.taken r.vm). open_before version options (heard version r) r.vm.machine (b.comes live) closed)
+      (λ (b : R (heard version r) r.answers r.waiting r.taken r.vm). inr (l.closed (heard version r) r.answers r.waiting r.taken r.vm (after_input r.vm piece) b (input_quiet r.vm piece) (closed_input r.vm piece closed)))
       k
 
   piece_comes : (r : Record) (piece : List ℕ) → Kept r → (o : Option Error) → r.vm.machine.failure ≡ o → (ph : Phase) → r.vm.machine.phase ≡ ph → Kept (with_vm (after_input r.vm piece) (kept_at o ph piece r))
@@ -271,16 +275,16 @@ module _ (R : Reading) (l : Lasts R) (version : Version) (options : VMOptions) w
   take_keeps old (Ok bytes) new k does =
       subst Kept (sym does.1)
       (⊎_elim
-      (λ (b : BeforeInput version options old.fed old.answers old.waiting old.taken old.vm). inl (before_takes version options old.fed old.answers old.waiting old.taken old.vm does.2 b))
-      (λ (b : R old.fed old.answers old.waiting old.taken old.vm). inr (l.takes old.fed old.answers old.waiting old.taken old.vm does.2 b))
+      (λ (b : BeforeInput version options (heard version old) old.answers old.waiting old.taken old.vm). inl (before_takes version options (heard version old) old.answers old.waiting old.taken old.vm does.2 b))
+      (λ (b : R (heard version old) old.answers old.waiting old.taken old.vm). inr (l.takes (heard version old) old.answers old.waiting old.taken old.vm does.2 b))
       k)
   take_keeps old (Err e) new k does = subst Kept (sym does) k
 
   closing_runs : (r : Record) → Kept r → r.vm.machine.failure ≡ None → is_running r.vm.machine.phase ≡ true → Kept (with_vm (record r.vm { machine = record r.vm.machine { input_closed = true } }) r)
   closing_runs r k live runs =
       ⊎_elim
-      (λ (b : BeforeInput version options r.fed r.answers r.waiting r.taken r.vm). inl (before_closes version options r.fed r.answers r.waiting r.taken r.vm b live runs))
-      (λ (b : R r.fed r.answers r.waiting r.taken r.vm). inr (l.closes r.fed r.answers r.waiting r.taken r.vm b))
+      (λ (b : BeforeInput version options (heard version r) r.answers r.waiting r.taken r.vm). inl (before_closes version options (heard version r) r.answers r.waiting r.taken r.vm b live runs))
+      (λ (b : R (heard version r) r.answers r.waiting r.taken r.vm). inr (l.closes (heard version r) r.answers r.waiting r.taken r.vm b))
       k
 
   closing_keeps : (r : Record) → Kept r → (o : Option Error) → r.vm.machine.failure ≡ o → (ph : Phase) → r.vm.machine.phase ≡ ph → Kept (with_vm (after_closing r.vm) r)
@@ -291,8 +295,8 @@ module _ (R : Reading) (l : Lasts R) (version : Version) (options : VMOptions) w
   closing_keeps r k None is Processing at = subst (λ w. Kept (with_vm (record r.vm { machine = w }) r)) (closing_notes r.vm is Processing at) (closing_runs r k is (ap is_running at))
   closing_keeps r k None is Closed at =
       ⊎_elim
-      (λ (b : BeforeInput version options r.fed r.answers r.waiting r.taken r.vm). open_before version options r.fed r.vm.machine (b.comes is) at)
-      (λ (b : R r.fed r.answers r.waiting r.taken r.vm). inr (l.closed r.fed r.answers r.waiting r.taken r.vm (after_closing r.vm) b (closing_quiet r.vm) (ap (λ w. w.phase) (sym (closing_notes r.vm is Closed at)) ∙ at)))
+      (λ (b : BeforeInput version options (heard version r) r.answers r.waiting r.taken r.vm). open_before version options (heard version r) r.vm.machine (b.comes is) at)
+      (λ (b : R (heard version r) r.answers r.waiting r.taken r.vm). inr (l.closed (heard version r) r.answers r.waiting r.taken r.vm (after_closing r.vm) b (closing_quiet r.vm) (ap (λ w. w.phase) (sym (closing_notes r.vm is Closed at)) ∙ at)))
       k
 
   closes_keep : (old : Record) (result : Result Unit AllocError) (new : Record) → Kept old → Closes old result new → Kept new

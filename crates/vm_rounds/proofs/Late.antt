@@ -22,6 +22,7 @@ use Rattle.vm_machine.specs.Phases.{is_running}
 use Rattle.invocation_vm.specs.Frames.{Tail, Rest, Garbage, frames_of}
 use Rattle.invocation_vm.specs.Views.{StarvesAmong, View, after_closing, after_input, all_received, brought, consumed, left_over}
 use Rattle.vm_model.specs.Calls.{Meaning}
+use Rattle.vm_rounds.specs.Heard.{Heard, and_piece, with_pieces}
 use Rattle.vm_rounds.specs.declared.progress.Fed.{Fed}
 use Rattle.vm_rounds.specs.declared.progress.Progress.{Progress}
 use Rattle.vm_rounds.specs.declared.progress.Reply.{Reply}
@@ -29,7 +30,7 @@ use Rattle.vm_rounds.specs.declared.progress.Reply.TheVariants as reply
 use Rattle.vm_rounds.specs.Blames.{BadFrame, Began, BehindEnd, Blame, FailsAt, IfError, IsBlamed, IsLate, LateBy, fault_by, frame_fault, fault_among}
 use Rattle.vm_rounds.specs.Blames.Blame.{Memory, Frame, NoFrame}
 use Rattle.vm_rounds.specs.Journals.{is_command, is_notification, is_acknowledgement}
-use Rattle.vm_rounds.specs.Record.{Record, all_fed}
+use Rattle.vm_rounds.specs.Record.{Record, heard, all_heard}
 use Rattle.vm_rounds.specs.Stepping.{Advances, Asks, CloseDoes, Closes, FeedDoes, Feeds, LacksMemory, Reads, StepAt, StepDoes, StepFrom, StepUnless, Takes, fed_now, future_in, kept, kept_at, replied, step_asked, taken_from, with_vm}
 use Rattle.vm_rounds.specs.Told.{BeforeInput, Came, HasCome, IsKeptUnder, IsLive, bytes_fed, frames_fed}
 use Rattle.vm_rounds.proofs.Blamed.{closed_blame, closing_at, closing_not, none_some, spoils, spoils_not}
@@ -71,12 +72,12 @@ late_frame F G v m e closed b f is = record {
 
 -- ---- a piece that comes behind the end
 
-module _ (m : Meaning) (version : Version) (options : VMOptions) (all : List Fed) (closed : Bool) (answers : List Answer) (vm : View) (f : Fed) (k : BehindEnd m version options all closed answers vm) (live : vm.machine.failure ≡ None) where
+module _ (m : Meaning) (version : Version) (options : VMOptions) (all : Heard) (closed : Bool) (answers : List Answer) (vm : View) (f : Fed) (k : BehindEnd m version options all closed answers vm) (live : vm.machine.failure ≡ None) where
   abbrev came : List RawMessage × Tail
   came = frames_of (vm.undecoded ++ f.piece)
 
-  abbrev more : List Fed
-  more = all ++ f ∷ []
+  abbrev more : Heard
+  more = and_piece all f
 
   frames : frames_of (bytes_fed more) ≡ (frames_fed all ++ came.0, came.1)
   frames = fed_frames all f vm (k.tail live)
@@ -128,7 +129,7 @@ module _ (m : Meaning) (version : Version) (options : VMOptions) (all : List Fed
 
 -- ---- feeding
 
-starved_behind : (m : Meaning) (version : Version) (options : VMOptions) (all : List Fed) (closed : Bool) (answers : List Answer) (v : Machine) (w : View) → v.failure ≡ None → IsStarved v no_memory w.machine → BehindEnd m version options all closed answers w
+starved_behind : (m : Meaning) (version : Version) (options : VMOptions) (all : Heard) (closed : Bool) (answers : List Answer) (v : Machine) (w : View) → v.failure ≡ None → IsStarved v no_memory w.machine → BehindEnd m version options all closed answers w
 starved_behind m version options all closed answers v w live s =
     let is : w.machine.failure ≡ Some no_memory = s.failure ∙ ap (λ (f : Option Error). Some (unwrap_or f no_memory)) live in
     record {
@@ -157,17 +158,17 @@ kept_late None Processing piece r open_yet none = none
 kept_late None Closed piece r open_yet none = absurd (open_yet refl refl)
 
 -- a VM that hasn't failed is fed, behind the end
-late_at : (m : Meaning) (version : Version) (options : VMOptions) (r : Record) (piece : List ℕ) → BehindEnd m version options (all_fed r) r.closed r.answers r.vm → (o : Option Error) → r.vm.machine.failure ≡ o → (ph : Phase) → r.vm.machine.phase ≡ ph → (let k = kept_at o ph piece r in BehindEnd m version options (all_fed k) k.closed k.answers (after_input r.vm piece))
-late_at m version options r piece k (Some e) is ph at = subst (BehindEnd m version options (all_fed r) r.closed r.answers) (sym (piece_dropped r.vm piece e is)) k
+late_at : (m : Meaning) (version : Version) (options : VMOptions) (r : Record) (piece : List ℕ) → BehindEnd m version options (all_heard version r) r.closed r.answers r.vm → (o : Option Error) → r.vm.machine.failure ≡ o → (ph : Phase) → r.vm.machine.phase ≡ ph → (let k = kept_at o ph piece r in BehindEnd m version options (all_heard version k) k.closed k.answers (after_input r.vm piece))
+late_at m version options r piece k (Some e) is ph at = subst (BehindEnd m version options (all_heard version r) r.closed r.answers) (sym (piece_dropped r.vm piece e is)) k
 late_at m version options r piece k None is WaitingStart at = absurd (let z : WaitingStart ≡ Closed = sym at ∙ k.phase is in cc)
 late_at m version options r piece k None is WaitingReplayEntries at = absurd (let z : WaitingReplayEntries ≡ Closed = sym at ∙ k.phase is in cc)
 late_at m version options r piece k None is Replaying at = absurd (let z : Replaying ≡ Closed = sym at ∙ k.phase is in cc)
 late_at m version options r piece k None is Processing at = absurd (let z : Processing ≡ Closed = sym at ∙ k.phase is in cc)
 late_at m version options r piece k None is Closed at =
-    subst (λ l. BehindEnd m version options l r.closed r.answers (after_input r.vm piece)) (append_assoc r.fed r.late (fed_now piece r ∷ [])) (late_piece m version options (all_fed r) r.closed r.answers r.vm (fed_now piece r) k is)
+    subst (λ l. BehindEnd m version options (with_pieces l (heard version r)) r.closed r.answers (after_input r.vm piece)) (append_assoc r.fed r.late (fed_now piece r ∷ [])) (late_piece m version options (all_heard version r) r.closed r.answers r.vm (fed_now piece r) k is)
 
 -- the same where no memory was found
-late_starved : (m : Meaning) (version : Version) (options : VMOptions) (r : Record) (piece : List ℕ) (w : View) → StarvesAmong (brought r.vm piece) r.vm.machine w.machine → (let k = kept piece r in BehindEnd m version options (all_fed k) k.closed k.answers w)
+late_starved : (m : Meaning) (version : Version) (options : VMOptions) (r : Record) (piece : List ℕ) (w : View) → StarvesAmong (brought r.vm piece) r.vm.machine w.machine → (let k = kept piece r in BehindEnd m version options (all_heard version k) k.closed k.answers w)
 late_starved m version options r piece w s = starved_behind m version options _ _ _ s.reached w s.live s.starved
 
 feeds_late : (m : Meaning) (version : Version) (options : VMOptions) (piece : List ℕ) (old : Record) (result : Result Unit AllocError) (new : Record) → IsBlamed m version options old → (over : Option Progress) → old.over ≡ over → LateBy over m version options old → Feeds piece old result new → LateBy over m version options new
@@ -201,12 +202,12 @@ feed_late m version options piece old result new b k does = by_test old.starved 
 
 -- ---- closing
 
-closes_behind : (m : Meaning) (version : Version) (options : VMOptions) (r : Record) → BehindEnd m version options (all_fed r) r.closed r.answers r.vm → (o : Option Error) → r.vm.machine.failure ≡ o → BehindEnd m version options (all_fed r) true r.answers (after_closing r.vm)
+closes_behind : (m : Meaning) (version : Version) (options : VMOptions) (r : Record) → BehindEnd m version options (all_heard version r) r.closed r.answers r.vm → (o : Option Error) → r.vm.machine.failure ≡ o → BehindEnd m version options (all_heard version r) true r.answers (after_closing r.vm)
 closes_behind m version options r k (Some e) is =
-    subst (λ w. BehindEnd m version options (all_fed r) true r.answers (record r.vm { machine = w })) (closing_not r.vm e is)
-    (record { phase = k.phase; place = k.place; made_for = k.made_for; tail = k.tail; blame = λ d some. closed_blame m version options (all_fed r) r.closed r.answers d (k.blame d some) })
+    subst (λ w. BehindEnd m version options (all_heard version r) true r.answers (record r.vm { machine = w })) (closing_not r.vm e is)
+    (record { phase = k.phase; place = k.place; made_for = k.made_for; tail = k.tail; blame = λ d some. closed_blame m version options (all_heard version r) r.closed r.answers d (k.blame d some) })
 closes_behind m version options r k None is =
-    subst (λ w. BehindEnd m version options (all_fed r) true r.answers (record r.vm { machine = w })) (closing_at r.vm is Closed (k.phase is))
+    subst (λ w. BehindEnd m version options (all_heard version r) true r.answers (record r.vm { machine = w })) (closing_at r.vm is Closed (k.phase is))
     (record { phase = λ _. k.phase is; place = λ _. k.place is; made_for = λ _. k.made_for is; tail = λ _. k.tail is; blame = λ d some. none_some d (sym is ∙ some) })
 
 closes_late : (m : Meaning) (version : Version) (options : VMOptions) (old : Record) (result : Result Unit AllocError) (new : Record) → (over : Option Progress) → LateBy over m version options old → Closes old result new → LateBy over m version options new
@@ -239,11 +240,11 @@ take_late m version options old (Err e) new k does = subst (IsLate m version opt
 -- ---- a step
 
 -- by this call the attempt is over
-ends_behind : (m : Meaning) (version : Version) (options : VMOptions) (r : Record) (w : View) → Came version options r.fed r.answers r.taken r.vm → IsLive r.vm.machine → r.late ≡ [] → w.undecoded ≡ r.vm.undecoded → w.machine.failure ≡ r.vm.machine.failure → w.machine.phase ≡ Closed → w.machine.version ≡ r.vm.machine.version → w.machine.options ≡ r.vm.machine.options → BehindEnd m version options (all_fed r) r.closed r.answers w
+ends_behind : (m : Meaning) (version : Version) (options : VMOptions) (r : Record) (w : View) → Came version options (heard version r) r.answers r.taken r.vm → IsLive r.vm.machine → r.late ≡ [] → w.undecoded ≡ r.vm.undecoded → w.machine.failure ≡ r.vm.machine.failure → w.machine.phase ≡ Closed → w.machine.version ≡ r.vm.machine.version → w.machine.options ≡ r.vm.machine.options → BehindEnd m version options (all_heard version r) r.closed r.answers w
 ends_behind m version options r w c live none und failure at ver opt =
     let j = c.journal in
     let made = c.made_for live in
-    let all : r.fed ≡ all_fed r = sym (append-nil r.fed) ∙ ap (λ l. r.fed ++ l) (sym none) in
+    let all : heard version r ≡ all_heard version r = ap (λ l. with_pieces l (heard version r)) (sym (append-nil r.fed) ∙ ap (λ l. r.fed ++ l) (sym none)) in
     subst (λ l. BehindEnd m version options l r.closed r.answers w) all
     (record {
       phase = λ _. at;
@@ -256,7 +257,7 @@ ends_behind m version options r w c live none und failure at ver opt =
     enough : (a c n known : ℕ) → a ≡ known → n ≡ a + c → known ≤ n
     enough a c n known e f = omega (arith, e, f)
 
-asks_late : (m : Meaning) (version : Version) (options : VMOptions) (old : Record) (result : Result Progress Error) (new : Record) → Came version options old.fed old.answers old.taken old.vm → IsLive old.vm.machine → old.over ≡ None → old.late ≡ [] → Asks m old result new → IsLate m version options new
+asks_late : (m : Meaning) (version : Version) (options : VMOptions) (old : Record) (result : Result Progress Error) (new : Record) → Came version options (heard version old) old.answers old.taken old.vm → IsLive old.vm.machine → old.over ≡ None → old.late ≡ [] → Asks m old result new → IsLate m version options new
 asks_late m version options old result new c live going none (x, w, does, is, made) = subst (IsLate m version options) (sym is) (by_reply x (step_leaves (step_asked m old) old.vm.machine live x w.machine does.0.0))
   where
     on : (r : Record) → r.over ≡ old.over → r.late ≡ old.late → IsLate m version options r
@@ -283,8 +284,8 @@ advances_late m version options old result new k live going l none =
     (λ (x : (old.answers ≡ []) × Reads old result new). reads_late m version options old result new going none x.1)
     (λ (x : (old.answers ≢ []) × Asks m old result new).
     ⊎_elim
-    (λ (y : BeforeInput version options old.fed old.answers old.waiting old.taken old.vm). absurd (x.0 y.answers))
-    (λ (y : Came version options old.fed old.answers old.taken old.vm). asks_late m version options old result new y live going none x.1)
+    (λ (y : BeforeInput version options (heard version old) old.answers old.waiting old.taken old.vm). absurd (x.0 y.answers))
+    (λ (y : Came version options (heard version old) old.answers old.taken old.vm). asks_late m version options old result new y live going none x.1)
     k)
     o)
 
@@ -310,7 +311,7 @@ step_late m version options old result new k l does = by_test old.starved does
 -- ---- the error of a step
 
 -- an error while the attempt isn't over
-open_blame : (m : Meaning) (version : Version) (options : VMOptions) (old : Record) (result : Result Progress Error) (new : Record) → old.over ≡ None → IsBlamed m version options new → IsLate m version options new → Errs old result new → IfError result (λ e. Blame m version options (all_fed new) new.closed new.answers e)
+open_blame : (m : Meaning) (version : Version) (options : VMOptions) (old : Record) (result : Result Progress Error) (new : Record) → old.over ≡ None → IsBlamed m version options new → IsLate m version options new → Errs old result new → IfError result (λ e. Blame m version options (all_heard version new) new.closed new.answers e)
 open_blame m version options old (Ok made) new going b l h = tt
 open_blame m version options old (Err e) new going b l h =
     ⊎_elim
@@ -318,26 +319,26 @@ open_blame m version options old (Err e) new going b l h =
     (λ (x : (new.vm.machine.failure ≡ Some e) × (new.over ≡ old.over)).
     let over : new.over ≡ None = x.1 ∙ going in
     let none : new.late ≡ [] = subst (λ o. LateBy o m version options new) over l in
-    subst (λ fed. Blame m version options fed new.closed new.answers e) (sym (append-nil new.fed) ∙ ap (λ l. new.fed ++ l) (sym none)) (b.blame over e x.0))
+    subst (λ fed. Blame m version options fed new.closed new.answers e) (ap (λ l. with_pieces l (heard version new)) (sym (append-nil new.fed) ∙ ap (λ l. new.fed ++ l) (sym none))) (b.blame over e x.0))
     h
 
 -- an error once the attempt is over
-over_blame : (m : Meaning) (version : Version) (options : VMOptions) (made : Progress) (old : Record) (result : Result Progress Error) (new : Record) → LateBy (Some made) m version options old → (f : Option Error) → old.vm.machine.failure ≡ f → StepUnless f (Some made) m old result new → IfError result (λ e. Blame m version options (all_fed new) new.closed new.answers e)
+over_blame : (m : Meaning) (version : Version) (options : VMOptions) (made : Progress) (old : Record) (result : Result Progress Error) (new : Record) → LateBy (Some made) m version options old → (f : Option Error) → old.vm.machine.failure ≡ f → StepUnless f (Some made) m old result new → IfError result (λ e. Blame m version options (all_heard version new) new.closed new.answers e)
 over_blame m version options made old result new l (Some e) is d =
     ⊎_elim
-    (λ (x : result ≡ Err e). subst (λ z. IfError z (λ e. Blame m version options (all_fed new) new.closed new.answers e)) (sym x) (subst (λ (r : Record). Blame m version options (all_fed r) r.closed r.answers e) (sym d.1) (l.blame e is)))
-    (λ (x : result ≡ Err no_memory). subst (λ z. IfError z (λ e. Blame m version options (all_fed new) new.closed new.answers e)) (sym x) (Memory refl))
+    (λ (x : result ≡ Err e). subst (λ z. IfError z (λ e. Blame m version options (all_heard version new) new.closed new.answers e)) (sym x) (subst (λ (r : Record). Blame m version options (all_heard version r) r.closed r.answers e) (sym d.1) (l.blame e is)))
+    (λ (x : result ≡ Err no_memory). subst (λ z. IfError z (λ e. Blame m version options (all_heard version new) new.closed new.answers e)) (sym x) (Memory refl))
     d.0
-over_blame m version options made old result new l None is d = subst (λ z. IfError z (λ e. Blame m version options (all_fed new) new.closed new.answers e)) (sym d.0) tt
+over_blame m version options made old result new l None is d = subst (λ z. IfError z (λ e. Blame m version options (all_heard version new) new.closed new.answers e)) (sym d.0) tt
 
 -- an error of a step has a reason
-pub step_blame : (m : Meaning) (version : Version) (options : VMOptions) (old : Record) (result : Result Progress Error) (new : Record) → HasCome version options old → IsKeptUnder m version options old → IsBlamed m version options old → IsLate m version options old → StepDoes m old result new → IfError result (λ e. Blame m version options (all_fed new) new.closed new.answers e)
+pub step_blame : (m : Meaning) (version : Version) (options : VMOptions) (old : Record) (result : Result Progress Error) (new : Record) → HasCome version options old → IsKeptUnder m version options old → IsBlamed m version options old → IsLate m version options old → StepDoes m old result new → IfError result (λ e. Blame m version options (all_heard version new) new.closed new.answers e)
 step_blame m version options old result new k u b l does = by_over old.over refl l
   where
-    by_test : (made : Progress) → LateBy (Some made) m version options old → (t : Bool) → StepFrom t m old result new → old.over ≡ Some made → IfError result (λ e. Blame m version options (all_fed new) new.closed new.answers e)
-    by_test made l true d over = subst (λ z. IfError z (λ e. Blame m version options (all_fed new) new.closed new.answers e)) (sym d.0) (Memory refl)
+    by_test : (made : Progress) → LateBy (Some made) m version options old → (t : Bool) → StepFrom t m old result new → old.over ≡ Some made → IfError result (λ e. Blame m version options (all_heard version new) new.closed new.answers e)
+    by_test made l true d over = subst (λ z. IfError z (λ e. Blame m version options (all_heard version new) new.closed new.answers e)) (sym d.0) (Memory refl)
     by_test made l false d over = over_blame m version options made old result new l old.vm.machine.failure refl (subst (λ o. StepUnless old.vm.machine.failure o m old result new) over d)
 
-    by_over : (over : Option Progress) → old.over ≡ over → LateBy over m version options old → IfError result (λ e. Blame m version options (all_fed new) new.closed new.answers e)
+    by_over : (over : Option Progress) → old.over ≡ over → LateBy over m version options old → IfError result (λ e. Blame m version options (all_heard version new) new.closed new.answers e)
     by_over None going l' = open_blame m version options old result new going (step_blames m version options old result new k u b does) (step_late m version options old result new k l does) (step_errs m version options old result new b going does)
     by_over (Some made) over l' = by_test made l' old.starved does over

@@ -13,6 +13,7 @@ pub mod Following
 pub mod Arriving
 pub mod Beginning
 pub mod Entries
+pub mod Proposed
 pub mod Quiet
 pub mod Lengths
 pub mod Written
@@ -20,9 +21,12 @@ pub mod Sending
 pub mod Pieces
 pub mod Kept
 pub mod Lasting
+pub mod Staying
 pub mod Stepped
 pub mod Advanced
 pub mod Coming
+pub mod Steady
+pub mod Finishing
 pub mod Under
 pub mod Honest
 pub mod Rows

@@ -25,8 +25,9 @@ use Rattle.vm_machine.specs.Making.{fresh}
 use Rattle.vm_machine.specs.Outcomes.{Done, refused, ruled, settled}
 use Rattle.vm_machine.specs.Phases.{is_running}
 use Rattle.invocation_vm.specs.Views.{all_received, left_by, received}
+use Rattle.vm_rounds.specs.Heard.{Heard}
 use Rattle.vm_rounds.specs.Journals.{HasAll, StillWaits, is_command, is_notification, setup_for, is_acknowledgement}
-use Rattle.vm_rounds.specs.Record.{Record}
+use Rattle.vm_rounds.specs.Record.{Record, heard}
 use Rattle.vm_rounds.specs.declared.progress.Fed.{Fed}
 use Rattle.vm_rounds.specs.Told.{BeforeInput, Begun, Came, Comes, HasCome, frames_fed}
 use Rattle.vm_rounds.specs.Blames.{BadFrame, Began, FailsAt, Place, frame_fault, fault_among}
@@ -157,7 +158,7 @@ bad_frame F G v m e live p f is = record {
 abbrev pub StandsIn : Version → VMOptions → List RawMessage → Machine → Type 0
 StandsIn version options F v = Place v.phase v.entries_missing F × ((v.version ≡ version) × (v.options ≡ options))
 
-begun_stands : (version : Version) (options : VMOptions) (fed : List Fed) (v : Machine) → Begun version options fed v → StandsIn version options (frames_fed fed) v
+begun_stands : (version : Version) (options : VMOptions) (fed : Heard) (v : Machine) → Begun version options fed v → StandsIn version options (frames_fed fed) v
 begun_stands version options fed v b =
     ⊎_elim
     (λ (x : StillWaits (setup_for version options b.start) (record { entries = b.state; coverage = coverage_of b.start.partial }) b.aside b.start.known_entries [] [] b.others v).
@@ -169,7 +170,7 @@ begun_stands version options fed v b =
     enough : (a c n known : ℕ) → a ≡ known → n ≡ a + c → known ≤ n
     enough a c n known e f = omega (arith, e, f)
 
-comes_stands : (version : Version) (options : VMOptions) (fed : List Fed) (v : Machine) → Comes version options fed v → StandsIn version options (frames_fed fed) v
+comes_stands : (version : Version) (options : VMOptions) (fed : Heard) (v : Machine) → Comes version options fed v → StandsIn version options (frames_fed fed) v
 comes_stands version options fed v =
     ⊎_elim
     (λ (x : (frames_fed fed ≡ []) × ((alloc : Global) × (v ≡ fresh alloc version options))). subst (StandsIn version options (frames_fed fed)) (sym x.1.1) (x.0, (refl, refl)))
@@ -183,14 +184,14 @@ running_place Processing k F runs b = b
 running_place Closed k F runs b = absurd (cc)
 
 -- where the VM of an attempt stands, as long as it is alive and open
-pub come_stands : (version : Version) (options : VMOptions) (r : Record) → HasCome version options r → r.vm.machine.failure ≡ None → r.vm.machine.phase ≢ Closed → StandsIn version options (frames_fed r.fed) r.vm.machine
+pub come_stands : (version : Version) (options : VMOptions) (r : Record) → HasCome version options r → r.vm.machine.failure ≡ None → r.vm.machine.phase ≢ Closed → StandsIn version options (frames_fed (heard version r)) r.vm.machine
 come_stands version options r k live open_yet =
     ⊎_elim
-    (λ (b : BeforeInput version options r.fed r.answers r.waiting r.taken r.vm). comes_stands version options r.fed r.vm.machine (b.comes live))
-    (λ (b : Came version options r.fed r.answers r.taken r.vm).
+    (λ (b : BeforeInput version options (heard version r) r.answers r.waiting r.taken r.vm). comes_stands version options (heard version r) r.vm.machine (b.comes live))
+    (λ (b : Came version options (heard version r) r.answers r.taken r.vm).
     let runs : is_running r.vm.machine.phase ≡ true = ⊎_elim (λ (x : is_running r.vm.machine.phase ≡ true). x) (λ (x : r.vm.machine.phase ≡ Closed). absurd (open_yet x)) (b.phase live) in
     let j = b.journal in
-    (running_place r.vm.machine.phase r.vm.machine.entries_missing (frames_fed r.fed) runs (record { first = j.first_frame; others = j.entries ++ j.others; is = j.frames; start = j.start; reads = j.reads_start; counts = enough (length j.entries) (length j.others) (length (j.entries ++ j.others)) j.start.known_entries j.count (length-append j.entries j.others) }), b.made_for (record { failure = live; phase = runs })))
+    (running_place r.vm.machine.phase r.vm.machine.entries_missing (frames_fed (heard version r)) runs (record { first = j.first_frame; others = j.entries ++ j.others; is = j.frames; start = j.start; reads = j.reads_start; counts = enough (length j.entries) (length j.others) (length (j.entries ++ j.others)) j.start.known_entries j.count (length-append j.entries j.others) }), b.made_for (record { failure = live; phase = runs })))
     k
   where
     enough : (a c n known : ℕ) → a ≡ known → n ≡ a + c → known ≤ n

@@ -24,11 +24,36 @@ use Rattle.vm_machine.specs.Outcomes.{Outcome, Done, Failed, called, called_at, 
 use Rattle.vm_machine.specs.Phases.{is_closed}
 use Rattle.invocation_vm.specs.Frames.{Tail, Rest, Garbage, frames_of}
 use Rattle.invocation_vm.specs.Views.{View, after_closing, after_input, all_received, consumed, has_failed, left_by, left_over, received, spoiled}
+use Rattle.std.proofs.lemmas.Bool.{eqb-true}
+use Rattle.journal_attempt.specs.declared.runs.ProposeRunCompletion.{ProposeRunCompletion}
+use Rattle.vm_model.specs.Journal.{stored_form}
+use Rattle.vm_rounds.specs.Heard.{is_proposal, proposal_in, proposals_among, proposed_by}
 use Rattle.vm_rounds.specs.Journals.{is_command}
 use Rattle.vm_rounds.specs.Told.{Quiet, Wrote, commands_of}
 
 pub quiet_same : (old new : Machine) → new.output ≡ old.output → Quiet old new
-quiet_same old new is = record { messages = []; output = is ∙ sym (append-nil old.output); commands = refl }
+quiet_same old new is = record { messages = []; output = is ∙ sym (append-nil old.output); commands = refl; proposals = refl }
+
+pub proposals_append : (raws more : List RawMessage) → proposals_among (raws ++ more) ≡ proposals_among raws ++ proposals_among more
+proposals_append [] more = refl
+proposals_append (raw ∷ raws) more = by_test (proposals_append raws more) (is_proposal raw) (proposal_in raw.body)
+  where
+    by_test : proposals_among (raws ++ more) ≡ proposals_among raws ++ proposals_among more → (b : Bool) (o : Option ProposeRunCompletion) → cond b (proposed_by o (proposals_among (raws ++ more))) (proposals_among (raws ++ more)) ≡ cond b (proposed_by o (proposals_among raws)) (proposals_among raws) ++ proposals_among more
+    by_test on false o = on
+    by_test on true None = on
+    by_test on true (Some p) = ap (λ l. record { completion_id = p.id; result = p.result } ∷ l) on
+
+-- a command proposes nothing
+pub proposes_nothing : (raw : RawMessage) → is_command raw ≡ true → proposals_among (raw ∷ []) ≡ []
+proposes_nothing raw is = ap (λ b. cond b (proposed_by (proposal_in raw.body) []) []) (by_test (is_proposal raw) refl)
+  where
+    by_test : (b : Bool) → is_proposal raw ≡ b → b ≡ false
+    by_test false e = refl
+    by_test true e = absurd (let z : nat_le 10 5 && nat_lt 5 30 ≡ true = subst (λ n. nat_le 10 n && nat_lt n 30 ≡ true) (eqb-true (type_number raw.ty) 5 e) is in cc)
+
+pub forms_append : (ms ns : List Message) → map stored_form (ms ++ ns) ≡ map stored_form ms ++ map stored_form ns
+forms_append [] ns = refl
+forms_append (m ∷ ms) ns = ap (λ l. stored_form m ∷ l) (forms_append ms ns)
 
 pub commands_append : (ms ns : List Message) → commands_of (ms ++ ns) ≡ commands_of ms ++ commands_of ns
 commands_append [] ns = refl
@@ -50,13 +75,14 @@ quiet_then u v w a b = record {
   messages = a.messages ++ b.messages;
   output = b.output ∙ ap (λ t. t ++ map encoding b.messages) a.output ∙ append_assoc u.output (map encoding a.messages) (map encoding b.messages) ∙ ap (λ t. u.output ++ t) (sym (map_append a.messages b.messages));
   commands = commands_append a.messages b.messages ∙ ap (λ l. l ++ commands_of b.messages) a.commands ∙ b.commands;
+  proposals = ap proposals_among (forms_append a.messages b.messages) ∙ proposals_append (map stored_form a.messages) (map stored_form b.messages) ∙ (λ i. a.proposals i ++ b.proposals i);
 }
 
 -- ---- the error rule writes one Error
 
 pub error_quiet : (e : Error) (v w : Machine) → w.output ≡ v.output → (b : Bool) → is_closed w.phase ≡ b → Quiet v (failed e w)
-error_quiet e v w is true c = record { messages = []; output = rw c (is ∙ sym (append-nil v.output)); commands = refl }
-error_quiet e v w is false c = record { messages = message.Error (error_message e) ∷ []; output = rw c (ap (λ l. l ++ encoding (message.Error (error_message e)) ∷ []) is); commands = refl }
+error_quiet e v w is true c = record { messages = []; output = rw c (is ∙ sym (append-nil v.output)); commands = refl; proposals = refl }
+error_quiet e v w is false c = record { messages = message.Error (error_message e) ∷ []; output = rw c (ap (λ l. l ++ encoding (message.Error (error_message e)) ∷ []) is); commands = refl; proposals = refl }
 
 -- an event that leaves the output as it is
 abbrev pub Silent : {A : Type 0} → Machine → Outcome A → Type 0

@@ -20,12 +20,15 @@ use Rattle.vm_model.proofs.Compared.{none_refused}
 use Rattle.vm_model.proofs.Refusals.{own_reason, refused_stuck}
 use Rattle.vm_model.specs.Refusals.{IsRefusedFor}
 use Rattle.std.specs.Prelude.{Result, Ok, Err}
+use Rattle.vm_rounds.specs.Heard.{Heard}
 use Rattle.vm_rounds.specs.declared.progress.Progress.{Progress}
 use Rattle.vm_rounds.specs.Blames.{RefusedCall, Blame, IfError, IsHonest, IsOwnError, first_input}
-use Rattle.vm_rounds.specs.Blames.Blame.{Memory, Frame, NoFrame, ClosedEarly, NoInput, Call}
+use Rattle.vm_rounds.specs.Blames.Blame.{Memory, Frame, NoFrame, ClosedEarly, NoInput, Call, RunResult}
 use Rattle.vm_rounds.specs.declared.progress.Fed.{Fed}
 use Rattle.vm_rounds.specs.Journals.{as_entries, commands_among, is_command, is_notification, notifications_among, notified_by, recorded_by, setup_for, told_by}
 use Rattle.vm_rounds.specs.Told.{Journal, RefusesReplay, arrivals, handed_out}
+use Rattle.vm_rounds.specs.Arrivals.{arriving}
+use Rattle.vm_rounds.proofs.Proposed.{arriving_append, arriving_notified, kept_all}
 use Rattle.vm_rounds.proofs.Pieces.{notifications_append}
 
 recorded_commands : (b : Bool) (raw : RawMessage) (es : List Entry) (cs : List RawMessage) → commands_in es ≡ cs → commands_in (recorded_by b raw es) ≡ cond b (raw ∷ cs) cs
@@ -71,7 +74,7 @@ pub tail_same : (a b : RawMessage) (xs ys : List RawMessage) → a ∷ xs ≡ b 
 tail_same a b xs ys e = cc
 
 -- on a history no call is refused while recorded commands are left
-pub history_refuses : (m : Meaning) (version : Version) (options : VMOptions) (fed : List Fed) (j : Journal fed) (base : StateMap) (moves : ℕ) (written : List RawMessage) (at : Point) → Made (setup_for version options j.start) m (Handed (handed_out j)) moves (start (setup_for version options j.start) j.input (arrivals j) j.rest) written at
+pub history_refuses : (m : Meaning) (version : Version) (options : VMOptions) (fed : Heard) (j : Journal fed) (base : StateMap) (moves : ℕ) (written : List RawMessage) (at : Point) → Made (setup_for version options j.start) m (Handed (handed_out j)) moves (start (setup_for version options j.start) j.input (arrivals j) j.rest) written at
     → (c : RawMessage) (further : List RawMessage) → at.left ≡ c ∷ further → (why : NamedFault) → IsRefusedFor (move_at (setup_for version options j.start) m at) at.left at.queue why → History (setup_for version options j.start) m base (as_entries j.entries) → ⊥
 history_refuses m version options fed j base moves written at run c further left why reason h =
     let s = setup_for version options j.start in
@@ -79,11 +82,15 @@ history_refuses m version options fed j base moves written at run c further left
     let first : h.first ≡ j.first = head_same h.first j.first h.rest j.rest begins in
     let rest : h.rest ≡ j.rest = tail_same h.first j.first h.rest j.rest begins in
     let input : h.input ≡ j.input = same_Some h.input j.input (sym h.reads ∙ ap input_read_from first ∙ j.reads_input) in
-    let notes : notifications_in (as_entries j.entries) ++ notifications_among j.others ≡ arrivals j = ap (λ l. l ++ notifications_among j.others) (notes_same j.entries) ∙ sym (notifications_append j.entries j.others) in
-    let made : Made s m (Handed (handed_out j)) moves (start s h.input (notifications_in (as_entries j.entries) ++ notifications_among j.others) h.rest) written at = subst (λ p. Made s m (Handed (handed_out j)) moves p written at) (λ i. start s (sym input i) (sym notes i) (sym rest i)) run in
-    none_refused s m base (handed_out j) base (as_entries j.entries) (notifications_among j.others) moves written further c at h made left (refused_stuck s m base at why reason)
+    let later = arriving fed.proposed j.others in
+    let notes : notifications_in (as_entries j.entries) ++ later ≡ arrivals j =
+    (λ i. (notes_same j.entries ∙ sym (arriving_notified fed.proposed j.entries j.none_acknowledge)) i ++ arriving (sym (kept_all fed.proposed j.entries j.none_acknowledge) i) j.others)
+    ∙ sym (arriving_append fed.proposed j.entries j.others)
+    in
+    let made : Made s m (Handed (handed_out j)) moves (start s h.input (notifications_in (as_entries j.entries) ++ later) h.rest) written at = subst (λ p. Made s m (Handed (handed_out j)) moves p written at) (λ i. start s (sym input i) (sym notes i) (sym rest i)) run in
+    none_refused s m base (handed_out j) base (as_entries j.entries) later moves written further c at h made left (refused_stuck s m base at why reason)
 
-pub history_replayed : (m : Meaning) (version : Version) (options : VMOptions) (fed : List Fed) (answers : List Answer) (e : Error) (old new : Machine) (x : RefusesReplay m version options fed answers e old new) (c : RawMessage) (further : List RawMessage) → x.at.left ≡ c ∷ further → (base : StateMap) → History (setup_for version options x.journal.start) m base (as_entries x.journal.entries) → ⊥
+pub history_replayed : (m : Meaning) (version : Version) (options : VMOptions) (fed : Heard) (answers : List Answer) (e : Error) (old new : Machine) (x : RefusesReplay m version options fed answers e old new) (c : RawMessage) (further : List RawMessage) → x.at.left ≡ c ∷ further → (base : StateMap) → History (setup_for version options x.journal.start) m base (as_entries x.journal.entries) → ⊥
 history_replayed m version options fed answers e old new x c further left base h = history_refuses m version options fed x.journal base x.moves x.written x.at x.made c further left x.why x.reason h
 
 -- ---- honest attempts
@@ -94,8 +101,8 @@ no_input s m base entries h none =
     absurd (cc)
 
 -- a call of an honest attempt that was refused
-honest_refused : (m : Meaning) (version : Version) (options : VMOptions) (fed : List Fed) (closed : Bool) (answers : List Answer) (e : Error) → IsHonest m version options fed → (x : RefusedCall m version options fed answers e) → (left : List RawMessage) → x.at.left ≡ left → IsOwnError m version options fed closed answers e
-honest_refused m version options fed closed answers e honest x [] is = inr (inr (record {
+honest_refused : (m : Meaning) (version : Version) (options : VMOptions) (fed : Heard) (closed : Bool) (answers : List Answer) (e : Error) → IsHonest m version options fed → (x : RefusedCall m version options fed answers e) → (left : List RawMessage) → x.at.left ≡ left → IsOwnError m version options fed closed answers e
+honest_refused m version options fed closed answers e honest x [] is = inr (inr (inl (record {
   journal = x.journal;
   at = x.at;
   answers = x.answers;
@@ -104,11 +111,11 @@ honest_refused m version options fed closed answers e honest x [] is = inr (inr 
   reason = own_reason (move_at (setup_for version options x.journal.start) m x.at) x.at.queue x.why (subst (λ l. IsRefusedFor (move_at (setup_for version options x.journal.start) m x.at) l x.at.queue x.why) is x.reason);
   related = x.related;
   error = x.error;
-}))
+})))
 honest_refused m version options fed closed answers e honest x (c ∷ further) is = absurd (let h = honest.history x.journal.first_frame x.journal.entries x.journal.others x.journal.start x.journal.frames x.journal.reads_start x.journal.count in history_refuses m version options fed x.journal h.0 x.moves x.written x.at x.made c further is x.why x.reason h.1)
 
 -- an honest attempt fails for nothing but a reason of its own
-pub honest_fails : (m : Meaning) (version : Version) (options : VMOptions) (fed : List Fed) (closed : Bool) (answers : List Answer) (e : Error) → IsHonest m version options fed → Blame m version options fed closed answers e → IsOwnError m version options fed closed answers e
+pub honest_fails : (m : Meaning) (version : Version) (options : VMOptions) (fed : Heard) (closed : Bool) (answers : List Answer) (e : Error) → IsHonest m version options fed → Blame m version options fed closed answers e → IsOwnError m version options fed closed answers e
 honest_fails m version options fed closed answers e honest (Memory x) = inl x
 honest_fails m version options fed closed answers e honest (Frame x) = absurd (let z : None ≡ Some x.why = sym (honest.frames x.before x.raw x.behind x.phase x.missing x.split x.place) ∙ x.reason in cc)
 honest_fails m version options fed closed answers e honest (NoFrame x y) = absurd (honest.whole x)
@@ -118,8 +125,9 @@ honest_fails m version options fed closed answers e honest (Call refuses) = ⊎_
     (λ (y : e ≡ no_memory). inl y)
     (λ (y : RefusedCall m version options fed answers e). honest_refused m version options fed closed answers e honest y y.at.left refl)
     (refuses honest.premises)
+honest_fails m version options fed closed answers e honest (RunResult x) = inr (inr (inr x))
 
 -- the error of a step of an honest attempt
-pub honest_errs : (m : Meaning) (version : Version) (options : VMOptions) (all : List Fed) (closed : Bool) (answers : List Answer) (result : Result Progress Error) → IsHonest m version options all → IfError result (λ e. Blame m version options all closed answers e) → IfError result (λ e. IsOwnError m version options all closed answers e)
+pub honest_errs : (m : Meaning) (version : Version) (options : VMOptions) (all : Heard) (closed : Bool) (answers : List Answer) (result : Result Progress Error) → IsHonest m version options all → IfError result (λ e. Blame m version options all closed answers e) → IfError result (λ e. IsOwnError m version options all closed answers e)
 honest_errs m version options all closed answers (Ok progress) honest b = tt
 honest_errs m version options all closed answers (Err e) honest b = honest_fails m version options all closed answers e honest b

@@ -36,6 +36,7 @@ use Rattle.vm_model.specs.Journal.{Entry, Recorded, Notified, input_read_from, s
 use Rattle.vm_model.specs.Moves.{Point, after, start as began}
 use Rattle.vm_rounds.specs.Blames.{IsHonest}
 use Rattle.vm_rounds.proofs.Honest.{honestly_fed}
+use Rattle.vm_rounds.specs.Heard.{Heard}
 use Rattle.vm_rounds.specs.Honest.{FeedsHonestly, frame_bytes, honest_frames}
 use Rattle.vm_rounds.specs.Journals.{setup_for}
 
@@ -137,8 +138,12 @@ none_two h =
     run_once setup sleeper all_state h.input (void ∷ []) h.rest h.told.0 h.at h.told.1 h.uses_all comes_once 0 [] (began setup h.input (void ∷ []) h.rest) (refl, refl)
     (subst (AreCarried (void ∷ [])) (rest ∙ sym (append-nil h.rest)) is_carried_once)
 
+-- all of it in one piece
+abbrev in_one : Heard
+in_one = record { pieces = record { piece = stream; answers = 0; output = 0 } ∷ []; proposed = [] }
+
 -- an attempt that is fed all of it in one piece is an honest one
-feeds : FeedsHonestly sleeper V7 default_options (record { piece = stream; answers = 0; output = 0 } ∷ [])
+feeds : FeedsHonestly sleeper V7 default_options in_one
 feeds = record {
   start = first;
   journal = journal;
@@ -158,5 +163,5 @@ feeds = record {
   once = none_two is_history;
 }
 
-is_honest : IsHonest sleeper V7 default_options (record { piece = stream; answers = 0; output = 0 } ∷ [])
-is_honest = honestly_fed sleeper V7 default_options (record { piece = stream; answers = 0; output = 0 } ∷ []) feeds
+is_honest : IsHonest sleeper V7 default_options in_one
+is_honest = honestly_fed sleeper V7 default_options in_one feeds

@@ -38,14 +38,21 @@ use Rattle.vm_machine.specs.declared.machine.Machine.{Machine}
 use Rattle.vm_machine.specs.declared.phase.Phase.{Phase}
 use Rattle.vm_machine.specs.declared.phase.Phase.TheVariants.{WaitingStart, WaitingReplayEntries, Replaying, Processing, Closed}
 use Rattle.vm_machine.specs.Asks.{ask_of, cancel_invocation_command}
-use Rattle.vm_machine.specs.Awaits.{Awaits, AwaitsAt, AwaitsBy, Behind, Ends, EndsBy, Gathers, ReadsId, StaysPending, Tries, id_read, is_cancelled, or_cancelled, pending_on, result_at, said_waiting, suspended, waiting, with_used, waits_by, waits_on, executed, pending_in_replay}
+use Rattle.vm_machine.specs.Awaits.{Awaits, AwaitsAt, AwaitsBy, Behind, Ends, EndsBy, Gathers, ReadsId, StaysPending, Tries, id_read, is_cancelled, or_cancelled, pending_on, result_at, said_waiting, says_so, suspended, waiting, with_used, waits_by, waits_on, executed, pending_in_replay}
 use Rattle.vm_machine.specs.Cancels.{AwaitsWhole, Cancels, FinishesIf, Onward, SendsCancel, cancel_taken, sends_cancels}
-use Rattle.vm_machine.proofs.Cancelling.{Keeps, read_keeps, woken_keeps}
+use Rattle.vm_machine.proofs.Cancelling.{read_known, woken_used}
 use Rattle.vm_parts.specs.Options.{ends_awaits}
 use Rattle.vm_parts.specs.Tracked.{id_of_result, id_of_value, invocation_ids, noted, unresolved, with_next_id}
 use Rattle.vm_parts.specs.declared.run_state.TrackedCall.{TrackedCall}
 use Rattle.std.specs.Option.{option_and_then}
-use Rattle.vm_rounds.proofs.Quiet.{map_append}
+use Rattle.journal_errors.specs.declared.version.Version.{Version}
+use Rattle.journal_messages.specs.Commands.{IsCommand}
+use Rattle.journal_values.specs.declared.notification.NotificationId.{NotificationId}
+use Rattle.vm_parts.specs.declared.options.AwaitingOnPolicy.{AwaitingOnPolicy}
+use Rattle.vm_model.specs.Journal.{stored_form}
+use Rattle.vm_rounds.specs.Heard.{proposals_among}
+use Rattle.vm_rounds.proofs.Own.{AsksCommand, asks_command, numbered_is, own_is}
+use Rattle.vm_rounds.proofs.Quiet.{forms_append, map_append, proposals_append, proposes_nothing}
 use Rattle.vm_machine.specs.Takes.{result_taken, take_step, taken_at, value_noted, value_taken}
 use Rattle.vm_machine.specs.Commands.{carried_out, commanded, commanded_unless, compared, counted, entered, ignores_payloads, issued, phase_after, popped, popped_from, prepared, replayed, written, about_next, handed_out}
 use Rattle.vm_machine.specs.Inputs.{end_at, end_step}
@@ -62,10 +69,11 @@ use Rattle.vm_rounds.specs.Told.{IsLive}
 
 -- ---- what is left
 
--- messages were written; the version and the options stay
+-- messages were written, none of which proposes a result; the version and the options stay
 pub record Sends (v w : Machine) : Type 0 where
   pub messages : List Message
   pub output : w.output ≡ v.output ++ map encoding messages
+  pub proposals : proposals_among (map stored_form messages) ≡ []
   pub version : w.version ≡ v.version
   pub options : w.options ≡ v.options
 
@@ -73,23 +81,28 @@ pub record Sends (v w : Machine) : Type 0 where
 pub record Leaves {A : Type 0} (Left : A → Machine → Type 0) (v : Machine) (a : A) (w : Machine) : Type 0 where
   pub sends : Sends v w
   pub failure : w.failure ≡ v.failure
+  pub kept : w.proposals ≡ v.proposals
   pub left : Left a w
 
--- nothing was written
+-- nothing was written or proposed
 abbrev Stays : Machine → Machine → Type 0
-Stays v w = (w.output ≡ v.output) × (w.version ≡ v.version) × (w.options ≡ v.options)
+Stays v w = (w.output ≡ v.output) × (w.version ≡ v.version) × (w.options ≡ v.options) × (w.proposals ≡ v.proposals)
+
+none_append : (ms ns : List Message) → proposals_among (map stored_form ms) ≡ [] → proposals_among (map stored_form ns) ≡ [] → proposals_among (map stored_form (ms ++ ns)) ≡ []
+none_append ms ns a b = ap proposals_among (forms_append ms ns) ∙ proposals_append (map stored_form ms) (map stored_form ns) ∙ (λ i. a i ++ b i)
 
 -- messages, and more behind them
 sends_then : (u v w : Machine) → Sends u v → Sends v w → Sends u w
 sends_then u v w a b = record {
   messages = a.messages ++ b.messages;
   output = b.output ∙ ap (λ l. l ++ map encoding b.messages) a.output ∙ append_assoc u.output (map encoding a.messages) (map encoding b.messages) ∙ ap (λ l. u.output ++ l) (sym (map_append a.messages b.messages));
+  proposals = none_append a.messages b.messages a.proposals b.proposals;
   version = b.version ∙ a.version;
   options = b.options ∙ a.options;
 }
 
 stays_sends : (v w : Machine) → Stays v w → Sends v w
-stays_sends v w s = record { messages = []; output = s.0 ∙ sym (append-nil v.output); version = s.1; options = s.2 }
+stays_sends v w s = record { messages = []; output = s.0 ∙ sym (append-nil v.output); proposals = refl; version = s.1; options = s.2 }
 
 -- an event, before the error rule: what it leaves; one that is refused has written nothing
 abbrev Happens : {A : Type 0} → (A → Machine → Type 0) → Machine → Outcome A → Type 0
@@ -105,11 +118,23 @@ CallLeaves Left v (Failed e w) = Sends v w × (w.failure ≡ Some e)
 abbrev RunsOn : {A : Type 0} → A → Machine → Type 0
 RunsOn a w = is_running w.phase ≡ true
 
+-- a command proposes no result
+command_proposes : (m : Message) → IsCommand m → proposals_among (stored_form m ∷ []) ≡ []
+command_proposes m is = proposes_nothing (stored_form m) is
+
+-- an await that waits proposes none
+says_no_proposal : (version : Version) (policy : AwaitingOnPolicy) (executing : Bool) (id : ℕ → Option NotificationId) (left : Tree) → proposals_among (map stored_form (said_waiting version policy executing id left)) ≡ []
+says_no_proposal version policy executing id left = by_test (says_so version policy executing left)
+  where
+    by_test : (b : Bool) → proposals_among (map stored_form (if b then message.AwaitingOn (record { future = sent id left; executing_side_effects = false }) ∷ [] else [])) ≡ []
+    by_test true = refl
+    by_test false = refl
+
 -- ---- the error rule
 
 failing : (e : Error) (v w : Machine) → Stays v w → (b : Bool) → is_closed w.phase ≡ b → Sends v (failed e w)
-failing e v w s true c = record { messages = []; output = rw c (s.0 ∙ sym (append-nil v.output)); version = s.1; options = s.2 }
-failing e v w s false c = record { messages = message.Error (error_message e) ∷ []; output = rw c (ap (λ l. l ++ encoding (message.Error (error_message e)) ∷ []) s.0); version = s.1; options = s.2 }
+failing e v w s true c = record { messages = []; output = rw c (s.0 ∙ sym (append-nil v.output)); proposals = refl; version = s.1; options = s.2 }
+failing e v w s false c = record { messages = message.Error (error_message e) ∷ []; output = rw c (ap (λ l. l ++ encoding (message.Error (error_message e)) ∷ []) s.0); proposals = refl; version = s.1; options = s.2 }
 
 settling : {A : Type 0} (L : A → Machine → Type 0) (v : Machine) (o : Outcome A) → Happens L v o → CallLeaves L v (settled o)
 settling L v (Done a w) h = h
@@ -120,7 +145,7 @@ unfolding called
 calling L v o live h = subst (λ f. CallLeaves L v (called_at f o v)) (sym live) (settling L v o h)
 
 mapping : {A B : Type 0} (L : A → Machine → Type 0) (M : B → Machine → Type 0) (f : A → B) → ((a : A) (w : Machine) → L a w → M (f a) w) → (v : Machine) (o : Outcome A) → CallLeaves L v o → CallLeaves M v (mapped f o)
-mapping L M f more v (Done a w) h = record { sends = h.sends; failure = h.failure; left = more a w h.left }
+mapping L M f more v (Done a w) h = record { sends = h.sends; failure = h.failure; kept = h.kept; left = more a w h.left }
 mapping L M f more v (Failed e w) h = h
 
 -- ---- a command
@@ -137,7 +162,7 @@ after_runs : (left : List RawMessage) → is_running (phase_after left) ≡ true
 after_runs [] = refl
 after_runs (c ∷ left) = refl
 
-module _ (v : Machine) (handle : NotificationHandle) (m : Message) (ignore : Bool) (u : Machine) (same : Stays v u) (failure : u.failure ≡ v.failure) (phase : u.phase ≡ v.phase) where
+module _ (v : Machine) (handle : NotificationHandle) (m : Message) (ignore : Bool) (u : Machine) (command : IsCommand m) (same : Stays v u) (failure : u.failure ≡ v.failure) (phase : u.phase ≡ v.phase) where
   abbrev Answer : Outcome Unit → Type 0
   Answer o = Happens RunsOn v (o >>= λ _ w. Done handle w)
 
@@ -146,7 +171,7 @@ module _ (v : Machine) (handle : NotificationHandle) (m : Message) (ignore : Boo
   compares (Some recorded) w s f runs = by_test (header_equal recorded m ignore)
     where
       by_test : (b : Bool) → Answer (if b then Done (tt {0}) w else Failed (about_last fault.CommandMismatch w) w)
-      by_test true = record { sends = stays_sends v w s; failure = f; left = runs }
+      by_test true = record { sends = stays_sends v w s; failure = f; kept = s.3; left = runs }
       by_test false = s
 
   pops : (left : List RawMessage) → Answer (popped_from left (type_of m) u >>= λ raw w. compared m ignore (message_in raw.ty raw.body) w)
@@ -170,37 +195,38 @@ module _ (v : Machine) (handle : NotificationHandle) (m : Message) (ignore : Boo
     where
       by_test : (b : Bool) → is_processing u.phase ≡ b → Answer (if b then Done (tt {0}) (written m u) else replayed m ignore u)
       by_test true e = record {
-        sends = record { messages = m ∷ []; output = ap (λ l. l ++ encoding m ∷ []) same.0; version = same.1; options = same.2 };
+        sends = record { messages = m ∷ []; output = ap (λ l. l ++ encoding m ∷ []) same.0; proposals = command_proposes m command; version = same.1; options = same.2 };
         failure = failure;
+        kept = same.3;
         left = writing_runs u.phase e;
       }
       by_test false e = replays
 
-counts : (o : Option NamedFault) (m : Message) (unstable : Bool) (v : Machine) → Happens RunsOn v (counted o m unstable v)
-counts (Some name) m unstable v = (refl, refl, refl)
-counts None m unstable v = carries v (record { 0 = v.counters.handle }) (with_ids v.counters.completion m) (ignores_payloads v.options.non_determinism_checks unstable) (prepared m v) (refl, refl, refl) refl refl
+counts : (o : Option NamedFault) (m : Message) (unstable : Bool) (v : Machine) → IsCommand m → Happens RunsOn v (counted o m unstable v)
+counts (Some name) m unstable v is = (refl, refl, refl, refl)
+counts None m unstable v is = carries v (record { 0 = v.counters.handle }) (with_ids v.counters.completion m) (ignores_payloads v.options.non_determinism_checks unstable) (prepared m v) (numbered_is m v.counters.completion is) (refl, refl, refl, refl) refl refl
 
-issues : (m : Message) (unstable : Bool) (v : Machine) → Happens RunsOn v (issued m unstable v)
+issues : (m : Message) (unstable : Bool) (v : Machine) → IsCommand m → Happens RunsOn v (issued m unstable v)
 unfolding issued
-issues m unstable v = by_test (is_running v.phase)
+issues m unstable v is = by_test (is_running v.phase)
   where
     by_test : (b : Bool) → Happens RunsOn v (if b then counted (missing (ids_of m) 0 (ids_of m) v.counters) m unstable v else (let w = entered (shown_type m) (name_of m) v in Failed (about_last (state_fault v.phase) w) w))
-    by_test true = counts (missing (ids_of m) 0 (ids_of m) v.counters) m unstable v
-    by_test false = (refl, refl, refl)
+    by_test true = counts (missing (ids_of m) 0 (ids_of m) v.counters) m unstable v is
+    by_test false = (refl, refl, refl, refl)
 
-commands : (refusal : Option NamedFault) (m : Message) (unstable : Bool) (v : Machine) → Happens RunsOn v (commanded_unless refusal m unstable v)
-commands (Some name) m unstable v = (refl, refl, refl)
-commands None m unstable v = issues m unstable v
+commands : (refusal : Option NamedFault) (m : Message) (unstable : Bool) (v : Machine) → IsCommand m → Happens RunsOn v (commanded_unless refusal m unstable v)
+commands (Some name) m unstable v is = (refl, refl, refl, refl)
+commands None m unstable v is = issues m unstable v is
 
 -- ---- state reads
 
 read_put : (id : ℕ) (o : Option NotificationResult) (handle : NotificationHandle) (v w : Machine) → Leaves RunsOn v handle w → Leaves RunsOn v handle (with_result id o w)
 read_put id None handle v w h = h
-read_put id (Some result) handle v w h = record { sends = record { messages = h.sends.messages; output = h.sends.output; version = h.sends.version; options = h.sends.options }; failure = h.failure; left = h.left }
+read_put id (Some result) handle v w h = record { sends = record { messages = h.sends.messages; output = h.sends.output; proposals = h.sends.proposals; version = h.sends.version; options = h.sends.options }; failure = h.failure; kept = h.kept; left = h.left }
 
 reads_back : (handle id : ℕ) (o : Result (Option NotificationResult) NamedFault) (v w : Machine) → Stays v w → w.failure ≡ v.failure → is_running w.phase ≡ true → Happens RunsOn v (read_back handle id o w)
 reads_back handle id (Err name) v w s f runs = s
-reads_back handle id (Ok o) v w s f runs = read_put id o (record { 0 = handle }) v w (record { sends = stays_sends v w s; failure = f; left = runs })
+reads_back handle id (Ok o) v w s f runs = read_put id o (record { 0 = handle }) v w (record { sends = stays_sends v w s; failure = f; kept = s.3; left = runs })
 
 reads_popped : (r : StateRead) (handle id : ℕ) (left : List RawMessage) (v u : Machine) → Stays v u → u.failure ≡ v.failure → Happens RunsOn v (read_popped r handle id left u)
 reads_popped r handle id [] v u s f = s
@@ -215,11 +241,11 @@ reads_numbered r v = by_test (is_processing v.phase) refl
     by_test true e =
         let m = own_form r v.counters.completion v.state in
         read_put v.counters.completion (own_result (result_in m)) (record { 0 = v.counters.handle }) v (written m (handed_out 1 (entered (type_of m) (name_read r) v)))
-        (record { sends = record { messages = m ∷ []; output = refl; version = refl; options = refl }; failure = refl; left = writing_runs v.phase e })
-    by_test false e = reads_popped r v.counters.handle v.counters.completion v.commands v (handed_out 1 (entered (eager_type r) [] v)) (refl, refl, refl) refl
+        (record { sends = record { messages = m ∷ []; output = refl; proposals = command_proposes m (own_is r v.counters.completion v.state); version = refl; options = refl }; failure = refl; kept = refl; left = writing_runs v.phase e })
+    by_test false e = reads_popped r v.counters.handle v.counters.completion v.commands v (handed_out 1 (entered (eager_type r) [] v)) (refl, refl, refl, refl) refl
 
 reads_counted : (o : Option NamedFault) (r : StateRead) (v : Machine) → Happens RunsOn v (read_counted o r v)
-reads_counted (Some name) r v = (refl, refl, refl)
+reads_counted (Some name) r v = (refl, refl, refl, refl)
 reads_counted None r v = reads_numbered r v
 
 state_reads : (r : StateRead) (v : Machine) → Happens RunsOn v (read_step r v)
@@ -228,13 +254,13 @@ state_reads r v = by_test (is_running v.phase)
   where
     by_test : (b : Bool) → Happens RunsOn v (if b then read_counted (missing 1 0 1 v.counters) r v else Failed (about_next (state_fault v.phase) (lazy_type r) [] v) v)
     by_test true = reads_counted (missing 1 0 1 v.counters) r v
-    by_test false = (refl, refl, refl)
+    by_test false = (refl, refl, refl, refl)
 
 -- ---- calls without a command
 
 awakeable_is : (o : Option NamedFault) (v : Machine) → is_running v.phase ≡ true → Happens RunsOn v (awakeable_counted o v)
-awakeable_is (Some name) v runs = (refl, refl, refl)
-awakeable_is None v runs = record { sends = stays_sends v _ (refl, refl, refl); failure = refl; left = runs }
+awakeable_is (Some name) v runs = (refl, refl, refl, refl)
+awakeable_is None v runs = record { sends = stays_sends v _ (refl, refl, refl, refl); failure = refl; kept = refl; left = runs }
 
 awakeables : (v : Machine) → Happens RunsOn v (awakeable_step v)
 unfolding awakeable_step
@@ -242,15 +268,15 @@ awakeables v = by_test (is_running v.phase) refl
   where
     by_test : (b : Bool) → is_running v.phase ≡ b → Happens RunsOn v (if b then awakeable_counted (missing_signals 1 1 v.counters) v else refused (state_fault v.phase) v)
     by_test true e = awakeable_is (missing_signals 1 1 v.counters) v e
-    by_test false e = (refl, refl, refl)
+    by_test false e = (refl, refl, refl, refl)
 
 new_awakeables : (b : Bool) (v : Machine) → Happens RunsOn v (if b then refused {A = AwakeableHandle} fault.UnsupportedFeature v else awakeable_step v)
-new_awakeables true v = (refl, refl, refl)
+new_awakeables true v = (refl, refl, refl, refl)
 new_awakeables false v = awakeables v
 
 signal_is : (o : Option NamedFault) (name : List ℕ) (v : Machine) → is_running v.phase ≡ true → Happens RunsOn v (signal_counted o name v)
-signal_is (Some fault) name v runs = (refl, refl, refl)
-signal_is None name v runs = record { sends = stays_sends v _ (refl, refl, refl); failure = refl; left = runs }
+signal_is (Some fault) name v runs = (refl, refl, refl, refl)
+signal_is None name v runs = record { sends = stays_sends v _ (refl, refl, refl, refl); failure = refl; kept = refl; left = runs }
 
 signals : (name : List ℕ) (v : Machine) → Happens RunsOn v (signal_step name v)
 unfolding signal_step
@@ -258,7 +284,7 @@ signals name v = by_test (is_running v.phase) refl
   where
     by_test : (b : Bool) → is_running v.phase ≡ b → Happens RunsOn v (if b then signal_counted (missing_signals 0 1 v.counters) name v else refused (state_fault v.phase) v)
     by_test true e = signal_is (missing_signals 0 1 v.counters) name v e
-    by_test false e = (refl, refl, refl)
+    by_test false e = (refl, refl, refl, refl)
 
 -- an await that is answered or waits lets the handler run; one that is refused has closed the machine
 abbrev AwaitLeaves : Result AwaitResponse Error → Machine → Type 0
@@ -270,8 +296,9 @@ module _ (left : Tree) (v u : Machine) (same : Stays v u) (failure : u.failure �
   suspends =
       let m = message.Suspension (record { future = sent (ids u.results) left }) in
       record {
-        sends = record { messages = m ∷ []; output = ap (λ l. l ++ encoding m ∷ []) same.0; version = same.1; options = same.2 };
+        sends = record { messages = m ∷ []; output = ap (λ l. l ++ encoding m ∷ []) same.0; proposals = refl; version = same.1; options = same.2 };
         failure = failure;
+        kept = same.3;
         left = refl;
       }
 
@@ -279,13 +306,14 @@ module _ (left : Tree) (v u : Machine) (same : Stays v u) (failure : u.failure �
   waits executing =
       let said = said_waiting u.version u.options.awaiting_on_policy (list_any is_executing u.runs) (ids u.results) left in
       record {
-        sends = record { messages = said; output = ap (λ l. l ++ map encoding said) same.0; version = same.1; options = same.2 };
+        sends = record { messages = said; output = ap (λ l. l ++ map encoding said) same.0; proposals = says_no_proposal u.version u.options.awaiting_on_policy (list_any is_executing u.runs) (ids u.results) left; version = same.1; options = same.2 };
         failure = failure;
+        kept = same.3;
         left = runs;
       }
 
   goes_on : (response : AwaitResponse) (w : Machine) → Stays v w → w.failure ≡ v.failure → is_running w.phase ≡ true → Leaves AwaitLeaves v (Ok response) w
-  goes_on response w stays failed running = record { sends = stays_sends v w stays; failure = failed; left = running }
+  goes_on response w stays failed running = record { sends = stays_sends v w stays; failure = failed; kept = stays.3; left = running }
 
   waits_so : (closed executing : Bool) → Happens AwaitLeaves v (waits_by closed executing left u)
   waits_so false executing = waits executing
@@ -306,20 +334,32 @@ module _ (left : Tree) (v u : Machine) (same : Stays v u) (failure : u.failure �
 
 tries : (t : Tree) (v : Machine) (x : Outcome (Result AwaitResponse Error)) → is_running v.phase ≡ true → Tries t v x → Happens AwaitLeaves v x
 tries t v x runs comes = ⊎_elim
-    (λ (y : Ends t v x). subst (Happens AwaitLeaves v) (sym y.2) (record { sends = stays_sends v (with_used y.0 v) (refl, refl, refl); failure = refl; left = runs }))
-    (λ (y : StaysPending t v x). subst (Happens AwaitLeaves v) (sym y.2) (pends y.0 v (with_used (length v.results.queued) v) (refl, refl, refl) refl runs))
+    (λ (y : Ends t v x). subst (Happens AwaitLeaves v) (sym y.2) (record { sends = stays_sends v (with_used y.0 v) (refl, refl, refl, refl); failure = refl; kept = refl; left = runs }))
+    (λ (y : StaysPending t v x). subst (Happens AwaitLeaves v) (sym y.2) (pends y.0 v (with_used (length v.results.queued) v) (refl, refl, refl, refl) refl runs))
     comes
 
--- an await that has woken has written nothing
-kept : (v w : Machine) → Keeps v w → Stays v w
-kept v w k = (ap (λ l. l.output) k.0, ap (λ l. l.version) k.0, ap (λ l. l.options) k.0)
+-- nothing was written or proposed, and nothing failed or came into another phase
+abbrev Unmoved : Machine → Machine → Type 0
+Unmoved v w = Stays v w × (w.failure ≡ v.failure) × (w.phase ≡ v.phase)
+
+-- an await that has woken has used notifications, and done nothing else
+woken_unmoved : (t : Tree) (v w : Machine) → Tries t v (Done (Ok AnyCompleted) w) → Unmoved v w
+woken_unmoved t v w tries =
+    let is = (woken_used t v w tries).1 in
+    ((ap (λ (x : Machine). x.output) is, ap (λ (x : Machine). x.version) is, ap (λ (x : Machine). x.options) is, ap (λ (x : Machine). x.proposals) is), ap (λ (x : Machine). x.failure) is, ap (λ (x : Machine). x.phase) is)
+
+-- and so has one that has read an id
+read_unmoved : (handle : ℕ) (v w : Machine) → ReadsId handle v (Done (Ok AnyCompleted) w) → Unmoved v w
+read_unmoved handle v w reads =
+    let is = (read_known handle v w reads).2 in
+    ((ap (λ (x : Machine). x.output) is, ap (λ (x : Machine). x.version) is, ap (λ (x : Machine). x.options) is, ap (λ (x : Machine). x.proposals) is), ap (λ (x : Machine). x.failure) is, ap (λ (x : Machine). x.phase) is)
 
 -- what it comes to next
-happens_behind : (v w : Machine) (o : Outcome (Result AwaitResponse Error)) → Keeps v w → Happens AwaitLeaves w o → Happens AwaitLeaves v o
-happens_behind v w (Done a x) k h = record { sends = sends_then v w x (stays_sends v w (kept v w k)) h.sends; failure = h.failure ∙ ap (λ l. l.failure) k.0; left = h.left }
+happens_behind : (v w : Machine) (o : Outcome (Result AwaitResponse Error)) → Unmoved v w → Happens AwaitLeaves w o → Happens AwaitLeaves v o
+happens_behind v w (Done a x) k h = record { sends = sends_then v w x (stays_sends v w k.0) h.sends; failure = h.failure ∙ k.1; kept = h.kept ∙ k.0.3; left = h.left }
 happens_behind v w (Failed e x) k h =
-    let s = kept v w k in
-    (h.0 ∙ s.0, h.1 ∙ s.1, h.2 ∙ s.2)
+    let s = k.0 in
+    (h.0 ∙ s.0, h.1 ∙ s.1, h.2 ∙ s.2, h.3 ∙ s.3)
 
 behind : (v : Machine) (Next : Machine → Outcome (Result AwaitResponse Error) → Type 0) (first o : Outcome (Result AwaitResponse Error)) → Happens AwaitLeaves v first
     → ((w : Machine) → first ≡ Done (Ok AnyCompleted) w → Next w o → Happens AwaitLeaves v o) → Behind Next first o → Happens AwaitLeaves v o
@@ -331,34 +371,34 @@ behind v Next (Done (Err e) w) o h f on = subst (Happens AwaitLeaves v) (sym on)
 behind v Next (Failed e w) o h f on = subst (Happens AwaitLeaves v) (sym on) h
 
 id_reads : (id : Option (List ℕ)) (v : Machine) → is_running v.phase ≡ true → Happens AwaitLeaves v (id_read id v)
-id_reads None v runs = (refl, refl, refl)
-id_reads (Some id) v runs = record { sends = stays_sends v (record v { tracked = with_next_id id v.tracked }) (refl, refl, refl); failure = refl; left = runs }
+id_reads None v runs = (refl, refl, refl, refl)
+id_reads (Some id) v runs = record { sends = stays_sends v (record v { tracked = with_next_id id v.tracked }) (refl, refl, refl, refl); failure = refl; kept = refl; left = runs }
 
 reads_id : (handle : ℕ) (v : Machine) (o : Outcome (Result AwaitResponse Error)) → is_running v.phase ≡ true → ReadsId handle v o → Happens AwaitLeaves v o
 reads_id handle v o runs (first, tried, on) =
     behind v (λ w p. p ≡ id_read (option_and_then id_of_result (result_at handle w)) w) first o (tries (leaf handle) v first runs tried)
     (λ w is next.
-    let k = woken_keeps (leaf handle) v w (subst (Tries (leaf handle) v) is tried) in
-    happens_behind v w o k (subst (Happens AwaitLeaves w) (sym next) (id_reads (option_and_then id_of_result (result_at handle w)) w (ap is_running k.1 ∙ runs)))) on
+    let k = woken_unmoved (leaf handle) v w (subst (Tries (leaf handle) v) is tried) in
+    happens_behind v w o k (subst (Happens AwaitLeaves w) (sym next) (id_reads (option_and_then id_of_result (result_at handle w)) w (ap is_running k.2 ∙ runs)))) on
 
 gathers : (handles : List ℕ) (v : Machine) (o : Outcome (Result AwaitResponse Error)) → is_running v.phase ≡ true → Gathers handles v o → Happens AwaitLeaves v o
-gathers [] v o runs comes = subst (Happens AwaitLeaves v) (sym comes) (record { sends = stays_sends v v (refl, refl, refl); failure = refl; left = runs })
+gathers [] v o runs comes = subst (Happens AwaitLeaves v) (sym comes) (record { sends = stays_sends v v (refl, refl, refl, refl); failure = refl; kept = refl; left = runs })
 gathers (handle ∷ handles) v o runs (first, reads, on) =
     behind v (Gathers handles) first o (reads_id handle v first runs reads)
     (λ w is next.
-    let k = read_keeps handle v w (subst (ReadsId handle v) is reads) in
-    happens_behind v w o k (gathers handles w o (ap is_running k.1 ∙ runs) next)) on
+    let k = read_unmoved handle v w (subst (ReadsId handle v) is reads) in
+    happens_behind v w o k (gathers handles w o (ap is_running k.2 ∙ runs) next)) on
 
 ends_by : (b : Bool) (v : Machine) (o : Outcome (Result AwaitResponse Error)) → is_running v.phase ≡ true → EndsBy b v o → Happens AwaitLeaves v o
 ends_by true v o runs comes = gathers (unresolved v.tracked) v o runs comes
-ends_by false v o runs comes = subst (Happens AwaitLeaves v) (sym comes) (record { sends = stays_sends v v (refl, refl, refl); failure = refl; left = runs })
+ends_by false v o runs comes = subst (Happens AwaitLeaves v) (sym comes) (record { sends = stays_sends v v (refl, refl, refl, refl); failure = refl; kept = refl; left = runs })
 
 awaits_by : (b : Bool) (t : Tree) (v : Machine) (o : Outcome (Result AwaitResponse Error)) → is_running v.phase ≡ true → AwaitsBy b t v o → Happens AwaitLeaves v o
 awaits_by true t v o runs (first, tried, on) =
     behind v (λ w p. EndsBy (is_cancelled w) w p) first o (tries (or_cancelled t) v first runs tried)
     (λ w is next.
-    let k = woken_keeps (or_cancelled t) v w (subst (Tries (or_cancelled t) v) is tried) in
-    happens_behind v w o k (ends_by (is_cancelled w) w o (ap is_running k.1 ∙ runs) next)) on
+    let k = woken_unmoved (or_cancelled t) v w (subst (Tries (or_cancelled t) v) is tried) in
+    happens_behind v w o k (ends_by (is_cancelled w) w o (ap is_running k.2 ∙ runs) next)) on
 awaits_by false t v o runs comes = tries t v o runs comes
 
 awaits : (t : Tree) (v : Machine) (x : Outcome (Result AwaitResponse Error)) → Awaits t v x → Happens AwaitLeaves v x
@@ -366,18 +406,18 @@ awaits t v x comes = by_test (is_running v.phase) refl comes
   where
     by_test : (b : Bool) → is_running v.phase ≡ b → AwaitsAt b t v x → Happens AwaitLeaves v x
     by_test true e comes = awaits_by (ends_awaits v.options.implicit_cancellation) t v x e comes
-    by_test false e is = subst (Happens AwaitLeaves v) (sym is) (refl, refl, refl)
+    by_test false e is = subst (Happens AwaitLeaves v) (sym is) (refl, refl, refl, refl)
 
 noted_values : (value : Value) (tracked : Option (List TrackedCall)) (v u : Machine) → Stays v u → u.failure ≡ v.failure → is_running u.phase ≡ true → Happens RunsOn v (value_noted value tracked u)
 noted_values value None v u s f runs = s
-noted_values value (Some tracked) v u s f runs = record { sends = stays_sends v (record u { tracked = tracked }) s; failure = f; left = runs }
+noted_values value (Some tracked) v u s f runs = record { sends = stays_sends v (record u { tracked = tracked }) s; failure = f; kept = s.3; left = runs }
 
 values : (handle : ℕ) (o : Option Value) (v u : Machine) → Stays v u → u.failure ≡ v.failure → is_running u.phase ≡ true → Happens RunsOn v (value_taken handle o u)
 values handle None v u s f runs = s
 values handle (Some value) v u s f runs = noted_values value (noted handle (id_of_value value) u.tracked) v u s f runs
 
 results : (handle : ℕ) (o : Option NotificationResult) (v u : Machine) → Stays v u → u.failure ≡ v.failure → is_running u.phase ≡ true → Happens RunsOn v (result_taken handle o u)
-results handle None v u s f runs = record { sends = stays_sends v u s; failure = f; left = runs }
+results handle None v u s f runs = record { sends = stays_sends v u s; failure = f; kept = s.3; left = runs }
 results handle (Some result) v u s f runs = values handle (value_of result) v u s f runs
 
 takes : (handle : ℕ) (v : Machine) → Happens RunsOn v (take_step handle v)
@@ -387,23 +427,24 @@ takes handle v = by_test (is_running v.phase) refl
     by_test : (b : Bool) → is_running v.phase ≡ b → Happens RunsOn v (if b then taken_at handle (id_at handle v.results.handles) v else refused (state_fault v.phase) v)
     by_test true e =
         let found = present_for v.options.signal_delivery (id_at handle v.results.handles) v.results.ready in
-        results handle found v (record v { results = taken_by v.options.signal_delivery handle (id_at handle v.results.handles) found v.results }) (refl, refl, refl) refl e
-    by_test false e = (refl, refl, refl)
+        results handle found v (record v { results = taken_by v.options.signal_delivery handle (id_at handle v.results.handles) found v.results }) (refl, refl, refl, refl) refl e
+    by_test false e = (refl, refl, refl, refl)
 
 -- the handler has ended
 abbrev HasClosed : Unit {0} → Machine → Type 0
 HasClosed t w = w.phase ≡ Closed
 
 ends : (ph : Phase) (v : Machine) → v.phase ≡ ph → Happens HasClosed v (end_at ph v)
-ends WaitingStart v e = (refl, refl, refl)
-ends WaitingReplayEntries v e = (refl, refl, refl)
-ends Replaying v e = (refl, refl, refl)
+ends WaitingStart v e = (refl, refl, refl, refl)
+ends WaitingReplayEntries v e = (refl, refl, refl, refl)
+ends Replaying v e = (refl, refl, refl, refl)
 ends Processing v e = record {
-  sends = record { messages = message.End ∷ []; output = refl; version = refl; options = refl };
+  sends = record { messages = message.End ∷ []; output = refl; proposals = refl; version = refl; options = refl };
   failure = refl;
+  kept = refl;
   left = refl;
 }
-ends Closed v e = record { sends = stays_sends v v (refl, refl, refl); failure = refl; left = e }
+ends Closed v e = record { sends = stays_sends v v (refl, refl, refl, refl); failure = refl; kept = refl; left = e }
 
 -- ---- what is replied
 
@@ -428,12 +469,12 @@ AwaitIs v (Ok a) w = Leaves AwaitLeaves v a w
 AwaitIs v (Err e) w = Sends v w × (w.failure ≡ Some e)
 
 starving : (v : Machine) (e : Error) (w : Machine) → v.failure ≡ None → IsStarved v e w → Sends v w × (w.failure ≡ Some e)
-starving v e w live s = (stays_sends v w (s.output, s.version, s.options), s.failure ∙ ap (λ (f : Option Error). Some (unwrap_or f no_memory)) live ∙ ap (λ x. Some x) (sym s.error))
+starving v e w live s = (record { messages = []; output = s.output ∙ sym (append-nil v.output); proposals = refl; version = s.version; options = s.options }, s.failure ∙ ap (λ (f : Option Error). Some (unwrap_or f no_memory)) live ∙ ap (λ x. Some x) (sym s.error))
 
 -- what comes behind commands of the await
-await_behind : (v mid : Machine) (r : Result (Result AwaitResponse Error) Error) (w : Machine) → Sends v mid → mid.failure ≡ v.failure → AwaitIs mid r w → AwaitIs v r w
-await_behind v mid (Ok a) w s f h = record { sends = sends_then v mid w s h.sends; failure = h.failure ∙ f; left = h.left }
-await_behind v mid (Err e) w s f h = (sends_then v mid w s h.0, h.1)
+await_behind : (v mid : Machine) (r : Result (Result AwaitResponse Error) Error) (w : Machine) → Sends v mid → mid.failure ≡ v.failure → mid.proposals ≡ v.proposals → AwaitIs mid r w → AwaitIs v r w
+await_behind v mid (Ok a) w s f p h = record { sends = sends_then v mid w s h.sends; failure = h.failure ∙ f; kept = h.kept ∙ p; left = h.left }
+await_behind v mid (Err e) w s f p h = (sends_then v mid w s h.0, h.1)
 
 -- one cancel signal
 abbrev SentIs : Machine → Result NotificationHandle Error → Machine → Type 0
@@ -444,7 +485,7 @@ sends_cancel : (id : List ℕ) (sent : Result NotificationHandle Error) (v w : M
 sends_cancel id sent v w live (does, readable) = by_sent sent does
   where
     leaves : CallLeaves RunsOn v (called (commanded (cancel_invocation_command id) v) v)
-    leaves = calling RunsOn v (commanded (cancel_invocation_command id) v) live (commands None (cancel_invocation_command id).message false v)
+    leaves = calling RunsOn v (commanded (cancel_invocation_command id) v) live (commands None (cancel_invocation_command id).message false v refl)
 
     by_sent : (sent : Result NotificationHandle Error) → Does (called (commanded (cancel_invocation_command id) v) v) sent v w → SentIs v sent w
     by_sent (Ok handle) h = subst (CallLeaves RunsOn v) h leaves
@@ -454,11 +495,11 @@ sends_cancel id sent v w live (does, readable) = by_sent sent does
         h
 
 cancels : (ids : List (List ℕ)) (r : Result (Result AwaitResponse Error) Error) (v w : Machine) → v.failure ≡ None → is_running v.phase ≡ true → Cancels ids r v w → AwaitIs v r w
-cancels [] r v w live runs (answered, machine) = subst (λ (z : Result (Result AwaitResponse Error) Error × Machine). AwaitIs v z.0 z.1) (λ i. (sym answered i, sym machine i)) (record { sends = stays_sends v (cancel_taken v) (refl, refl, refl); failure = refl; left = runs })
+cancels [] r v w live runs (answered, machine) = subst (λ (z : Result (Result AwaitResponse Error) Error × Machine). AwaitIs v z.0 z.1) (λ i. (sym answered i, sym machine i)) (record { sends = stays_sends v (cancel_taken v) (refl, refl, refl, refl); failure = refl; kept = refl; left = runs })
 cancels (id ∷ ids) r v w live runs (sent, mid, sends, on) = by_sent (cancels ids r mid w) sent (sends_cancel id sent v mid live sends) on
   where
     by_sent : (mid.failure ≡ None → is_running mid.phase ≡ true → Cancels ids r mid w → AwaitIs mid r w) → (sent : Result NotificationHandle Error) → SentIs v sent mid → Onward (Cancels ids) sent r mid w → AwaitIs v r w
-    by_sent more (Ok handle) h on = await_behind v mid r w h.sends h.failure (more (h.failure ∙ live) h.left on)
+    by_sent more (Ok handle) h on = await_behind v mid r w h.sends h.failure h.kept (more (h.failure ∙ live) h.left on)
     by_sent more (Err e) h on = subst (λ (z : Result (Result AwaitResponse Error) Error × Machine). AwaitIs v z.0 z.1) (λ i. (sym on.0 i, sym on.1 i)) h
 
 -- the first part of an await
@@ -489,23 +530,23 @@ await_whole t v live r w (first, mid, does, fin) = by_first first (first_part t 
     by_first (Err e) h on = stays_so (Err e) h on
     by_first (Ok (Ok CancelSignalReceived)) h on =
         let cleared : Machine = record mid { tracked = [] } in
-        await_behind v cleared r w (sends_then v mid cleared h.sends (stays_sends mid cleared (refl, refl, refl))) h.failure (cancels (invocation_ids mid.tracked) r cleared w (h.failure ∙ live) h.left on)
+        await_behind v cleared r w (sends_then v mid cleared h.sends (stays_sends mid cleared (refl, refl, refl, refl))) h.failure h.kept (cancels (invocation_ids mid.tracked) r cleared w (h.failure ∙ live) h.left on)
 
 await_leaves : (future : UnresolvedFuture) (v : Machine) → v.failure ≡ None → (o : Outcome Reply) → Awaited future v o → CallLeaves StandsBy v o
 await_leaves future v live (Done given w) (a, whole, replied) =
     let h : Leaves AwaitLeaves v a w = await_whole (tree_of future) v live (Ok a) w whole in
-    subst (λ (x : Reply). Leaves StandsBy v x w) (sym replied) (record { sends = h.sends; failure = h.failure; left = await_stands a w h.left })
+    subst (λ (x : Reply). Leaves StandsBy v x w) (sym replied) (record { sends = h.sends; failure = h.failure; kept = h.kept; left = await_stands a w h.left })
 await_leaves future v live (Failed e w) whole = await_whole (tree_of future) v live (Err e) w whole
 
-asked_leaves : (a : Ask) (v : Machine) → IsLive v → (o : Outcome Reply) → PerformsBy a v o → CallLeaves StandsBy v o
-asked_leaves (ask.Command c) v live o does = subst (CallLeaves StandsBy v) (sym does) (mapping RunsOn StandsBy _ (λ h w runs. runs) v (called (commanded c v) v) (calling RunsOn v (commanded c v) live.failure (commands c.refusal c.message c.unstable v)))
-asked_leaves ask.Awakeable v live o does = subst (CallLeaves StandsBy v) (sym does) (mapping RunsOn StandsBy _ (λ h w runs. runs) v (called (new_awakeable_step v) v) (calling RunsOn v (new_awakeable_step v) live.failure (new_awakeables (skips_replay v.options.journal_replay) v)))
-asked_leaves (ask.Read r) v live o does = subst (CallLeaves StandsBy v) (sym does) (mapping RunsOn StandsBy _ (λ h w runs. runs) v (called (read_step r v) v) (calling RunsOn v (read_step r v) live.failure (state_reads r v)))
-asked_leaves (ask.Signal name) v live o does = subst (CallLeaves StandsBy v) (sym does) (mapping RunsOn StandsBy _ (λ h w runs. runs) v (called (signal_step name v) v) (calling RunsOn v (signal_step name v) live.failure (signals name v)))
-asked_leaves (ask.Await future) v live o does = await_leaves future v live.failure o does
-asked_leaves (ask.Take handle) v live o does = subst (CallLeaves StandsBy v) (sym does) (mapping RunsOn StandsBy _ (λ h w runs. runs) v (called (take_step handle.0 v) v) (calling RunsOn v (take_step handle.0 v) live.failure (takes handle.0 v)))
-asked_leaves (ask.Completed handle) v live o does = subst (CallLeaves StandsBy v) (sym does) (record { sends = stays_sends v v (refl, refl, refl); failure = refl; left = live.phase })
-asked_leaves ask.End v live o does = subst (CallLeaves StandsBy v) (sym does) (mapping HasClosed StandsBy _ (λ h w closed. closed) v (called (end_step v) v) (calling HasClosed v (end_step v) live.failure (ends v.phase v refl)))
+asked_leaves : (a : Ask) (v : Machine) → AsksCommand a → IsLive v → (o : Outcome Reply) → PerformsBy a v o → CallLeaves StandsBy v o
+asked_leaves (ask.Command c) v asks live o does = subst (CallLeaves StandsBy v) (sym does) (mapping RunsOn StandsBy _ (λ h w runs. runs) v (called (commanded c v) v) (calling RunsOn v (commanded c v) live.failure (commands c.refusal c.message c.unstable v asks)))
+asked_leaves ask.Awakeable v asks live o does = subst (CallLeaves StandsBy v) (sym does) (mapping RunsOn StandsBy _ (λ h w runs. runs) v (called (new_awakeable_step v) v) (calling RunsOn v (new_awakeable_step v) live.failure (new_awakeables (skips_replay v.options.journal_replay) v)))
+asked_leaves (ask.Read r) v asks live o does = subst (CallLeaves StandsBy v) (sym does) (mapping RunsOn StandsBy _ (λ h w runs. runs) v (called (read_step r v) v) (calling RunsOn v (read_step r v) live.failure (state_reads r v)))
+asked_leaves (ask.Signal name) v asks live o does = subst (CallLeaves StandsBy v) (sym does) (mapping RunsOn StandsBy _ (λ h w runs. runs) v (called (signal_step name v) v) (calling RunsOn v (signal_step name v) live.failure (signals name v)))
+asked_leaves (ask.Await future) v asks live o does = await_leaves future v live.failure o does
+asked_leaves (ask.Take handle) v asks live o does = subst (CallLeaves StandsBy v) (sym does) (mapping RunsOn StandsBy _ (λ h w runs. runs) v (called (take_step handle.0 v) v) (calling RunsOn v (take_step handle.0 v) live.failure (takes handle.0 v)))
+asked_leaves (ask.Completed handle) v asks live o does = subst (CallLeaves StandsBy v) (sym does) (record { sends = stays_sends v v (refl, refl, refl, refl); failure = refl; kept = refl; left = live.phase })
+asked_leaves ask.End v asks live o does = subst (CallLeaves StandsBy v) (sym does) (mapping HasClosed StandsBy _ (λ h w closed. closed) v (called (end_step v) v) (calling HasClosed v (end_step v) live.failure (ends v.phase v refl)))
 
 -- what a step's call has written, and where it stands
 abbrev pub IsLeft : Machine → Result Reply Error → Machine → Type 0
@@ -513,9 +554,9 @@ IsLeft v (Ok a) w = Leaves StandsBy v a w
 IsLeft v (Err e) w = Sends v w × (w.failure ≡ Some e)
 
 pub step_leaves : (st : Step) (v : Machine) → IsLive v → (x : Result Reply Error) (w : Machine) → DoesBy (Performs st v) x v w → IsLeft v x w
-step_leaves st v live (Ok a) w does = asked_leaves (ask_of v.version st) v live (Done a w) does
+step_leaves st v live (Ok a) w does = asked_leaves (ask_of v.version st) v (asks_command v.version st) live (Done a w) does
 step_leaves st v live (Err e) w does =
     ⊎_elim
-    (λ (x : Performs st v (Failed e w)). asked_leaves (ask_of v.version st) v live (Failed e w) x)
+    (λ (x : Performs st v (Failed e w)). asked_leaves (ask_of v.version st) v (asks_command v.version st) live (Failed e w) x)
     (λ (x : IsStarved v e w). starving v e w live.failure x)
     does

@@ -13,13 +13,14 @@ use Rattle.vm_machine.specs.declared.phase.Phase.{Phase}
 use Rattle.vm_machine.specs.declared.phase.Phase.TheVariants.{WaitingStart, WaitingReplayEntries, Replaying, Processing, Closed}
 use Rattle.invocation_vm.specs.Views.{StarvesAmong, View, after_closing, after_input, brought}
 use Rattle.vm_model.specs.Calls.{Meaning}
+use Rattle.vm_rounds.specs.Heard.{Heard}
 use Rattle.vm_rounds.specs.declared.progress.Fed.{Fed}
 use Rattle.vm_rounds.specs.declared.progress.Progress.{Progress}
 use Rattle.vm_rounds.specs.declared.progress.Progress.TheVariants as progress
 use Rattle.vm_rounds.specs.declared.progress.Reply.{Reply}
 use Rattle.vm_rounds.specs.declared.progress.Reply.TheVariants as reply
 use Rattle.vm_rounds.specs.Blames.{IsLate, LateBy}
-use Rattle.vm_rounds.specs.Record.{Record}
+use Rattle.vm_rounds.specs.Record.{Record, heard}
 use Rattle.vm_rounds.specs.Stepping.{Advances, Asks, CloseDoes, Closes, FeedDoes, Feeds, IfWaits, LacksMemory, Reads, StepAt, StepDoes, StepFrom, StepUnless, Takes, future_in, kept, kept_at, progress_of, replied, step_asked, taken_from, with_vm}
 use Rattle.vm_rounds.specs.Told.{IsKeptUnder, NothingWakes, Premises, Quiet, Sleeps, StillSleeps}
 use Rattle.vm_rounds.proofs.Advanced.{asleep_waits, step_waits}
@@ -40,11 +41,11 @@ waits_map P Q f (Ok progress.Ended) h = tt
 waits_map P Q f (Err e) h = tt
 
 -- what an attempt is asleep by, with another view of its VM that has written no command more
-sleeps_quiet : (m : Meaning) (version : Version) (options : VMOptions) (fed : List Fed) (answers : List Answer) (taken : List (List ℕ)) (v w : View) → Quiet v.machine w.machine → Sleeps m version options fed answers taken v → Sleeps m version options fed answers taken w
+sleeps_quiet : (m : Meaning) (version : Version) (options : VMOptions) (fed : Heard) (answers : List Answer) (taken : List (List ℕ)) (v w : View) → Quiet v.machine w.machine → Sleeps m version options fed answers taken v → Sleeps m version options fed answers taken w
 sleeps_quiet m version options fed answers taken v w q (written, wrote, asleep) = (written, wrote_quiet taken v.machine w.machine written q wrote, asleep)
 
-still_quiet : (m : Meaning) (version : Version) (options : VMOptions) (r : Record) (w : View) → Quiet r.vm.machine w.machine → StillSleeps m version options r → StillSleeps m version options (with_vm w r)
-still_quiet m version options r w q s p made over = waits_map _ _ (sleeps_quiet m version options r.fed r.answers r.taken r.vm w q) (Ok made) (s p made over)
+pub still_quiet : (m : Meaning) (version : Version) (options : VMOptions) (r : Record) (w : View) → Quiet r.vm.machine w.machine → StillSleeps m version options r → StillSleeps m version options (with_vm w r)
+still_quiet m version options r w q s p made over = waits_map _ _ (sleeps_quiet m version options (heard version r) r.answers r.taken r.vm w q) (Ok made) (s p made over)
 
 -- before the end nothing is said
 still_open : (m : Meaning) (version : Version) (options : VMOptions) (r : Record) → r.over ≡ None → StillSleeps m version options r
@@ -108,7 +109,7 @@ close_sleeps m version options old result new s does = by_test old.starved does
     by_test true d = subst (StillSleeps m version options) (sym d.1) s
     by_test false d = closes_sleeps m version options old result new s d
 
-sleeps_taken : (m : Meaning) (version : Version) (options : VMOptions) (r : Record) → WholeFrames r.vm.machine.output → Sleeps m version options r.fed r.answers r.taken r.vm → (let n = taken_from r in Sleeps m version options n.fed n.answers n.taken n.vm)
+sleeps_taken : (m : Meaning) (version : Version) (options : VMOptions) (r : Record) → WholeFrames r.vm.machine.output → Sleeps m version options (heard version r) r.answers r.taken r.vm → (let n = taken_from r in Sleeps m version options (heard version n) n.answers n.taken n.vm)
 sleeps_taken m version options r f (written, wrote, asleep) = (written, takes_wrote r.taken r.vm.machine.output written f wrote, asleep)
 
 pub take_sleeps : (m : Meaning) (version : Version) (options : VMOptions) (old : Record) (result : Result (List ℕ) AllocError) (new : Record) → StillSleeps m version options old → Takes old result new → StillSleeps m version options new
@@ -181,16 +182,16 @@ over_repeats m made old result new over does = by_test old.starved does
     by_test false d = repeats_unless m made old result new old.vm.machine.failure (subst (λ o. StepUnless old.vm.machine.failure o m old result new) over d)
 
 -- where a step waits, the attempt sleeps
-step_asleep : (m : Meaning) (version : Version) (options : VMOptions) (old : Record) (result : Result Progress Error) (new : Record) → IsKeptUnder m version options old → StillSleeps m version options old → StepDoes m old result new → Premises m version options old.fed → IfWaits result (Sleeps m version options new.fed new.answers new.taken new.vm)
+step_asleep : (m : Meaning) (version : Version) (options : VMOptions) (old : Record) (result : Result Progress Error) (new : Record) → IsKeptUnder m version options old → StillSleeps m version options old → StepDoes m old result new → Premises m version options (heard version old) → IfWaits result (Sleeps m version options (heard version new) new.answers new.taken new.vm)
 step_asleep m version options old result new u s does p = by_over old.over refl
   where
-    by_over : (over : Option Progress) → old.over ≡ over → IfWaits result (Sleeps m version options new.fed new.answers new.taken new.vm)
+    by_over : (over : Option Progress) → old.over ≡ over → IfWaits result (Sleeps m version options (heard version new) new.answers new.taken new.vm)
     by_over None going = step_waits m version options old result new p (u p) going does
     by_over (Some made) over =
         let r = over_repeats m made old result new over does in
         ⊎_elim
-        (λ (x : result ≡ Ok made). subst (λ z. IfWaits z (Sleeps m version options new.fed new.answers new.taken new.vm)) (sym x) (subst (λ (n : Record). IfWaits (Ok made) (Sleeps m version options n.fed n.answers n.taken n.vm)) (sym r.0) (s p made over)))
-        (λ (x : (e : Error) × (result ≡ Err e)). subst (λ z. IfWaits z (Sleeps m version options new.fed new.answers new.taken new.vm)) (sym x.1) tt)
+        (λ (x : result ≡ Ok made). subst (λ z. IfWaits z (Sleeps m version options (heard version new) new.answers new.taken new.vm)) (sym x) (subst (λ (n : Record). IfWaits (Ok made) (Sleeps m version options (heard version n) n.answers n.taken n.vm)) (sym r.0) (s p made over)))
+        (λ (x : (e : Error) × (result ≡ Err e)). subst (λ z. IfWaits z (Sleeps m version options (heard version new) new.answers new.taken new.vm)) (sym x.1) tt)
         r.1
 
 pub step_sleeps : (m : Meaning) (version : Version) (options : VMOptions) (old : Record) (result : Result Progress Error) (new : Record) → IsKeptUnder m version options old → StillSleeps m version options old → StepDoes m old result new → StillSleeps m version options new
@@ -202,11 +203,11 @@ step_sleeps m version options old result new u s does = by_over old.over refl
         (λ (x : new.over ≡ old.over). absurd (let z : None ≡ Some made = sym going ∙ sym x ∙ over in cc))
         (λ (x : (q : Progress) × (result ≡ Ok q) × (new.over ≡ Some q)).
         let same : x.0 ≡ made = same_Some x.0 made (sym x.2 ∙ over) in
-        subst (λ z. IfWaits z (Sleeps m version options new.fed new.answers new.taken new.vm)) (x.1 ∙ ap (λ q. Ok q) same)
-        (step_asleep m version options old result new u s does (subst (λ fed. Premises m version options fed) (step_fed m old result new does) p)))
+        subst (λ z. IfWaits z (Sleeps m version options (heard version new) new.answers new.taken new.vm)) (x.1 ∙ ap (λ q. Ok q) same)
+        (step_asleep m version options old result new u s does (subst (λ fed. Premises m version options fed) (step_fed version m old result new does) p)))
         (open_ends m old result new going does)
     by_over (Some made) over = subst (StillSleeps m version options) (sym (over_repeats m made old result new over does).0) s
 
 -- a step waits only where nothing wakes
-pub waits_rightly : (m : Meaning) (version : Version) (options : VMOptions) (old : Record) (result : Result Progress Error) (new : Record) → IsKeptUnder m version options old → StillSleeps m version options old → StepDoes m old result new → WholeFrames new.vm.machine.output → Premises m version options old.fed → IfWaits result (NothingWakes m version options new)
+pub waits_rightly : (m : Meaning) (version : Version) (options : VMOptions) (old : Record) (result : Result Progress Error) (new : Record) → IsKeptUnder m version options old → StillSleeps m version options old → StepDoes m old result new → WholeFrames new.vm.machine.output → Premises m version options (heard version old) → IfWaits result (NothingWakes m version options new)
 waits_rightly m version options old result new u s does f p = asleep_waits m version options new result f (step_asleep m version options old result new u s does p)

@@ -53,13 +53,14 @@ use Rattle.vm_model.specs.Histories.{IsPrefix, Made, Handed, Knowledge}
 use Rattle.vm_model.proofs.Compared.{after_answers, attempt_is_told}
 use Rattle.std.proofs.lemmas.Option.{same_Some}
 use Rattle.vm_model.proofs.Runs.{and_then_some, made_add, none_some}
+use Rattle.vm_rounds.specs.Heard.{Heard}
 use Rattle.vm_rounds.specs.declared.progress.Fed.{Fed}
 use Rattle.vm_rounds.specs.declared.progress.Progress.{Progress}
 use Rattle.vm_rounds.specs.declared.progress.Reply.{Reply}
 use Rattle.vm_rounds.specs.declared.progress.Reply.TheVariants as reply
 use Rattle.vm_rounds.specs.Agreement.{Agrees, Answered, Follows, HasEnded, IsCutShort, IsRefused, IsSuspended, MovesOn, StillAgrees, Waits, command_frames, suspended_on, waiting_on}
 use Rattle.vm_rounds.specs.Journals.{is_command, setup_for}
-use Rattle.vm_rounds.specs.Record.{Record}
+use Rattle.vm_rounds.specs.Record.{Record, heard}
 use Rattle.vm_rounds.specs.Stepping.{Asks, IfWaits, step_asked, asked_from, future_in, progress_of, replied, with_vm}
 use Rattle.vm_rounds.specs.Steps.{IfDone, Performs, ReadsBack, StepMade}
 use Rattle.vm_rounds.specs.Told.{IsKept, IsLive, Premises, RefusesReplay, Replays, Runs, Sleeps, StarvesReplay, StillAwaits, Wrote, arrivals, commands_of, handed_out}
@@ -190,7 +191,7 @@ made_made s m K (suc n) p made q (state, r, rest, knows, is, moves, further) =
 
 -- ---- a run that goes on
 
-runs_on : (m : Meaning) (version : Version) (options : VMOptions) (fed : List Fed) (answers : List Answer) (waiting to_wait : Option UnresolvedFuture) (taken : List (List ℕ)) (v w : View) (k : Runs m version options fed answers waiting taken v) → IsLive v.machine → w.undecoded ≡ v.undecoded
+runs_on : (m : Meaning) (version : Version) (options : VMOptions) (fed : Heard) (answers : List Answer) (waiting to_wait : Option UnresolvedFuture) (taken : List (List ℕ)) (v w : View) (k : Runs m version options fed answers waiting taken v) → IsLive v.machine → w.undecoded ≡ v.undecoded
     → (to : Point) (gives : List Answer) (made : List RawMessage) → MovesOn (setup_for version options k.journal.start) m (handed_out k.journal) k.at gives made to → (ms : List Message) → commands_of ms ≡ made → w.machine.output ≡ v.machine.output ++ map encoding ms
     → StillAwaits m to to_wait → (IsLive w.machine → Agrees (setup_for version options k.journal.start) (handed_out k.journal) (k.written ++ made) w.machine to) → (IsLive w.machine → w.machine.proposals ≡ v.machine.proposals) → (w.machine.failure ≡ None → (is_running w.machine.phase ≡ true) ⊎ (w.machine.phase ≡ Closed))
     → Runs m version options fed (answers ++ gives) to_wait taken w
@@ -204,7 +205,7 @@ runs_on m version options fed answers waiting to_wait taken v w k live und to gi
   answers = mo.answers ∙ ap (λ l. l ++ gives) k.answers;
   awaits = awaits;
   agrees = agrees;
-  none_proposed = λ alive. kept alive ∙ k.none_proposed live;
+  keeps = λ alive. let before = k.keeps live in (kept alive ∙ before.0, before.1);
   phase = phase;
   tail = λ alive. k.tail live ∙ ap Rest (sym und);
 }
@@ -250,36 +251,36 @@ no_command_said true s executing left d = by_test (says_so s.version s.options.a
 
 -- ---- what the VM replies
 
-module _ (m : Meaning) (version : Version) (options : VMOptions) (r : Record) (k : Runs m version options r.fed r.answers r.waiting r.taken r.vm) (live : IsLive r.vm.machine) (w : View) (und : w.undecoded ≡ r.vm.undecoded) where
+module _ (m : Meaning) (version : Version) (options : VMOptions) (r : Record) (k : Runs m version options (heard version r) r.answers r.waiting r.taken r.vm) (live : IsLive r.vm.machine) (w : View) (und : w.undecoded ≡ r.vm.undecoded) where
   abbrev s : Setup
   s = setup_for version options k.journal.start
 
-  answered_keeps : (a : Answer) → Answered s m (handed_out k.journal) k.written k.at r.vm.machine a w.machine → Runs m version options r.fed (r.answers ++ a ∷ []) None r.taken w
+  answered_keeps : (a : Answer) → Answered s m (handed_out k.journal) k.written k.at r.vm.machine a w.machine → Runs m version options (heard version r) (r.answers ++ a ∷ []) None r.taken w
   answered_keeps a f =
       let made = made_made s m (Handed (handed_out k.journal)) f.moves.moves k.at f.made f.at f.moves.run in
-      runs_on m version options r.fed r.answers r.waiting None r.taken r.vm w k live und f.at (a ∷ []) f.made f.moves made.0 made.1.commands (f.output ∙ ap (λ l. r.vm.machine.output ++ l) (sym made.1.frames)) tt (λ _. f.agrees) (λ _. f.kept) (λ _. inl (agrees_running s (handed_out k.journal) (k.written ++ f.made) w.machine f.at f.agrees))
+      runs_on m version options (heard version r) r.answers r.waiting None r.taken r.vm w k live und f.at (a ∷ []) f.made f.moves made.0 made.1.commands (f.output ∙ ap (λ l. r.vm.machine.output ++ l) (sym made.1.frames)) tt (λ _. f.agrees) (λ _. f.kept) (λ _. inl (agrees_running s (handed_out k.journal) (k.written ++ f.made) w.machine f.at f.agrees))
 
-  no_answer : (waiting : Option UnresolvedFuture) → Runs m version options r.fed (r.answers ++ []) waiting r.taken w → Runs m version options r.fed r.answers waiting r.taken w
-  no_answer waiting = subst (λ l. Runs m version options r.fed l waiting r.taken w) (append-nil r.answers)
+  no_answer : (waiting : Option UnresolvedFuture) → Runs m version options (heard version r) (r.answers ++ []) waiting r.taken w → Runs m version options (heard version r) r.answers waiting r.taken w
+  no_answer waiting = subst (λ l. Runs m version options (heard version r) l waiting r.taken w) (append-nil r.answers)
 
-  waits_keeps : (input : Bool) (st : Step) → m k.at.answers ≡ st → StillAgrees input s m (handed_out k.journal) k.written k.at r.vm.machine w.machine → Runs m version options r.fed r.answers (future_in st) r.taken w
+  waits_keeps : (input : Bool) (st : Step) → m k.at.answers ≡ st → StillAgrees input s m (handed_out k.journal) k.written k.at r.vm.machine w.machine → Runs m version options (heard version r) r.answers (future_in st) r.taken w
   waits_keeps input st is f =
       no_answer (future_in st)
-      (runs_on m version options r.fed r.answers r.waiting (future_in st) r.taken r.vm w k live und f.at [] [] f.waits.moves (waiting_on input s (list_any is_executing w.machine.runs) f.left f.at.derived) (no_command_said input s (list_any is_executing w.machine.runs) f.left f.at.derived) f.output (future_awaits m k.at f.at st is f.waits.moves.answers)
+      (runs_on m version options (heard version r) r.answers r.waiting (future_in st) r.taken r.vm w k live und f.at [] [] f.waits.moves (waiting_on input s (list_any is_executing w.machine.runs) f.left f.at.derived) (no_command_said input s (list_any is_executing w.machine.runs) f.left f.at.derived) f.output (future_awaits m k.at f.at st is f.waits.moves.answers)
       (λ _. subst (λ l. Agrees s (handed_out k.journal) l w.machine f.at) (sym (append-nil k.written)) f.agrees)
       (λ _. f.kept)
       (λ _. inl (agrees_running s (handed_out k.journal) k.written w.machine f.at f.agrees)))
 
-  suspended_keeps : IsSuspended s m (handed_out k.journal) k.at r.vm.machine w.machine → Runs m version options r.fed r.answers r.waiting r.taken w
+  suspended_keeps : IsSuspended s m (handed_out k.journal) k.at r.vm.machine w.machine → Runs m version options (heard version r) r.answers r.waiting r.taken w
   suspended_keeps f =
       no_answer r.waiting
-      (runs_on m version options r.fed r.answers r.waiting r.waiting r.taken r.vm w k live und f.at [] [] f.waits.moves (message.Suspension (suspended_on f.left f.at.derived) ∷ []) refl f.output (same_awaits m k.at f.at r.waiting f.waits.moves.answers k.awaits)
+      (runs_on m version options (heard version r) r.answers r.waiting r.waiting r.taken r.vm w k live und f.at [] [] f.waits.moves (message.Suspension (suspended_on f.left f.at.derived) ∷ []) refl f.output (same_awaits m k.at f.at r.waiting f.waits.moves.answers k.awaits)
       (λ alive. not_live w.machine f.closed alive) (λ alive. not_live w.machine f.closed alive) (λ _. inr f.closed))
 
-  ended_keeps : HasEnded m k.at r.vm.machine w.machine → Runs m version options r.fed r.answers r.waiting r.taken w
+  ended_keeps : HasEnded m k.at r.vm.machine w.machine → Runs m version options (heard version r) r.answers r.waiting r.taken w
   ended_keeps f =
       no_answer r.waiting
-      (runs_on m version options r.fed r.answers r.waiting r.waiting r.taken r.vm w k live und k.at [] [] (no_move s m (handed_out k.journal) k.at) (message.End ∷ []) refl f.output k.awaits (λ alive. not_live w.machine f.closed alive) (λ alive. not_live w.machine f.closed alive) (λ _. inr f.closed))
+      (runs_on m version options (heard version r) r.answers r.waiting r.waiting r.taken r.vm w k live und k.at [] [] (no_move s m (handed_out k.journal) k.at) (message.End ∷ []) refl f.output k.awaits (λ alive. not_live w.machine f.closed alive) (λ alive. not_live w.machine f.closed alive) (λ _. inr f.closed))
 
   -- what a call that failed has made is kept
   failed_keeps : (e : Error) (at : Point) (made : List RawMessage) → MovesOn s m (handed_out k.journal) k.at [] made at → (behind : List Message) → commands_of behind ≡ [] → w.machine.output ≡ r.vm.machine.output ++ (command_frames made ++ map encoding behind) → w.machine.failure ≡ Some e → IsKept m version options (with_vm w r)
@@ -289,7 +290,7 @@ module _ (m : Meaning) (version : Version) (options : VMOptions) (r : Record) (k
       let frames : w.machine.output ≡ r.vm.machine.output ++ map encoding (ms.0 ++ behind) = output ∙ ap (λ l. r.vm.machine.output ++ l) (ap (λ l. l ++ map encoding behind) (sym ms.1.frames) ∙ sym (map_append ms.0 behind)) in
       inr
       (no_answer r.waiting
-      (runs_on m version options r.fed r.answers r.waiting r.waiting r.taken r.vm w k live und at [] made mo (ms.0 ++ behind) commands frames (same_awaits m k.at at r.waiting mo.answers k.awaits)
+      (runs_on m version options (heard version r) r.answers r.waiting r.waiting r.taken r.vm w k live und at [] made mo (ms.0 ++ behind) commands frames (same_awaits m k.at at r.waiting mo.answers k.awaits)
       (λ alive. absurd (let z : None ≡ Some e = sym alive.failure ∙ failure in cc))
       (λ alive. absurd (let z : None ≡ Some e = sym alive.failure ∙ failure in cc))
       (λ none. absurd (let z : None ≡ Some e = sym none ∙ failure in cc))))
@@ -323,7 +324,7 @@ module _ (m : Meaning) (version : Version) (options : VMOptions) (r : Record) (k
 
   -- ---- what waits
 
-  waits_so : (q : Point) → Waits s m (handed_out k.journal) k.at q → (ms : List Message) → commands_of ms ≡ [] → w.machine.output ≡ r.vm.machine.output ++ map encoding ms → Sleeps m version options r.fed r.answers r.taken w
+  waits_so : (q : Point) → Waits s m (handed_out k.journal) k.at q → (ms : List Message) → commands_of ms ≡ [] → w.machine.output ≡ r.vm.machine.output ++ map encoding ms → Sleeps m version options (heard version r) r.answers r.taken w
   waits_so q ws ms commands output =
       let written = k.written ++ [] in
       let run = made_add s m (Handed (handed_out k.journal)) k.moves ws.moves.moves (start s k.journal.input (arrivals k.journal) k.journal.rest) k.written k.at [] q k.run ws.moves.run in
@@ -346,7 +347,7 @@ module _ (m : Meaning) (version : Version) (options : VMOptions) (r : Record) (k
         },
       )
 
-  replied_waits : (P : Type 0) (x : Result Reply Error) → (R : Outcome Reply → Type 0) → AllFollow P R → DoesBy R x r.vm.machine w.machine → OnOk x P → IfWaits (progress_of x) (Sleeps m version options r.fed r.answers r.taken w)
+  replied_waits : (P : Type 0) (x : Result Reply Error) → (R : Outcome Reply → Type 0) → AllFollow P R → DoesBy R x r.vm.machine w.machine → OnOk x P → IfWaits (progress_of x) (Sleeps m version options (heard version r) r.answers r.taken w)
   replied_waits P (Ok (reply.Answer a)) R f does h = tt
   replied_waits P (Ok (reply.Waiting input run)) R f does h =
       let g : StillAgrees input s m (handed_out k.journal) k.written k.at r.vm.machine w.machine = f (Done (reply.Waiting input run) w.machine) does h in
@@ -384,7 +385,7 @@ module _ (m : Meaning) (version : Version) (options : VMOptions) (r : Record) (k
       subst (λ l. Made s m (Handed (handed_out k.journal)) (k.moves + mo.moves) first (l ++ made) at) (none_written c further some) (made_add s m (Handed (handed_out k.journal)) k.moves mo.moves first k.written k.at made at k.run mo.run)
 
   -- a refusal, at the point that the run comes to
-  refuses_there : (e : Error) (c : RawMessage) (further : List RawMessage) → k.at.left ≡ c ∷ further → IsRefused s m (handed_out k.journal) k.at r.vm.machine e w.machine → RefusesReplay m version options r.fed r.answers e r.vm.machine w.machine
+  refuses_there : (e : Error) (c : RawMessage) (further : List RawMessage) → k.at.left ≡ c ∷ further → IsRefused s m (handed_out k.journal) k.at r.vm.machine e w.machine → RefusesReplay m version options (heard version r) r.answers e r.vm.machine w.machine
   refuses_there e c further some g = record {
     journal = k.journal;
     at = g.at;
@@ -402,7 +403,7 @@ module _ (m : Meaning) (version : Version) (options : VMOptions) (r : Record) (k
   }
 
   -- and want of memory
-  starves_there : (e : Error) (c : RawMessage) (further : List RawMessage) → k.at.left ≡ c ∷ further → IsCutShort s m (handed_out k.journal) k.at r.vm.machine e w.machine → StarvesReplay m version options r.fed r.answers e r.vm.machine w.machine
+  starves_there : (e : Error) (c : RawMessage) (further : List RawMessage) → k.at.left ≡ c ∷ further → IsCutShort s m (handed_out k.journal) k.at r.vm.machine e w.machine → StarvesReplay m version options (heard version r) r.answers e r.vm.machine w.machine
   starves_there e c further some g = record {
     journal = k.journal;
     at = g.at;
@@ -450,7 +451,7 @@ module _ (m : Meaning) (version : Version) (options : VMOptions) (r : Record) (k
       does
 
 -- a step of a handler that runs
-pub asks_keep : (m : Meaning) (version : Version) (options : VMOptions) (old : Record) (result : Result Progress Error) (new : Record) → Premises m version options old.fed → (k : Runs m version options old.fed old.answers old.waiting old.taken old.vm) → IsLive old.vm.machine → Asks m old result new → IsKept m version options new
+pub asks_keep : (m : Meaning) (version : Version) (options : VMOptions) (old : Record) (result : Result Progress Error) (new : Record) → Premises m version options (heard version old) → (k : Runs m version options (heard version old) old.answers old.waiting old.taken old.vm) → IsLive old.vm.machine → Asks m old result new → IsKept m version options new
 asks_keep m version options old result new under k live (x, w, does, is, progress) =
     let s = setup_for version options k.journal.start in
     let st = m k.at.answers in
@@ -461,8 +462,8 @@ asks_keep m version options old result new under k live (x, w, does, is, progres
     (replied_keeps m version options old k live w made.0.1 (ReadsBack st old.vm.machine) st refl x (Performs st old.vm.machine) (λ o. agreeing_follows s m (handed_out k.journal) k.written old.vm.machine k.at o (λ future _. (under.queues, under.once k.journal k.moves k.written k.at k.run)) (k.agrees live)) made.0.0 made.1))
 
 -- what a step that waits leaves of the record
-settled_waits : (m : Meaning) (version : Version) (options : VMOptions) (old : Record) (future : Option UnresolvedFuture) (w : View) (x : Result Reply Error) → IfWaits (progress_of x) (Sleeps m version options old.fed old.answers old.taken w)
-    → IfWaits (progress_of x) (Sleeps m version options (replied old future x w).fed (replied old future x w).answers (replied old future x w).taken (replied old future x w).vm)
+settled_waits : (m : Meaning) (version : Version) (options : VMOptions) (old : Record) (future : Option UnresolvedFuture) (w : View) (x : Result Reply Error) → IfWaits (progress_of x) (Sleeps m version options (heard version old) old.answers old.taken w)
+    → IfWaits (progress_of x) (Sleeps m version options (heard version (replied old future x w)) (replied old future x w).answers (replied old future x w).taken (replied old future x w).vm)
 settled_waits m version options old future w (Ok (reply.Answer a)) h = tt
 settled_waits m version options old future w (Ok (reply.Waiting input run)) h = h
 settled_waits m version options old future w (Ok (reply.Execute run)) h = h
@@ -470,7 +471,7 @@ settled_waits m version options old future w (Ok reply.Suspended) h = h
 settled_waits m version options old future w (Ok reply.Ended) h = tt
 settled_waits m version options old future w (Err e) h = tt
 
-module _ (m : Meaning) (version : Version) (options : VMOptions) (old : Record) (result : Result Progress Error) (new : Record) (under : Premises m version options old.fed) (k : Runs m version options old.fed old.answers old.waiting old.taken old.vm) (live : IsLive old.vm.machine) where
+module _ (m : Meaning) (version : Version) (options : VMOptions) (old : Record) (result : Result Progress Error) (new : Record) (under : Premises m version options (heard version old)) (k : Runs m version options (heard version old) old.answers old.waiting old.taken old.vm) (live : IsLive old.vm.machine) where
   abbrev made_here : Setup
   made_here = setup_for version options k.journal.start
 
@@ -482,11 +483,11 @@ module _ (m : Meaning) (version : Version) (options : VMOptions) (old : Record) 
   follows_here o = agreeing_follows made_here m (handed_out k.journal) k.written old.vm.machine k.at o (λ future _. (under.queues, under.once k.journal k.moves k.written k.at k.run)) (k.agrees live)
 
   -- a step waits only where nothing wakes
-  pub asks_wait : Asks m old result new → IfWaits result (Sleeps m version options new.fed new.answers new.taken new.vm)
+  pub asks_wait : Asks m old result new → IfWaits result (Sleeps m version options (heard version new) new.answers new.taken new.vm)
   asks_wait (x, w, does, is, progress) =
       let made : StepMade (m k.at.answers) x old.vm w = subst (λ q. StepMade q x old.vm w) is_next does in
-      subst (λ z. IfWaits z (Sleeps m version options new.fed new.answers new.taken new.vm)) (sym progress)
-      (subst (λ (n : Record). IfWaits (progress_of x) (Sleeps m version options n.fed n.answers n.taken n.vm)) (sym is)
+      subst (λ z. IfWaits z (Sleeps m version options (heard version new) new.answers new.taken new.vm)) (sym progress)
+      (subst (λ (n : Record). IfWaits (progress_of x) (Sleeps m version options (heard version n) n.answers n.taken n.vm)) (sym is)
       (settled_waits m version options old (future_in (step_asked m old)) w x
       (replied_waits m version options old k live w made.0.1 (ReadsBack (m k.at.answers) old.vm.machine) x (Performs (m k.at.answers) old.vm.machine) follows_here made.0.0 made.1)))
 

@@ -1,5 +1,5 @@
 -- What an attempt wrote, read from the bytes of its output.
-use Rattle.std.proofs.Common.{◌≡◌, ℕ, ◌+◌, ◌<◌, ◌^◌, cond, List, [], ◌∷◌, ◌++◌, length, map, refl, sym, ap, ◌∙◌, ⊎_elim, subst, append-nil, length-append, arith}
+use Rattle.std.proofs.Common.{◌≡◌, ℕ, ◌+◌, ◌<◌, ◌^◌, cond, List, [], ◌∷◌, ◌++◌, length, map, Some, append_assoc, refl, sym, ap, ◌∙◌, ⊎_elim, subst, append-nil, length-append, arith}
 use Rattle.std.specs.List.{AllByRecursion, concat, flat_map}
 use Rattle.std.proofs.lemmas.Grind.{flat_map-append}
 use Rattle.std.proofs.lemmas.List.Folds.{concat-append}
@@ -21,9 +21,15 @@ use Rattle.invocation_vm.proofs.Cuts.{frames_of-next}
 use Rattle.vm_model.specs.Journal.{stored_form}
 use Rattle.vm_rounds.specs.Honest.{frame_bytes}
 use Rattle.vm_rounds.specs.Journals.{commands_among, is_command}
-use Rattle.vm_rounds.specs.Record.{Record, bytes_written}
+use Rattle.vm_rounds.specs.Record.{Record, bytes_written, heard}
 use Rattle.vm_rounds.specs.Told.{BeforeInput, Came, HasCome, Wrote, commands_of, written_by}
-use Rattle.vm_rounds.proofs.Quiet.{commands_append}
+use Rattle.journal_attempt.specs.Bodies.{propose_run_completion_format}
+use Rattle.journal_attempt.specs.declared.runs.ProposeRunCompletion.{ProposeRunCompletion}
+use Rattle.journal_messages.specs.declared.message.Message.TheVariants as message
+use Rattle.journal_messages.specs.Reading.{body_as}
+use Rattle.wire.proofs.Read.{all_read}
+use Rattle.vm_rounds.specs.Heard.{proposal_in, proposals_among, proposals_in, proposed_by}
+use Rattle.vm_rounds.proofs.Quiet.{commands_append, forms_append, map_append, proposals_append}
 
 -- ---- frames of bytes
 
@@ -149,6 +155,44 @@ written_is taken waits written w f =
     ∙ commands_stored (w.sent ++ f.messages)
     ∙ ap commands_among (sym (ap (λ l. (frames_of l).0) (bytes_are taken waits written w f) ∙ messages_spelled (w.sent ++ f.messages) (all_whole w.sent f.messages w.whole f.each)))
 
+-- the same frames are of messages that are stored alike
+pub same_forms : (ms ns : List Message) → map encoding ms ≡ map encoding ns → AllByRecursion IsWhole ns → map stored_form ms ≡ map stored_form ns
+same_forms [] [] e all = refl
+same_forms [] (n ∷ ns) e all = absurd (cc)
+same_forms (m ∷ ms) [] e all = absurd (cc)
+same_forms (m ∷ ms) (n ∷ ns) e all = λ i. same_form m n (ap first_of e) all.0 i ∷ same_forms ms ns (ap others_of e) all.1 i
+
+-- the frames of the output
+output_forms : (taken waits : List (List ℕ)) (sent : List Message) → concat taken ≡ flat_map encoding sent → AllByRecursion IsWhole sent → (f : WholeFrames waits) → (frames_of (concat taken ++ concat waits)).0 ≡ map stored_form sent ++ map stored_form f.messages
+output_forms taken waits sent bytes whole f =
+    ap (λ l. (frames_of l).0) (ap (λ l. l ++ concat waits) bytes ∙ ap (λ l. flat_map encoding sent ++ l) (ap concat f.are ∙ bytes_of f.messages) ∙ sym (flat_map-append encoding sent f.messages))
+    ∙ messages_spelled (sent ++ f.messages) (all_whole sent f.messages whole f.each)
+    ∙ forms_append sent f.messages
+
+-- further messages propose what is among them
+pub proposes_more : (taken output new : List (List ℕ)) (written : List RawMessage) → Wrote taken output written → WholeFrames output → WholeFrames new → (ms : List Message) → new ≡ output ++ map encoding ms
+    → proposals_in (concat taken ++ concat new) ≡ proposals_in (concat taken ++ concat output) ++ proposals_among (map stored_form ms)
+proposes_more taken output new written w f g ms is =
+    let sent = map stored_form w.sent in
+    let behind : map stored_form g.messages ≡ map stored_form f.messages ++ map stored_form ms =
+    sym (same_forms (f.messages ++ ms) g.messages (map_append f.messages ms ∙ ap (λ l. l ++ map encoding ms) (sym f.are) ∙ sym is ∙ g.are) g.each) ∙ forms_append f.messages ms
+    in
+    ap proposals_among (output_forms taken new w.sent w.bytes w.whole g ∙ ap (λ l. sent ++ l) behind ∙ sym (append_assoc sent (map stored_form f.messages) (map stored_form ms)))
+    ∙ proposals_append (sent ++ map stored_form f.messages) (map stored_form ms)
+    ∙ ap (λ l. l ++ proposals_among (map stored_form ms)) (ap proposals_among (sym (output_forms taken output w.sent w.bytes w.whole f)))
+
+-- what a message proposes that can be read back
+proposal_read : (p : ProposeRunCompletion) → propose_run_completion_format.valid p → proposal_in (stored_form (message.ProposeRunCompletion p)).body ≡ Some p
+unfolding proposal_in body_as
+proposal_read p v = all_read propose_run_completion_format p (propose_run_completion_format.spelling p) v refl
+
+pub proposes_one : (p : ProposeRunCompletion) → IsWhole (message.ProposeRunCompletion p) → proposals_among (stored_form (message.ProposeRunCompletion p) ∷ []) ≡ record { completion_id = p.id; result = p.result } ∷ []
+proposes_one p whole = ap (λ o. proposed_by o []) (proposal_read p whole.0)
+
+-- the frames of messages propose what is among the messages
+pub frames_propose : (ms : List Message) → AllByRecursion IsWhole ms → proposals_in (concat (map encoding ms)) ≡ proposals_among (map stored_form ms)
+frames_propose ms whole = ap proposals_in (bytes_of ms) ∙ ap proposals_among (messages_spelled ms whole)
+
 -- what was taken are the first of the commands that were written
 pub taken_first : (taken waits : List (List ℕ)) (written : List RawMessage) → Wrote taken waits written → (rest : List RawMessage) × (written ≡ commands_among (frames_of (concat taken)).0 ++ rest)
 taken_first taken waits written w = (
@@ -162,14 +206,14 @@ taken_first taken waits written w = (
 pub writes_whole : (version : Version) (options : VMOptions) (r : Record) → HasCome version options r → WholeFrames r.vm.machine.output → WholeStream (bytes_written r)
 writes_whole version options r k f =
     ⊎_elim
-    (λ (b : BeforeInput version options r.fed r.answers r.waiting r.taken r.vm). stream_of r.taken r.vm.machine.output [] b.wrote f)
-    (λ (c : Came version options r.fed r.answers r.taken r.vm). stream_of r.taken r.vm.machine.output c.written c.wrote f)
+    (λ (b : BeforeInput version options (heard version r) r.answers r.waiting r.taken r.vm). stream_of r.taken r.vm.machine.output [] b.wrote f)
+    (λ (c : Came version options (heard version r) r.answers r.taken r.vm). stream_of r.taken r.vm.machine.output c.written c.wrote f)
     k
 
 -- before the input no command is written
 pub none_before_input : (version : Version) (options : VMOptions) (r : Record) → HasCome version options r → WholeFrames r.vm.machine.output → r.answers ≡ [] → written_by r ≡ []
 none_before_input version options r k f none =
     ⊎_elim
-    (λ (b : BeforeInput version options r.fed r.answers r.waiting r.taken r.vm). sym (written_is r.taken r.vm.machine.output [] b.wrote f))
-    (λ (c : Came version options r.fed r.answers r.taken r.vm). absurd (c.answered none))
+    (λ (b : BeforeInput version options (heard version r) r.answers r.waiting r.taken r.vm). sym (written_is r.taken r.vm.machine.output [] b.wrote f))
+    (λ (c : Came version options (heard version r) r.answers r.taken r.vm). absurd (c.answered none))
     k

@@ -1,6 +1,6 @@
 -- What frames bring to an attempt: a notification is an arrival, and an acknowledgement stands as the completion of its run, with the
 -- result that was proposed.
-use Rattle.std.specs.Prelude.{if◌then◌else◌, List, [], ◌∷◌, Option, Some, None}
+use Rattle.std.specs.Prelude.{◌≡◌, true, if◌then◌else◌, IsSome, List, [], ◌∷◌, Option, Some, None}
 use Rattle.std.specs.List.{find}
 use Rattle.std.specs.Option.{option_map}
 use Rattle.journal_attempt.specs.declared.runs.ProposeRunCompletionAck.{ProposeRunCompletionAck}
@@ -43,3 +43,17 @@ arriving kept (raw ∷ raws) = notified_by (brought_by kept raw) (arriving (kept
 abbrev pub kept_after : List KeptProposal → List RawMessage → List KeptProposal
 kept_after kept [] = kept
 kept_after kept (raw ∷ raws) = kept_after (kept_behind kept raw) raws
+
+-- an acknowledgement is of a proposal that is kept
+abbrev pub IsFound : List KeptProposal → Option ProposeRunCompletionAck → Type 0
+IsFound kept None = Unit {0}
+IsFound kept (Some ack) = IsSome (find (is_for ack.id) kept)
+
+-- the frame is no acknowledgement, or one of a proposal that is kept
+abbrev pub FindsProposal : List KeptProposal → RawMessage → Type 0
+FindsProposal kept raw = is_acknowledgement raw ≡ true → IsFound kept (acknowledgement_in raw.body)
+
+-- each acknowledgement among some frames finds its proposal
+abbrev pub AllFound : List KeptProposal → List RawMessage → Type 0
+AllFound kept [] = Unit {0}
+AllFound kept (raw ∷ raws) = FindsProposal kept raw × AllFound (kept_behind kept raw) raws

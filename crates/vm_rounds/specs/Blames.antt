@@ -12,7 +12,10 @@ use Rattle.journal_errors.specs.declared.version.Version.{Version}
 use Rattle.journal_errors.specs.Errors.{named_error, no_memory}
 use Rattle.journal_attempt.specs.declared.runs.ProposeRunCompletionAck.{ProposeRunCompletionAck}
 use Rattle.journal_messages.specs.Reading.{acknowledgement_in, notification_in, start_in}
+use Rattle.retries.specs.declared.policy.RetryPolicy.{RetryPolicy}
+use Rattle.runs.specs.declared.types.RunExitResult.{RunExitResult}
 use Rattle.runs.specs.Kept.{is_for}
+use Rattle.await_trees.specs.declared.handle.NotificationHandle.{NotificationHandle}
 use Rattle.vm_parts.specs.declared.run_state.KeptProposal.{KeptProposal}
 use Rattle.std.specs.List.{find}
 use Rattle.journal_errors.specs.Types.{type_number}
@@ -23,7 +26,8 @@ use Rattle.vm_machine.specs.declared.machine.Machine.{Machine}
 use Rattle.vm_machine.specs.declared.phase.Phase.{Phase}
 use Rattle.vm_machine.specs.declared.phase.Phase.TheVariants.{WaitingStart, WaitingReplayEntries, Replaying, Processing, Closed}
 use Rattle.vm_machine.specs.Inputs.{entries_in}
-use Rattle.vm_machine.specs.Outcomes.{ruled, ruled_by}
+use Rattle.vm_machine.specs.Outcomes.{Failed, ruled, ruled_by}
+use Rattle.vm_machine.specs.Proposals.{Proposes}
 use Rattle.invocation_vm.specs.Frames.{Garbage, Rest, frames_of}
 use Rattle.invocation_vm.specs.Views.{View, all_received}
 use Rattle.vm_model.specs.Calls.{Meaning}
@@ -32,10 +36,10 @@ use Rattle.vm_model.specs.Histories.{Handed, History, Made}
 use Rattle.vm_model.specs.Journal.{input_read_from}
 use Rattle.vm_model.specs.Moves.{Point, move_at}
 use Rattle.vm_model.specs.Refusals.{IsRefusedFor}
-use Rattle.vm_rounds.specs.declared.progress.Fed.{Fed}
+use Rattle.vm_rounds.specs.Heard.{Heard}
 use Rattle.vm_rounds.specs.declared.progress.Progress.{Progress}
 use Rattle.vm_rounds.specs.Journals.{as_entries, commands_among, is_acknowledgement, is_command, is_notification, setup_for}
-use Rattle.vm_rounds.specs.Record.{Record, all_fed}
+use Rattle.vm_rounds.specs.Record.{Record, all_heard, heard}
 use Rattle.vm_rounds.specs.Told.{handed_out, Journal, Premises, begun, bytes_fed, frames_fed}
 
 -- ---- frames
@@ -92,7 +96,7 @@ fault_by kept phase raw false false false d = other_fault kept phase raw d
 abbrev pub fault_among : List KeptProposal → Phase → RawMessage → Option NamedFault
 fault_among kept phase raw = fault_by kept phase raw (type_number raw.ty == 1) (is_command raw) (is_notification raw) (is_acknowledgement raw)
 
--- Why a frame is refused in this phase of an attempt, if it is: an attempt proposes nothing yet, so no acknowledgement is taken.
+-- Why a frame is refused in this phase of an attempt, if it is, where no proposal is kept that it could acknowledge.
 abbrev pub frame_fault : Phase → RawMessage → Option NamedFault
 frame_fault phase raw = fault_among [] phase raw
 
@@ -161,7 +165,7 @@ pub record LacksInput (frames : List RawMessage) : Type 0 where
   pub none : first_input (commands_among entries) ≡ None
 
 -- the handler's call was refused for this reason, at a point with these answers
-pub record RefusedCall (m : Meaning) (version : Version) (options : VMOptions) (fed : List Fed) (answers_so_far : List Answer) (e : Error) : Type 0 where
+pub record RefusedCall (m : Meaning) (version : Version) (options : VMOptions) (fed : Heard) (answers_so_far : List Answer) (e : Error) : Type 0 where
   pub journal : Journal fed
   pub written : List RawMessage
   pub at : Point
@@ -173,29 +177,45 @@ pub record RefusedCall (m : Meaning) (version : Version) (options : VMOptions) (
   pub related : Option RelatedCommand
   pub error : e ≡ ruled_by version options (named_error why related)
 
+-- ---- results of runs
+
+-- What executing a run came to was refused, or fails the attempt, so that it is tried again or paused.
+pub record RefusedResult (version : Version) (options : VMOptions) (e : Error) : Type 0 where
+  pub handle : NotificationHandle
+  pub exit : RunExitResult
+  pub policy : RetryPolicy
+  pub told : Machine
+  pub left : Machine
+  pub why : Error
+  pub proposes : Proposes handle exit policy told (Failed why left)
+  pub version_is : told.version ≡ version
+  pub error : e ≡ ruled_by version options why
+
 -- ---- why an attempt failed
 
 -- Memory was lacking; a frame was refused, or bytes were no frame; the input was closed while known entries were missing; the
--- journal has no input; or the handler's call was refused, or an await found no memory for one of its commands.
-pub data Blame (m : Meaning) (version : Version) (options : VMOptions) (fed : List Fed) (closed : Bool) (answers : List Answer) (e : Error) : Type 0 where
+-- journal has no input; the handler's call was refused, or an await found no memory for one of its commands; or a run's result was
+-- refused, or fails the attempt.
+pub data Blame (m : Meaning) (version : Version) (options : VMOptions) (fed : Heard) (closed : Bool) (answers : List Answer) (e : Error) : Type 0 where
   Memory : e ≡ no_memory → Blame m version options fed closed answers e
   Frame : BadFrame version options (frames_fed fed) e → Blame m version options fed closed answers e
   NoFrame : (frames_of (bytes_fed fed)).1 ≡ Garbage → e ≡ ruled_by version options (named_error fault.BadMessage None) → Blame m version options fed closed answers e
   ClosedEarly : closed ≡ true → IsShort (frames_fed fed) → e ≡ ruled_by version options (named_error fault.InputClosedWhileWaitingEntries None) → Blame m version options fed closed answers e
   NoInput : LacksInput (frames_fed fed) → Blame m version options fed closed answers e
   Call : (Premises m version options fed → (e ≡ no_memory) ⊎ RefusedCall m version options fed answers e) → Blame m version options fed closed answers e
+  RunResult : RefusedResult version options e → Blame m version options fed closed answers e
 
 -- As long as an attempt is not over, its VM isn't closed, and has failed only for such a reason.
-pub record BlamedAt (m : Meaning) (version : Version) (options : VMOptions) (over : Option Progress) (fed : List Fed) (closed : Bool) (answers : List Answer) (v : Machine) : Type 0 where
+pub record BlamedAt (m : Meaning) (version : Version) (options : VMOptions) (over : Option Progress) (fed : Heard) (closed : Bool) (answers : List Answer) (v : Machine) : Type 0 where
   pub open_yet : over ≡ None → v.failure ≡ None → v.phase ≢ Closed
   pub blame : over ≡ None → (e : Error) → v.failure ≡ Some e → Blame m version options fed closed answers e
 
 -- the same of a record
 abbrev pub IsBlamed : Meaning → Version → VMOptions → Record → Type 0
-IsBlamed m version options r = BlamedAt m version options r.over r.fed r.closed r.answers r.vm.machine
+IsBlamed m version options r = BlamedAt m version options r.over (heard version r) r.closed r.answers r.vm.machine
 
 -- Once the attempt is over its VM is closed, behind the known entries, or has failed for such a reason.
-pub record BehindEnd (m : Meaning) (version : Version) (options : VMOptions) (all : List Fed) (closed : Bool) (answers : List Answer) (vm : View) : Type 0 where
+pub record BehindEnd (m : Meaning) (version : Version) (options : VMOptions) (all : Heard) (closed : Bool) (answers : List Answer) (vm : View) : Type 0 where
   pub phase : vm.machine.failure ≡ None → vm.machine.phase ≡ Closed
   pub place : vm.machine.failure ≡ None → Began (frames_fed all) (λ n known. known ≤ n)
   pub made_for : vm.machine.failure ≡ None → (vm.machine.version ≡ version) × (vm.machine.options ≡ options)
@@ -205,7 +225,7 @@ pub record BehindEnd (m : Meaning) (version : Version) (options : VMOptions) (al
 -- no piece comes behind the end before it is there
 abbrev pub LateBy : Option Progress → Meaning → Version → VMOptions → Record → Type 0
 LateBy None m version options r = r.late ≡ []
-LateBy (Some made) m version options r = BehindEnd m version options (all_fed r) r.closed r.answers r.vm
+LateBy (Some made) m version options r = BehindEnd m version options (all_heard version r) r.closed r.answers r.vm
 
 -- the same of a record
 abbrev pub IsLate : Meaning → Version → VMOptions → Record → Type 0
@@ -220,14 +240,14 @@ IfError (Err e) P = P e
 
 -- Each frame has its place and is whole there, no bytes are garbage, the known entries are a history of the handler, and the
 -- premises hold.
-pub record IsHonest (m : Meaning) (version : Version) (options : VMOptions) (fed : List Fed) : Type 0 where
+pub record IsHonest (m : Meaning) (version : Version) (options : VMOptions) (fed : Heard) : Type 0 where
   pub premises : Premises m version options fed
   pub frames : (before : List RawMessage) (raw : RawMessage) (behind : List RawMessage) (phase : Phase) (k : ℕ) → frames_fed fed ≡ before ++ raw ∷ behind → Place phase k before → frame_fault phase raw ≡ None
   pub whole : (frames_of (bytes_fed fed)).1 ≢ Garbage
   pub history : (first : RawMessage) (entries others : List RawMessage) (st : Start) → frames_fed fed ≡ first ∷ (entries ++ others) → start_in first.body ≡ Some st → length entries ≡ st.known_entries → (base : StateMap) × History (setup_for version options st) m base (as_entries entries)
 
 -- the call was refused for a reason of its own: an argument or version check, numbers that ran out, a state key that is no text
-pub record RefusedItself (m : Meaning) (version : Version) (options : VMOptions) (fed : List Fed) (answers_so_far : List Answer) (e : Error) : Type 0 where
+pub record RefusedItself (m : Meaning) (version : Version) (options : VMOptions) (fed : Heard) (answers_so_far : List Answer) (e : Error) : Type 0 where
   pub journal : Journal fed
   pub at : Point
   pub answers : at.answers ≡ answers_so_far
@@ -238,7 +258,8 @@ pub record RefusedItself (m : Meaning) (version : Version) (options : VMOptions)
   pub error : e ≡ ruled_by version options (named_error why related)
 
 -- what an error of an honest attempt is
-abbrev pub IsOwnError : Meaning → Version → VMOptions → List Fed → Bool → List Answer → Error → Type 0
+abbrev pub IsOwnError : Meaning → Version → VMOptions → Heard → Bool → List Answer → Error → Type 0
 IsOwnError m version options fed closed answers e =
     (e ≡ no_memory)
-    ⊎ (((closed ≡ true) × IsShort (frames_fed fed) × (e ≡ ruled_by version options (named_error fault.InputClosedWhileWaitingEntries None))) ⊎ RefusedItself m version options fed answers e)
+    ⊎ (((closed ≡ true) × IsShort (frames_fed fed) × (e ≡ ruled_by version options (named_error fault.InputClosedWhileWaitingEntries None)))
+    ⊎ (RefusedItself m version options fed answers e ⊎ RefusedResult version options e))

@@ -18,7 +18,7 @@ use Rattle.vm_model.specs.Deliveries.{HasNoTwo}
 use Rattle.vm_model.specs.Histories.{Handed, History, Made}
 use Rattle.vm_model.specs.Moves.{Point, start as first_point}
 use Rattle.vm_model.specs.Journal.{Entry, Recorded, Notified, notifications_in, stored_form}
-use Rattle.vm_rounds.specs.declared.progress.Fed.{Fed}
+use Rattle.vm_rounds.specs.Heard.{Heard}
 use Rattle.vm_rounds.specs.Journals.{is_command, setup_for}
 use Rattle.vm_rounds.specs.Told.{bytes_fed}
 
@@ -47,7 +47,7 @@ honest_frames start journal more = stored_form (message.Start start) ∷ (map en
 -- What was fed is a beginning of Start, which tells the length of the journal; of the whole journal, which is a history of the
 -- handler; and of notifications that come behind it. Each of these can be fed. Recorded commands are replayed, signals queue, and with
 -- all the notifications no completion has two results at a point that the handler's run comes to.
-pub record FeedsHonestly (m : Meaning) (version : Version) (options : VMOptions) (fed : List Fed) : Type 0 where
+pub record FeedsHonestly (m : Meaning) (version : Version) (options : VMOptions) (fed : Heard) : Type 0 where
   pub start : Start
   pub journal : List Entry
   pub more : List Notification

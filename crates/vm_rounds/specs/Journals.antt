@@ -1,5 +1,6 @@
 -- The journal that an attempt was fed, and the machine that it makes of it.
 use Rattle.std.specs.Prelude.{◌≡◌, ◌⊎◌, ℕ, zero, suc, ◌+◌, Bool, true, false, ◌&&◌, ◌==◌, nat_le, nat_lt, cond, length, List, [], ◌∷◌, ◌++◌, Option, Some, None, IsSome}
+use Rattle.std.specs.List.{AllByRecursion}
 use Rattle.std.proofs.Common.{Global}
 use Rattle.journal_attempt.specs.declared.commands.InputCommand.{InputCommand}
 use Rattle.journal_messages.specs.declared.message.RawMessage.{RawMessage}
@@ -35,6 +36,10 @@ is_notification raw = type_number raw.ty == 30
 -- the frame is an acknowledgement of a proposal
 abbrev pub is_acknowledgement : RawMessage → Bool
 is_acknowledgement raw = type_number raw.ty == 6
+
+-- the frame is no acknowledgement
+abbrev pub AcknowledgesNothing : RawMessage → Type 0
+AcknowledgesNothing raw = is_acknowledgement raw ≡ false
 
 -- the commands among some frames
 abbrev pub commands_among : List RawMessage → List RawMessage
@@ -115,10 +120,11 @@ abbrev pub waiting : Setup → StateMap → Aside → ℕ → List RawMessage �
 waiting s given aside k cs ns = machine_fed s given (missing k aside) cs ns (phase_missing k)
 
 -- What frames make of a machine that waits: it has failed; or it waits for those that are missing; or the journal is the
--- first of them, as many as were missing, and all their notifications are arrivals.
+-- first of them, as many as were missing, and all their notifications are arrivals. No frame among them is an acknowledgement.
 pub record StillWaits (s : Setup) (given : StateMap) (aside : Aside) (k : ℕ) (cs : List RawMessage) (ns : List Notification) (raws : List RawMessage) (m : Machine) : Type 0 where
   pub left : ℕ
   pub count : k ≡ length raws + suc left
+  pub none_acknowledge : AllByRecursion AcknowledgesNothing raws
   pub machine : m ≡ waiting s given aside (suc left) (cs ++ commands_among raws) (ns ++ notifications_among raws)
 
 -- the known entries have all come
@@ -126,6 +132,7 @@ pub record HasAll (s : Setup) (given : StateMap) (aside : Aside) (k : ℕ) (cs :
   pub entries : List RawMessage
   pub others : List RawMessage
   pub split : raws ≡ entries ++ others
+  pub none_acknowledge : AllByRecursion AcknowledgesNothing raws
   pub count : length entries ≡ k
   pub machine : m ≡ waiting s given aside 0 (cs ++ commands_among entries) (ns ++ notifications_among raws)
 

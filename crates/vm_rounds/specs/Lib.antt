@@ -7,4 +7,5 @@ pub mod Stepping
 pub mod Steps
 pub mod Told
 pub mod Blames
+pub mod Heard
 pub mod Honest

@@ -5,7 +5,9 @@ use Rattle.journal_errors.specs.declared.version.Version.{Version}
 use Rattle.vm_parts.specs.declared.options.VMOptions.{VMOptions}
 use Rattle.vm_parts.specs.declared.steps.Answer.{Answer}
 use Rattle.await_trees.specs.declared.tree.UnresolvedFuture.{UnresolvedFuture}
+use Rattle.vm_parts.specs.declared.run_state.KeptProposal.{KeptProposal}
 use Rattle.invocation_vm.specs.Views.{View}
+use Rattle.vm_rounds.specs.Heard.{Heard, acknowledged_from}
 use Rattle.vm_rounds.specs.declared.progress.Fed.{Fed}
 use Rattle.vm_rounds.specs.declared.progress.Progress.{Progress}
 
@@ -20,6 +22,8 @@ pub record Record : Type 0 where
   pub answers : List Answer
   -- the output that was taken, piece by piece
   pub taken : List (List ℕ)
+  -- the results of runs that were proposed, in order: those among the frames of all output
+  pub proposed : List KeptProposal
   -- the await that waits
   pub waiting : Option UnresolvedFuture
   -- the attempt itself found no memory
@@ -28,9 +32,13 @@ pub record Record : Type 0 where
   pub over : Option Progress
   pub vm : View
 
--- all pieces that came until the VM failed
-abbrev pub all_fed : Record → List Fed
-all_fed r = r.fed ++ r.late
+-- what the attempt has heard until its VM failed or closed
+abbrev pub heard : Version → Record → Heard
+heard version r = record { pieces = r.fed; proposed = acknowledged_from version r.proposed }
+
+-- what it has heard until its VM failed
+abbrev pub all_heard : Version → Record → Heard
+all_heard version r = record { pieces = r.fed ++ r.late; proposed = acknowledged_from version r.proposed }
 
 -- all bytes that an attempt wrote: those that were taken, and those that wait
 abbrev pub bytes_written : Record → List ℕ

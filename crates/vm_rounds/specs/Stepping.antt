@@ -1,5 +1,5 @@
 -- What the calls of an attempt do to its record.
-use Rattle.std.specs.Prelude.{◌≡◌, ◌≢◌, ◌⊎◌, ℕ, ◌-◌, ◌^◌, min, Bool, true, false, List, [], ◌∷◌, ◌++◌, length, Option, Some, None, Result, Ok, Err}
+use Rattle.std.specs.Prelude.{◌≡◌, ◌≢◌, ◌⊎◌, ℕ, ◌-◌, ◌^◌, drop, min, Bool, true, false, List, [], ◌∷◌, ◌++◌, length, Option, Some, None, Result, Ok, Err}
 use Rattle.std.proofs.Common.{Global}
 use Rattle.std.specs.List.{concat}
 use Rattle.std.specs.declared.alloc.AllocError.{AllocError}
@@ -10,7 +10,14 @@ use Rattle.vm_parts.specs.declared.steps.Answer.{Answer}
 use Rattle.vm_parts.specs.declared.steps.Answer.TheVariants as answer
 use Rattle.vm_parts.specs.declared.steps.Step.{Step}
 use Rattle.vm_parts.specs.declared.steps.Step.TheVariants as step
+use Rattle.await_trees.specs.declared.handle.NotificationHandle.{NotificationHandle}
 use Rattle.await_trees.specs.declared.tree.UnresolvedFuture.{UnresolvedFuture}
+use Rattle.retries.specs.declared.policy.RetryPolicy.{RetryPolicy}
+use Rattle.runs.specs.declared.types.RunExitResult.{RunExitResult}
+use Rattle.vm_parts.specs.declared.run_state.KeptProposal.{KeptProposal}
+use Rattle.vm_machine.specs.declared.machine.Machine.{Machine}
+use Rattle.invocation_vm.specs.Calls.{CallsProposal}
+use Rattle.vm_rounds.specs.Heard.{proposals_in}
 use Rattle.vm_parts.specs.declared.values.Input.{Input}
 use Rattle.vm_parts.specs.Outboxes.{WholeFrames}
 use Rattle.vm_machine.specs.declared.phase.Phase.{Phase}
@@ -34,7 +41,7 @@ Meaning = List Answer → Step
 
 -- an attempt that was fed nothing
 abbrev pub fresh_record : View → Record
-fresh_record vm = record { fed = []; late = []; closed = false; answers = []; taken = []; waiting = None; starved = false; over = None; vm = vm }
+fresh_record vm = record { fed = []; late = []; closed = false; answers = []; taken = []; proposed = []; waiting = None; starved = false; over = None; vm = vm }
 
 -- an attempt is made for the version that is asked for; else the error says why, or no memory was found
 abbrev pub MakesAttempt : {H : Type 0} → Global → VMOptions → H → Result Version Error → Result (AttemptView H) Error → Type 0
@@ -184,6 +191,32 @@ Closes old (Err e) new = (w : View) × StarvesAmong [] old.vm.machine w.machine 
 abbrev pub CloseDoes : Bool → Record → Result Unit AllocError → Record → Type 0
 CloseDoes true old result new = (result ≡ Ok tt) × (new ≡ old)
 CloseDoes false old result new = Closes old result new
+
+-- ---- results of runs
+
+-- the proposals among the frames that a call has written
+abbrev pub newly_proposed : Machine → Machine → List KeptProposal
+newly_proposed old new = proposals_in (concat (drop (length old.output) new.output))
+
+-- what executing a run came to is told to the VM
+abbrev pub Tells : NotificationHandle → RunExitResult → RetryPolicy → Record → Result Unit Error → Record → Type 0
+Tells handle exit policy old result new = (w : View) × CallsProposal handle exit policy result old.vm w × (new ≡ with_vm w old)
+
+-- the same, unless the attempt's own memory was lacking
+abbrev pub TellsUnless : Bool → NotificationHandle → RunExitResult → RetryPolicy → Record → Result Unit Error → Record → Type 0
+TellsUnless true handle exit policy old result new = (result ≡ Err no_memory) × (new ≡ old)
+TellsUnless false handle exit policy old result new = Tells handle exit policy old result new
+
+-- What executing a run came to is told to the VM. Where it answers, what it has written may propose a result.
+abbrev pub Finishes : NotificationHandle → RunExitResult → RetryPolicy → Record → Result Unit Error → Record → Type 0
+Finishes handle exit policy old (Ok t) new =
+    (w : View) × CallsProposal handle exit policy (Ok t) old.vm w × (new ≡ record old { proposed = old.proposed ++ newly_proposed old.vm.machine w.machine; vm = w })
+Finishes handle exit policy old (Err e) new = Tells handle exit policy old (Err e) new
+
+-- what telling it does: nothing after the attempt's own want of memory
+abbrev pub FinishDoes : Bool → NotificationHandle → RunExitResult → RetryPolicy → Record → Result Unit Error → Record → Type 0
+FinishDoes true handle exit policy old result new = (result ≡ Err no_memory) × (new ≡ old)
+FinishDoes false handle exit policy old result new = Finishes handle exit policy old result new
 
 -- ---- output
 

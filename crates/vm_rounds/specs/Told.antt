@@ -40,21 +40,27 @@ use Rattle.vm_rounds.specs.declared.progress.Fed.{Fed}
 use Rattle.vm_rounds.specs.declared.progress.Progress.{Progress}
 use Rattle.vm_rounds.specs.declared.progress.Progress.TheVariants as progress
 use Rattle.vm_rounds.specs.Agreement.{Agrees, Aside, command_frames}
-use Rattle.vm_rounds.specs.Journals.{HasAll, StillWaits, commands_among, is_command, notifications_among, setup_for}
+use Rattle.vm_rounds.specs.Journals.{AcknowledgesNothing, HasAll, StillWaits, commands_among, is_command, setup_for}
 use Rattle.vm_parts.specs.declared.steps.Answer.{Answer}
 use Rattle.invocation_vm.specs.Views.{View}
-use Rattle.vm_rounds.specs.Record.{Record, bytes_written}
+use Rattle.vm_rounds.specs.Arrivals.{AllFound, arriving, kept_after}
+use Rattle.vm_rounds.specs.Heard.{Heard, proposals_among}
+use Rattle.vm_rounds.specs.Record.{Record, bytes_written, heard}
 use Rattle.vm_rounds.specs.Stepping.{IfWaits}
 
 -- ---- what is read from the record
 
--- the bytes of the pieces, one after another
-abbrev pub bytes_fed : List Fed → List ℕ
-bytes_fed [] = []
-bytes_fed (f ∷ fs) = f.piece ++ bytes_fed fs
+-- the bytes of pieces, one after another
+abbrev pub bytes_in : List Fed → List ℕ
+bytes_in [] = []
+bytes_in (f ∷ fs) = f.piece ++ bytes_in fs
+
+-- the bytes that were fed
+abbrev pub bytes_fed : Heard → List ℕ
+bytes_fed fed = bytes_in fed.pieces
 
 -- the frames that were fed
-abbrev pub frames_fed : List Fed → List RawMessage
+abbrev pub frames_fed : Heard → List RawMessage
 frames_fed fed = (frames_of (bytes_fed fed)).0
 
 -- the commands among some messages, as they are stored
@@ -62,11 +68,12 @@ abbrev pub commands_of : List Message → List RawMessage
 commands_of [] = []
 commands_of (m ∷ ms) = cond (is_command (stored_form m)) (stored_form m ∷ commands_of ms) (commands_of ms)
 
--- messages were written, none of them a command
+-- messages were written, none of them a command or a proposal
 pub record Quiet (old new : Machine) : Type 0 where
   pub messages : List Message
   pub output : new.output ≡ old.output ++ map encoding messages
   pub commands : commands_of messages ≡ []
+  pub proposals : proposals_among (map stored_form messages) ≡ []
 
 -- What was taken are whole frames of some messages, what waits are frames too, and these are the commands among them all.
 pub record Wrote (taken waits : List (List ℕ)) (written : List RawMessage) : Type 0 where
@@ -81,9 +88,9 @@ pub record Wrote (taken waits : List (List ℕ)) (written : List RawMessage) : T
 abbrev pub written_by : Record → List RawMessage
 written_by r = commands_among (frames_of (bytes_written r)).0
 
--- The journal of an attempt: behind Start as many frames as it tells are the known entries, the first command among them
--- is the input, and all notifications that came are arrivals.
-pub record Journal (fed : List Fed) : Type 0 where
+-- The journal of an attempt: behind Start as many frames as it tells are the known entries: commands and notifications, the first
+-- command among them the input.
+pub record Journal (fed : Heard) : Type 0 where
   pub first_frame : RawMessage
   pub entries : List RawMessage
   pub others : List RawMessage
@@ -91,6 +98,7 @@ pub record Journal (fed : List Fed) : Type 0 where
   pub start : Start
   pub reads_start : start_in first_frame.body ≡ Some start
   pub count : length entries ≡ start.known_entries
+  pub none_acknowledge : AllByRecursion AcknowledgesNothing entries
   pub state : List (List ℕ × Option (List ℕ))
   pub reads_state : entries_in start.state ≡ Some state
   pub first : RawMessage
@@ -99,31 +107,32 @@ pub record Journal (fed : List Fed) : Type 0 where
   pub input : InputCommand
   pub reads_input : input_read_from first ≡ Some input
 
--- all notifications that came, in order: those among the known entries and those behind them
-abbrev pub arrivals : {fed : List Fed} → Journal fed → List Notification
-arrivals j = notifications_among (j.entries ++ j.others)
+-- all arrivals that came, in order, among the known entries and behind them: a notification as it is, and an acknowledgement as the
+-- completion of its run with the result that was proposed
+abbrev pub arrivals : {fed : Heard} → Journal fed → List Notification
+arrivals {fed} j = arriving fed.proposed (j.entries ++ j.others)
 
--- the same, read from what was fed: the notifications behind the first frame
-abbrev pub arrivals_of : List Fed → List Notification
-arrivals_of fed = notifications_among (behind (frames_fed fed))
+-- the same, read from what was fed: the arrivals behind the first frame
+abbrev pub arrivals_of : Heard → List Notification
+arrivals_of fed = arriving fed.proposed (behind (frames_fed fed))
 
 -- the state that Start handed out
-abbrev pub handed_out : {fed : List Fed} → Journal fed → StateMap
+abbrev pub handed_out : {fed : Heard} → Journal fed → StateMap
 handed_out j = record { entries = j.state; coverage = coverage_of j.start.partial }
 
 -- What an attempt begins with: the point after the input, with all arrivals, and the recorded commands behind the input.
-abbrev pub begun : {fed : List Fed} → Version → VMOptions → Journal fed → Point
+abbrev pub begun : {fed : Heard} → Version → VMOptions → Journal fed → Point
 begun version options j = start (setup_for version options j.start) j.input (arrivals j) j.rest
 
 -- ---- what is asked of the options and of the runtime
 
 -- No completion has two results at a point that the handler's run comes to, by what was fed, where each further command is its own.
-abbrev pub NoneHasTwo : Meaning → Version → VMOptions → List Fed → Type 0
+abbrev pub NoneHasTwo : Meaning → Version → VMOptions → Heard → Type 0
 NoneHasTwo m version options fed =
     (j : Journal fed) (n : ℕ) (made : List RawMessage) (p : Point) → Made (setup_for version options j.start) m (Handed (handed_out j)) n (begun version options j) made p → HasNoTwo p
 
 -- Recorded commands are replayed, signals queue, and no completion has two results.
-pub record Premises (m : Meaning) (version : Version) (options : VMOptions) (fed : List Fed) : Type 0 where
+pub record Premises (m : Meaning) (version : Version) (options : VMOptions) (fed : Heard) : Type 0 where
   pub replays : options.journal_replay ≡ Enabled
   pub queues : options.signal_delivery ≡ Queued
   pub once : NoneHasTwo m version options fed
@@ -131,12 +140,12 @@ pub record Premises (m : Meaning) (version : Version) (options : VMOptions) (fed
 -- ---- the answers
 
 -- A point is told by an attempt's journal followed by what it wrote, with the arrivals that it was fed.
-abbrev pub Tells : {fed : List Fed} → Meaning → Version → VMOptions → Journal fed → List RawMessage → Point → Type 0
+abbrev pub Tells : {fed : Heard} → Meaning → Version → VMOptions → Journal fed → List RawMessage → Point → Type 0
 Tells m version options j written p = Told (setup_for version options j.start) m j.input (arrivals j) (j.rest ++ written) p
 
 -- The answers of an attempt are those of a point that is told; what it wrote are just the commands that the calls up to there
 -- define, where none is recorded; and while recorded commands are left, it has written none.
-pub record ToldBy (m : Meaning) (version : Version) (options : VMOptions) (fed : List Fed) (answers_so_far : List Answer) (written : List RawMessage) : Type 0 where
+pub record ToldBy (m : Meaning) (version : Version) (options : VMOptions) (fed : Heard) (answers_so_far : List Answer) (written : List RawMessage) : Type 0 where
   pub journal : Journal fed
   pub at : Point
   pub told : Tells m version options journal written at
@@ -147,11 +156,11 @@ pub record ToldBy (m : Meaning) (version : Version) (options : VMOptions) (fed :
 
 -- the same of a record
 abbrev pub AnswersAreTold : Meaning → Version → VMOptions → Record → Type 0
-AnswersAreTold m version options r = ToldBy m version options r.fed r.answers (written_by r)
+AnswersAreTold m version options r = ToldBy m version options (heard version r) r.answers (written_by r)
 
 -- An await waits rightly: with all arrivals that were fed the journal tells no point with more answers; and where all its commands and
 -- all arrivals are used, the run needs one more arrival.
-pub record IsAsleep (m : Meaning) (version : Version) (options : VMOptions) (fed : List Fed) (answers_so_far : List Answer) (written : List RawMessage) : Type 0 where
+pub record IsAsleep (m : Meaning) (version : Version) (options : VMOptions) (fed : Heard) (answers_so_far : List Answer) (written : List RawMessage) : Type 0 where
   pub journal : Journal fed
   pub future : UnresolvedFuture
   pub awaits : m answers_so_far ≡ step.Await future
@@ -165,16 +174,16 @@ pub record IsAsleep (m : Meaning) (version : Version) (options : VMOptions) (fed
 
 -- the same of a record
 abbrev pub NothingWakes : Meaning → Version → VMOptions → Record → Type 0
-NothingWakes m version options r = IsAsleep m version options r.fed r.answers (written_by r)
+NothingWakes m version options r = IsAsleep m version options (heard version r) r.answers (written_by r)
 
 -- an await waits rightly, by what was written
-abbrev pub Sleeps : Meaning → Version → VMOptions → List Fed → List Answer → List (List ℕ) → View → Type 0
+abbrev pub Sleeps : Meaning → Version → VMOptions → Heard → List Answer → List (List ℕ) → View → Type 0
 Sleeps m version options fed answers taken vm = (written : List RawMessage) × Wrote taken vm.machine.output written × IsAsleep m version options fed answers written
 
 -- A call is refused that began while recorded commands were left: the run comes to a point with these answers from which no move leads
 -- on, for this reason; one Error is written, which says so by the error rule, and the VM fails by it. A cancelled await may have made
 -- commands before it, but none while recorded ones were left.
-pub record RefusesReplay (m : Meaning) (version : Version) (options : VMOptions) (fed : List Fed) (answers_so_far : List Answer) (e : Error) (old new : Machine) : Type 0 where
+pub record RefusesReplay (m : Meaning) (version : Version) (options : VMOptions) (fed : Heard) (answers_so_far : List Answer) (e : Error) (old new : Machine) : Type 0 where
   pub journal : Journal fed
   pub at : Point
   pub moves : ℕ
@@ -191,7 +200,7 @@ pub record RefusesReplay (m : Meaning) (version : Version) (options : VMOptions)
 
 -- An await that began while recorded commands were left found no memory for one of its commands. It may have made others before, each
 -- whole, but none while recorded ones were left.
-pub record StarvesReplay (m : Meaning) (version : Version) (options : VMOptions) (fed : List Fed) (answers_so_far : List Answer) (e : Error) (old new : Machine) : Type 0 where
+pub record StarvesReplay (m : Meaning) (version : Version) (options : VMOptions) (fed : Heard) (answers_so_far : List Answer) (e : Error) (old new : Machine) : Type 0 where
   pub journal : Journal fed
   pub at : Point
   pub moves : ℕ
@@ -217,13 +226,17 @@ Replays m version options old (Ok progress.Ended) new = ⊥
 Replays m version options old (Err e) new =
     (new.starved ≡ true)
     ⊎ (IsStarved old.vm.machine e new.vm.machine
-    ⊎ (StarvesReplay m version options old.fed old.answers e old.vm.machine new.vm.machine
-    ⊎ RefusesReplay m version options old.fed old.answers e old.vm.machine new.vm.machine))
+    ⊎ (StarvesReplay m version options (heard version old) old.answers e old.vm.machine new.vm.machine
+    ⊎ RefusesReplay m version options (heard version old) old.answers e old.vm.machine new.vm.machine))
 
 -- the VM can make calls: it has neither failed nor ended, nor is the invocation suspended
 pub record IsLive (v : Machine) : Type 0 where
   pub failure : v.failure ≡ None
   pub phase : is_running v.phase ≡ true
+
+-- What a machine keeps are the proposals that weren't acknowledged, and each acknowledgement found its proposal.
+abbrev pub KeepsProposals : {fed : Heard} → Journal fed → Machine → Type 0
+KeepsProposals {fed} j v = (v.proposals ≡ kept_after fed.proposed (j.entries ++ j.others)) × AllFound fed.proposed (j.entries ++ j.others)
 
 -- the handler still makes the await that waits
 abbrev pub StillAwaits : Meaning → Point → Option UnresolvedFuture → Type 0
@@ -231,8 +244,8 @@ StillAwaits m p None = Unit {0}
 StillAwaits m p (Some future) = m p.answers ≡ step.Await future
 
 -- The handler runs: so many moves lead from the point after the input to one with the attempt's answers, and made what was
--- written; and as long as the VM can make calls it agrees with that point, and has proposed nothing.
-pub record Runs (m : Meaning) (version : Version) (options : VMOptions) (fed : List Fed) (answers_so_far : List Answer) (waiting : Option UnresolvedFuture) (taken : List (List ℕ)) (vm : View) : Type 0 where
+-- written; and as long as the VM can make calls it agrees with that point.
+pub record Runs (m : Meaning) (version : Version) (options : VMOptions) (fed : Heard) (answers_so_far : List Answer) (waiting : Option UnresolvedFuture) (taken : List (List ℕ)) (vm : View) : Type 0 where
   pub journal : Journal fed
   pub written : List RawMessage
   pub wrote : Wrote taken vm.machine.output written
@@ -242,23 +255,24 @@ pub record Runs (m : Meaning) (version : Version) (options : VMOptions) (fed : L
   pub answers : at.answers ≡ answers_so_far
   pub awaits : StillAwaits m at waiting
   pub agrees : IsLive vm.machine → Agrees (setup_for version options journal.start) (handed_out journal) written vm.machine at
-  pub none_proposed : IsLive vm.machine → vm.machine.proposals ≡ []
+  pub keeps : IsLive vm.machine → KeepsProposals journal vm.machine
   pub phase : vm.machine.failure ≡ None → (is_running vm.machine.phase ≡ true) ⊎ (vm.machine.phase ≡ Closed)
   pub tail : IsLive vm.machine → (frames_of (bytes_fed fed)).1 ≡ Rest vm.undecoded
 
 -- The handler has read its input, which the journal begins with. What was written are the frames of messages. The VM was made for
 -- this version and these options; it runs, or it is closed or has failed.
-pub record Came (version : Version) (options : VMOptions) (fed : List Fed) (answers_so_far : List Answer) (taken : List (List ℕ)) (vm : View) : Type 0 where
+pub record Came (version : Version) (options : VMOptions) (fed : Heard) (answers_so_far : List Answer) (taken : List (List ℕ)) (vm : View) : Type 0 where
   pub journal : Journal fed
   pub answered : answers_so_far ≢ []
   pub written : List RawMessage
   pub wrote : Wrote taken vm.machine.output written
   pub made_for : IsLive vm.machine → (vm.machine.version ≡ version) × (vm.machine.options ≡ options)
+  pub keeps : IsLive vm.machine → KeepsProposals journal vm.machine
   pub phase : vm.machine.failure ≡ None → (is_running vm.machine.phase ≡ true) ⊎ (vm.machine.phase ≡ Closed)
   pub tail : IsLive vm.machine → (frames_of (bytes_fed fed)).1 ≡ Rest vm.undecoded
 
 -- The first frame was a Start: the VM waits for known entries, or has them all.
-pub record Begun (version : Version) (options : VMOptions) (fed : List Fed) (machine : Machine) : Type 0 where
+pub record Begun (version : Version) (options : VMOptions) (fed : Heard) (machine : Machine) : Type 0 where
   pub first_frame : RawMessage
   pub others : List RawMessage
   pub frames : frames_fed fed ≡ first_frame ∷ others
@@ -272,12 +286,13 @@ pub record Begun (version : Version) (options : VMOptions) (fed : List Fed) (mac
       ⊎ HasAll (setup_for version options start) (record { entries = state; coverage = coverage_of start.partial }) aside start.known_entries [] [] others machine
 
 -- no frame came, or the first was a Start
-abbrev pub Comes : Version → VMOptions → List Fed → Machine → Type 0
+abbrev pub Comes : Version → VMOptions → Heard → Machine → Type 0
 Comes version options fed machine = ((frames_fed fed ≡ []) × ((alloc : Global) × (machine ≡ fresh alloc version options))) ⊎ Begun version options fed machine
 
--- The handler hasn't read its input: nothing was answered, and no command was written.
-pub record BeforeInput (version : Version) (options : VMOptions) (fed : List Fed) (answers_so_far : List Answer) (waiting : Option UnresolvedFuture) (taken : List (List ℕ)) (vm : View) : Type 0 where
+-- The handler hasn't read its input: nothing was answered, and no command and no proposal was written.
+pub record BeforeInput (version : Version) (options : VMOptions) (fed : Heard) (answers_so_far : List Answer) (waiting : Option UnresolvedFuture) (taken : List (List ℕ)) (vm : View) : Type 0 where
   pub answers : answers_so_far ≡ []
+  pub none_proposed : fed.proposed ≡ []
   pub waits_not : waiting ≡ None
   pub wrote : Wrote taken vm.machine.output []
   pub comes : vm.machine.failure ≡ None → Comes version options fed vm.machine
@@ -285,16 +300,16 @@ pub record BeforeInput (version : Version) (options : VMOptions) (fed : List Fed
 
 -- what came and what was written, whatever the options are and whatever comes
 abbrev pub HasCome : Version → VMOptions → Record → Type 0
-HasCome version options r = BeforeInput version options r.fed r.answers r.waiting r.taken r.vm ⊎ Came version options r.fed r.answers r.taken r.vm
+HasCome version options r = BeforeInput version options (heard version r) r.answers r.waiting r.taken r.vm ⊎ Came version options (heard version r) r.answers r.taken r.vm
 
 -- what each call of an attempt keeps of its handler's run
 abbrev pub IsKept : Meaning → Version → VMOptions → Record → Type 0
-IsKept m version options r = BeforeInput version options r.fed r.answers r.waiting r.taken r.vm ⊎ Runs m version options r.fed r.answers r.waiting r.taken r.vm
+IsKept m version options r = BeforeInput version options (heard version r) r.answers r.waiting r.taken r.vm ⊎ Runs m version options (heard version r) r.answers r.waiting r.taken r.vm
 
 -- the same, under the premises
 abbrev pub IsKeptUnder : Meaning → Version → VMOptions → Record → Type 0
-IsKeptUnder m version options r = Premises m version options r.fed → IsKept m version options r
+IsKeptUnder m version options r = Premises m version options (heard version r) → IsKept m version options r
 
 -- once the handler's await was suspended it waits rightly, under the premises
 abbrev pub StillSleeps : Meaning → Version → VMOptions → Record → Type 0
-StillSleeps m version options r = Premises m version options r.fed → (made : Progress) → r.over ≡ Some made → IfWaits (Ok made) (Sleeps m version options r.fed r.answers r.taken r.vm)
+StillSleeps m version options r = Premises m version options (heard version r) → (made : Progress) → r.over ≡ Some made → IfWaits (Ok made) (Sleeps m version options (heard version r) r.answers r.taken r.vm)

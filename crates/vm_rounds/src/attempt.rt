@@ -5,13 +5,15 @@ use crate::handler::Handler;
 use crate::inner::Inner;
 use crate::progress::Progress;
 use bytes::Bytes;
-use invocation_vm::{CoreVM, HeaderMap, VM, VMOptions, VMResult, Version};
+use invocation_vm::{CoreVM, HeaderMap, NotificationHandle, VM, VMOptions, VMResult, Version};
+use retries::RetryPolicy;
+use runs::RunExitResult;
 use std::alloc::{AllocError, Global};
 use std::marker::Model;
 use vm_parts::Answer;
 
 /// An attempt of a handler over the VM. It keeps a record: each piece of input until the VM failed or closed, those that
-/// came to a closed VM behind them, whether the input was closed, the answers, and all output.
+/// came to a closed VM behind them, whether the input was closed, the answers, and all output, from which what was proposed is read.
 #[derive(Drop)]
 pub struct Attempt<H: Handler> {
     version: Version,
@@ -24,6 +26,7 @@ impl<H: Handler> Model for Attempt<H> {
     ghost use Rattle.vm_rounds.specs.Inside.{the_record};
     ghost use Rattle.vm_rounds.specs.Blames.{IsBlamed, IsLate};
     ghost use Rattle.vm_rounds.specs.Told.{HasCome, IsKeptUnder, StillSleeps};
+    ghost use Rattle.vm_parts.specs.Outboxes.{WholeFrames};
     ghost use Rattle.await_trees.specs.contracts.tree.UnresolvedFuture as future;
     ghost use Rattle.std.specs.Coded.{codes};
 
@@ -33,16 +36,17 @@ impl<H: Handler> Model for Attempt<H> {
 
     ghost view = { λ a. record { handler = a.inner.handler; version = a.version; options = a.options; record_of = the_record a.inner } };
 
-    ghost invariant = { λ a. HasCome a.version a.options (the_record a.inner) × IsBlamed (H.meaning a.inner.handler) a.version a.options (the_record a.inner) × IsKeptUnder (H.meaning a.inner.handler) a.version a.options (the_record a.inner) × IsLate (H.meaning a.inner.handler) a.version a.options (the_record a.inner) × StillSleeps (H.meaning a.inner.handler) a.version a.options (the_record a.inner) };
+    ghost invariant = { λ a. HasCome a.version a.options (the_record a.inner) × IsBlamed (H.meaning a.inner.handler) a.version a.options (the_record a.inner) × IsKeptUnder (H.meaning a.inner.handler) a.version a.options (the_record a.inner) × IsLate (H.meaning a.inner.handler) a.version a.options (the_record a.inner) × StillSleeps (H.meaning a.inner.handler) a.version a.options (the_record a.inner) × WholeFrames (the_record a.inner).vm.machine.output };
 }
 
 impl<H: Handler> Attempt<H> {
     ghost use Rattle.std.specs.Prelude.{◌≡◌, ◌⊎◌, [], None};
     ghost use Rattle.invocation_vm.specs.Making.{version_in};
     ghost use Rattle.vm_parts.specs.Outboxes.{WholeStream};
-    ghost use Rattle.vm_rounds.specs.Stepping.{MakesAttempt, StepDoes, FeedDoes, CloseDoes, IfWaits, IsReplaying, Takes, output_len};
+    ghost use Rattle.vm_rounds.specs.Stepping.{MakesAttempt, StepDoes, FeedDoes, FinishDoes, CloseDoes, IfWaits, IsReplaying, Takes, output_len};
     ghost use Rattle.vm_rounds.specs.Blames.{Blame, IfError, IsHonest, IsOwnError};
-    ghost use Rattle.vm_rounds.specs.Record.{all_fed, bytes_written};
+    ghost use Rattle.vm_rounds.specs.Heard.{proposals_in};
+    ghost use Rattle.vm_rounds.specs.Record.{all_heard, bytes_written, heard};
     ghost use Rattle.vm_rounds.specs.Told.{AnswersAreTold, HasCome, NothingWakes, Premises, Replays, written_by};
 
     /// An attempt for the version that the header `content-type` names; the VM's refusals are its own.
@@ -72,7 +76,10 @@ impl<H: Handler> Attempt<H> {
         ensures handler { self.new.handler ≡ self.old.handler }
         ensures made_for { (self.new.version ≡ self.old.version) × (self.new.options ≡ self.old.options) }
     {
-        self.inner.feed(piece)
+        let fed = self.inner.feed(piece);
+        // What waits now is whole frames, from which the record reads what was proposed.
+        let _ = self.inner.output_len();
+        fed
     }
 
     /// No more bytes come. After the attempt's own want of memory it does nothing.
@@ -81,23 +88,26 @@ impl<H: Handler> Attempt<H> {
         ensures handler { self.new.handler ≡ self.old.handler }
         ensures made_for { (self.new.version ≡ self.old.version) × (self.new.options ≡ self.old.options) }
     {
-        self.inner.close()
+        let closed = self.inner.close();
+        // What waits now is whole frames, from which the record reads what was proposed.
+        let _ = self.inner.output_len();
+        closed
     }
 
     /// Asks the handler, and the VM, for one answer more.
     pub fn step(&mut self) -> VMResult<Progress>
         ensures does { StepDoes (H.meaning self.old.handler) self.old.record_of result self.new.record_of }
         // Under the premises it waits or is suspended only where no number of the arrivals wakes the handler's await.
-        ensures waits { Premises (H.meaning self.old.handler) self.old.version self.old.options self.old.record_of.fed → IfWaits result (NothingWakes (H.meaning self.old.handler) self.old.version self.old.options self.new.record_of) }
+        ensures waits { Premises (H.meaning self.old.handler) self.old.version self.old.options (heard self.old.version self.old.record_of) → IfWaits result (NothingWakes (H.meaning self.old.handler) self.old.version self.old.options self.new.record_of) }
         // Under the premises, while recorded commands are left, the handler's next call is answered, or it is refused where the journal
         // tells no more.
-        ensures replays { IsReplaying self.old.record_of → Premises (H.meaning self.old.handler) self.old.version self.old.options self.old.record_of.fed → Replays (H.meaning self.old.handler) self.old.version self.old.options self.old.record_of result self.new.record_of }
+        ensures replays { IsReplaying self.old.record_of → Premises (H.meaning self.old.handler) self.old.version self.old.options (heard self.old.version self.old.record_of) → Replays (H.meaning self.old.handler) self.old.version self.old.options self.old.record_of result self.new.record_of }
         // An error is want of memory, a frame or bytes that were refused, input closed too early, a journal without input, or a call
         // that was refused.
-        ensures blamed { IfError result (λ e. Blame (H.meaning self.old.handler) self.old.version self.old.options (all_fed self.new.record_of) self.new.record_of.closed self.new.record_of.answers e) }
+        ensures blamed { IfError result (λ e. Blame (H.meaning self.old.handler) self.old.version self.old.options (all_heard self.old.version self.new.record_of) self.new.record_of.closed self.new.record_of.answers e) }
         // Where the bytes are an honest attempt's over a history of the handler, an error is only want of memory, input that was closed
         // too early, or a call's own refusal, where no recorded command is left.
-        ensures honest { IsHonest (H.meaning self.old.handler) self.old.version self.old.options (all_fed self.new.record_of) → IfError result (λ e. IsOwnError (H.meaning self.old.handler) self.old.version self.old.options (all_fed self.new.record_of) self.new.record_of.closed self.new.record_of.answers e) }
+        ensures honest { IsHonest (H.meaning self.old.handler) self.old.version self.old.options (all_heard self.old.version self.new.record_of) → IfError result (λ e. IsOwnError (H.meaning self.old.handler) self.old.version self.old.options (all_heard self.old.version self.new.record_of) self.new.record_of.closed self.new.record_of.answers e) }
         ensures handler { self.new.handler ≡ self.old.handler }
         ensures made_for { (self.new.version ≡ self.old.version) × (self.new.options ≡ self.old.options) }
     {
@@ -107,13 +117,34 @@ impl<H: Handler> Attempt<H> {
         progress
     }
 
+    /// What executing the run of this handle came to, outside the attempt. The VM proposes it, or fails, so that the run is tried again
+    /// or the invocation paused; outside the handler's own calls it is ignored. After the attempt's own want of memory, that.
+    pub fn run_result(
+        &mut self,
+        handle: NotificationHandle,
+        exit: RunExitResult,
+        policy: RetryPolicy,
+    ) -> VMResult<()>
+        ensures does { FinishDoes self.old.record_of.starved handle exit policy self.old.record_of result self.new.record_of }
+        ensures handler { self.new.handler ≡ self.old.handler }
+        ensures made_for { (self.new.version ≡ self.old.version) × (self.new.options ≡ self.old.options) }
+    {
+        let told = self.inner.run_result(handle, exit, policy);
+        // What waits now is whole frames, from which the record reads what was proposed.
+        let _ = self.inner.output_len();
+        told
+    }
+
     /// Takes all bytes that wait to be sent, whole frames in order; where there is no memory nothing is changed.
     pub fn take_output(&mut self) -> Result<Bytes, AllocError>
         ensures does { Takes self.old.record_of result self.new.record_of }
         ensures handler { self.new.handler ≡ self.old.handler }
         ensures made_for { (self.new.version ≡ self.old.version) × (self.new.options ≡ self.old.options) }
     {
-        self.inner.take_output()
+        let taken = self.inner.take_output();
+        // What waits now is whole frames, from which the record reads what was proposed.
+        let _ = self.inner.output_len();
+        taken
     }
 
     /// The answers so far; the first is the input. They are those of a point that the attempt's journal tells.
@@ -124,7 +155,7 @@ impl<H: Handler> Attempt<H> {
         ensures begins { self.now.record_of.answers ≡ [] → written_by self.now.record_of ≡ [] }
         // Under the premises the journal, which is what was fed, followed by the commands that were written, tells them; no command is
         // written while recorded ones are left.
-        ensures told { Premises (H.meaning self.now.handler) self.now.version self.now.options self.now.record_of.fed → (self.now.record_of.answers ≡ []) ⊎ AnswersAreTold (H.meaning self.now.handler) self.now.version self.now.options self.now.record_of }
+        ensures told { Premises (H.meaning self.now.handler) self.now.version self.now.options (heard self.now.version self.now.record_of) → (self.now.record_of.answers ≡ []) ⊎ AnswersAreTold (H.meaning self.now.handler) self.now.version self.now.options self.now.record_of }
     {
         // What waits now is whole frames, from which the clauses read the commands.
         let _ = self.inner.output_len();
@@ -134,8 +165,10 @@ impl<H: Handler> Attempt<H> {
     /// How many bytes the attempt has written, taken or not, as far as a `usize` goes.
     pub fn output_len(&self) -> usize
         ensures len { result ≡ output_len self.now.record_of }
-        // Each frame that was written is whole: commands, errors, a suspension and the end.
+        // Each frame that was written is whole: commands, proposals, errors, a suspension and the end.
         ensures whole { WholeStream (bytes_written self.now.record_of) }
+        // The record's proposals are those among these frames.
+        ensures proposed { self.now.record_of.proposed ≡ proposals_in (bytes_written self.now.record_of) }
     {
         self.inner.output_len()
     }

@@ -3,15 +3,17 @@ ghost use Rattle.std.specs.Prelude.{◌≡◌, ◌≤◌, ◌+◌, IfOk, OnOk, O
 ghost use Rattle.journal_errors.specs.Errors.{no_memory};
 ghost use Rattle.vm_parts.specs.Outboxes.{WholeFrames};
 ghost use Rattle.invocation_vm.specs.Seen.{seen};
-ghost use Rattle.vm_rounds.specs.Stepping.{fresh_record, replied, future_in, progress_of, asked_from, Advances, StepDoes, FeedDoes, CloseDoes, Takes, output_len, kept};
+ghost use Rattle.vm_rounds.specs.Stepping.{fresh_record, replied, future_in, progress_of, asked_from, Advances, StepDoes, FeedDoes, CloseDoes, TellsUnless, Takes, output_len, kept};
 
 use crate::handler::Handler;
 use crate::perform::perform;
 use crate::progress::{Fed, Progress, Reply};
 use crate::taken::Taken;
 use bytes::Bytes;
-use invocation_vm::{CoreVM, Error, State, UnresolvedFuture, VM, VMResult};
+use invocation_vm::{CoreVM, Error, NotificationHandle, State, UnresolvedFuture, VM, VMResult};
 use journal_errors::NamedFault;
+use retries::RetryPolicy;
+use runs::RunExitResult;
 use std::alloc::{AllocError, Global};
 use vm_parts::{Answer, Step};
 
@@ -61,10 +63,10 @@ fn next_step<H: Handler>(
 }
 
 impl<H: Handler> Inner<H> {
-    ghost use Rattle.vm_rounds.specs.Inside.{the_record};
+    ghost use Rattle.vm_rounds.specs.Inside.{the_fields};
 
     pub fn new(alloc: Global, vm: CoreVM, handler: H) -> Inner<H>
-        ensures record { the_record result ≡ fresh_record (seen vm) }
+        ensures record { the_fields result ≡ fresh_record (seen vm) }
         ensures handler { result.handler ≡ handler }
     {
         Inner {
@@ -88,7 +90,7 @@ impl<H: Handler> Inner<H> {
         reply: VMResult<Reply>,
     ) -> VMResult<Progress>
         requires { vec_len self.old.answers + 1 ≤ vec_capacity self.old.answers }
-        ensures record { the_record self.new ≡ replied (the_record self.old) future reply (seen self.old.vm) }
+        ensures record { the_fields self.new ≡ replied (the_fields self.old) future reply (seen self.old.vm) }
         ensures handler { self.new.handler ≡ self.old.handler }
         ensures progress { result ≡ progress_of reply }
     {
@@ -120,7 +122,7 @@ impl<H: Handler> Inner<H> {
 
     /// The step of an attempt whose VM is ready.
     fn advance(&mut self) -> VMResult<Progress>
-        ensures does { Advances (H.meaning self.old.handler) (the_record self.old) result (the_record self.new) }
+        ensures does { Advances (H.meaning self.old.handler) (the_fields self.old) result (the_fields self.new) }
         ensures handler { self.new.handler ≡ self.old.handler }
     {
         if self.answers.reserve(1).is_err() {
@@ -148,7 +150,7 @@ impl<H: Handler> Inner<H> {
     }
 
     pub fn step(&mut self) -> VMResult<Progress>
-        ensures does { StepDoes (H.meaning self.old.handler) (the_record self.old) result (the_record self.new) }
+        ensures does { StepDoes (H.meaning self.old.handler) (the_fields self.old) result (the_fields self.new) }
         ensures handler { self.new.handler ≡ self.old.handler }
     {
         if self.starved {
@@ -170,16 +172,16 @@ impl<H: Handler> Inner<H> {
 
     /// How many bytes stand in the output, as far as a `usize` goes; those that wait are whole frames.
     pub fn output_len(&self) -> usize
-        ensures len { result ≡ output_len (the_record self.now) }
-        ensures whole { WholeFrames (the_record self.now).vm.machine.output }
+        ensures len { result ≡ output_len (the_fields self.now) }
+        ensures whole { WholeFrames (the_fields self.now).vm.machine.output }
     {
         self.taken.len().saturating_add(self.vm.waiting_len())
     }
 
     /// Keeps a piece, unless the VM has failed.
     fn keep(&mut self, piece: &Bytes) -> Result<(), AllocError>
-        ensures ok { OnOk result (the_record self.new ≡ kept piece.now (the_record self.old)) }
-        ensures err { OnErr result (the_record self.new ≡ the_record self.old) }
+        ensures ok { OnOk result (the_fields self.new ≡ kept piece.now (the_fields self.old)) }
+        ensures err { OnErr result (the_fields self.new ≡ the_fields self.old) }
         ensures vm { seen self.new.vm ≡ seen self.old.vm }
         ensures handler { self.new.handler ≡ self.old.handler }
     {
@@ -200,7 +202,7 @@ impl<H: Handler> Inner<H> {
     }
 
     pub fn feed(&mut self, piece: Bytes) -> Result<(), AllocError>
-        ensures does { FeedDoes self.old.starved piece (the_record self.old) result (the_record self.new) }
+        ensures does { FeedDoes self.old.starved piece (the_fields self.old) result (the_fields self.new) }
         ensures handler { self.new.handler ≡ self.old.handler }
     {
         if self.starved {
@@ -214,7 +216,7 @@ impl<H: Handler> Inner<H> {
     }
 
     pub fn close(&mut self) -> Result<(), AllocError>
-        ensures does { CloseDoes self.old.starved (the_record self.old) result (the_record self.new) }
+        ensures does { CloseDoes self.old.starved (the_fields self.old) result (the_fields self.new) }
         ensures handler { self.new.handler ≡ self.old.handler }
     {
         if self.starved {
@@ -224,8 +226,24 @@ impl<H: Handler> Inner<H> {
         self.vm.notify_input_closed()
     }
 
+    /// Tells the VM what executing a run came to.
+    pub fn run_result(
+        &mut self,
+        handle: NotificationHandle,
+        exit: RunExitResult,
+        policy: RetryPolicy,
+    ) -> VMResult<()>
+        ensures does { TellsUnless self.old.starved handle exit policy (the_fields self.old) result (the_fields self.new) }
+        ensures handler { self.new.handler ≡ self.old.handler }
+    {
+        if self.starved {
+            return Err(memory_error());
+        }
+        self.vm.propose_run_completion(handle, exit, policy)
+    }
+
     pub fn take_output(&mut self) -> Result<Bytes, AllocError>
-        ensures does { Takes (the_record self.old) result (the_record self.new) }
+        ensures does { Takes (the_fields self.old) result (the_fields self.new) }
         ensures handler { self.new.handler ≡ self.old.handler }
     {
         let bytes = self.vm.waiting_output()?;

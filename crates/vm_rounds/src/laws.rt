@@ -32,9 +32,12 @@ ghost use Rattle.vm_rounds.specs.declared.progress.Reply.{Reply};
 ghost use Rattle.std.specs.Prelude.{Result};
 ghost use Rattle.journal_errors.specs.declared.error.Error.{Error};
 ghost use Rattle.std.specs.declared.alloc.AllocError.{AllocError};
-ghost use Rattle.vm_rounds.specs.Stepping.{CloseDoes, FeedDoes, StepDoes, Takes, fresh_record};
-ghost use Rattle.vm_rounds.specs.declared.progress.Fed.{Fed};
-ghost use Rattle.vm_rounds.specs.Record.{Record};
+ghost use Rattle.await_trees.specs.declared.handle.NotificationHandle.{NotificationHandle};
+ghost use Rattle.retries.specs.declared.policy.RetryPolicy.{RetryPolicy};
+ghost use Rattle.runs.specs.declared.types.RunExitResult.{RunExitResult};
+ghost use Rattle.vm_rounds.specs.Stepping.{CloseDoes, FeedDoes, FinishDoes, StepDoes, Takes, fresh_record};
+ghost use Rattle.vm_rounds.specs.Heard.{Heard};
+ghost use Rattle.vm_rounds.specs.Record.{Record, heard};
 ghost use Rattle.invocation_vm.specs.Views.{View, after_input};
 ghost use Rattle.std.specs.Prelude.{ℕ, Bool, Option};
 ghost use Rattle.vm_parts.specs.declared.steps.Answer.{Answer};
@@ -79,6 +82,7 @@ pub fn attempts_write()
     ensures closed { (version : Version) (options : VMOptions) (old : Record) (result : Result Unit AllocError) (new : Record) → HasCome version options old → CloseDoes old.starved old result new → HasCome version options new }
     ensures taken { (version : Version) (options : VMOptions) (old : Record) (result : Result (List ℕ) AllocError) (new : Record) → HasCome version options old → Takes old result new → HasCome version options new }
     ensures stepped { (m : Meaning) (version : Version) (options : VMOptions) (old : Record) (result : Result Progress Error) (new : Record) → HasCome version options old → StepDoes m old result new → HasCome version options new }
+    ensures told { (version : Version) (options : VMOptions) (handle : NotificationHandle) (exit : RunExitResult) (policy : RetryPolicy) (old : Record) (result : Result Unit Error) (new : Record) → HasCome version options old → FinishDoes old.starved handle exit policy old result new → HasCome version options new }
 {}
 
 /// What each call of an attempt keeps under the premises: recorded commands are replayed, signals queue, and no completion has two
@@ -90,29 +94,30 @@ pub fn attempts_keep()
     ensures closed { (m : Meaning) (version : Version) (options : VMOptions) (old : Record) (result : Result Unit AllocError) (new : Record) → IsKeptUnder m version options old → CloseDoes old.starved old result new → IsKeptUnder m version options new }
     ensures taken { (m : Meaning) (version : Version) (options : VMOptions) (old : Record) (result : Result (List ℕ) AllocError) (new : Record) → IsKeptUnder m version options old → Takes old result new → IsKeptUnder m version options new }
     ensures stepped { (m : Meaning) (version : Version) (options : VMOptions) (old : Record) (result : Result Progress Error) (new : Record) → IsKeptUnder m version options old → StepDoes m old result new → IsKeptUnder m version options new }
+    ensures told { (m : Meaning) (version : Version) (options : VMOptions) (handle : NotificationHandle) (exit : RunExitResult) (policy : RetryPolicy) (old : Record) (result : Result Unit Error) (new : Record) → HasCome version options old → IsKeptUnder m version options old → FinishDoes old.starved handle exit policy old result new → IsKeptUnder m version options new }
 {}
 
 /// Where the known entries are a history of the handler, no call is refused while recorded commands are left: no mismatch, no
 /// pending await, no end before its time.
 pub fn histories_are_replayed()
-    ensures { (m : Meaning) (version : Version) (options : VMOptions) (fed : List Fed) (answers : List Answer) (e : Error) (old new : Machine) (refusal : RefusesReplay m version options fed answers e old new) (recorded : RawMessage) (further : List RawMessage) → refusal.at.left ≡ recorded ∷ further → (base : StateMap) → History (setup_for version options refusal.journal.start) m base (as_entries refusal.journal.entries) → ⊥ }
+    ensures { (m : Meaning) (version : Version) (options : VMOptions) (fed : Heard) (answers : List Answer) (e : Error) (old new : Machine) (refusal : RefusesReplay m version options fed answers e old new) (recorded : RawMessage) (further : List RawMessage) → refusal.at.left ≡ recorded ∷ further → (base : StateMap) → History (setup_for version options refusal.journal.start) m base (as_entries refusal.journal.entries) → ⊥ }
 {}
 
 /// Under the premises the answers of an attempt are those of a point that its journal tells, followed by what it wrote, with the arrivals that it
 /// was fed; while recorded commands are left, it has written none.
 pub fn answers_are_told()
-    ensures { (m : Meaning) (version : Version) (options : VMOptions) (r : Record) → IsKeptUnder m version options r → WholeFrames r.vm.machine.output → Premises m version options r.fed → (r.answers ≡ []) ⊎ AnswersAreTold m version options r }
+    ensures { (m : Meaning) (version : Version) (options : VMOptions) (r : Record) → IsKeptUnder m version options r → WholeFrames r.vm.machine.output → Premises m version options (heard version r) → (r.answers ≡ []) ⊎ AnswersAreTold m version options r }
 {}
 
 /// Where the known entries are a history of the handler and each frame has its place, an error is only: want of memory; input that
 /// was closed while known entries were missing; or, where no recorded command is left, a call's own refusal, for an argument or
 /// version check, a kind of number that ran out, or a state key that is no text.
 pub fn honest_attempts_fail_by_themselves()
-    ensures { (m : Meaning) (version : Version) (options : VMOptions) (fed : List Fed) (closed : Bool) (answers : List Answer) (e : Error) → IsHonest m version options fed → Blame m version options fed closed answers e → IsOwnError m version options fed closed answers e }
+    ensures { (m : Meaning) (version : Version) (options : VMOptions) (fed : Heard) (closed : Bool) (answers : List Answer) (e : Error) → IsHonest m version options fed → Blame m version options fed closed answers e → IsOwnError m version options fed closed answers e }
 {}
 
 /// Bytes that are a beginning of Start, of the whole journal, which is a history of the handler, and of notifications behind it are
 /// an honest attempt's: each of its frames has its place.
 pub fn honest_bytes_are_honest()
-    ensures { (m : Meaning) (version : Version) (options : VMOptions) (fed : List Fed) → FeedsHonestly m version options fed → IsHonest m version options fed }
+    ensures { (m : Meaning) (version : Version) (options : VMOptions) (fed : Heard) → FeedsHonestly m version options fed → IsHonest m version options fed }
 {}

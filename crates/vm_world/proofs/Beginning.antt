@@ -36,7 +36,7 @@ round_faults m w round old alloc waiting r x e f h =
     h
 
 pub round_short : (m : Meaning) (w : Setting) (round : Round) (old : List (List ℕ)) (alloc : Global) (waiting : List ℕ) (r : Record) → IsJournal old → waiting ≡ encoding (start_message w round old) ++ concat old → r ≡ fresh_record (made alloc w.options w.version) → IsShort m round.events (new_now old waiting r)
-round_short m w round old alloc waiting r j e f = subst (IsShort m round.events) (sym (begun_is w round old alloc waiting r e f)) (short_all m round.events (encoding (start_message w round old)) old (fresh_record (made alloc w.options w.version)) j refl refl)
+round_short m w round old alloc waiting r j e f = subst (IsShort m round.events) (sym (begun_is w round old alloc waiting r e f)) (short_all m round.events (encoding (start_message w round old)) old (fresh_record (made alloc w.options w.version)) j refl refl refl)
 
 -- what follows from what an answer ensures
 pub if_ok_then : {A E : Type 0} (r : Result A E) (P Q : A → Type 0) → ((a : A) → P a → Q a) → IfOk r P → IfOk r Q

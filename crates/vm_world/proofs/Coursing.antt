@@ -17,12 +17,12 @@ use Rattle.vm_rounds.specs.declared.progress.Fed.{Fed}
 use Rattle.vm_rounds.specs.Journals.{commands_among, notifications_among}
 use Rattle.vm_rounds.specs.Record.{Record, bytes_written}
 use Rattle.vm_rounds.specs.Stepping.{taken_from}
-use Rattle.vm_rounds.specs.Told.{arrivals_of, bytes_fed, frames_fed, written_by}
+use Rattle.vm_rounds.specs.Told.{bytes_in, written_by}
 use Rattle.vm_rounds.proofs.Pieces.{commands_append, more_frames, notifications_append}
 use Rattle.vm_rounds.proofs.Replayed.{commands_same, notes_same}
 use Rattle.vm_world.specs.declared.types.Event.{Event}
 use Rattle.vm_world.specs.declared.types.Event.TheVariants as event
-use Rattle.vm_world.specs.Courses.{brought_by, course_of, delivered, new_in}
+use Rattle.vm_world.specs.Courses.{came_to, frames_of_pieces, brought_by, course_of, delivered, new_in}
 use Rattle.vm_world.specs.Entries.{entries_of, frames_in, notes_in}
 use Rattle.vm_world.specs.Rounds.{Happen, Happens, Now, Pieces}
 use Rattle.vm_world.specs.Worlds.{IsJournal}
@@ -73,33 +73,33 @@ notifications_grow old new (rest, e) = (notifications_among rest, ap notificatio
 written_grows : (old new : Record) → IsPrefix (bytes_written old) (bytes_written new) → IsPrefix (written_by old) (written_by new)
 written_grows old new h = commands_grow (frames_of (bytes_written old)).0 (frames_of (bytes_written new)).0 (frames_grow (bytes_written old) (bytes_written new) h)
 
-arrivals_grow : (old new : List Fed) → IsPrefix (bytes_fed old) (bytes_fed new) → IsPrefix (arrivals_of old) (arrivals_of new)
-arrivals_grow old new h = notifications_grow (behind (frames_fed old)) (behind (frames_fed new)) (behind_grows (frames_fed old) (frames_fed new) (frames_grow (bytes_fed old) (bytes_fed new) h))
+arrivals_grow : (old new : List Fed) → IsPrefix (bytes_in old) (bytes_in new) → IsPrefix (came_to old) (came_to new)
+arrivals_grow old new h = notifications_grow (behind (frames_of_pieces old)) (behind (frames_of_pieces new)) (behind_grows (frames_of_pieces old) (frames_of_pieces new) (frames_grow (bytes_in old) (bytes_in new) h))
 
 -- What an event adds to the journal, to what was written and to what was fed. It stores no command, or the attempt writes none by it.
 record Brings (now mid : Now) : Type 0 where
   stored : IsPrefix now.journal mid.journal
   wrote : IsPrefix (bytes_written now.attempt) (bytes_written mid.attempt)
-  fed : IsPrefix (bytes_fed now.attempt.fed) (bytes_fed mid.attempt.fed)
+  fed : IsPrefix (bytes_in now.attempt.fed) (bytes_in mid.attempt.fed)
   apart : (commands_among (frames_in stored.0) ≡ []) ⊎ (bytes_written mid.attempt ≡ bytes_written now.attempt)
 
 -- the attempt alone has changed
-acts : (now mid : Now) → mid.journal ≡ now.journal → IsPrefix (bytes_written now.attempt) (bytes_written mid.attempt) → IsPrefix (bytes_fed now.attempt.fed) (bytes_fed mid.attempt.fed) → Brings now mid
+acts : (now mid : Now) → mid.journal ≡ now.journal → IsPrefix (bytes_written now.attempt) (bytes_written mid.attempt) → IsPrefix (bytes_in now.attempt.fed) (bytes_in mid.attempt.fed) → Brings now mid
 unfolding same_prefix
 acts now mid same wrote came = record { stored = same_prefix now.journal mid.journal same; wrote = wrote; fed = came; apart = inl refl }
 
-takes : (piece : List ℕ) (r new : Record) → Takes piece r new → IsPrefix (bytes_fed r.fed) (bytes_fed new.fed)
+takes : (piece : List ℕ) (r new : Record) → Takes piece r new → IsPrefix (bytes_in r.fed) (bytes_in new.fed)
 takes piece r new t =
     ⊎_elim
-    (λ (x : (bytes_fed new.fed ≡ bytes_fed r.fed) × (IsOpen new → ⊥)). same_prefix (bytes_fed r.fed) (bytes_fed new.fed) x.0)
-    (λ (x : IsOpen r × (bytes_fed new.fed ≡ bytes_fed r.fed ++ piece)). (piece, x.1))
+    (λ (x : (bytes_in new.fed ≡ bytes_in r.fed) × (IsOpen new → ⊥)). same_prefix (bytes_in r.fed) (bytes_in new.fed) x.0)
+    (λ (x : IsOpen r × (bytes_in new.fed ≡ bytes_in r.fed ++ piece)). (piece, x.1))
     t
 
-by_attempt : (now mid : Now) (r : Record) → mid.journal ≡ now.journal → mid.attempt ≡ r → IsPrefix (bytes_written now.attempt) (bytes_written r) → IsPrefix (bytes_fed now.attempt.fed) (bytes_fed r.fed) → Brings now mid
-by_attempt now mid r same is wrote came = acts now mid same (subst (λ (x : Record). IsPrefix (bytes_written now.attempt) (bytes_written x)) (sym is) wrote) (subst (λ (x : Record). IsPrefix (bytes_fed now.attempt.fed) (bytes_fed x.fed)) (sym is) came)
+by_attempt : (now mid : Now) (r : Record) → mid.journal ≡ now.journal → mid.attempt ≡ r → IsPrefix (bytes_written now.attempt) (bytes_written r) → IsPrefix (bytes_in now.attempt.fed) (bytes_in r.fed) → Brings now mid
+by_attempt now mid r same is wrote came = acts now mid same (subst (λ (x : Record). IsPrefix (bytes_written now.attempt) (bytes_written x)) (sym is) wrote) (subst (λ (x : Record). IsPrefix (bytes_in now.attempt.fed) (bytes_in x.fed)) (sym is) came)
 
 pieces_bring : (closed : Bool) (n : ℕ) (now mid : Now) → Pieces closed n now mid → Brings now mid
-pieces_bring true n now mid d = by_attempt now mid now.attempt (ap (λ x. x.journal) d) (ap (λ x. x.attempt) d) (same_prefix (bytes_written now.attempt) (bytes_written now.attempt) refl) (same_prefix (bytes_fed now.attempt.fed) (bytes_fed now.attempt.fed) refl)
+pieces_bring true n now mid d = by_attempt now mid now.attempt (ap (λ x. x.journal) d) (ap (λ x. x.attempt) d) (same_prefix (bytes_written now.attempt) (bytes_written now.attempt) refl) (same_prefix (bytes_in now.attempt.fed) (bytes_in now.attempt.fed) refl)
 pieces_bring false n now mid (result, r, d, is) =
     let piece = take n now.waiting in
     by_attempt now mid r (ap (λ x. x.journal) is) (ap (λ x. x.attempt) is) (bytes_grow now.attempt r (feed_wrote piece now.attempt result r d)) (takes piece now.attempt r (fed piece now.attempt result r d).0)
@@ -112,15 +112,15 @@ taken_same r =
 event_brings : (m : Meaning) (e : Event) (now mid : Now) → Happens m e now mid → Brings now mid
 event_brings m (event.Piece n) now mid d = pieces_bring now.closed n now mid d
 event_brings m event.Close now mid (result, r, d, is) =
-    by_attempt now mid r (ap (λ x. x.journal) is) (ap (λ x. x.attempt) is) (bytes_grow now.attempt r (close_wrote now.attempt result r d)) (same_prefix (bytes_fed now.attempt.fed) (bytes_fed r.fed) (ap bytes_fed (closes now.attempt result r d).fed))
+    by_attempt now mid r (ap (λ x. x.journal) is) (ap (λ x. x.attempt) is) (bytes_grow now.attempt r (close_wrote now.attempt result r d)) (same_prefix (bytes_in now.attempt.fed) (bytes_in r.fed) (ap bytes_in (closes now.attempt result r d).fed))
 event_brings m event.Step now mid (result, r, d, is) =
-    by_attempt now mid r (ap (λ x. x.journal) is) (ap (λ x. x.attempt) is) (bytes_grow now.attempt r (step_wrote m now.attempt result r d)) (same_prefix (bytes_fed now.attempt.fed) (bytes_fed r.fed) (ap bytes_fed (stepped m now.attempt result r d).fed))
+    by_attempt now mid r (ap (λ x. x.journal) is) (ap (λ x. x.attempt) is) (bytes_grow now.attempt r (step_wrote m now.attempt result r d)) (same_prefix (bytes_in now.attempt.fed) (bytes_in r.fed) (ap bytes_in (stepped m now.attempt result r d).fed))
 event_brings m (event.Arrive x) now mid (none, is) =
     let note = is_new x now.journal none in
     record {
       stored = (x ∷ [], ap (λ s. s.journal) is);
       wrote = same_prefix (bytes_written now.attempt) (bytes_written mid.attempt) (ap (λ s. bytes_written s.attempt) is);
-      fed = same_prefix (bytes_fed now.attempt.fed) (bytes_fed mid.attempt.fed) (ap (λ s. bytes_fed s.attempt.fed) is);
+      fed = same_prefix (bytes_in now.attempt.fed) (bytes_in mid.attempt.fed) (ap (λ s. bytes_in s.attempt.fed) is);
       apart = inl (one_note x note.note note.reads).none;
     }
 event_brings m (event.Store n) now mid (journal, unstored, s, is, whole) =
@@ -128,7 +128,7 @@ event_brings m (event.Store n) now mid (journal, unstored, s, is, whole) =
     record {
       stored = (_, ap (λ x. x.journal) is ∙ s.stored);
       wrote = same_prefix (bytes_written now.attempt) (bytes_written mid.attempt) same;
-      fed = same_prefix (bytes_fed now.attempt.fed) (bytes_fed mid.attempt.fed) (ap (λ x. bytes_fed x.attempt.fed) is);
+      fed = same_prefix (bytes_in now.attempt.fed) (bytes_in mid.attempt.fed) (ap (λ x. bytes_in x.attempt.fed) is);
       apart = inr same;
     }
 
@@ -217,9 +217,9 @@ module _ (m : Meaning) (start : List ℕ) (raw : RawMessage) (first : List (List
   all_frames now g = join start (concat first ++ concat g.arrived) (raw ∷ []) (frames_in first ++ frames_in g.arrived) framed (join (concat first) (concat g.arrived) (frames_in first) (frames_in g.arrived) (journal_framed first j.entries) (journal_framed g.arrived g.arrivals))
 
   -- the frames that were fed are a beginning of them
-  pub fed_frames : (now : Now) (g : Going start first now) → (G : List RawMessage) × (raw ∷ (frames_in first ++ frames_in g.arrived) ≡ frames_fed now.attempt.fed ++ G)
+  pub fed_frames : (now : Now) (g : Going start first now) → (G : List RawMessage) × (raw ∷ (frames_in first ++ frames_in g.arrived) ≡ frames_of_pieces now.attempt.fed ++ G)
   fed_frames now g =
-      let F = bytes_fed now.attempt.fed in
+      let F = bytes_in now.attempt.fed in
       let unfed = g.fed_front.0 ++ now.waiting in
       let bytes : start ++ (concat first ++ concat g.arrived) ≡ F ++ unfed = sym g.all ∙ ap (λ l. l ++ now.waiting) g.fed_front.1 ∙ append_assoc F g.fed_front.0 now.waiting in
       let more = more_frames (frames_of F) unfed in
@@ -231,10 +231,10 @@ module _ (m : Meaning) (start : List ℕ) (raw : RawMessage) (first : List (List
       let f = fed_frames now g in
       let X = frames_in first in
       let N = frames_in g.arrived in
-      let came : IsPrefix (arrivals_of now.attempt.fed) (notifications_among (X ++ N)) = notifications_grow (behind (frames_fed now.attempt.fed)) (X ++ N) (behind_grows (frames_fed now.attempt.fed) (raw ∷ (X ++ N)) f) in
+      let came : IsPrefix (came_to now.attempt.fed) (notifications_among (X ++ N)) = notifications_grow (behind (frames_of_pieces now.attempt.fed)) (X ++ N) (behind_grows (frames_of_pieces now.attempt.fed) (raw ∷ (X ++ N)) f) in
       let k = length (notes_in first) in
       let cut : drop k (notifications_among (X ++ N)) ≡ notifications_among N = ap (drop k) (notifications_append X N ∙ ap (λ l. l ++ notifications_among N) (sym (notes_are first))) ∙ new_behind (notes_in first) (notifications_among N) in
-      subst (IsPrefix (delivered first now.attempt)) (cut ∙ sym (behind_notes start first now g)) (dropped k (arrivals_of now.attempt.fed) (notifications_among (X ++ N)) came)
+      subst (IsPrefix (delivered first now.attempt)) (cut ∙ sym (behind_notes start first now g)) (dropped k (came_to now.attempt.fed) (notifications_among (X ++ N)) came)
 
   -- The course so far: what was written and delivered, and where the stored commands stand.
   pub record Along (course : List Entry) (now : Now) : Type 0 where
@@ -254,7 +254,7 @@ module _ (m : Meaning) (start : List ℕ) (raw : RawMessage) (first : List (List
       let x = notes_brought ns cs in
       let more = entries_of b.stored.0 in
       let writes = written_grows now.attempt mid.attempt b.wrote in
-      let delivers = dropped (length (notes_in first)) (arrivals_of now.attempt.fed) (arrivals_of mid.attempt.fed) (arrivals_grow now.attempt.fed mid.attempt.fed b.fed) in
+      let delivers = dropped (length (notes_in first)) (came_to now.attempt.fed) (came_to mid.attempt.fed) (arrivals_grow now.attempt.fed mid.attempt.fed b.fed) in
       let added : g'.added ≡ g.added ++ b.stored.0 = after_front first g'.added (g.added ++ b.stored.0) (sym g'.extends ∙ b.stored.1 ∙ ap (λ l. l ++ b.stored.0) g.extends ∙ append_assoc first g.added b.stored.0) in
       let entries : behind_first g' ≡ behind_first g ++ more = ap entries_of added ∙ entries_append g.added b.stored.0 in
       let kept : Ordered course (behind_first g ++ more) = order_kept course (behind_first g) more a.order (subst (λ l. IsPrefix l (notifications_in (behind_first g))) (sym a.came) (delivered_arrived now g)) in

@@ -17,9 +17,9 @@ use Rattle.vm_rounds.specs.declared.progress.Reply.{Reply}
 use Rattle.vm_rounds.specs.declared.progress.Reply.TheVariants as reply
 use Rattle.vm_rounds.specs.Record.{Record}
 use Rattle.vm_rounds.specs.Stepping.{Advances, CloseDoes, FeedDoes, Feeds, Reads, StepAt, StepDoes, StepFrom, StepUnless, future_in, kept_at, replied, step_asked, with_vm}
-use Rattle.vm_rounds.specs.Told.{bytes_fed}
+use Rattle.vm_rounds.specs.Told.{bytes_in}
 use Rattle.vm_rounds.proofs.Kept.{closed_input, piece_dropped}
-use Rattle.vm_rounds.proofs.Pieces.{bytes_behind}
+use Rattle.vm_rounds.proofs.Pieces.{pieces_behind}
 
 -- the attempt takes input: nothing has stopped it
 pub record IsOpen (r : Record) : Type 0 where
@@ -32,32 +32,33 @@ pub record IsOpen (r : Record) : Type 0 where
 pub record Stepped (r new : Record) : Type 0 where
   pub fed : new.fed ≡ r.fed
   pub taken : new.taken ≡ r.taken
+  pub proposed : new.proposed ≡ r.proposed
   pub opens : IsOpen new → IsOpen r
 
 same_stepped : (r new : Record) → new ≡ r → Stepped r new
-same_stepped r new e = record { fed = ap (λ x. x.fed) e; taken = ap (λ x. x.taken) e; opens = λ o. subst IsOpen e o }
+same_stepped r new e = record { fed = ap (λ x. x.fed) e; taken = ap (λ x. x.taken) e; proposed = ap (λ x. x.proposed) e; opens = λ o. subst IsOpen e o }
 
-replied_fed : (r : Record) (future : Option UnresolvedFuture) (answer : Result Reply Error) (w : View) → ((replied r future answer w).fed ≡ r.fed) × ((replied r future answer w).taken ≡ r.taken)
-replied_fed r future (Ok (reply.Answer a)) w = (refl, refl)
-replied_fed r future (Ok (reply.Waiting input run)) w = (refl, refl)
-replied_fed r future (Ok (reply.Execute run)) w = (refl, refl)
-replied_fed r future (Ok reply.Suspended) w = (refl, refl)
-replied_fed r future (Ok reply.Ended) w = (refl, refl)
-replied_fed r future (Err e) w = (refl, refl)
+replied_fed : (r : Record) (future : Option UnresolvedFuture) (answer : Result Reply Error) (w : View) → ((replied r future answer w).fed ≡ r.fed) × ((replied r future answer w).taken ≡ r.taken) × ((replied r future answer w).proposed ≡ r.proposed)
+replied_fed r future (Ok (reply.Answer a)) w = (refl, refl, refl)
+replied_fed r future (Ok (reply.Waiting input run)) w = (refl, refl, refl)
+replied_fed r future (Ok (reply.Execute run)) w = (refl, refl, refl)
+replied_fed r future (Ok reply.Suspended) w = (refl, refl, refl)
+replied_fed r future (Ok reply.Ended) w = (refl, refl, refl)
+replied_fed r future (Err e) w = (refl, refl, refl)
 
-reads_fed : (r : Record) (result : Result Progress Error) (new : Record) → Reads r result new → (new.fed ≡ r.fed) × (new.taken ≡ r.taken)
-reads_fed r (Ok g) new h = (ap (λ x. x.fed) h.1.3, ap (λ x. x.taken) h.1.3)
-reads_fed r (Err f) new h = (ap (λ x. x.fed) h.2, ap (λ x. x.taken) h.2)
+reads_fed : (r : Record) (result : Result Progress Error) (new : Record) → Reads r result new → (new.fed ≡ r.fed) × (new.taken ≡ r.taken) × (new.proposed ≡ r.proposed)
+reads_fed r (Ok g) new h = (ap (λ x. x.fed) h.1.3, ap (λ x. x.taken) h.1.3, ap (λ x. x.proposed) h.1.3)
+reads_fed r (Err f) new h = (ap (λ x. x.fed) h.2, ap (λ x. x.taken) h.2, ap (λ x. x.proposed) h.2)
 
-advances_fed : (m : Meaning) (r : Record) (result : Result Progress Error) (new : Record) → Advances m r result new → (new.fed ≡ r.fed) × (new.taken ≡ r.taken)
-advances_fed m r result new (inl h) = (ap (λ x. x.fed) h.1, ap (λ x. x.taken) h.1)
+advances_fed : (m : Meaning) (r : Record) (result : Result Progress Error) (new : Record) → Advances m r result new → (new.fed ≡ r.fed) × (new.taken ≡ r.taken) × (new.proposed ≡ r.proposed)
+advances_fed m r result new (inl h) = (ap (λ x. x.fed) h.1, ap (λ x. x.taken) h.1, ap (λ x. x.proposed) h.1)
 advances_fed m r result new (inr (inl h)) = reads_fed r result new h.1
 advances_fed m r result new (inr (inr h)) =
     let s = replied_fed r (future_in (step_asked m r)) h.1.0 h.1.1 in
-    (ap (λ x. x.fed) h.1.3 ∙ s.0, ap (λ x. x.taken) h.1.3 ∙ s.1)
+    (ap (λ x. x.fed) h.1.3 ∙ s.0, ap (λ x. x.taken) h.1.3 ∙ s.1, ap (λ x. x.proposed) h.1.3 ∙ s.2)
 
 advances_stepped : (m : Meaning) (r : Record) (result : Result Progress Error) (new : Record) → IsOpen r → Advances m r result new → Stepped r new
-advances_stepped m r result new o h = let f = advances_fed m r result new h in record { fed = f.0; taken = f.1; opens = λ _. o }
+advances_stepped m r result new o h = let f = advances_fed m r result new h in record { fed = f.0; taken = f.1; proposed = f.2; opens = λ _. o }
 
 step_at : (m : Meaning) (r : Record) (result : Result Progress Error) (new : Record) (ph : Phase) → r.vm.machine.phase ≡ ph → r.starved ≡ false → r.vm.machine.failure ≡ None → StepAt ph m r result new → Stepped r new
 step_at m r result new WaitingStart e s f h = same_stepped r new h.1
@@ -82,13 +83,13 @@ stepped m r result new h = by_test r.starved refl h
 
 -- the piece was kept, or the attempt is shut
 abbrev pub Takes : List ℕ → Record → Record → Type 0
-Takes piece r new = ((bytes_fed new.fed ≡ bytes_fed r.fed) × (IsOpen new → ⊥)) ⊎ (IsOpen r × (bytes_fed new.fed ≡ bytes_fed r.fed ++ piece))
+Takes piece r new = ((bytes_in new.fed ≡ bytes_in r.fed) × (IsOpen new → ⊥)) ⊎ (IsOpen r × (bytes_in new.fed ≡ bytes_in r.fed ++ piece))
 
 failed_shut : (r : Record) → IsSome r.vm.machine.failure → IsOpen r → ⊥
 failed_shut r dead o = let z : false ≡ true = ap is_some (sym o.failure) ∙ dead in cc
 
 fed_kept : (r new : Record) (piece : List ℕ) (f : Fed) → f.piece ≡ piece → IsOpen r → new.fed ≡ r.fed ++ f ∷ [] → Takes piece r new
-fed_kept r new piece f is o e = inr (o, ap bytes_fed e ∙ bytes_behind r.fed f ∙ ap (λ l. bytes_fed r.fed ++ l) is)
+fed_kept r new piece f is o e = inr (o, ap bytes_in e ∙ pieces_behind r.fed f ∙ ap (λ l. bytes_in r.fed ++ l) is)
 
 open_by : (r : Record) (ph : Phase) → r.starved ≡ false → r.vm.machine.failure ≡ None → r.vm.machine.phase ≡ ph → (ph ≡ Closed → ⊥) → IsOpen r
 open_by r ph s f e n = record { starved = s; failure = f; phase = λ c. n (sym e ∙ c) }
@@ -102,24 +103,24 @@ vm_takes r piece w None WaitingReplayEntries s f p h = fed_kept r _ piece _ refl
 vm_takes r piece w None Replaying s f p h = fed_kept r _ piece _ refl (open_by r Replaying s f p (λ z. cc)) refl
 vm_takes r piece w None Processing s f p h = fed_kept r _ piece _ refl (open_by r Processing s f p (λ z. cc)) refl
 
-feeds_taken : (r : Record) (piece : List ℕ) (w : View) (o : Option Error) (ph : Phase) → (with_vm w (kept_at o ph piece r)).taken ≡ r.taken
-feeds_taken r piece w (Some e) ph = refl
-feeds_taken r piece w None Closed = refl
-feeds_taken r piece w None WaitingStart = refl
-feeds_taken r piece w None WaitingReplayEntries = refl
-feeds_taken r piece w None Replaying = refl
-feeds_taken r piece w None Processing = refl
+feeds_taken : (r : Record) (piece : List ℕ) (w : View) (o : Option Error) (ph : Phase) → ((with_vm w (kept_at o ph piece r)).taken ≡ r.taken) × ((with_vm w (kept_at o ph piece r)).proposed ≡ r.proposed)
+feeds_taken r piece w (Some e) ph = (refl, refl)
+feeds_taken r piece w None Closed = (refl, refl)
+feeds_taken r piece w None WaitingStart = (refl, refl)
+feeds_taken r piece w None WaitingReplayEntries = (refl, refl)
+feeds_taken r piece w None Replaying = (refl, refl)
+feeds_taken r piece w None Processing = (refl, refl)
 
-feeds : (piece : List ℕ) (r : Record) (result : Result Unit AllocError) (new : Record) → r.starved ≡ false → Feeds piece r result new → Takes piece r new × (new.taken ≡ r.taken)
-feeds piece r (Ok t) new s d = (subst (Takes piece r) (sym d) (vm_takes r piece (after_input r.vm piece) r.vm.machine.failure r.vm.machine.phase s refl refl (inr refl)), ap (λ x. x.taken) d ∙ feeds_taken r piece (after_input r.vm piece) r.vm.machine.failure r.vm.machine.phase)
-feeds piece r (Err e) new s (inl d) = (inl (ap (λ x. bytes_fed x.fed) d, λ o. let z : true ≡ false = sym (ap (λ x. x.starved) d) ∙ o.starved in cc), ap (λ x. x.taken) d)
-feeds piece r (Err e) new s (inr (w, dead, d)) = (subst (Takes piece r) (sym d) (vm_takes r piece w r.vm.machine.failure r.vm.machine.phase s refl refl (inl (among_failed _ r.vm.machine w.machine dead))), ap (λ x. x.taken) d ∙ feeds_taken r piece w r.vm.machine.failure r.vm.machine.phase)
+feeds : (piece : List ℕ) (r : Record) (result : Result Unit AllocError) (new : Record) → r.starved ≡ false → Feeds piece r result new → Takes piece r new × (new.taken ≡ r.taken) × (new.proposed ≡ r.proposed)
+feeds piece r (Ok t) new s d = (subst (Takes piece r) (sym d) (vm_takes r piece (after_input r.vm piece) r.vm.machine.failure r.vm.machine.phase s refl refl (inr refl)), ap (λ x. x.taken) d ∙ (feeds_taken r piece (after_input r.vm piece) r.vm.machine.failure r.vm.machine.phase).0, ap (λ x. x.proposed) d ∙ (feeds_taken r piece (after_input r.vm piece) r.vm.machine.failure r.vm.machine.phase).1)
+feeds piece r (Err e) new s (inl d) = (inl (ap (λ x. bytes_in x.fed) d, λ o. let z : true ≡ false = sym (ap (λ x. x.starved) d) ∙ o.starved in cc), ap (λ x. x.taken) d, ap (λ x. x.proposed) d)
+feeds piece r (Err e) new s (inr (w, dead, d)) = (subst (Takes piece r) (sym d) (vm_takes r piece w r.vm.machine.failure r.vm.machine.phase s refl refl (inl (among_failed _ r.vm.machine w.machine dead))), ap (λ x. x.taken) d ∙ (feeds_taken r piece w r.vm.machine.failure r.vm.machine.phase).0, ap (λ x. x.proposed) d ∙ (feeds_taken r piece w r.vm.machine.failure r.vm.machine.phase).1)
 
-pub fed : (piece : List ℕ) (r : Record) (result : Result Unit AllocError) (new : Record) → FeedDoes r.starved piece r result new → Takes piece r new × (new.taken ≡ r.taken)
+pub fed : (piece : List ℕ) (r : Record) (result : Result Unit AllocError) (new : Record) → FeedDoes r.starved piece r result new → Takes piece r new × (new.taken ≡ r.taken) × (new.proposed ≡ r.proposed)
 fed piece r result new h = by_test r.starved refl h
   where
-    by_test : (b : Bool) → r.starved ≡ b → FeedDoes b piece r result new → Takes piece r new × (new.taken ≡ r.taken)
-    by_test true e d = (inl (ap (λ x. bytes_fed x.fed) d.1, λ o. let z : true ≡ false = sym (ap (λ x. x.starved) d.1 ∙ e) ∙ o.starved in cc), ap (λ x. x.taken) d.1)
+    by_test : (b : Bool) → r.starved ≡ b → FeedDoes b piece r result new → Takes piece r new × (new.taken ≡ r.taken) × (new.proposed ≡ r.proposed)
+    by_test true e d = (inl (ap (λ x. bytes_in x.fed) d.1, λ o. let z : true ≡ false = sym (ap (λ x. x.starved) d.1 ∙ e) ∙ o.starved in cc), ap (λ x. x.taken) d.1, ap (λ x. x.proposed) d.1)
     by_test false e d = feeds piece r result new e d
 
 -- ---- closing
@@ -138,10 +139,12 @@ closes r result new h = by_test r.starved refl result h
     by_test false e (Ok t) d = record {
       fed = ap (λ x. x.fed) d;
       taken = ap (λ x. x.taken) d;
+      proposed = ap (λ x. x.proposed) d;
       opens = λ o. let h = closing_opens r new d r.vm.machine.failure refl r.vm.machine.phase refl o in record { starved = e; failure = h.0; phase = h.1 };
     }
     by_test false e (Err f) d = record {
       fed = ap (λ x. x.fed) d.2;
       taken = ap (λ x. x.taken) d.2;
+      proposed = ap (λ x. x.proposed) d.2;
       opens = λ o. absurd (failed_shut new (ap (λ x. is_some x.vm.machine.failure) d.2 ∙ among_failed _ r.vm.machine d.0.machine d.1) o);
     }

@@ -15,7 +15,7 @@ use Rattle.vm_model.specs.Histories.{IsPrefix}
 use Rattle.vm_rounds.specs.Journals.{commands_among, is_command, is_notification, notifications_among, notified_by}
 use Rattle.vm_rounds.specs.Record.{Record}
 use Rattle.vm_rounds.specs.Stepping.{taken_from}
-use Rattle.vm_rounds.specs.Told.{bytes_fed}
+use Rattle.vm_rounds.specs.Told.{bytes_in}
 use Rattle.vm_world.specs.Completions.{CompleteOnce}
 use Rattle.vm_rounds.proofs.Pieces.{commands_append}
 use Rattle.vm_world.specs.declared.types.Event.{Event}
@@ -110,8 +110,9 @@ pub record Going (start : List ℕ) (first : List (List ℕ)) (now : Now) : Type
   pub arrivals : AreEntries arrived
   pub delivered : List ℕ
   pub all : delivered ++ now.waiting ≡ start ++ (concat first ++ concat arrived)
-  pub fed_front : IsPrefix (bytes_fed now.attempt.fed) delivered
-  pub fed_open : IsOpen now.attempt → bytes_fed now.attempt.fed ≡ delivered
+  pub fed_front : IsPrefix (bytes_in now.attempt.fed) delivered
+  pub fed_open : IsOpen now.attempt → bytes_in now.attempt.fed ≡ delivered
+  pub nothing : now.attempt.proposed ≡ []
   pub output_is : concat now.attempt.taken ≡ now.output
   pub scanned : List RawMessage
   pub output_frames : frames_of now.output ≡ in_front scanned (frames_of now.unstored)
@@ -129,8 +130,9 @@ module _ (m : Meaning) (start : List ℕ) (first : List (List ℕ)) where
     arrivals = g.arrivals;
     delivered = g.delivered;
     all = g.all;
-    fed_front = subst (λ f. IsPrefix (bytes_fed f) g.delivered) (sym s.fed) g.fed_front;
-    fed_open = λ o. ap bytes_fed s.fed ∙ g.fed_open (s.opens o);
+    fed_front = subst (λ f. IsPrefix (bytes_in f) g.delivered) (sym s.fed) g.fed_front;
+    fed_open = λ o. ap bytes_in s.fed ∙ g.fed_open (s.opens o);
+    nothing = s.proposed ∙ g.nothing;
     output_is = ap concat s.taken ∙ g.output_is;
     scanned = g.scanned;
     output_frames = g.output_frames;
@@ -141,20 +143,21 @@ module _ (m : Meaning) (start : List ℕ) (first : List (List ℕ)) where
     journal = g.journal;
   }
 
-  takes : (now : Now) (piece rest : List ℕ) (r : Record) (error : Option Error) → now.waiting ≡ piece ++ rest → Takes piece now.attempt r → r.taken ≡ now.attempt.taken → Going start first now → Going start first (record now { waiting = rest; attempt = r; error = error })
-  takes now piece rest r error is t same g = record {
+  takes : (now : Now) (piece rest : List ℕ) (r : Record) (error : Option Error) → now.waiting ≡ piece ++ rest → Takes piece now.attempt r → r.taken ≡ now.attempt.taken → r.proposed ≡ now.attempt.proposed → Going start first now → Going start first (record now { waiting = rest; attempt = r; error = error })
+  takes now piece rest r error is t same none g = record {
     arrived = g.arrived;
     arrivals = g.arrivals;
     delivered = g.delivered ++ piece;
     all = append_assoc g.delivered piece rest ∙ ap (λ l. g.delivered ++ l) (sym is) ∙ g.all;
     fed_front = ⊎_elim
-        (λ (x : (bytes_fed r.fed ≡ bytes_fed now.attempt.fed) × (IsOpen r → ⊥)). front x.0)
-        (λ (x : IsOpen now.attempt × (bytes_fed r.fed ≡ bytes_fed now.attempt.fed ++ piece)). whole x.0 x.1)
+        (λ (x : (bytes_in r.fed ≡ bytes_in now.attempt.fed) × (IsOpen r → ⊥)). front x.0)
+        (λ (x : IsOpen now.attempt × (bytes_in r.fed ≡ bytes_in now.attempt.fed ++ piece)). whole x.0 x.1)
         t;
     fed_open = ⊎_elim
-        (λ (x : (bytes_fed r.fed ≡ bytes_fed now.attempt.fed) × (IsOpen r → ⊥)). λ o. absurd (x.1 o))
-        (λ (x : IsOpen now.attempt × (bytes_fed r.fed ≡ bytes_fed now.attempt.fed ++ piece)). λ o. x.1 ∙ ap (λ l. l ++ piece) (g.fed_open x.0))
+        (λ (x : (bytes_in r.fed ≡ bytes_in now.attempt.fed) × (IsOpen r → ⊥)). λ o. absurd (x.1 o))
+        (λ (x : IsOpen now.attempt × (bytes_in r.fed ≡ bytes_in now.attempt.fed ++ piece)). λ o. x.1 ∙ ap (λ l. l ++ piece) (g.fed_open x.0))
         t;
+    nothing = none ∙ g.nothing;
     output_is = ap concat same ∙ g.output_is;
     scanned = g.scanned;
     output_frames = g.output_frames;
@@ -165,17 +168,17 @@ module _ (m : Meaning) (start : List ℕ) (first : List (List ℕ)) where
     journal = g.journal;
   }
     where
-      front : bytes_fed r.fed ≡ bytes_fed now.attempt.fed → IsPrefix (bytes_fed r.fed) (g.delivered ++ piece)
-      front e = (g.fed_front.0 ++ piece, ap (λ l. l ++ piece) g.fed_front.1 ∙ append_assoc (bytes_fed now.attempt.fed) g.fed_front.0 piece ∙ ap (λ l. l ++ (g.fed_front.0 ++ piece)) (sym e))
+      front : bytes_in r.fed ≡ bytes_in now.attempt.fed → IsPrefix (bytes_in r.fed) (g.delivered ++ piece)
+      front e = (g.fed_front.0 ++ piece, ap (λ l. l ++ piece) g.fed_front.1 ∙ append_assoc (bytes_in now.attempt.fed) g.fed_front.0 piece ∙ ap (λ l. l ++ (g.fed_front.0 ++ piece)) (sym e))
 
-      whole : IsOpen now.attempt → bytes_fed r.fed ≡ bytes_fed now.attempt.fed ++ piece → IsPrefix (bytes_fed r.fed) (g.delivered ++ piece)
-      whole o e = ([], ap (λ l. l ++ piece) (sym (g.fed_open o)) ∙ sym e ∙ sym (append-nil (bytes_fed r.fed)))
+      whole : IsOpen now.attempt → bytes_in r.fed ≡ bytes_in now.attempt.fed ++ piece → IsPrefix (bytes_in r.fed) (g.delivered ++ piece)
+      whole o e = ([], ap (λ l. l ++ piece) (sym (g.fed_open o)) ∙ sym e ∙ sym (append-nil (bytes_in r.fed)))
 
   pieces : (closed : Bool) (n : ℕ) (now new : Now) → Pieces closed n now new → Going start first now → Going start first new
   pieces true n now new d g = subst (Going start first) (sym d) g
   pieces false n now new (result, r, d, is) g =
       let t = fed (take n now.waiting) now.attempt result r d in
-      subst (Going start first) (sym is) (takes now (take n now.waiting) (drop n now.waiting) r _ (sym (take-append-drop n now.waiting)) t.0 t.1 g)
+      subst (Going start first) (sym is) (takes now (take n now.waiting) (drop n now.waiting) r _ (sym (take-append-drop n now.waiting)) t.0 t.1 t.2 g)
 
   arrives : (now : Now) (x : List ℕ) → arrival_fault x now.journal ≡ None → Going start first now → Going start first (record now { journal = now.journal ++ x ∷ []; waiting = now.waiting ++ x })
   arrives now x e g =
@@ -189,6 +192,7 @@ module _ (m : Meaning) (start : List ℕ) (first : List (List ℕ)) where
         all = sym (append_assoc g.delivered now.waiting x) ∙ ap (λ l. l ++ x) g.all ∙ append_assoc start (concat first ++ concat g.arrived) x ∙ ap (λ l. start ++ l) (append_assoc (concat first) (concat g.arrived) x ∙ ap (λ l. concat first ++ l) more);
         fed_front = g.fed_front;
         fed_open = g.fed_open;
+        nothing = g.nothing;
         output_is = g.output_is;
         scanned = g.scanned;
         output_frames = g.output_frames;
@@ -216,6 +220,7 @@ module _ (m : Meaning) (start : List ℕ) (first : List (List ℕ)) where
         all = g.all;
         fed_front = g.fed_front;
         fed_open = λ o. g.fed_open (record { starved = o.starved; failure = o.failure; phase = o.phase });
+        nothing = g.nothing;
         output_is = concat-append now.attempt.taken (more ∷ []) ∙ (λ i. g.output_is i ++ append-nil more i);
         scanned = g.scanned ++ s.seen;
         output_frames = front_grows now.output now.unstored more g.scanned g.output_frames ∙ ap (in_front g.scanned) s.frames ∙ ap (λ l. (l, (frames_of unstored).1)) (sym (append_assoc g.scanned s.seen (frames_of unstored).0));

@@ -22,7 +22,7 @@ use Rattle.vm_model.proofs.Honesty.{honest_round, honest_rounds, run_is_history,
 use Rattle.vm_rounds.specs.Journals.{commands_among, notifications_among}
 use Rattle.vm_rounds.specs.Record.{Record}
 use Rattle.vm_rounds.specs.Stepping.{fresh_record}
-use Rattle.vm_rounds.specs.Told.{bytes_fed}
+use Rattle.vm_rounds.specs.Told.{bytes_in}
 use Rattle.vm_rounds.proofs.Advanced.{made_new}
 use Rattle.vm_rounds.proofs.Replayed.{commands_same}
 use Rattle.vm_world.specs.declared.types.Event.{Event}
@@ -45,14 +45,15 @@ use Rattle.vm_world.proofs.Running.{events_run}
 -- ---- one round
 
 -- a round begins with the whole journal
-begun : (start : List ℕ) (old : List (List ℕ)) (r : Record) → IsJournal old → r.fed ≡ [] → r.taken ≡ [] → Going start old (new_now old (start ++ concat old) r)
-begun start old r j fed taken = record {
+begun : (start : List ℕ) (old : List (List ℕ)) (r : Record) → IsJournal old → r.fed ≡ [] → r.taken ≡ [] → r.proposed ≡ [] → Going start old (new_now old (start ++ concat old) r)
+begun start old r j fed taken nothing = record {
   arrived = [];
   arrivals = tt;
   delivered = [];
   all = ap (λ l. start ++ l) (sym (append-nil (concat old)));
-  fed_front = ([], ap (λ l. bytes_fed l ++ []) (sym fed));
-  fed_open = λ o. ap bytes_fed fed;
+  fed_front = ([], ap (λ l. bytes_in l ++ []) (sym fed));
+  fed_open = λ o. ap bytes_in fed;
+  nothing = nothing;
   output_is = ap concat taken;
   scanned = [];
   output_frames = refl;
@@ -69,11 +70,11 @@ pub record Grows (old new : List (List ℕ)) : Type 0 where
   pub extends : new ≡ old ++ added
   pub journal : IsJournal new
 
-pub short_all : (m : Meaning) (events : List Event) (start : List ℕ) (old : List (List ℕ)) (r : Record) → IsJournal old → r.fed ≡ [] → r.taken ≡ [] → IsShort m events (new_now old (start ++ concat old) r)
-short_all m events start old r j fed taken end h = (events_keep m start old events (new_now old (start ++ concat old) r) end h (begun start old r j fed taken)).journal.short
+pub short_all : (m : Meaning) (events : List Event) (start : List ℕ) (old : List (List ℕ)) (r : Record) → IsJournal old → r.fed ≡ [] → r.taken ≡ [] → r.proposed ≡ [] → IsShort m events (new_now old (start ++ concat old) r)
+short_all m events start old r j fed taken nothing end h = (events_keep m start old events (new_now old (start ++ concat old) r) end h (begun start old r j fed taken nothing)).journal.short
 
 attempt_goes : (m : Meaning) (w : Setting) (round : Round) (old : List (List ℕ)) (report : ReportView) (new : List (List ℕ)) → IsJournal old → (d : AttemptDoes m w round old report new) → Going (encoding (start_message w round old)) old d.ran.now
-attempt_goes m w round old report new j d = events_keep m (encoding (start_message w round old)) old round.events (begin d.alloc w round old) d.ran.now d.ran.happen (begun (encoding (start_message w round old)) old (fresh_record (made d.alloc w.options w.version)) j refl refl)
+attempt_goes m w round old report new j d = events_keep m (encoding (start_message w round old)) old round.events (begin d.alloc w round old) d.ran.now d.ran.happen (begun (encoding (start_message w round old)) old (fresh_record (made d.alloc w.options w.version)) j refl refl refl)
 
 pub round_grows : (m : Meaning) (w : Setting) (round : Round) (old : List (List ℕ)) (report : ReportView) (new : List (List ℕ)) → IsJournal old → RoundDoes m w round old report new → Grows old new
 round_grows m w round old report new j (inl d) =
@@ -103,7 +104,7 @@ attempt_along m w round old report new j d =
     let bytes = encoding (start_message w round old) in
     let framed = start_framed (start_for w round old) d.start in
     let first : Along m bytes (stored_form (start_message w round old)) old j framed [] (begin d.alloc w round old) = record {
-      going = begun bytes old (fresh_record (made d.alloc w.options w.version)) j refl refl;
+      going = begun bytes old (fresh_record (made d.alloc w.options w.version)) j refl refl refl;
       written = sym (ap commands_among none);
       came = sym (drop_nil (length (notes_in old)) _ (ap (λ l. notifications_among (behind l)) none));
       order = λ n h. absurd (omega (arith, h));
@@ -124,7 +125,7 @@ attempt_honest K m w round old report new r j h d =
     let found = start_reads st d.start in
     let first = begin d.alloc w round old in
     let course = course_of m old round.events first d.ran.now d.ran.happen in
-    let kept = events_run m w bytes raw st old j framed found refl (setup_of w) refl K h r round.events first d.ran.now d.ran.happen (begun bytes old (fresh_record (made d.alloc w.options w.version)) j refl refl) (inl (made_new d.alloc w.version w.options)) in
+    let kept = events_run m w bytes raw st old j framed found refl (setup_of w) refl K h r round.events first d.ran.now d.ran.happen (begun bytes old (fresh_record (made d.alloc w.options w.version)) j refl refl refl) (inl (made_new d.alloc w.version w.options)) in
     let honest = is_honest m w bytes raw st old j framed found refl (setup_of w) refl K h r d.ran.now course (attempt_along m w round old report new j d) kept d.ran.ends in
     subst (λ (x : List Answer × List (List ℕ)). IsHonest (setup_of w) m (entries_of old) (record { given = given_by st; course = course; answers = x.0 }) (entries_of x.1)) (λ i. (sym (ap (λ (v : ReportView). v.answers) d.ran.told) i, sym d.ran.left i)) honest
 

@@ -25,8 +25,12 @@ use Rattle.vm_model.specs.Moves.{Point, later, start as first_point}
 use Rattle.vm_model.proofs.Once.{run_once, still_carried}
 use Rattle.vm_model.proofs.Runs.{after_later, made_after, made_spent}
 use Rattle.vm_rounds.specs.Journals.{commands_among, notifications_among, setup_for}
-use Rattle.vm_rounds.specs.Told.{BeforeInput, IsKept, Journal, NoneHasTwo, Runs, Wrote, arrivals, arrivals_of, begun, handed_out}
-use Rattle.vm_rounds.proofs.Advanced.{step_keeps}
+use Rattle.vm_rounds.specs.Told.{BeforeInput, IsKept, Journal, NoneHasTwo, Runs, Wrote, arrivals, begun, handed_out}
+use Rattle.vm_rounds.specs.Arrivals.{arriving}
+use Rattle.vm_rounds.specs.Heard.{acknowledged_from}
+use Rattle.vm_rounds.specs.Record.{heard}
+use Rattle.vm_rounds.proofs.Advanced.{nothing_acknowledged, step_keeps}
+use Rattle.vm_rounds.proofs.Arriving.{arriving_alone}
 use Rattle.vm_rounds.proofs.Kept.{close_keeps, feed_keeps, take_keeps}
 use Rattle.vm_rounds.proofs.Lasting.{runs_last}
 use Rattle.vm_rounds.proofs.Pieces.{commands_append, notifications_append}
@@ -35,7 +39,7 @@ use Rattle.vm_rounds.proofs.Written.{taken_first}
 use Rattle.vm_world.specs.declared.types.Event.{Event}
 use Rattle.vm_world.specs.declared.types.Event.TheVariants as event
 use Rattle.vm_world.specs.declared.types.Setting.{Setting}
-use Rattle.vm_world.specs.Courses.{delivered, given_by}
+use Rattle.vm_world.specs.Courses.{came_to, delivered, given_by}
 use Rattle.vm_world.specs.Entries.{entries_of, frames_in, notes_in}
 use Rattle.vm_world.specs.Rounds.{Happen, Happens, Now, Pieces, Replays}
 use Rattle.vm_world.specs.Worlds.{IsJournal}
@@ -80,14 +84,18 @@ module _ (m : Meaning) (w : Setting) (begin_bytes : List ℕ) (raw : RawMessage)
 
   -- ---- what was fed is the world's journal
 
-  record IsWorlds (now : Now) (J : Journal now.attempt.fed) : Type 0 where
+  -- the attempt has proposed nothing, so that its arrivals are the notifications that came
+  nothing_heard : (now : Now) → Going begin_bytes old now → (raws : List RawMessage) → arriving (heard w.version now.attempt).proposed raws ≡ notifications_among raws
+  nothing_heard now g raws = ap (λ ps. arriving (acknowledged_from w.version ps) raws) g.nothing ∙ ap (λ ps. arriving ps raws) (nothing_acknowledged w.version) ∙ arriving_alone raws
+
+  record IsWorlds (now : Now) (J : Journal (heard w.version now.attempt)) : Type 0 where
     start : J.start ≡ st
     state : J.state ≡ state_entries st.state
     input : J.input ≡ one.input
     notes : arrivals J ≡ came now
     rest : J.rest ≡ one.rest
 
-  is_worlds : (now : Now) → Going begin_bytes old now → (J : Journal now.attempt.fed) → IsWorlds now J
+  is_worlds : (now : Now) → Going begin_bytes old now → (J : Journal (heard w.version now.attempt)) → IsWorlds now J
   is_worlds now g J =
       let N = frames_in g.arrived in
       let F = fed_frames m begin_bytes raw old j framed now g in
@@ -101,13 +109,13 @@ module _ (m : Meaning) (w : Setting) (begin_bytes : List ℕ) (raw : RawMessage)
       let commands : one.first ∷ one.rest ≡ J.first ∷ J.rest = sym one.begins ∙ commands_same (frames_in old) ∙ ap commands_among entries ∙ J.commands in
       let first = head_same one.first J.first one.rest J.rest commands in
       let others = notifications_among J.others in
-      let all : arrivals_of now.attempt.fed ≡ notes_in old ++ others =
+      let all : came_to now.attempt.fed ≡ notes_in old ++ others =
       ap (λ l. notifications_among l) (ap tail_of J.frames) ∙ notifications_append J.entries J.others ∙ ap (λ l. notifications_among l ++ others) (sym entries) ∙ ap (λ l. l ++ others) (sym (notes_are old)) in
       record {
         start = is_st;
         state = entries_found J.start.state J.state J.reads_state ∙ ap (λ (x : Start). state_entries x.state) is_st;
         input = sym (same_Some one.input J.input (sym one.reads ∙ ap input_read_from first ∙ J.reads_input));
-        notes = notifications_append J.entries J.others ∙ ap (λ l. notifications_among l ++ others) (sym entries)
+        notes = nothing_heard now g (J.entries ++ J.others) ∙ notifications_append J.entries J.others ∙ ap (λ l. notifications_among l ++ others) (sym entries)
             ∙ (λ i. sym (notes_same (frames_in old)) i ++ sym (ap (drop (length (notes_in old))) all ∙ new_behind (notes_in old) others) i);
         rest = sym (tail_same one.first J.first one.rest J.rest commands);
       }
@@ -117,7 +125,7 @@ module _ (m : Meaning) (w : Setting) (begin_bytes : List ℕ) (raw : RawMessage)
       tail_of (x ∷ xs) = xs
 
   -- a run over what was fed is one from the first point
-  pub there : (now : Now) (g : Going begin_bytes old now) (J : Journal now.attempt.fed) (n : ℕ) (made : List RawMessage) (p : Point) → Made (setup_for w.version w.options J.start) m (Handed (handed_out J)) n (begun w.version w.options J) made p → Made s m (Handed given) n (from now) made p
+  pub there : (now : Now) (g : Going begin_bytes old now) (J : Journal (heard w.version now.attempt)) (n : ℕ) (made : List RawMessage) (p : Point) → Made (setup_for w.version w.options J.start) m (Handed (handed_out J)) n (begun w.version w.options J) made p → Made s m (Handed given) n (from now) made p
   there now g J n made p run =
       let x = is_worlds now g J in
       subst (λ (z : Setup). Made z m (Handed given) n (first_point z one.input (came now) one.rest) made p) same_setup
@@ -178,12 +186,12 @@ module _ (m : Meaning) (w : Setting) (begin_bytes : List ℕ) (raw : RawMessage)
       let spent = made_spent s m K one.moves (first_point s one.input (notifications_in E) []) one.rest one.at refl one.made in
       run_once s m given one.input (came now) one.rest one.moves (later D one.at) told spent (came_once now g) k written at ran (written_carry now g written wrote)
 
-  pub none_two : (now : Now) (g : Going begin_bytes old now) → Kept now → NoneHasTwo m w.version w.options now.attempt.fed
+  pub none_two : (now : Now) (g : Going begin_bytes old now) → Kept now → NoneHasTwo m w.version w.options (heard w.version now.attempt)
   none_two now g kept J n made p run =
       let here = there now g J n made p run in
       ⊎_elim
-      (λ (b : BeforeInput w.version w.options now.attempt.fed now.attempt.answers now.attempt.waiting now.attempt.taken now.attempt.vm). at_each now g 0 [] (from now) (refl, refl) b.wrote n made p here)
-      (λ (b : Runs m w.version w.options now.attempt.fed now.attempt.answers now.attempt.waiting now.attempt.taken now.attempt.vm). at_each now g b.moves b.written b.at (there now g b.journal b.moves b.written b.at b.run) b.wrote n made p here)
+      (λ (b : BeforeInput w.version w.options (heard w.version now.attempt) now.attempt.answers now.attempt.waiting now.attempt.taken now.attempt.vm). at_each now g 0 [] (from now) (refl, refl) b.wrote n made p here)
+      (λ (b : Runs m w.version w.options (heard w.version now.attempt) now.attempt.answers now.attempt.waiting now.attempt.taken now.attempt.vm). at_each now g b.moves b.written b.at (there now g b.journal b.moves b.written b.at b.run) b.wrote n made p here)
       kept
 
   -- ---- events

@@ -22,7 +22,7 @@ use Rattle.vm_model.specs.Deliveries.{HasNoTwo}
 use Rattle.journal_attempt.specs.declared.commands.InputCommand.{InputCommand}
 use Rattle.journal_messages.specs.declared.message.RawMessage.{RawMessage}
 use Rattle.vm_rounds.specs.declared.progress.Progress.{Progress}
-use Rattle.vm_rounds.specs.Record.{Record}
+use Rattle.vm_rounds.specs.Record.{Record, heard}
 use Rattle.vm_rounds.specs.Told.{AnswersAreTold, Premises, written_by}
 use Rattle.vm_rounds.specs.Stepping.{CloseDoes, FeedDoes, StepDoes, fresh_record, taken_from}
 use Rattle.vm_world.specs.declared.types.Event.{Event}
@@ -158,7 +158,7 @@ refused_report e journal = record { answers = []; output = []; error = Some e; e
 -- premises its journal, with what it wrote, tells its answers.
 pub record EndsTold (m : Meaning) (version : Version) (options : VMOptions) (r : Record) : Type 0 where
   pub begins : r.answers ≡ [] → written_by r ≡ []
-  pub told : Premises m version options r.fed → (r.answers ≡ []) ⊎ AnswersAreTold m version options r
+  pub told : Premises m version options (heard version r) → (r.answers ≡ []) ⊎ AnswersAreTold m version options r
 
 -- a round begins with this attempt, and these bytes wait
 abbrev pub new_now : List (List ℕ) → List ℕ → Record → Now

@@ -1,5 +1,6 @@
 use Rattle.vm_rounds.proofs.Advanced.{made_kept}
 use Rattle.vm_rounds.proofs.Under.{close_under, feed_under, step_under, take_under}
+use Rattle.vm_rounds.proofs.Finishing.{finish_under}
 use Rattle.vm_rounds.proofs.laws.attempts_keep.Goals as goal
 
 pub returns-clause-made : goal.returns-clause-made
@@ -16,3 +17,6 @@ returns-clause-taken c = take_under
 
 pub returns-clause-stepped : goal.returns-clause-stepped
 returns-clause-stepped c = step_under
+
+pub returns-clause-told : goal.returns-clause-told
+returns-clause-told c = λ m version options handle exit policy old result new came u does. finish_under version options handle exit policy old result new came does m u

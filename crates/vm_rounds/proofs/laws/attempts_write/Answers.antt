@@ -1,4 +1,5 @@
 use Rattle.vm_rounds.proofs.Coming.{close_comes, feed_comes, made_comes, step_comes, take_comes}
+use Rattle.vm_rounds.proofs.Finishing.{finish_comes}
 use Rattle.vm_rounds.proofs.laws.attempts_write.Goals as goal
 
 pub returns-clause-made : goal.returns-clause-made
@@ -15,3 +16,6 @@ returns-clause-taken c = take_comes
 
 pub returns-clause-stepped : goal.returns-clause-stepped
 returns-clause-stepped c = step_comes
+
+pub returns-clause-told : goal.returns-clause-told
+returns-clause-told c = finish_comes

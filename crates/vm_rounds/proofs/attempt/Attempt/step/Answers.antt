@@ -1,11 +1,12 @@
-use Rattle.vm_rounds.specs.Inside.{the_record}
-use Rattle.vm_rounds.specs.Record.{all_fed}
+use Rattle.vm_rounds.specs.Inside.{the_fields, the_record}
+use Rattle.vm_rounds.specs.Record.{all_heard}
 use Rattle.vm_rounds.proofs.Advanced.{step_replays}
 use Rattle.vm_rounds.proofs.Coming.{step_comes}
 use Rattle.vm_rounds.proofs.Erring.{step_blames}
 use Rattle.vm_rounds.proofs.Replayed.{honest_errs}
 use Rattle.vm_rounds.proofs.Late.{step_blame, step_late}
 use Rattle.vm_rounds.proofs.Sleeping.{step_sleeps, waits_rightly}
+use Rattle.vm_rounds.proofs.Steady.{step_told}
 use Rattle.vm_rounds.proofs.Under.{step_under}
 use Rattle.vm_rounds.proofs.attempt.Attempt.step.Goals as goal
 
@@ -13,31 +14,42 @@ pub invariant_of-self : goal.invariant_of-self
 invariant_of-self g c =
     let a = c.self.inside in
     let m = g.H.Handler.meaning a.inner.handler in
+    let does = step_told a.version a.options (g.H.Handler.meaning a.inner.handler) (the_fields a.inner) c.step-progress.result (the_fields c.step-progress.new.self) c.self.invariant.0 c.self.invariant.5 c.output_len.ensures.whole c.step-progress.ensures.does in
     rw c.step-progress.ensures.handler (
-      step_comes m a.version a.options (the_record a.inner) c.step-progress.result (the_record c.step-progress.new.self) c.self.invariant.0 c.step-progress.ensures.does,
-      step_blames m a.version a.options (the_record a.inner) c.step-progress.result (the_record c.step-progress.new.self) c.self.invariant.0 c.self.invariant.2 c.self.invariant.1 c.step-progress.ensures.does,
-      step_under m a.version a.options (the_record a.inner) c.step-progress.result (the_record c.step-progress.new.self) c.self.invariant.2 c.step-progress.ensures.does,
-      step_late m a.version a.options (the_record a.inner) c.step-progress.result (the_record c.step-progress.new.self) c.self.invariant.0 c.self.invariant.3 c.step-progress.ensures.does,
-      step_sleeps m a.version a.options (the_record a.inner) c.step-progress.result (the_record c.step-progress.new.self) c.self.invariant.2 c.self.invariant.4 c.step-progress.ensures.does,
+      step_comes m a.version a.options (the_record a.inner) c.step-progress.result (the_record c.step-progress.new.self) c.self.invariant.0 does,
+      step_blames m a.version a.options (the_record a.inner) c.step-progress.result (the_record c.step-progress.new.self) c.self.invariant.0 c.self.invariant.2 c.self.invariant.1 does,
+      step_under m a.version a.options (the_record a.inner) c.step-progress.result (the_record c.step-progress.new.self) c.self.invariant.2 does,
+      step_late m a.version a.options (the_record a.inner) c.step-progress.result (the_record c.step-progress.new.self) c.self.invariant.0 c.self.invariant.3 does,
+      step_sleeps m a.version a.options (the_record a.inner) c.step-progress.result (the_record c.step-progress.new.self) c.self.invariant.2 c.self.invariant.4 does,
+      c.output_len.ensures.whole,
     )
+
+pub returns-clause-does : goal.returns-clause-does
+returns-clause-does g c =
+    let a = c.self.inside in
+    rw (← c.self.view_is) (step_told a.version a.options (g.H.Handler.meaning a.inner.handler) (the_fields a.inner) c.step-progress.result (the_fields c.step-progress.new.self) c.self.invariant.0 c.self.invariant.5 c.output_len.ensures.whole c.step-progress.ensures.does)
 
 pub returns-clause-waits : goal.returns-clause-waits
 returns-clause-waits g c =
     let a = c.self.inside in
-    rw (← c.self.view_is) (waits_rightly (g.H.Handler.meaning a.inner.handler) a.version a.options (the_record a.inner) c.step-progress.result (the_record c.step-progress.new.self) c.self.invariant.2 c.self.invariant.4 c.step-progress.ensures.does c.output_len.ensures.whole)
+    let does = step_told a.version a.options (g.H.Handler.meaning a.inner.handler) (the_fields a.inner) c.step-progress.result (the_fields c.step-progress.new.self) c.self.invariant.0 c.self.invariant.5 c.output_len.ensures.whole c.step-progress.ensures.does in
+    rw (← c.self.view_is) (waits_rightly (g.H.Handler.meaning a.inner.handler) a.version a.options (the_record a.inner) c.step-progress.result (the_record c.step-progress.new.self) c.self.invariant.2 c.self.invariant.4 does c.output_len.ensures.whole)
 
 pub returns-clause-replays : goal.returns-clause-replays
 returns-clause-replays g c =
     let a = c.self.inside in
-    rw (← c.self.view_is) (λ is p. step_replays (g.H.Handler.meaning a.inner.handler) a.version a.options (the_record a.inner) c.step-progress.result (the_record c.step-progress.new.self) p (c.self.invariant.2 p) is c.step-progress.ensures.does)
+    let does = step_told a.version a.options (g.H.Handler.meaning a.inner.handler) (the_fields a.inner) c.step-progress.result (the_fields c.step-progress.new.self) c.self.invariant.0 c.self.invariant.5 c.output_len.ensures.whole c.step-progress.ensures.does in
+    rw (← c.self.view_is) (λ is p. step_replays (g.H.Handler.meaning a.inner.handler) a.version a.options (the_record a.inner) c.step-progress.result (the_record c.step-progress.new.self) p (c.self.invariant.2 p) is does)
 
 pub returns-clause-blamed : goal.returns-clause-blamed
 returns-clause-blamed g c =
     let a = c.self.inside in
-    rw (← c.self.view_is) (step_blame (g.H.Handler.meaning a.inner.handler) a.version a.options (the_record a.inner) c.step-progress.result (the_record c.step-progress.new.self) c.self.invariant.0 c.self.invariant.2 c.self.invariant.1 c.self.invariant.3 c.step-progress.ensures.does)
+    let does = step_told a.version a.options (g.H.Handler.meaning a.inner.handler) (the_fields a.inner) c.step-progress.result (the_fields c.step-progress.new.self) c.self.invariant.0 c.self.invariant.5 c.output_len.ensures.whole c.step-progress.ensures.does in
+    rw (← c.self.view_is) (step_blame (g.H.Handler.meaning a.inner.handler) a.version a.options (the_record a.inner) c.step-progress.result (the_record c.step-progress.new.self) c.self.invariant.0 c.self.invariant.2 c.self.invariant.1 c.self.invariant.3 does)
 
 pub returns-clause-honest : goal.returns-clause-honest
 returns-clause-honest g c =
     let a = c.self.inside in
+    let does = step_told a.version a.options (g.H.Handler.meaning a.inner.handler) (the_fields a.inner) c.step-progress.result (the_fields c.step-progress.new.self) c.self.invariant.0 c.self.invariant.5 c.output_len.ensures.whole c.step-progress.ensures.does in
     let new = the_record c.step-progress.new.self in
-    rw (← c.self.view_is) (λ honest. honest_errs (g.H.Handler.meaning a.inner.handler) a.version a.options (all_fed new) new.closed new.answers c.step-progress.result honest (step_blame (g.H.Handler.meaning a.inner.handler) a.version a.options (the_record a.inner) c.step-progress.result new c.self.invariant.0 c.self.invariant.2 c.self.invariant.1 c.self.invariant.3 c.step-progress.ensures.does))
+    rw (← c.self.view_is) (λ honest. honest_errs (g.H.Handler.meaning a.inner.handler) a.version a.options (all_heard a.version new) new.closed new.answers c.step-progress.result honest (step_blame (g.H.Handler.meaning a.inner.handler) a.version a.options (the_record a.inner) c.step-progress.result new c.self.invariant.0 c.self.invariant.2 c.self.invariant.1 c.self.invariant.3 does))

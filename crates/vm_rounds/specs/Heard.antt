@@ -1,0 +1,56 @@
+-- What an attempt has heard: the pieces of its input, and the results of runs that it was told and has proposed.
+use Rattle.std.specs.Prelude.{◌==◌, ◌++◌, Bool, cond, if◌then◌else◌, List, [], ◌∷◌, ℕ, Option, Some, None}
+use Rattle.journal_attempt.specs.Bodies.{propose_run_completion_format}
+use Rattle.journal_attempt.specs.declared.runs.ProposeRunCompletion.{ProposeRunCompletion}
+use Rattle.journal_errors.specs.declared.version.Version.{Version}
+use Rattle.journal_errors.specs.Types.{type_number}
+use Rattle.journal_messages.specs.declared.message.RawMessage.{RawMessage}
+use Rattle.journal_messages.specs.Reading.{body_as}
+use Rattle.vm_parts.specs.declared.run_state.KeptProposal.{KeptProposal}
+use Rattle.vm_machine.specs.Phases.{is_from_v7}
+use Rattle.invocation_vm.specs.Frames.{frames_of}
+use Rattle.vm_rounds.specs.declared.progress.Fed.{Fed}
+
+-- ---- proposals
+
+-- the frame is one of a proposal
+abbrev pub is_proposal : RawMessage → Bool
+is_proposal raw = type_number raw.ty == 5
+
+-- the proposal whose body this is
+unfoldable pub proposal_in : List ℕ → Option ProposeRunCompletion
+proposal_in = body_as propose_run_completion_format
+
+-- with the proposal that was read, as it is kept, if there was one
+abbrev pub proposed_by : Option ProposeRunCompletion → List KeptProposal → List KeptProposal
+proposed_by None kept = kept
+proposed_by (Some p) kept = record { completion_id = p.id; result = p.result } ∷ kept
+
+-- the proposals among some frames, in order
+abbrev pub proposals_among : List RawMessage → List KeptProposal
+proposals_among [] = []
+proposals_among (raw ∷ raws) = cond (is_proposal raw) (proposed_by (proposal_in raw.body) (proposals_among raws)) (proposals_among raws)
+
+-- the proposals among the frames that bytes are
+abbrev pub proposals_in : List ℕ → List KeptProposal
+proposals_in bytes = proposals_among (frames_of bytes).0
+
+-- ---- what was heard
+
+pub record Heard : Type 0 where
+  -- the pieces, in the order in which they came
+  pub pieces : List Fed
+  -- the proposals that can be acknowledged, in order
+  pub proposed : List KeptProposal
+
+-- these pieces, and the same proposals
+abbrev pub with_pieces : List Fed → Heard → Heard
+with_pieces pieces heard = record { pieces = pieces; proposed = heard.proposed }
+
+-- one piece more
+abbrev pub and_piece : Heard → Fed → Heard
+and_piece heard f = with_pieces (heard.pieces ++ f ∷ []) heard
+
+-- from version 7 on proposals are acknowledged
+abbrev pub acknowledged_from : Version → List KeptProposal → List KeptProposal
+acknowledged_from version proposed = if is_from_v7 version then proposed else []
