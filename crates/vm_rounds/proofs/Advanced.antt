@@ -138,7 +138,7 @@ no_command_reads s given aside ns i w is = absurd (cc)
 
 -- the handler runs, and nothing was written
 abbrev pub Begins : Meaning → Version → VMOptions → Heard → List Answer → Option UnresolvedFuture → List (List ℕ) → View → Type 0
-Begins m version options fed answers waiting taken v = (k : Runs m version options fed answers waiting taken v) × (k.written ≡ [])
+Begins m version options fed answers waiting taken v = (k : Runs m version options fed answers waiting taken v) × (k.written ≡ []) × (fed.proposed ≡ [])
 
 read_begins : (m : Meaning) (version : Version) (options : VMOptions) (fed : Heard) (nothing : fed.proposed ≡ []) (before : Option UnresolvedFuture) (taken : List (List ℕ)) (v w : View) (b : Begun version options fed v.machine) (h : HasAll (setup_for version options b.start) (record { entries = b.state; coverage = coverage_of b.start.partial }) b.aside b.start.known_entries [] [] b.others v.machine)
     → (i : Input) → input_step v.machine ≡ Done i w.machine → before ≡ None → Wrote taken v.machine.output [] → (frames_of (bytes_fed fed)).1 ≡ Rest w.undecoded
@@ -192,6 +192,7 @@ read_begins m version options fed nothing before taken v w b h i is none wrote t
             tail = λ _. tail;
           },
           refl,
+          nothing,
         )
 
 reads_done : (m : Meaning) (version : Version) (options : VMOptions) (fed : Heard) (nothing : fed.proposed ≡ []) (before : Option UnresolvedFuture) (taken : List (List ℕ)) (v w : View) (i : Input) → Comes version options fed v.machine → input_step v.machine ≡ Done i w.machine → before ≡ None → Wrote taken v.machine.output [] → (frames_of (bytes_fed fed)).1 ≡ Rest w.undecoded → Begins m version options fed (answer.Input i ∷ []) before taken w

@@ -30,7 +30,7 @@ use Rattle.vm_rounds.specs.Blames.{BadFrame, Blame, BlamedAt, FailsAt, IsBlamed,
 use Rattle.vm_rounds.specs.Blames.Blame.{Memory, Frame, NoFrame, ClosedEarly, NoInput, Call, RunResult}
 use Rattle.vm_rounds.proofs.Blaming.{frames_fit}
 use Rattle.vm_rounds.proofs.Pieces.{fed_frames}
-use Rattle.vm_rounds.proofs.Placing.{bad_frame, come_stands, place_all}
+use Rattle.vm_rounds.proofs.Placing.{bad_frame, come_keeps, come_stands, place_all}
 
 -- ---- want of memory, and a VM that stays as it is
 
@@ -110,7 +110,7 @@ piece_blamed m version options r f k live open_yet =
     failed_frame : (w : Machine) → FailsAt (frames_of (r.vm.undecoded ++ f.piece)).0 r.vm.machine w → Place r.vm.machine.phase r.vm.machine.entries_missing (frames_fed (heard version r)) → ((r.vm.machine.version ≡ version) × (r.vm.machine.options ≡ options)) → frames_fed (and_piece (heard version r) f) ≡ frames_fed (heard version r) ++ (frames_of (r.vm.undecoded ++ f.piece)).0 → B w
     failed_frame w x p made frames = record {
       open_yet = λ going none. none_some _ (sym none ∙ x.failure);
-      blame = λ going e some. Frame (subst (λ (z : (Version × VMOptions) × List RawMessage). BadFrame z.0.0 z.0.1 z.1 e) (λ i. ((made.0 i, made.1 i), sym frames i)) (bad_frame (frames_fed (heard version r)) (frames_of (r.vm.undecoded ++ f.piece)).0 r.vm.machine w e live p x some));
+      blame = λ going e some. Frame (subst (λ (z : Version × VMOptions). BadFrame z.0 z.1 (and_piece (heard version r) f) e) (λ i. (made.0 i, made.1 i)) (bad_frame (heard version r) (r.fed ++ f ∷ []) (frames_of (r.vm.undecoded ++ f.piece)).0 frames r.vm.machine w e live p (come_keeps version options r k live open_yet) x some));
     }
 
     bad : (t : Tail) (w : Machine) → FailsAt (frames_of (r.vm.undecoded ++ f.piece)).0 r.vm.machine w → Place r.vm.machine.phase r.vm.machine.entries_missing (frames_fed (heard version r)) → ((r.vm.machine.version ≡ version) × (r.vm.machine.options ≡ options)) → frames_fed (and_piece (heard version r) f) ≡ frames_fed (heard version r) ++ (frames_of (r.vm.undecoded ++ f.piece)).0 → B (left_over t w).machine

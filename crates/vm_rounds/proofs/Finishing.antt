@@ -1,6 +1,6 @@
 -- What executing a run came to is told: it is ignored, a result is proposed, or the VM fails.
 use Rattle.std.proofs.Common.{◌≡◌, ◌≢◌, ◌⊎◌, ℕ, Bool, true, false, List, [], ◌∷◌, ◌++◌, map, Option, Some, None, Result, Ok, Err, refl, sym, ap, ◌∙◌, subst, inl, inr, ⊎_elim, append-nil, Global}
-use Rattle.std.specs.Prelude.{drop, if◌then◌else◌, is_some, length, unwrap_or}
+use Rattle.std.specs.Prelude.{IfErr, drop, if◌then◌else◌, is_some, length, unwrap_or}
 use Rattle.std.specs.List.{concat, find}
 use Rattle.std.proofs.lemmas.List.{drop_at}
 use Rattle.std.proofs.lemmas.Option.{same_Some}
@@ -49,9 +49,9 @@ use Rattle.vm_model.specs.Journal.{stored_form}
 use Rattle.vm_rounds.specs.declared.progress.Progress.{Progress}
 use Rattle.vm_rounds.specs.Agreement.{Agrees}
 use Rattle.vm_rounds.specs.Arrivals.{AllFound, arriving}
-use Rattle.vm_rounds.specs.Blames.{BehindEnd, Blame, BlamedAt, IsBlamed, IsLate, LateBy, RefusedResult}
+use Rattle.vm_rounds.specs.Blames.{BehindEnd, Blame, BlamedAt, IsBlamed, IsHonest, IsLate, IsOwnError, LateBy, RefusedResult}
 use Rattle.vm_rounds.specs.Blames.Blame.{Memory, RunResult}
-use Rattle.vm_rounds.specs.Heard.{Heard, acknowledged_from, proposals_among, proposals_in}
+use Rattle.vm_rounds.specs.Heard.{Heard, acknowledged_from, proposals_among, proposals_in, with_pieces}
 use Rattle.vm_rounds.specs.Journals.{HasAll, StillWaits, setup_for}
 use Rattle.vm_rounds.specs.Record.{Record, all_heard, heard}
 use Rattle.vm_rounds.specs.Stepping.{FinishDoes, Finishes, IfWaits, Tells, TellsUnless, newly_proposed, with_vm}
@@ -64,6 +64,7 @@ use Rattle.vm_rounds.proofs.Lasting.{CameBy, came_last, runs_last}
 use Rattle.vm_rounds.proofs.Placing.{come_stands}
 use Rattle.vm_rounds.proofs.Proposed.{arriving_more, found_more, kept_more}
 use Rattle.vm_rounds.proofs.Quiet.{error_quiet, quiet_same, wrote_more}
+use Rattle.vm_rounds.proofs.Replayed.{honest_fails}
 use Rattle.vm_rounds.proofs.Sleeping.{still_quiet}
 use Rattle.vm_rounds.proofs.Steady.{all_proposed, with_proposed, wrote_of}
 use Rattle.vm_rounds.proofs.Written.{frames_propose, proposes_more, proposes_one}
@@ -332,7 +333,7 @@ same_behind first other xs ys h = cc
 wrote_proposal : (taken output : List (List ℕ)) (written : List RawMessage) (id : ℕ) (result : ValueOrFailure) → Wrote taken output written → Wrote taken (output ++ encoding (proposal id result) ∷ []) written
 wrote_proposal taken output written id result w = subst (Wrote taken (output ++ encoding (proposal id result) ∷ [])) (append-nil written) (wrote_more taken output (output ++ encoding (proposal id result) ∷ []) (proposal id result ∷ []) written refl w)
 
-module _ (version : Version) (options : VMOptions) (fed : Heard) (answers : List Answer) (waiting : Option UnresolvedFuture) (taken : List (List ℕ)) (vm : View) (live : IsLive vm.machine) (handle : NotificationHandle) (id : ℕ) (result : ValueOrFailure) (more : List KeptProposal) where
+module _ (version : Version) (options : VMOptions) (fed : Heard) (answers : List Answer) (waiting : Option UnresolvedFuture) (taken : List (List ℕ)) (vm : View) (live : IsLive vm.machine) (processing : vm.machine.phase ≡ Processing) (handle : NotificationHandle) (id : ℕ) (result : ValueOrFailure) (more : List KeptProposal) where
   abbrev after : View
   after = record vm { machine = proposed_in handle more (proposal id result) vm.machine }
 
@@ -352,6 +353,7 @@ module _ (version : Version) (options : VMOptions) (fed : Heard) (answers : List
           let k = c.keeps live in
           let frames = c.journal.entries ++ c.journal.others in
           (ap (λ l. l ++ more) k.0 ∙ sym (kept_more fed.proposed more frames k.1), found_more fed.proposed more frames k.1);
+      early = λ _. inr processing;
       phase = λ _. inl live.phase;
       tail = λ _. c.tail live;
     }
@@ -438,7 +440,7 @@ module _ (version : Version) (options : VMOptions) (handle : NotificationHandle)
   proposes_comes : ProposesOne handle old new → HasCome version options new
   proposes_comes p =
       subst (HasCome version options) (sym p.is)
-      (inr (told_of (λ h v. Came version options h old.answers old.taken v) p (came_proposes version options (heard version old) old.answers old.waiting old.taken old.vm (is_live p) handle p.id p.result (further p) (has_come p))))
+      (inr (told_of (λ h v. Came version options h old.answers old.taken v) p (came_proposes version options (heard version old) old.answers old.waiting old.taken old.vm (is_live p) p.phase handle p.id p.result (further p) (has_come p))))
 
   some_failed : (f : FailsBy handle exit policy old new) → is_some f.vm.machine.failure ≡ true
   some_failed f = ap is_some f.fails.failure
@@ -453,11 +455,11 @@ module _ (version : Version) (options : VMOptions) (handle : NotificationHandle)
       subst (IsKeptUnder m version options) (sym p.is)
       (λ q.
       let c = has_come p in
-      let before : Premises m version options (heard version old) = premises_less version options (heard version old) old.answers old.waiting old.taken old.vm (is_live p) handle p.id p.result (further p) c m (subst (Premises m version options) (heard_is p) q) in
+      let before : Premises m version options (heard version old) = premises_less version options (heard version old) old.answers old.waiting old.taken old.vm (is_live p) p.phase handle p.id p.result (further p) c m (subst (Premises m version options) (heard_is p) q) in
       ⊎_elim
       (λ (b : BeforeInput version options (heard version old) old.answers old.waiting old.taken old.vm). absurd (c.answered b.answers))
       (λ (k : Runs m version options (heard version old) old.answers old.waiting old.taken old.vm).
-      inr (told_of (λ h v. Runs m version options h old.answers old.waiting old.taken v) p (runs_proposes version options (heard version old) old.answers old.waiting old.taken old.vm (is_live p) handle p.id p.result (further p) c m k)))
+      inr (told_of (λ h v. Runs m version options h old.answers old.waiting old.taken v) p (runs_proposes version options (heard version old) old.answers old.waiting old.taken old.vm (is_live p) p.phase handle p.id p.result (further p) c m k)))
       (u before))
 
   fails_under : (m : Meaning) → IsKeptUnder m version options old → FailsBy handle exit policy old new → IsKeptUnder m version options new
@@ -550,6 +552,57 @@ module _ (version : Version) (options : VMOptions) (handle : NotificationHandle)
 
   pub finish_sleeps : (m : Meaning) → IsLate m version options old → StillSleeps m version options old → StillSleeps m version options new
   finish_sleeps m l s = by_case (StillSleeps m version options) s (proposes_sleeps version options handle exit policy old new came m l s) (fails_sleeps version options handle exit policy old new came m s)
+
+-- ---- an error
+
+abbrev an_error : Error → Result Unit Error
+an_error e = Err e
+
+same_error : (d e : Error) → an_error d ≡ an_error e → d ≡ e
+same_error d e h = cc
+
+-- the error that is answered is want of memory, or the VM's
+error_is : (handle : NotificationHandle) (exit : RunExitResult) (policy : RetryPolicy) (old : Record) (e : Error) (new : Record) → FinishDoes old.starved handle exit policy old (Err e) new → (e ≡ no_memory) ⊎ (new.vm.machine.failure ≡ Some e)
+error_is handle exit policy old e new does = by_test old.starved does
+  where
+    by_failure : (f : Option Error) → old.vm.machine.failure ≡ f → Tells handle exit policy old (Err e) new → (e ≡ no_memory) ⊎ (new.vm.machine.failure ≡ Some e)
+    by_failure (Some first) dead (w, does, is) =
+        let said = first_proposed handle exit policy (Err e) first old.vm w dead does in
+        ⊎_elim
+        (λ (x : Err e ≡ Err first). inr (ap (λ (r : Record). r.vm.machine.failure) is ∙ ap (λ (v : View). v.machine.failure) said.1 ∙ dead ∙ ap (λ d. Some d) (sym (same_error e first x))))
+        (λ (x : Err e ≡ Err no_memory). inl (same_error e no_memory x))
+        said.0
+    by_failure None live (w, does, is) =
+        ⊎_elim
+        (λ (x : CalledBy (Proposes handle exit policy old.vm.machine) old.vm.machine (Failed e w.machine)). inr (ap (λ (r : Record). r.vm.machine.failure) is ∙ (tells_err handle exit policy old.vm.machine e w.machine live x).failure))
+        (λ (x : IsStarved old.vm.machine e w.machine). inl x.error)
+        does.0
+
+    by_test : (b : Bool) → FinishDoes b handle exit policy old (Err e) new → (e ≡ no_memory) ⊎ (new.vm.machine.failure ≡ Some e)
+    by_test true d = inl (same_error e no_memory d.0)
+    by_test false d = by_failure old.vm.machine.failure refl d
+
+-- the VM of an attempt has failed for a reason
+failed_for : (m : Meaning) (version : Version) (options : VMOptions) (r : Record) (e : Error) → IsBlamed m version options r → IsLate m version options r → r.vm.machine.failure ≡ Some e → Blame m version options (all_heard version r) r.closed r.answers e
+failed_for m version options r e b l some = by_over r.over refl l
+  where
+    by_over : (over : Option Progress) → r.over ≡ over → LateBy over m version options r → Blame m version options (all_heard version r) r.closed r.answers e
+    by_over None going none = subst (λ fed. Blame m version options fed r.closed r.answers e) (ap (λ l. with_pieces l (heard version r)) (sym (append-nil r.fed) ∙ ap (λ l. r.fed ++ l) (sym none))) (b.blame going e some)
+    by_over (Some made) over k = k.blame e some
+
+-- an error has a reason
+pub finish_blame : (m : Meaning) (version : Version) (options : VMOptions) (handle : NotificationHandle) (exit : RunExitResult) (policy : RetryPolicy) (old : Record) (result : Result Unit Error) (new : Record) → FinishDoes old.starved handle exit policy old result new → IsBlamed m version options new → IsLate m version options new
+    → IfErr result (λ e. Blame m version options (all_heard version new) new.closed new.answers e)
+finish_blame m version options handle exit policy old (Ok t) new does b l = tt
+finish_blame m version options handle exit policy old (Err e) new does b l =
+    ⊎_elim
+    (λ (x : e ≡ no_memory). Memory x)
+    (λ (x : new.vm.machine.failure ≡ Some e). failed_for m version options new e b l x)
+    (error_is handle exit policy old e new does)
+
+pub finish_honest : (m : Meaning) (version : Version) (options : VMOptions) (all : Heard) (closed : Bool) (answers : List Answer) (result : Result Unit Error) → IsHonest m version options all → IfErr result (λ e. Blame m version options all closed answers e) → IfErr result (λ e. IsOwnError m version options all closed answers e)
+finish_honest m version options all closed answers (Ok t) honest b = tt
+finish_honest m version options all closed answers (Err e) honest b = honest_fails m version options all closed answers e honest b
 
 -- ---- the fields, and the record
 

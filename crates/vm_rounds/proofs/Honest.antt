@@ -35,8 +35,20 @@ use Rattle.vm_rounds.specs.Blames.{Began, IsHonest, Place, fault_by, frame_fault
 use Rattle.vm_rounds.specs.Honest.{FeedsHonestly, IsEntry, entry_frame, frame_bytes, notification_frame}
 use Rattle.vm_rounds.specs.Journals.{AcknowledgesNothing, is_acknowledgement, as_entries, is_notification, notifications_among, notified_by, recorded_by, setup_for, told_by}
 use Rattle.vm_rounds.specs.Told.{NoneHasTwo, arrivals, begun, bytes_fed, frames_fed, handed_out}
+use Rattle.std.specs.Prelude.{IsSome}
+use Rattle.std.specs.List.{find}
+use Rattle.journal_attempt.specs.Bodies.{propose_run_completion_ack_format}
+use Rattle.journal_attempt.specs.declared.runs.ProposeRunCompletionAck.{ProposeRunCompletionAck}
+use Rattle.journal_messages.specs.Reading.{acknowledgement_in}
+use Rattle.runs.specs.Kept.{is_for}
+use Rattle.vm_model.specs.Histories.{behind}
+use Rattle.vm_parts.specs.declared.run_state.KeptProposal.{KeptProposal}
+use Rattle.vm_rounds.specs.Arrivals.{AllFound, FindsProposal, IsFound, arriving, kept_after, kept_behind}
+use Rattle.vm_rounds.specs.Blames.{kept_fault, read_fault}
+use Rattle.vm_rounds.specs.Honest.{Further, further_frame, further_message}
+use Rattle.vm_rounds.specs.Honest.Further.{Acknowledges, Notifies}
 use Rattle.vm_rounds.proofs.Entries.{not_both}
-use Rattle.vm_rounds.proofs.Proposed.{arriving_notified, none_front}
+use Rattle.vm_rounds.proofs.Proposed.{arriving_append, arriving_notified, found_append, kept_all, none_found}
 use Rattle.vm_rounds.proofs.Pieces.{notifications_append, none_append}
 use Rattle.vm_rounds.proofs.Replayed.{commands_same, head_same, notes_same, tail_same}
 use Rattle.vm_rounds.proofs.Under.{fewer_waiting}
@@ -66,12 +78,12 @@ entries_fit [] all = tt
 entries_fit (Recorded raw ∷ journal) all = (all.0.1, entries_fit journal all.1)
 entries_fit (Notified n ∷ journal) all = (all.0.1, entries_fit journal all.1)
 
-abbrev Wholes : List Notification → Type 0
-Wholes = AllByRecursion (λ n. IsWhole (message.Notification n))
+abbrev Wholes : List Further → Type 0
+Wholes = AllByRecursion (λ f. IsWhole (further_message f))
 
-notes_fit : (more : List Notification) → Wholes more → AllByRecursion Fits (map notification_frame more)
-notes_fit [] all = tt
-notes_fit (n ∷ more) all = (all.0.1, notes_fit more all.1)
+further_fit : (more : List Further) → Wholes more → AllByRecursion Fits (map further_frame more)
+further_fit [] all = tt
+further_fit (f ∷ more) all = (all.0.1, further_fit more all.1)
 
 -- ---- what a frame is
 
@@ -116,13 +128,9 @@ entries_acknowledge [] all = tt
 entries_acknowledge (Recorded raw ∷ journal) all = (not_both (type_number raw.ty) 6 refl all.0.0, entries_acknowledge journal all.1)
 entries_acknowledge (Notified n ∷ journal) all = (refl, entries_acknowledge journal all.1)
 
-notes_acknowledge : (more : List Notification) → AllByRecursion AcknowledgesNothing (map notification_frame more)
-notes_acknowledge [] = tt
-notes_acknowledge (n ∷ more) = (refl, notes_acknowledge more)
-
-notes_read : (more : List Notification) → Wholes more → notifications_among (map notification_frame more) ≡ more
-notes_read [] all = refl
-notes_read (n ∷ more) all = (λ i. notified_by (reads_note n all.0 i) (notes_read more all.1 i))
+acknowledgement_read : (a : ProposeRunCompletionAck) → propose_run_completion_ack_format.valid a → acknowledgement_in (stored_form (message.ProposeRunCompletionAck a)).body ≡ Some a
+unfolding acknowledgement_in body_as
+acknowledgement_read a v = all_read propose_run_completion_ack_format a (propose_run_completion_ack_format.spelling a) v refl
 
 -- ---- each frame has its place
 
@@ -131,8 +139,8 @@ abbrev TakenAsEntry : RawMessage → Type 0
 TakenAsEntry raw = frame_fault WaitingReplayEntries raw ≡ None
 
 record TakenBehind (raw : RawMessage) : Type 0 where
-  replaying : frame_fault Replaying raw ≡ None
-  processing : frame_fault Processing raw ≡ None
+  replaying : is_acknowledgement raw ≡ false → frame_fault Replaying raw ≡ None
+  processing : is_acknowledgement raw ≡ false → frame_fault Processing raw ≡ None
 
 entries_taken : (journal : List Entry) → AllByRecursion IsEntry journal → AllByRecursion TakenAsEntry (map entry_frame journal)
 entries_taken [] all = tt
@@ -140,9 +148,43 @@ entries_taken (Recorded raw ∷ journal) all =
     ((λ i. fault_by [] WaitingReplayEntries raw (other_number (type_number raw.ty) all.0.0 i) (all.0.0 i) (is_notification raw) (is_acknowledgement raw)), entries_taken journal all.1)
 entries_taken (Notified n ∷ journal) all = (ap notification_fault (reads_note n all.0), entries_taken journal all.1)
 
-notes_taken : (more : List Notification) → Wholes more → AllByRecursion TakenBehind (map notification_frame more)
-notes_taken [] all = tt
-notes_taken (n ∷ more) all = (record { replaying = ap notification_fault (reads_note n all.0); processing = ap notification_fault (reads_note n all.0) }, notes_taken more all.1)
+further_taken : (more : List Further) → Wholes more → AllByRecursion TakenBehind (map further_frame more)
+further_taken [] all = tt
+further_taken (Notifies n ∷ more) all =
+    (record { replaying = λ _. ap notification_fault (reads_note n all.0); processing = λ _. ap notification_fault (reads_note n all.0) }, further_taken more all.1)
+further_taken (Acknowledges a ∷ more) all =
+    (record { replaying = λ is. absurd (cc); processing = λ is. absurd (cc) }, further_taken more all.1)
+
+-- an acknowledgement among these frames can be read
+abbrev IsReadable : RawMessage → Type 0
+IsReadable raw = is_acknowledgement raw ≡ true → IsSome (acknowledgement_in raw.body)
+
+further_readable : (more : List Further) → Wholes more → AllByRecursion IsReadable (map further_frame more)
+further_readable [] all = tt
+further_readable (Notifies n ∷ more) all = ((λ is. absurd (cc)), further_readable more all.1)
+further_readable (Acknowledges a ∷ more) all = ((λ _. subst IsSome (sym (acknowledgement_read a all.0.0)) refl), further_readable more all.1)
+
+entries_readable : (journal : List Entry) → AllByRecursion IsEntry journal → AllByRecursion IsReadable (map entry_frame journal)
+entries_readable [] all = tt
+entries_readable (Recorded raw ∷ journal) all = ((λ is. absurd (let z : false ≡ true = sym (not_both (type_number raw.ty) 6 refl all.0.0) ∙ is in cc)), entries_readable journal all.1)
+entries_readable (Notified n ∷ journal) all = ((λ is. absurd (cc)), entries_readable journal all.1)
+
+at_place : (before : List RawMessage) (raw : RawMessage) (rest : List RawMessage) → AllByRecursion IsReadable (before ++ raw ∷ rest) → IsReadable raw
+at_place [] raw rest all = all.0
+at_place (b ∷ before) raw rest all = at_place before raw rest all.1
+
+-- an acknowledgement among frames that find theirs
+found_at : (kept : List KeptProposal) (before : List RawMessage) (raw : RawMessage) (rest : List RawMessage) → AllFound kept (before ++ raw ∷ rest) → FindsProposal (kept_after kept before) raw
+found_at kept [] raw rest all = all.0
+found_at kept (b ∷ before) raw rest all = found_at (kept_behind kept b) before raw rest all.1
+
+taken_fault : (kept : List KeptProposal) (ack : Option ProposeRunCompletionAck) → IsSome ack → IsFound kept ack → read_fault kept ack ≡ None
+taken_fault kept None readable found = absurd (cc)
+taken_fault kept (Some ack) readable found = by_kept (find (is_for ack.id) kept) found
+  where
+    by_kept : (o : Option KeptProposal) → IsSome o → kept_fault o ≡ None
+    by_kept None h = absurd (cc)
+    by_kept (Some k) h = refl
 
 -- what stands at a place among the first of two lists, or among the second
 among_first : (P : RawMessage → Type 0) (xs ys before : List RawMessage) (raw : RawMessage) (rest : List RawMessage) → xs ++ ys ≡ before ++ raw ∷ rest → length before < length xs → AllByRecursion P xs → P raw
@@ -185,13 +227,13 @@ module _ (m : Meaning) (version : Version) (options : VMOptions) (fed : Heard) (
   J = map entry_frame h.journal
 
   abbrev N : List RawMessage
-  N = map notification_frame h.more
+  N = map further_frame h.more
 
   abbrev S : RawMessage
   S = stored_form (message.Start h.start)
 
   begins : Begins (frames_fed fed) (frames_of (bytes_fed fed)).1 (S ∷ (J ++ N))
-  begins = fed_begins (bytes_fed fed) h.unfed (S ∷ (J ++ N)) (h.start_is_whole.1, all_append Fits J N (entries_fit h.journal h.journal_is_whole) (notes_fit h.more h.more_is_whole)) h.bytes
+  begins = fed_begins (bytes_fed fed) h.unfed (S ∷ (J ++ N)) (h.start_is_whole.1, all_append Fits J N (entries_fit h.journal h.journal_is_whole) (further_fit h.more h.more_is_whole)) h.bytes
 
   reads_start : start_in S.body ≡ Some h.start
   reads_start = start_read h.start h.start_is_whole.0
@@ -214,29 +256,46 @@ module _ (m : Meaning) (version : Version) (options : VMOptions) (fed : Heard) (
       no_more n l j e known a b c d = omega (arith, a, b, c, d)
 
   -- the frame behind these, where Start is the first
-  behind_start : (others : List RawMessage) (raw : RawMessage) (rest : List RawMessage) → J ++ N ≡ others ++ raw ∷ rest → (phase : Phase) (k : ℕ) → Place phase k (S ∷ others) → frame_fault phase raw ≡ None
-  behind_start others raw rest is WaitingStart k p = absurd (cc)
-  behind_start others raw rest is WaitingReplayEntries k p =
+  behind_start : (others : List RawMessage) (raw : RawMessage) (rest : List RawMessage) → J ++ N ≡ others ++ raw ∷ rest → (phase : Phase) (k : ℕ) → Place phase k (S ∷ others) → is_acknowledgement raw ≡ false → frame_fault phase raw ≡ None
+  behind_start others raw rest is WaitingStart k p other = absurd (cc)
+  behind_start others raw rest is WaitingReplayEntries k p other =
       among_first TakenAsEntry J N others raw rest is
       (fewer (length p.others) (length others) (length J) (length h.journal) p.start.known_entries (ap length (sym (tail_same S p.first others p.others p.is))) (length_entries h.journal) (ap (λ (st : Start). st.known_entries) (same_start p.first p.start (sym (head_same S p.first others p.others p.is)) p.reads) ∙ h.known) p.counts.0 p.counts.1)
       (entries_taken h.journal h.journal_is_whole)
     where
       fewer : (n l j e known : ℕ) → n ≡ l → j ≡ e → known ≡ e → n + k ≡ known → 0 < k → l < j
       fewer n l j e known a b c d f = omega (arith, a, b, c, d, f)
-  behind_start others raw rest is Replaying k p = (among_second TakenBehind J N others raw rest is (enough others p) (notes_taken h.more h.more_is_whole)).replaying
-  behind_start others raw rest is Processing k p = (among_second TakenBehind J N others raw rest is (enough others p) (notes_taken h.more h.more_is_whole)).processing
-  behind_start others raw rest is Closed k p = absurd p
+  behind_start others raw rest is Replaying k p other = (among_second TakenBehind J N others raw rest is (enough others p) (further_taken h.more h.more_is_whole)).replaying other
+  behind_start others raw rest is Processing k p other = (among_second TakenBehind J N others raw rest is (enough others p) (further_taken h.more h.more_is_whole)).processing other
+  behind_start others raw rest is Closed k p other = absurd p
 
   -- each frame that was fed is taken in its place
-  placed : (before : List RawMessage) (raw : RawMessage) (rest : List RawMessage) → S ∷ (J ++ N) ≡ before ++ raw ∷ rest → (phase : Phase) (k : ℕ) → Place phase k before → frame_fault phase raw ≡ None
-  placed [] raw rest is WaitingStart k p = subst (λ r. frame_fault WaitingStart r ≡ None) (head_same S raw (J ++ N) rest is) start_taken
-  placed [] raw rest is WaitingReplayEntries k p = no_frames p.first p.others p.is
-  placed [] raw rest is Replaying k p = no_frames p.first p.others p.is
-  placed [] raw rest is Processing k p = no_frames p.first p.others p.is
-  placed [] raw rest is Closed k p = absurd p
-  placed (b ∷ before) raw rest is phase k p =
+  placed : (before : List RawMessage) (raw : RawMessage) (rest : List RawMessage) → S ∷ (J ++ N) ≡ before ++ raw ∷ rest → (phase : Phase) (k : ℕ) → Place phase k before → is_acknowledgement raw ≡ false → frame_fault phase raw ≡ None
+  placed [] raw rest is WaitingStart k p other = subst (λ r. frame_fault WaitingStart r ≡ None) (head_same S raw (J ++ N) rest is) start_taken
+  placed [] raw rest is WaitingReplayEntries k p other = no_frames p.first p.others p.is
+  placed [] raw rest is Replaying k p other = no_frames p.first p.others p.is
+  placed [] raw rest is Processing k p other = no_frames p.first p.others p.is
+  placed [] raw rest is Closed k p other = absurd p
+  placed (b ∷ before) raw rest is phase k p other =
       behind_start before raw rest (tail_same S b (J ++ N) (before ++ raw ∷ rest) is) phase k
-      (subst (λ (f : RawMessage). Place phase k (f ∷ before)) (sym (head_same S b (J ++ N) (before ++ raw ∷ rest) is)) p)
+      (subst (λ (f : RawMessage). Place phase k (f ∷ before)) (sym (head_same S b (J ++ N) (before ++ raw ∷ rest) is)) p) other
+
+  -- each acknowledgement can be read
+  readable : (before : List RawMessage) (raw : RawMessage) (rest : List RawMessage) → J ++ N ≡ before ++ raw ∷ rest → is_acknowledgement raw ≡ true → IsSome (acknowledgement_in raw.body)
+  readable before raw rest is acknowledges =
+      at_place before raw rest (subst (AllByRecursion IsReadable) is (all_append IsReadable J N (entries_readable h.journal h.journal_is_whole) (further_readable h.more h.more_is_whole))) acknowledges
+
+  -- each acknowledgement finds its proposal
+  all_found : AllFound fed.proposed (J ++ N)
+  all_found =
+      let quiet = entries_acknowledge h.journal h.journal_is_whole in
+      found_append fed.proposed J N (none_found fed.proposed J quiet) (subst (λ ps. AllFound ps N) (sym (kept_all fed.proposed J quiet)) h.found)
+
+  finds : (before : List RawMessage) (raw : RawMessage) (rest : List RawMessage) → S ∷ (J ++ N) ≡ before ++ raw ∷ rest → is_acknowledgement raw ≡ true → read_fault (kept_after fed.proposed (behind before)) (acknowledgement_in raw.body) ≡ None
+  finds [] raw rest is acknowledges = absurd (let z : false ≡ true = ap is_acknowledgement (head_same S raw (J ++ N) rest is) ∙ acknowledges in cc)
+  finds (b ∷ before) raw rest is acknowledges =
+      let tail = tail_same S b (J ++ N) (before ++ raw ∷ rest) is in
+      taken_fault (kept_after fed.proposed before) (acknowledgement_in raw.body) (readable before raw rest tail acknowledges) (found_at fed.proposed before raw rest (subst (AllFound fed.proposed) tail all_found) acknowledges)
 
   -- the known entries are the journal
   known_are : (first : RawMessage) (entries others : List RawMessage) (st : Start) → frames_fed fed ≡ first ∷ (entries ++ others) → start_in first.body ≡ Some st → length entries ≡ st.known_entries → (base : StateMap) × History (setup_for version options st) m base (as_entries entries)
@@ -252,7 +311,7 @@ module _ (m : Meaning) (version : Version) (options : VMOptions) (fed : Heard) (
   given = record { entries = h.state; coverage = coverage_of h.start.partial }
 
   abbrev all_notes : List Notification
-  all_notes = notifications_in h.journal ++ h.more
+  all_notes = notifications_in h.journal ++ arriving fed.proposed N
 
   -- what was fed is a beginning of the history and of all notifications, so that the handler's run over it is a beginning too
   none_two : NoneHasTwo m version options fed
@@ -266,15 +325,12 @@ module _ (m : Meaning) (version : Version) (options : VMOptions) (fed : Heard) (
       let first = head_same j.first h.history.first j.rest h.history.rest commands in
       let rest = tail_same j.first h.history.first j.rest h.history.rest commands in
       let input : j.input ≡ h.history.input = same_Some j.input h.history.input (sym j.reads_input ∙ ap input_read_from first ∙ h.history.reads) in
-      let more = notifications_among begins.others in
-      let quiet : AllByRecursion AcknowledgesNothing (j.entries ++ j.others) =
-      none_front (j.entries ++ j.others) begins.others
-      (subst (AllByRecursion AcknowledgesNothing) (sym (append_assoc j.entries j.others begins.others ∙ tail)) (none_append J N (entries_acknowledge h.journal h.journal_is_whole) (notes_acknowledge h.more)))
-      in
+      let came = j.entries ++ j.others in
+      let more = arriving (kept_after fed.proposed came) begins.others in
+      let quiet = entries_acknowledge h.journal h.journal_is_whole in
       let notes : arrivals j ++ more ≡ all_notes =
-      ap (λ l. l ++ more) (arriving_notified fed.proposed (j.entries ++ j.others) quiet)
-      ∙ sym (notifications_append (j.entries ++ j.others) begins.others) ∙ ap notifications_among (append_assoc j.entries j.others begins.others ∙ tail) ∙ notifications_append J N
-      ∙ (λ i. (sym (notes_same J) ∙ ap notifications_in (journal_read h.journal h.journal_is_whole)) i ++ notes_read h.more h.more_is_whole i)
+      sym (arriving_append fed.proposed came begins.others) ∙ ap (arriving fed.proposed) (append_assoc j.entries j.others begins.others ∙ tail) ∙ arriving_append fed.proposed J N
+      ∙ (λ i. (arriving_notified fed.proposed J quiet ∙ sym (notes_same J) ∙ ap notifications_in (journal_read h.journal h.journal_is_whole)) i ++ arriving (kept_all fed.proposed J quiet i) N)
       in
       let state : j.state ≡ h.state = same_Some j.state h.state (sym j.reads_state ∙ ap (λ (x : Start). entries_in x.state) same ∙ h.reads_state) in
       let later_run = made_later (setup_for version options j.start) m (Handed (handed_out j)) more n (begun version options j) made p run in
@@ -288,7 +344,8 @@ module _ (m : Meaning) (version : Version) (options : VMOptions) (fed : Heard) (
   pub honestly_fed : IsHonest m version options fed
   honestly_fed = record {
     premises = record { replays = h.replays; queues = h.queues; once = none_two };
-    frames = λ before raw rest phase k is p. placed before raw (rest ++ begins.others) (sym begins.all ∙ ap (λ l. l ++ begins.others) is ∙ append_assoc before (raw ∷ rest) begins.others) phase k p;
+    frames = λ before raw rest phase k is p other. placed before raw (rest ++ begins.others) (sym begins.all ∙ ap (λ l. l ++ begins.others) is ∙ append_assoc before (raw ∷ rest) begins.others) phase k p other;
+    acknowledgements = λ before raw rest is acknowledges. finds before raw (rest ++ begins.others) (sym begins.all ∙ ap (λ l. l ++ begins.others) is ∙ append_assoc before (raw ∷ rest) begins.others) acknowledges;
     whole = begins.clean;
     history = known_are;
   }

@@ -143,6 +143,7 @@ came_dead version options fed to G frames answers waiting taken v w k q dead = r
   wrote = wrote_quiet taken v.machine w.machine k.written q k.wrote;
   made_for = λ alive. not_failed w.machine dead alive.failure;
   keeps = λ alive. not_failed w.machine dead alive.failure;
+  early = λ alive. not_failed w.machine dead alive.failure;
   phase = λ alive. not_failed w.machine dead alive;
   tail = λ alive. not_failed w.machine dead alive.failure;
 }
@@ -155,6 +156,7 @@ came_closed version options fed answers waiting taken v w k q closed = record {
   wrote = wrote_quiet taken v.machine w.machine k.written q k.wrote;
   made_for = λ live. not_live w.machine closed live;
   keeps = λ live. not_live w.machine closed live;
+  early = λ live. not_live w.machine closed live;
   phase = λ alive. inr closed;
   tail = λ live. not_live w.machine closed live;
 }
@@ -189,6 +191,12 @@ came_fed version options fed answers waiting taken v f k live =
       wrote = wrote_quiet taken v.machine w.machine k.written (input_quiet v f.piece) k.wrote;
       made_for = λ alive. let s = kept_running G v.machine w.machine live (took alive.failure).0.machine alive.failure in (s.1.0 ∙ made.0, s.1.1 ∙ made.1);
       keeps = λ alive. keeps_more fed (fed.pieces ++ f ∷ []) G frames k.journal v.machine w.machine live (took alive.failure).0.machine alive.failure (k.keeps live);
+      early = λ alive.
+          let is = (took alive.failure).0.machine in
+          ⊎_elim
+          (λ (none : fed.proposed ≡ []). inl none)
+          (λ (at : v.machine.phase ≡ Processing). inr (ap (λ (u : Machine). u.phase) is ∙ all_stay G v.machine live.failure live.phase (ap (λ (u : Machine). u.failure) (sym is) ∙ alive.failure) ∙ at))
+          (k.early live);
       phase = λ alive. inl (kept_running G v.machine w.machine live (took alive).0.machine alive).0;
       tail = λ alive. (took alive.failure).1;
     }
@@ -201,6 +209,7 @@ came_takes version options fed answers waiting taken v f k = record {
   wrote = takes_wrote taken v.machine.output k.written f k.wrote;
   made_for = λ live. k.made_for (record { failure = live.failure; phase = live.phase });
   keeps = λ live. k.keeps (record { failure = live.failure; phase = live.phase });
+  early = λ live. k.early (record { failure = live.failure; phase = live.phase });
   phase = k.phase;
   tail = λ live. k.tail (record { failure = live.failure; phase = live.phase });
 }
@@ -213,6 +222,7 @@ came_closes version options fed answers waiting taken v k = record {
   wrote = k.wrote;
   made_for = λ live. k.made_for (record { failure = live.failure; phase = live.phase });
   keeps = λ live. k.keeps (record { failure = live.failure; phase = live.phase });
+  early = λ live. k.early (record { failure = live.failure; phase = live.phase });
   phase = k.phase;
   tail = λ live. k.tail (record { failure = live.failure; phase = live.phase });
 }

@@ -1,6 +1,6 @@
 -- What comes to an attempt that is over: its VM ignores notifications, and fails by any other frame.
 use Rattle.vm_parts.specs.declared.run_state.KeptProposal.{KeptProposal}
-use Rattle.std.proofs.Common.{◌≡◌, ◌≢◌, ℕ, ◌+◌, ◌≤◌, Bool, true, false, List, [], ◌∷◌, ◌++◌, length, Option, Some, None, Result, Ok, Err, refl, sym, ap, ◌∙◌, subst, ⊎_elim, append_assoc, append-nil, length-append, arith}
+use Rattle.std.proofs.Common.{◌≡◌, ◌≢◌, ℕ, ◌+◌, ◌≤◌, Bool, true, false, List, [], ◌∷◌, ◌++◌, length, Option, Some, None, Result, Ok, Err, refl, sym, ap, ◌∙◌, subst, inr, ⊎_elim, append_assoc, append-nil, length-append, arith}
 use Rattle.std.specs.Prelude.{◌⊎◌, ◌==◌, if◌then◌else◌, is_some, unwrap_or}
 use Rattle.std.proofs.lemmas.Option.{same_Some}
 use Rattle.std.specs.declared.alloc.AllocError.{AllocError}
@@ -43,12 +43,12 @@ use Rattle.vm_rounds.proofs.Sending.{IsLeft, step_leaves}
 -- ---- a frame that comes behind the end
 
 -- what a closed VM refuses is refused in Processing too
-closed_fault : (kept : List KeptProposal) (raw : RawMessage) (a b c d : Bool) (why : NamedFault) → fault_by kept Closed raw a b c d ≡ Some why → fault_by [] Processing raw a b c d ≡ Some why
-closed_fault kept raw true b c d why is = is
-closed_fault kept raw false true c d why is = is
-closed_fault kept raw false false true d why is = absurd (cc)
-closed_fault kept raw false false false true why is = absurd (cc)
-closed_fault kept raw false false false false why is = is
+closed_fault : (kept others : List KeptProposal) (raw : RawMessage) (a b c d : Bool) (why : NamedFault) → fault_by kept Closed raw a b c d ≡ Some why → fault_by others Processing raw a b c d ≡ Some why
+closed_fault kept others raw true b c d why is = is
+closed_fault kept others raw false true c d why is = is
+closed_fault kept others raw false false true d why is = absurd (cc)
+closed_fault kept others raw false false false true why is = absurd (cc)
+closed_fault kept others raw false false false false why is = is
 
 began_more : (F G : List RawMessage) → Began F (λ n known. known ≤ n) → Began (F ++ G) (λ n known. known ≤ n)
 began_more F G b = record { first = b.first; others = b.others ++ G; is = ap (λ l. l ++ G) b.is; start = b.start; reads = b.reads; counts = more (length b.others) (length G) (length (b.others ++ G)) b.start.known_entries (length-append b.others G) b.counts }
@@ -56,17 +56,18 @@ began_more F G b = record { first = b.first; others = b.others ++ G; is = ap (λ
     more : (n k l known : ℕ) → l ≡ n + k → known ≤ n → known ≤ l
     more n k l known e h = omega (arith, e, h)
 
-late_frame : (F G : List RawMessage) (v m : Machine) (e : Error) → v.phase ≡ Closed → Began F (λ n known. known ≤ n) → FailsAt G v m → m.failure ≡ Some e → BadFrame v.version v.options (F ++ G) e
-late_frame F G v m e closed b f is = record {
-  before = F ++ f.before;
+late_frame : (fed : Heard) (to : List Fed) (G : List RawMessage) → frames_fed (with_pieces to fed) ≡ frames_fed fed ++ G → (v m : Machine) (e : Error) → v.phase ≡ Closed → Began (frames_fed fed) (λ n known. known ≤ n) → FailsAt G v m → m.failure ≡ Some e → BadFrame v.version v.options (with_pieces to fed) e
+late_frame fed to G frames v m e closed b f is = record {
+  before = frames_fed fed ++ f.before;
   raw = f.raw;
   behind = f.behind;
-  split = ap (λ l. F ++ l) f.split ∙ sym (append_assoc F f.before (f.raw ∷ f.behind));
+  split = frames ∙ ap (λ l. frames_fed fed ++ l) f.split ∙ sym (append_assoc (frames_fed fed) f.before (f.raw ∷ f.behind));
   phase = Processing;
   missing = 0;
-  place = began_more F f.before b;
+  place = began_more (frames_fed fed) f.before b;
+  late = inr refl;
   why = f.why;
-  reason = closed_fault (all_received f.before v).proposals f.raw (type_number f.raw.ty == 1) (is_command f.raw) (is_notification f.raw) (is_acknowledgement f.raw) f.why (subst (λ ph. fault_among (all_received f.before v).proposals ph f.raw ≡ Some f.why) (closed_all f.before v closed) f.reason);
+  reason = closed_fault (all_received f.before v).proposals _ f.raw (type_number f.raw.ty == 1) (is_command f.raw) (is_notification f.raw) (is_acknowledgement f.raw) f.why (subst (λ ph. fault_among (all_received f.before v).proposals ph f.raw ≡ Some f.why) (closed_all f.before v closed) f.reason);
   error = same_Some e _ (sym is ∙ f.failure);
 }
 
@@ -109,7 +110,7 @@ module _ (m : Meaning) (version : Version) (options : VMOptions) (all : Heard) (
         place = λ none. none_some _ (sym none ∙ x.failure);
         made_for = λ none. none_some _ (sym none ∙ x.failure);
         tail = λ none. none_some _ (sym none ∙ x.failure);
-        blame = λ e some. Frame (subst (λ (z : (Version × VMOptions) × List RawMessage). BadFrame z.0.0 z.0.1 z.1 e) (λ i. ((made.0 i, made.1 i), sym (ap (λ p. p.0) frames) i)) (late_frame (frames_fed all) came.0 vm.machine w.machine e (k.phase live) (k.place live) x some));
+        blame = λ e some. Frame (subst (λ (z : Version × VMOptions). BadFrame z.0 z.1 more e) (λ i. (made.0 i, made.1 i)) (late_frame all (all.pieces ++ f ∷ []) came.0 (ap (λ p. p.0) frames) vm.machine w.machine e (k.phase live) (k.place live) x some));
       }
 
   refuses_by : (w : Machine) → FailsAt came.0 vm.machine w → (t : Tail) → BehindEnd m version options more closed answers (left_over t w)

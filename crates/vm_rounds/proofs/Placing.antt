@@ -3,7 +3,7 @@ use Rattle.std.specs.List.{find}
 use Rattle.runs.specs.Kept.{is_for}
 use Rattle.vm_parts.specs.declared.run_state.KeptProposal.{KeptProposal}
 use Rattle.journal_attempt.specs.declared.runs.ProposeRunCompletionAck.{ProposeRunCompletionAck}
-use Rattle.std.proofs.Common.{◌≡◌, ◌≢◌, ℕ, zero, suc, ◌+◌, ◌-◌, ◌<◌, ◌≤◌, Bool, true, false, List, [], ◌∷◌, ◌++◌, length, Option, Some, None, refl, sym, ap, ◌∙◌, subst, ⊎_elim, append_assoc, append-nil, arith, length-append, Global}
+use Rattle.std.proofs.Common.{inl, inr, ◌≡◌, ◌≢◌, ℕ, zero, suc, ◌+◌, ◌-◌, ◌<◌, ◌≤◌, Bool, true, false, List, [], ◌∷◌, ◌++◌, length, Option, Some, None, refl, sym, ap, ◌∙◌, subst, ⊎_elim, append_assoc, append-nil, arith, length-append, Global}
 use Rattle.std.specs.Prelude.{◌==◌, if◌then◌else◌, nat_le}
 use Rattle.std.proofs.lemmas.Bool.Decides.{nat_tests}
 use Rattle.std.proofs.lemmas.Option.{same_Some}
@@ -25,15 +25,19 @@ use Rattle.vm_machine.specs.Making.{fresh}
 use Rattle.vm_machine.specs.Outcomes.{Done, refused, ruled, settled}
 use Rattle.vm_machine.specs.Phases.{is_running}
 use Rattle.invocation_vm.specs.Views.{all_received, left_by, received}
-use Rattle.vm_rounds.specs.Heard.{Heard}
+use Rattle.vm_rounds.specs.Heard.{Heard, with_pieces}
 use Rattle.vm_rounds.specs.Journals.{HasAll, StillWaits, is_command, is_notification, setup_for, is_acknowledgement}
 use Rattle.vm_rounds.specs.Record.{Record, heard}
 use Rattle.vm_rounds.specs.declared.progress.Fed.{Fed}
-use Rattle.vm_rounds.specs.Told.{BeforeInput, Begun, Came, Comes, HasCome, frames_fed}
+use Rattle.vm_model.specs.Histories.{behind}
+use Rattle.vm_rounds.specs.Arrivals.{kept_after}
+use Rattle.vm_rounds.specs.Told.{BeforeInput, Begun, Came, Comes, HasCome, IsLive, ProposesLate, frames_fed}
 use Rattle.vm_rounds.specs.Blames.{BadFrame, Began, FailsAt, Place, frame_fault, fault_among}
-use Rattle.vm_rounds.proofs.Arriving.{failed_stays}
-use Rattle.vm_rounds.proofs.Blaming.{one_comes, none_kept}
+use Rattle.vm_rounds.proofs.Arriving.{failed_stays, kept_none}
+use Rattle.vm_rounds.proofs.Blaming.{one_comes}
 use Rattle.vm_rounds.proofs.Entries.{message_by, receives_by}
+use Rattle.vm_rounds.proofs.Proposed.{all_keep, all_none, kept_append}
+use Rattle.vm_rounds.proofs.Staying.{all_stay}
 
 one_longer : (others : List RawMessage) (raw : RawMessage) → length (others ++ raw ∷ []) ≡ length others + 1
 one_longer others raw = length-append others (raw ∷ [])
@@ -137,20 +141,29 @@ place_all (raw ∷ raws) F v live p h =
     no_failure (ruled v (named_error x.0 None)) (sym x.2 ∙ ap (λ (u : Machine). u.failure) (sym (failed_stays (ruled v (named_error x.0 None)) w raws x.2)) ∙ h))
     (one_comes raw v live)
 
+-- What a machine that stays alive keeps once further frames have come: the proposals that weren't acknowledged; and it comes to have
+-- proposed any only in Processing.
+abbrev pub KeepsOn : Heard → Machine → Type 0
+KeepsOn fed v = (before : List RawMessage) → (all_received before v).failure ≡ None → ((all_received before v).proposals ≡ kept_after fed.proposed (behind (frames_fed fed ++ before))) × ProposesLate fed (all_received before v).phase
+
 -- a frame that is refused, among all that were fed
-pub bad_frame : (F G : List RawMessage) (v m : Machine) (e : Error) → v.failure ≡ None → Place v.phase v.entries_missing F → FailsAt G v m → m.failure ≡ Some e → BadFrame v.version v.options (F ++ G) e
-bad_frame F G v m e live p f is = record {
-  before = F ++ f.before;
-  raw = f.raw;
-  behind = f.behind;
-  split = ap (λ l. F ++ l) f.split ∙ sym (append_assoc F f.before (f.raw ∷ f.behind));
-  phase = (all_received f.before v).phase;
-  missing = (all_received f.before v).entries_missing;
-  place = place_all f.before F v live p f.live;
-  why = f.why;
-  reason = none_kept (all_received f.before v).proposals (all_received f.before v).phase f.raw f.why f.reason;
-  error = same_Some e _ (sym is ∙ f.failure);
-}
+pub bad_frame : (fed : Heard) (to : List Fed) (G : List RawMessage) → frames_fed (with_pieces to fed) ≡ frames_fed fed ++ G → (v m : Machine) (e : Error) → v.failure ≡ None → Place v.phase v.entries_missing (frames_fed fed) → KeepsOn fed v → FailsAt G v m → m.failure ≡ Some e → BadFrame v.version v.options (with_pieces to fed) e
+bad_frame fed to G frames v m e live p keeps f is =
+    let F = frames_fed fed in
+    let kept = keeps f.before f.live in
+    record {
+      before = F ++ f.before;
+      raw = f.raw;
+      behind = f.behind;
+      split = frames ∙ ap (λ l. F ++ l) f.split ∙ sym (append_assoc F f.before (f.raw ∷ f.behind));
+      phase = (all_received f.before v).phase;
+      missing = (all_received f.before v).entries_missing;
+      place = place_all f.before F v live p f.live;
+      late = kept.1;
+      why = f.why;
+      reason = ap (λ ps. fault_among ps (all_received f.before v).phase f.raw) (sym kept.0) ∙ f.reason;
+      error = same_Some e _ (sym is ∙ f.failure);
+    }
 
 -- ---- where the VM of an attempt stands
 
@@ -196,3 +209,35 @@ come_stands version options r k live open_yet =
   where
     enough : (a c n known : ℕ) → a ≡ known → n ≡ a + c → known ≤ n
     enough a c n known e f = omega (arith, e, f)
+
+-- ---- what it keeps
+
+comes_none : (version : Version) (options : VMOptions) (fed : Heard) (v : Machine) → Comes version options fed v → v.proposals ≡ []
+comes_none version options fed v =
+    ⊎_elim
+    (λ (x : (frames_fed fed ≡ []) × ((alloc : Global) × (v ≡ fresh alloc version options))). ap (λ (w : Machine). w.proposals) x.1.1)
+    (λ (b : Begun version options fed v).
+    ⊎_elim
+    (λ (x : StillWaits (setup_for version options b.start) (record { entries = b.state; coverage = coverage_of b.start.partial }) b.aside b.start.known_entries [] [] b.others v). ap (λ (w : Machine). w.proposals) x.machine)
+    (λ (x : HasAll (setup_for version options b.start) (record { entries = b.state; coverage = coverage_of b.start.partial }) b.aside b.start.known_entries [] [] b.others v). ap (λ (w : Machine). w.proposals) x.machine)
+    b.waits)
+
+-- what the VM of an attempt keeps, as long as it is alive and open
+pub come_keeps : (version : Version) (options : VMOptions) (r : Record) → HasCome version options r → r.vm.machine.failure ≡ None → r.vm.machine.phase ≢ Closed → KeepsOn (heard version r) r.vm.machine
+come_keeps version options r k live open_yet before alive =
+    ⊎_elim
+    (λ (b : BeforeInput version options (heard version r) r.answers r.waiting r.taken r.vm).
+    let frames = behind (frames_fed (heard version r) ++ before) in
+    (all_none before r.vm.machine (comes_none version options (heard version r) r.vm.machine (b.comes live)) ∙ sym (ap (λ ps. kept_after ps frames) b.none_proposed ∙ kept_none frames), inl b.none_proposed))
+    (λ (c : Came version options (heard version r) r.answers r.taken r.vm).
+    let runs : is_running r.vm.machine.phase ≡ true = ⊎_elim (λ (x : is_running r.vm.machine.phase ≡ true). x) (λ (x : r.vm.machine.phase ≡ Closed). absurd (open_yet x)) (c.phase live) in
+    let is_live : IsLive r.vm.machine = record { failure = live; phase = runs } in
+    let fed = heard version r in
+    let frames = c.journal.entries ++ c.journal.others in (
+      (all_keep before r.vm.machine live runs alive).0 ∙ ap (λ ps. kept_after ps before) (c.keeps is_live).0 ∙ sym (kept_append fed.proposed frames before) ∙ ap (λ l. kept_after fed.proposed (behind (l ++ before))) (sym c.journal.frames),
+      ⊎_elim
+          (λ (none : fed.proposed ≡ []). inl none)
+          (λ (at : r.vm.machine.phase ≡ Processing). inr (all_stay before r.vm.machine live runs alive ∙ at))
+          (c.early is_live),
+    ))
+    k

@@ -9,9 +9,10 @@ use Rattle.journal_errors.specs.declared.faults.NamedFault.TheVariants as fault
 use Rattle.journal_errors.specs.declared.faults.NamedFault.{NamedFault}
 use Rattle.journal_errors.specs.Errors.{named_error}
 use Rattle.journal_errors.specs.Types.{type_number}
+use Rattle.journal_attempt.specs.declared.start.Start.{Start}
 use Rattle.journal_attempt.specs.declared.runs.ProposeRunCompletionAck.{ProposeRunCompletionAck}
 use Rattle.journal_messages.specs.declared.message.RawMessage.{RawMessage}
-use Rattle.journal_messages.specs.Reading.{acknowledgement_in, notification_in}
+use Rattle.journal_messages.specs.Reading.{acknowledgement_in, notification_in, start_in}
 use Rattle.journal_values.specs.declared.notification.Notification.{Notification}
 use Rattle.runs.specs.Firsts.{without_first}
 use Rattle.runs.specs.Kept.{is_for}
@@ -19,14 +20,14 @@ use Rattle.vm_parts.specs.declared.run_state.KeptProposal.{KeptProposal}
 use Rattle.vm_machine.specs.declared.machine.Machine.{Machine}
 use Rattle.vm_machine.specs.declared.phase.Phase.{Phase}
 use Rattle.vm_machine.specs.declared.phase.Phase.TheVariants.{WaitingStart, WaitingReplayEntries, Replaying, Processing, Closed}
-use Rattle.vm_machine.specs.Inputs.{acknowledged, acknowledged_by, acknowledgement_step, completion_of, entry_step, message_step, notification_step, queued, start_step}
-use Rattle.vm_machine.specs.Outcomes.{Outcome, refused, ruled, settled}
+use Rattle.vm_machine.specs.Inputs.{acknowledged, acknowledged_by, acknowledgement_step, completion_of, counted_entry, coverage_of, entries_in, entry_step, info_of, started, started_with, message_step, notification_step, queued, start_step}
+use Rattle.vm_machine.specs.Outcomes.{Done, Failed, Outcome, refused, ruled, settled}
 use Rattle.vm_machine.specs.Phases.{is_running}
 use Rattle.invocation_vm.specs.Views.{all_received, left_by, received}
 use Rattle.vm_rounds.specs.Arrivals.{AllFound, FindsProposal, IsFound, arriving, brought_by, kept_after, kept_behind, stands_for, unacknowledged}
 use Rattle.vm_rounds.specs.Blames.{fault_among}
 use Rattle.vm_rounds.specs.Journals.{AcknowledgesNothing, is_acknowledgement, is_command, is_notification, notifications_among, notified_by}
-use Rattle.vm_rounds.proofs.Arriving.{failed_stays, live_receives}
+use Rattle.vm_rounds.proofs.Arriving.{failed_receives, failed_stays, live_receives}
 use Rattle.vm_rounds.proofs.Blaming.{one_comes as one_fits}
 use Rattle.vm_rounds.proofs.Entries.{message_by, receives_by}
 use Rattle.vm_rounds.proofs.Staying.{no_failure, one_stays}
@@ -227,3 +228,76 @@ all_keep (raw ∷ raws) v live runs h =
     (λ (x : (why : NamedFault) × (fault_among v.proposals v.phase raw ≡ Some why) × (w.failure ≡ Some (ruled v (named_error why None)))).
     no_failure (ruled v (named_error x.0 None)) (sym x.2 ∙ ap (λ (u : Machine). u.failure) (sym (failed_stays (ruled v (named_error x.0 None)) w raws x.2)) ∙ h))
     (one_fits raw v live)
+
+-- ---- where nothing was proposed
+
+-- an event leaves no proposal
+abbrev NoneKept : Outcome Unit → Type 0
+NoneKept (Done t w) = w.proposals ≡ []
+NoneKept (Failed e w) = w.proposals ≡ []
+
+settled_none : (o : Outcome Unit) → NoneKept o → (left_by (settled o)).proposals ≡ []
+settled_none (Done t w) none = none
+settled_none (Failed e w) none = none
+
+started_none : (o : Option Start) (v : Machine) → v.proposals ≡ [] → NoneKept (started o v)
+started_none None v none = none
+started_none (Some st) v none = by_entries (entries_in st.state)
+  where
+    by_test : (entries : List (List ℕ × Option (List ℕ))) (b : Bool)
+        → NoneKept (if b then refused fault.KnownEntriesIsZero v else Done (tt {0}) (record v { start = info_of v.version v.options.fallback_random_seed st; state = record { entries = entries; coverage = coverage_of st.partial }; entries_missing = st.known_entries; phase = WaitingReplayEntries }))
+    by_test entries true = none
+    by_test entries false = none
+
+    by_entries : (o : Option (List (List ℕ × Option (List ℕ)))) → NoneKept (started_with st o v)
+    by_entries None = none
+    by_entries (Some entries) = by_test entries (st.known_entries == 0)
+
+queued_none : (o : Option Notification) (v : Machine) → v.proposals ≡ [] → NoneKept (queued o counted_entry v) × NoneKept (queued o (λ w. w) v)
+queued_none None v none = (none, none)
+queued_none (Some n) v none = (none, none)
+
+kept_none_by : (id : ℕ) (o : Option KeptProposal) (v : Machine) → v.proposals ≡ [] → NoneKept (acknowledged id o v)
+kept_none_by id None v none = none
+kept_none_by id (Some kept) v none = ap (without_first (is_for id)) none
+
+acknowledged_none : (ack : Option ProposeRunCompletionAck) (v : Machine) → v.proposals ≡ [] → NoneKept (acknowledged_by ack v)
+acknowledged_none None v none = none
+acknowledged_none (Some ack) v none = kept_none_by ack.id (find (is_for ack.id) v.proposals) v none
+
+message_none : (raw : RawMessage) (ph : Phase) (v : Machine) → v.proposals ≡ [] → (a b c d : Bool) → NoneKept (message_by raw ph v a b c d)
+message_none raw WaitingStart v none true b c d = started_none (start_in raw.body) v none
+message_none raw WaitingReplayEntries v none true b c d = none
+message_none raw Replaying v none true b c d = none
+message_none raw Processing v none true b c d = none
+message_none raw Closed v none true b c d = none
+message_none raw WaitingStart v none false true c d = none
+message_none raw WaitingReplayEntries v none false true c d = none
+message_none raw Replaying v none false true c d = none
+message_none raw Processing v none false true c d = none
+message_none raw Closed v none false true c d = none
+message_none raw WaitingStart v none false false true d = none
+message_none raw WaitingReplayEntries v none false false true d = (queued_none (notification_in raw.body) v none).0
+message_none raw Replaying v none false false true d = (queued_none (notification_in raw.body) v none).1
+message_none raw Processing v none false false true d = (queued_none (notification_in raw.body) v none).1
+message_none raw Closed v none false false true d = none
+message_none raw WaitingStart v none false false false true = none
+message_none raw WaitingReplayEntries v none false false false true = none
+message_none raw Replaying v none false false false true = none
+message_none raw Processing v none false false false true = acknowledged_none (acknowledgement_in raw.body) v none
+message_none raw Closed v none false false false true = none
+message_none raw ph v none false false false false = none
+
+received_none : (raw : RawMessage) (v : Machine) → v.proposals ≡ [] → (received raw v).proposals ≡ []
+received_none raw v none = by_failure v.failure refl
+  where
+    by_failure : (f : Option Error) → v.failure ≡ f → (received raw v).proposals ≡ []
+    by_failure (Some e) dead = ap (λ (w : Machine). w.proposals) (failed_receives e v raw dead) ∙ none
+    by_failure None live =
+        ap (λ (w : Machine). w.proposals) (receives_by v raw live)
+        ∙ settled_none (message_by raw v.phase v (type_number raw.ty == 1) (is_command raw) (is_notification raw) (is_acknowledgement raw)) (message_none raw v.phase v none (type_number raw.ty == 1) (is_command raw) (is_notification raw) (is_acknowledgement raw))
+
+-- a machine that keeps no proposal keeps none, whatever comes
+pub all_none : (raws : List RawMessage) (v : Machine) → v.proposals ≡ [] → (all_received raws v).proposals ≡ []
+all_none [] v none = none
+all_none (raw ∷ raws) v none = all_none raws (received raw v) (received_none raw v none)

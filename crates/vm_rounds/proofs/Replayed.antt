@@ -28,6 +28,20 @@ use Rattle.vm_rounds.specs.declared.progress.Fed.{Fed}
 use Rattle.vm_rounds.specs.Journals.{as_entries, commands_among, is_command, is_notification, notifications_among, notified_by, recorded_by, setup_for, told_by}
 use Rattle.vm_rounds.specs.Told.{Journal, RefusesReplay, arrivals, handed_out}
 use Rattle.vm_rounds.specs.Arrivals.{arriving}
+use Rattle.std.specs.Prelude.{◌==◌, ◌&&◌, nat_le, nat_lt}
+use Rattle.std.proofs.lemmas.Bool.{eqb-true}
+use Rattle.journal_attempt.specs.declared.runs.ProposeRunCompletionAck.{ProposeRunCompletionAck}
+use Rattle.journal_errors.specs.declared.faults.NamedFault.TheVariants as fault
+use Rattle.journal_errors.specs.Types.{type_number}
+use Rattle.journal_messages.specs.Reading.{acknowledgement_in}
+use Rattle.vm_machine.specs.declared.phase.Phase.TheVariants.{Processing}
+use Rattle.vm_model.specs.Histories.{behind}
+use Rattle.vm_parts.specs.declared.run_state.KeptProposal.{KeptProposal}
+use Rattle.vm_rounds.specs.Arrivals.{kept_after}
+use Rattle.vm_rounds.specs.Blames.{BadFrame, fault_among, fault_by, read_fault}
+use Rattle.vm_rounds.specs.Journals.{is_acknowledgement}
+use Rattle.vm_rounds.proofs.Arriving.{kept_none}
+use Rattle.vm_rounds.proofs.Blaming.{none_kept}
 use Rattle.vm_rounds.proofs.Proposed.{arriving_append, arriving_notified, kept_all}
 use Rattle.vm_rounds.proofs.Pieces.{notifications_append}
 
@@ -114,10 +128,32 @@ honest_refused m version options fed closed answers e honest x [] is = inr (inr 
 })))
 honest_refused m version options fed closed answers e honest x (c ∷ further) is = absurd (let h = honest.history x.journal.first_frame x.journal.entries x.journal.others x.journal.start x.journal.frames x.journal.reads_start x.journal.count in history_refuses m version options fed x.journal h.0 x.moves x.written x.at x.made c further is x.why x.reason h.1)
 
+-- an acknowledgement is refused in Processing where its proposal isn't kept
+acknowledged_by_kept : (kept : List KeptProposal) (raw : RawMessage) → is_acknowledgement raw ≡ true → fault_among kept Processing raw ≡ read_fault kept (acknowledgement_in raw.body)
+acknowledged_by_kept kept raw is = ap (λ n. fault_by kept Processing raw (n == 1) (nat_le 10 n && nat_lt n 30) (n == 30) (n == 6)) (eqb-true (type_number raw.ty) 6 is)
+
+-- where none is kept, it is refused
+none_kept_fault : (ack : Option ProposeRunCompletionAck) → read_fault [] ack ≡ None → ⊥
+none_kept_fault None h = let z : Some fault.BadMessage ≡ None = h in cc
+none_kept_fault (Some ack) h = let z : Some fault.BadProposeRunCompletionAck ≡ None = h in cc
+
+-- no frame of an honest attempt is refused
+honest_frame : (m : Meaning) (version : Version) (options : VMOptions) (fed : Heard) (e : Error) → IsHonest m version options fed → (x : BadFrame version options fed e) → (b : Bool) → is_acknowledgement x.raw ≡ b → ⊥
+honest_frame m version options fed e honest x false is =
+    let z : None ≡ Some x.why = sym (honest.frames x.before x.raw x.behind x.phase x.missing x.split x.place is) ∙ none_kept (kept_after fed.proposed (behind x.before)) x.phase x.raw x.why x.reason in cc
+honest_frame m version options fed e honest x true is =
+    let kept = kept_after fed.proposed (behind x.before) in
+    let taken : read_fault kept (acknowledgement_in x.raw.body) ≡ None = honest.acknowledgements x.before x.raw x.behind x.split is in
+    ⊎_elim
+    (λ (none : fed.proposed ≡ []). none_kept_fault (acknowledgement_in x.raw.body) (ap (λ ps. read_fault ps (acknowledgement_in x.raw.body)) (sym (ap (λ ps. kept_after ps (behind x.before)) none ∙ kept_none (behind x.before))) ∙ taken))
+    (λ (at : x.phase ≡ Processing).
+    let z : None ≡ Some x.why = sym taken ∙ sym (acknowledged_by_kept kept x.raw is) ∙ ap (λ ph. fault_among kept ph x.raw) (sym at) ∙ x.reason in cc)
+    x.late
+
 -- an honest attempt fails for nothing but a reason of its own
 pub honest_fails : (m : Meaning) (version : Version) (options : VMOptions) (fed : Heard) (closed : Bool) (answers : List Answer) (e : Error) → IsHonest m version options fed → Blame m version options fed closed answers e → IsOwnError m version options fed closed answers e
 honest_fails m version options fed closed answers e honest (Memory x) = inl x
-honest_fails m version options fed closed answers e honest (Frame x) = absurd (let z : None ≡ Some x.why = sym (honest.frames x.before x.raw x.behind x.phase x.missing x.split x.place) ∙ x.reason in cc)
+honest_fails m version options fed closed answers e honest (Frame x) = absurd (honest_frame m version options fed e honest x (is_acknowledgement x.raw) refl)
 honest_fails m version options fed closed answers e honest (NoFrame x y) = absurd (honest.whole x)
 honest_fails m version options fed closed answers e honest (ClosedEarly x y z) = inr (inl (x, y, z))
 honest_fails m version options fed closed answers e honest (NoInput x) = absurd (let h = honest.history x.first x.entries x.others x.start x.is x.reads x.count in no_input (setup_for version options x.start) m h.0 x.entries h.1 x.none)

@@ -156,6 +156,7 @@ feeds = record {
   reads_state = refl;
   journal_is_whole = ((refl, input_is_whole.1), ((refl, slept_is_whole.1), (void_is_whole, tt)));
   more_is_whole = tt;
+  found = tt;
   base = no_state;
   history = is_history;
   replays = refl;

@@ -77,11 +77,12 @@ pub record Sends (v w : Machine) : Type 0 where
   pub version : w.version ≡ v.version
   pub options : w.options ≡ v.options
 
--- an event that is done has written so, has failed nothing, and leaves what is told of its answer
+-- an event that is done has written so, has failed nothing, doesn't replay again, and leaves what is told of its answer
 pub record Leaves {A : Type 0} (Left : A → Machine → Type 0) (v : Machine) (a : A) (w : Machine) : Type 0 where
   pub sends : Sends v w
   pub failure : w.failure ≡ v.failure
   pub kept : w.proposals ≡ v.proposals
+  pub goes : v.phase ≡ Processing → is_running w.phase ≡ true → w.phase ≡ Processing
   pub left : Left a w
 
 -- nothing was written or proposed
@@ -145,7 +146,7 @@ unfolding called
 calling L v o live h = subst (λ f. CallLeaves L v (called_at f o v)) (sym live) (settling L v o h)
 
 mapping : {A B : Type 0} (L : A → Machine → Type 0) (M : B → Machine → Type 0) (f : A → B) → ((a : A) (w : Machine) → L a w → M (f a) w) → (v : Machine) (o : Outcome A) → CallLeaves L v o → CallLeaves M v (mapped f o)
-mapping L M f more v (Done a w) h = record { sends = h.sends; failure = h.failure; kept = h.kept; left = more a w h.left }
+mapping L M f more v (Done a w) h = record { sends = h.sends; failure = h.failure; kept = h.kept; goes = h.goes; left = more a w h.left }
 mapping L M f more v (Failed e w) h = h
 
 -- ---- a command
@@ -166,28 +167,28 @@ module _ (v : Machine) (handle : NotificationHandle) (m : Message) (ignore : Boo
   abbrev Answer : Outcome Unit → Type 0
   Answer o = Happens RunsOn v (o >>= λ _ w. Done handle w)
 
-  compares : (o : Option Message) (w : Machine) → Stays v w → w.failure ≡ v.failure → is_running w.phase ≡ true → Answer (compared m ignore o w)
-  compares None w s f runs = s
-  compares (Some recorded) w s f runs = by_test (header_equal recorded m ignore)
+  compares : (o : Option Message) (w : Machine) → (v.phase ≡ Processing → ⊥) → Stays v w → w.failure ≡ v.failure → is_running w.phase ≡ true → Answer (compared m ignore o w)
+  compares None w late s f runs = s
+  compares (Some recorded) w late s f runs = by_test (header_equal recorded m ignore)
     where
       by_test : (b : Bool) → Answer (if b then Done (tt {0}) w else Failed (about_last fault.CommandMismatch w) w)
-      by_test true = record { sends = stays_sends v w s; failure = f; kept = s.3; left = runs }
+      by_test true = record { sends = stays_sends v w s; failure = f; kept = s.3; goes = λ at _. absurd (late at); left = runs }
       by_test false = s
 
-  pops : (left : List RawMessage) → Answer (popped_from left (type_of m) u >>= λ raw w. compared m ignore (message_in raw.ty raw.body) w)
-  pops [] = same
-  pops (raw ∷ rest) = by_test (type_number raw.ty == type_number (type_of m))
+  pops : (left : List RawMessage) → (v.phase ≡ Processing → ⊥) → Answer (popped_from left (type_of m) u >>= λ raw w. compared m ignore (message_in raw.ty raw.body) w)
+  pops [] late = same
+  pops (raw ∷ rest) late = by_test (type_number raw.ty == type_number (type_of m))
     where
       w : Machine
       w = record u { commands = rest; phase = phase_after rest }
 
       by_test : (b : Bool) → Answer ((if b then Done raw w else Failed (about_last fault.CommandTypeMismatch w) w) >>= λ raw w. compared m ignore (message_in raw.ty raw.body) w)
-      by_test true = compares (message_in raw.ty raw.body) w same failure (after_runs rest)
+      by_test true = compares (message_in raw.ty raw.body) w late same failure (after_runs rest)
       by_test false = same
 
-  replays : Answer (replayed m ignore u)
+  replays : (v.phase ≡ Processing → ⊥) → Answer (replayed m ignore u)
   unfolding replayed popped
-  replays = pops u.commands
+  replays late = pops u.commands late
 
   carries : Answer (carried_out m ignore u)
   unfolding carried_out
@@ -198,9 +199,10 @@ module _ (v : Machine) (handle : NotificationHandle) (m : Message) (ignore : Boo
         sends = record { messages = m ∷ []; output = ap (λ l. l ++ encoding m ∷ []) same.0; proposals = command_proposes m command; version = same.1; options = same.2 };
         failure = failure;
         kept = same.3;
+        goes = λ at _. phase ∙ at;
         left = writing_runs u.phase e;
       }
-      by_test false e = replays
+      by_test false e = replays (λ at. absurd (let z : true ≡ false = sym (ap is_processing (phase ∙ at)) ∙ e in cc))
 
 counts : (o : Option NamedFault) (m : Message) (unstable : Bool) (v : Machine) → IsCommand m → Happens RunsOn v (counted o m unstable v)
 counts (Some name) m unstable v is = (refl, refl, refl, refl)
@@ -222,16 +224,16 @@ commands None m unstable v is = issues m unstable v is
 
 read_put : (id : ℕ) (o : Option NotificationResult) (handle : NotificationHandle) (v w : Machine) → Leaves RunsOn v handle w → Leaves RunsOn v handle (with_result id o w)
 read_put id None handle v w h = h
-read_put id (Some result) handle v w h = record { sends = record { messages = h.sends.messages; output = h.sends.output; proposals = h.sends.proposals; version = h.sends.version; options = h.sends.options }; failure = h.failure; kept = h.kept; left = h.left }
+read_put id (Some result) handle v w h = record { sends = record { messages = h.sends.messages; output = h.sends.output; proposals = h.sends.proposals; version = h.sends.version; options = h.sends.options }; failure = h.failure; kept = h.kept; goes = h.goes; left = h.left }
 
-reads_back : (handle id : ℕ) (o : Result (Option NotificationResult) NamedFault) (v w : Machine) → Stays v w → w.failure ≡ v.failure → is_running w.phase ≡ true → Happens RunsOn v (read_back handle id o w)
-reads_back handle id (Err name) v w s f runs = s
-reads_back handle id (Ok o) v w s f runs = read_put id o (record { 0 = handle }) v w (record { sends = stays_sends v w s; failure = f; kept = s.3; left = runs })
+reads_back : (handle id : ℕ) (o : Result (Option NotificationResult) NamedFault) (v w : Machine) → (v.phase ≡ Processing → ⊥) → Stays v w → w.failure ≡ v.failure → is_running w.phase ≡ true → Happens RunsOn v (read_back handle id o w)
+reads_back handle id (Err name) v w late s f runs = s
+reads_back handle id (Ok o) v w late s f runs = read_put id o (record { 0 = handle }) v w (record { sends = stays_sends v w s; failure = f; kept = s.3; goes = λ at _. absurd (late at); left = runs })
 
-reads_popped : (r : StateRead) (handle id : ℕ) (left : List RawMessage) (v u : Machine) → Stays v u → u.failure ≡ v.failure → Happens RunsOn v (read_popped r handle id left u)
-reads_popped r handle id [] v u s f = s
-reads_popped r handle id (raw ∷ rest) v u s f =
-    reads_back handle id (recorded_as r id raw) v (record u { commands = rest; phase = phase_after rest; last_command = record { ty = recorded_type r raw; name = [] } }) s f (after_runs rest)
+reads_popped : (r : StateRead) (handle id : ℕ) (left : List RawMessage) (v u : Machine) → (v.phase ≡ Processing → ⊥) → Stays v u → u.failure ≡ v.failure → Happens RunsOn v (read_popped r handle id left u)
+reads_popped r handle id [] v u late s f = s
+reads_popped r handle id (raw ∷ rest) v u late s f =
+    reads_back handle id (recorded_as r id raw) v (record u { commands = rest; phase = phase_after rest; last_command = record { ty = recorded_type r raw; name = [] } }) late s f (after_runs rest)
 
 reads_numbered : (r : StateRead) (v : Machine) → Happens RunsOn v (read_numbered r v)
 reads_numbered r v = by_test (is_processing v.phase) refl
@@ -241,8 +243,8 @@ reads_numbered r v = by_test (is_processing v.phase) refl
     by_test true e =
         let m = own_form r v.counters.completion v.state in
         read_put v.counters.completion (own_result (result_in m)) (record { 0 = v.counters.handle }) v (written m (handed_out 1 (entered (type_of m) (name_read r) v)))
-        (record { sends = record { messages = m ∷ []; output = refl; proposals = command_proposes m (own_is r v.counters.completion v.state); version = refl; options = refl }; failure = refl; kept = refl; left = writing_runs v.phase e })
-    by_test false e = reads_popped r v.counters.handle v.counters.completion v.commands v (handed_out 1 (entered (eager_type r) [] v)) (refl, refl, refl, refl) refl
+        (record { sends = record { messages = m ∷ []; output = refl; proposals = command_proposes m (own_is r v.counters.completion v.state); version = refl; options = refl }; failure = refl; kept = refl; goes = λ at _. at; left = writing_runs v.phase e })
+    by_test false e = reads_popped r v.counters.handle v.counters.completion v.commands v (handed_out 1 (entered (eager_type r) [] v)) (λ at. absurd (let z : true ≡ false = sym (ap is_processing at) ∙ e in cc)) (refl, refl, refl, refl) refl
 
 reads_counted : (o : Option NamedFault) (r : StateRead) (v : Machine) → Happens RunsOn v (read_counted o r v)
 reads_counted (Some name) r v = (refl, refl, refl, refl)
@@ -260,7 +262,7 @@ state_reads r v = by_test (is_running v.phase)
 
 awakeable_is : (o : Option NamedFault) (v : Machine) → is_running v.phase ≡ true → Happens RunsOn v (awakeable_counted o v)
 awakeable_is (Some name) v runs = (refl, refl, refl, refl)
-awakeable_is None v runs = record { sends = stays_sends v _ (refl, refl, refl, refl); failure = refl; kept = refl; left = runs }
+awakeable_is None v runs = record { sends = stays_sends v _ (refl, refl, refl, refl); failure = refl; kept = refl; goes = λ at _. at; left = runs }
 
 awakeables : (v : Machine) → Happens RunsOn v (awakeable_step v)
 unfolding awakeable_step
@@ -276,7 +278,7 @@ new_awakeables false v = awakeables v
 
 signal_is : (o : Option NamedFault) (name : List ℕ) (v : Machine) → is_running v.phase ≡ true → Happens RunsOn v (signal_counted o name v)
 signal_is (Some fault) name v runs = (refl, refl, refl, refl)
-signal_is None name v runs = record { sends = stays_sends v _ (refl, refl, refl, refl); failure = refl; kept = refl; left = runs }
+signal_is None name v runs = record { sends = stays_sends v _ (refl, refl, refl, refl); failure = refl; kept = refl; goes = λ at _. at; left = runs }
 
 signals : (name : List ℕ) (v : Machine) → Happens RunsOn v (signal_step name v)
 unfolding signal_step
@@ -291,7 +293,7 @@ abbrev AwaitLeaves : Result AwaitResponse Error → Machine → Type 0
 AwaitLeaves (Ok response) w = is_running w.phase ≡ true
 AwaitLeaves (Err e) w = w.phase ≡ Closed
 
-module _ (left : Tree) (v u : Machine) (same : Stays v u) (failure : u.failure ≡ v.failure) (runs : is_running u.phase ≡ true) where
+module _ (left : Tree) (v u : Machine) (same : Stays v u) (failure : u.failure ≡ v.failure) (phase : u.phase ≡ v.phase) (runs : is_running u.phase ≡ true) where
   suspends : Leaves AwaitLeaves v (Err (named_error fault.Suspended None)) (suspended (sent (ids u.results) left) u)
   suspends =
       let m = message.Suspension (record { future = sent (ids u.results) left }) in
@@ -299,6 +301,7 @@ module _ (left : Tree) (v u : Machine) (same : Stays v u) (failure : u.failure �
         sends = record { messages = m ∷ []; output = ap (λ l. l ++ encoding m ∷ []) same.0; proposals = refl; version = same.1; options = same.2 };
         failure = failure;
         kept = same.3;
+        goes = λ at running. absurd (cc);
         left = refl;
       }
 
@@ -309,19 +312,20 @@ module _ (left : Tree) (v u : Machine) (same : Stays v u) (failure : u.failure �
         sends = record { messages = said; output = ap (λ l. l ++ map encoding said) same.0; proposals = says_no_proposal u.version u.options.awaiting_on_policy (list_any is_executing u.runs) (ids u.results) left; version = same.1; options = same.2 };
         failure = failure;
         kept = same.3;
+        goes = λ at _. phase ∙ at;
         left = runs;
       }
 
-  goes_on : (response : AwaitResponse) (w : Machine) → Stays v w → w.failure ≡ v.failure → is_running w.phase ≡ true → Leaves AwaitLeaves v (Ok response) w
-  goes_on response w stays failed running = record { sends = stays_sends v w stays; failure = failed; kept = stays.3; left = running }
+  goes_on : (response : AwaitResponse) (w : Machine) → Stays v w → w.failure ≡ v.failure → w.phase ≡ v.phase → is_running w.phase ≡ true → Leaves AwaitLeaves v (Ok response) w
+  goes_on response w stays failed at running = record { sends = stays_sends v w stays; failure = failed; kept = stays.3; goes = λ before _. at ∙ before; left = running }
 
   waits_so : (closed executing : Bool) → Happens AwaitLeaves v (waits_by closed executing left u)
   waits_so false executing = waits executing
-  waits_so true true = goes_on (WaitingExternalProgress false true) u same failure runs
+  waits_so true true = goes_on (WaitingExternalProgress false true) u same failure phase runs
   waits_so true false = suspends
 
   runs_so : (run : Option PendingRun) (executing : Bool) → Happens AwaitLeaves v (waits_on run executing left u)
-  runs_so (Some run) executing = goes_on (ExecuteRun (handle_of run)) (executed (handles_of left) u) same failure runs
+  runs_so (Some run) executing = goes_on (ExecuteRun (handle_of run)) (executed (handles_of left) u) same failure phase runs
   runs_so None executing = waits_so u.input_closed executing
 
   pends : Happens AwaitLeaves v (pending_on left u)
@@ -334,8 +338,8 @@ module _ (left : Tree) (v u : Machine) (same : Stays v u) (failure : u.failure �
 
 tries : (t : Tree) (v : Machine) (x : Outcome (Result AwaitResponse Error)) → is_running v.phase ≡ true → Tries t v x → Happens AwaitLeaves v x
 tries t v x runs comes = ⊎_elim
-    (λ (y : Ends t v x). subst (Happens AwaitLeaves v) (sym y.2) (record { sends = stays_sends v (with_used y.0 v) (refl, refl, refl, refl); failure = refl; kept = refl; left = runs }))
-    (λ (y : StaysPending t v x). subst (Happens AwaitLeaves v) (sym y.2) (pends y.0 v (with_used (length v.results.queued) v) (refl, refl, refl, refl) refl runs))
+    (λ (y : Ends t v x). subst (Happens AwaitLeaves v) (sym y.2) (record { sends = stays_sends v (with_used y.0 v) (refl, refl, refl, refl); failure = refl; kept = refl; goes = λ at _. at; left = runs }))
+    (λ (y : StaysPending t v x). subst (Happens AwaitLeaves v) (sym y.2) (pends y.0 v (with_used (length v.results.queued) v) (refl, refl, refl, refl) refl refl runs))
     comes
 
 -- nothing was written or proposed, and nothing failed or came into another phase
@@ -356,7 +360,7 @@ read_unmoved handle v w reads =
 
 -- what it comes to next
 happens_behind : (v w : Machine) (o : Outcome (Result AwaitResponse Error)) → Unmoved v w → Happens AwaitLeaves w o → Happens AwaitLeaves v o
-happens_behind v w (Done a x) k h = record { sends = sends_then v w x (stays_sends v w k.0) h.sends; failure = h.failure ∙ k.1; kept = h.kept ∙ k.0.3; left = h.left }
+happens_behind v w (Done a x) k h = record { sends = sends_then v w x (stays_sends v w k.0) h.sends; failure = h.failure ∙ k.1; kept = h.kept ∙ k.0.3; goes = λ at running. h.goes (k.2 ∙ at) running; left = h.left }
 happens_behind v w (Failed e x) k h =
     let s = k.0 in
     (h.0 ∙ s.0, h.1 ∙ s.1, h.2 ∙ s.2, h.3 ∙ s.3)
@@ -372,7 +376,7 @@ behind v Next (Failed e w) o h f on = subst (Happens AwaitLeaves v) (sym on) h
 
 id_reads : (id : Option (List ℕ)) (v : Machine) → is_running v.phase ≡ true → Happens AwaitLeaves v (id_read id v)
 id_reads None v runs = (refl, refl, refl, refl)
-id_reads (Some id) v runs = record { sends = stays_sends v (record v { tracked = with_next_id id v.tracked }) (refl, refl, refl, refl); failure = refl; kept = refl; left = runs }
+id_reads (Some id) v runs = record { sends = stays_sends v (record v { tracked = with_next_id id v.tracked }) (refl, refl, refl, refl); failure = refl; kept = refl; goes = λ at _. at; left = runs }
 
 reads_id : (handle : ℕ) (v : Machine) (o : Outcome (Result AwaitResponse Error)) → is_running v.phase ≡ true → ReadsId handle v o → Happens AwaitLeaves v o
 reads_id handle v o runs (first, tried, on) =
@@ -382,7 +386,7 @@ reads_id handle v o runs (first, tried, on) =
     happens_behind v w o k (subst (Happens AwaitLeaves w) (sym next) (id_reads (option_and_then id_of_result (result_at handle w)) w (ap is_running k.2 ∙ runs)))) on
 
 gathers : (handles : List ℕ) (v : Machine) (o : Outcome (Result AwaitResponse Error)) → is_running v.phase ≡ true → Gathers handles v o → Happens AwaitLeaves v o
-gathers [] v o runs comes = subst (Happens AwaitLeaves v) (sym comes) (record { sends = stays_sends v v (refl, refl, refl, refl); failure = refl; kept = refl; left = runs })
+gathers [] v o runs comes = subst (Happens AwaitLeaves v) (sym comes) (record { sends = stays_sends v v (refl, refl, refl, refl); failure = refl; kept = refl; goes = λ at _. at; left = runs })
 gathers (handle ∷ handles) v o runs (first, reads, on) =
     behind v (Gathers handles) first o (reads_id handle v first runs reads)
     (λ w is next.
@@ -391,7 +395,7 @@ gathers (handle ∷ handles) v o runs (first, reads, on) =
 
 ends_by : (b : Bool) (v : Machine) (o : Outcome (Result AwaitResponse Error)) → is_running v.phase ≡ true → EndsBy b v o → Happens AwaitLeaves v o
 ends_by true v o runs comes = gathers (unresolved v.tracked) v o runs comes
-ends_by false v o runs comes = subst (Happens AwaitLeaves v) (sym comes) (record { sends = stays_sends v v (refl, refl, refl, refl); failure = refl; kept = refl; left = runs })
+ends_by false v o runs comes = subst (Happens AwaitLeaves v) (sym comes) (record { sends = stays_sends v v (refl, refl, refl, refl); failure = refl; kept = refl; goes = λ at _. at; left = runs })
 
 awaits_by : (b : Bool) (t : Tree) (v : Machine) (o : Outcome (Result AwaitResponse Error)) → is_running v.phase ≡ true → AwaitsBy b t v o → Happens AwaitLeaves v o
 awaits_by true t v o runs (first, tried, on) =
@@ -408,17 +412,17 @@ awaits t v x comes = by_test (is_running v.phase) refl comes
     by_test true e comes = awaits_by (ends_awaits v.options.implicit_cancellation) t v x e comes
     by_test false e is = subst (Happens AwaitLeaves v) (sym is) (refl, refl, refl, refl)
 
-noted_values : (value : Value) (tracked : Option (List TrackedCall)) (v u : Machine) → Stays v u → u.failure ≡ v.failure → is_running u.phase ≡ true → Happens RunsOn v (value_noted value tracked u)
-noted_values value None v u s f runs = s
-noted_values value (Some tracked) v u s f runs = record { sends = stays_sends v (record u { tracked = tracked }) s; failure = f; kept = s.3; left = runs }
+noted_values : (value : Value) (tracked : Option (List TrackedCall)) (v u : Machine) → Stays v u → u.failure ≡ v.failure → u.phase ≡ v.phase → is_running u.phase ≡ true → Happens RunsOn v (value_noted value tracked u)
+noted_values value None v u s f phase runs = s
+noted_values value (Some tracked) v u s f phase runs = record { sends = stays_sends v (record u { tracked = tracked }) s; failure = f; kept = s.3; goes = λ at _. phase ∙ at; left = runs }
 
-values : (handle : ℕ) (o : Option Value) (v u : Machine) → Stays v u → u.failure ≡ v.failure → is_running u.phase ≡ true → Happens RunsOn v (value_taken handle o u)
-values handle None v u s f runs = s
-values handle (Some value) v u s f runs = noted_values value (noted handle (id_of_value value) u.tracked) v u s f runs
+values : (handle : ℕ) (o : Option Value) (v u : Machine) → Stays v u → u.failure ≡ v.failure → u.phase ≡ v.phase → is_running u.phase ≡ true → Happens RunsOn v (value_taken handle o u)
+values handle None v u s f phase runs = s
+values handle (Some value) v u s f phase runs = noted_values value (noted handle (id_of_value value) u.tracked) v u s f phase runs
 
-results : (handle : ℕ) (o : Option NotificationResult) (v u : Machine) → Stays v u → u.failure ≡ v.failure → is_running u.phase ≡ true → Happens RunsOn v (result_taken handle o u)
-results handle None v u s f runs = record { sends = stays_sends v u s; failure = f; kept = s.3; left = runs }
-results handle (Some result) v u s f runs = values handle (value_of result) v u s f runs
+results : (handle : ℕ) (o : Option NotificationResult) (v u : Machine) → Stays v u → u.failure ≡ v.failure → u.phase ≡ v.phase → is_running u.phase ≡ true → Happens RunsOn v (result_taken handle o u)
+results handle None v u s f phase runs = record { sends = stays_sends v u s; failure = f; kept = s.3; goes = λ at _. phase ∙ at; left = runs }
+results handle (Some result) v u s f phase runs = values handle (value_of result) v u s f phase runs
 
 takes : (handle : ℕ) (v : Machine) → Happens RunsOn v (take_step handle v)
 unfolding take_step
@@ -427,7 +431,7 @@ takes handle v = by_test (is_running v.phase) refl
     by_test : (b : Bool) → is_running v.phase ≡ b → Happens RunsOn v (if b then taken_at handle (id_at handle v.results.handles) v else refused (state_fault v.phase) v)
     by_test true e =
         let found = present_for v.options.signal_delivery (id_at handle v.results.handles) v.results.ready in
-        results handle found v (record v { results = taken_by v.options.signal_delivery handle (id_at handle v.results.handles) found v.results }) (refl, refl, refl, refl) refl e
+        results handle found v (record v { results = taken_by v.options.signal_delivery handle (id_at handle v.results.handles) found v.results }) (refl, refl, refl, refl) refl refl e
     by_test false e = (refl, refl, refl, refl)
 
 -- the handler has ended
@@ -442,9 +446,10 @@ ends Processing v e = record {
   sends = record { messages = message.End ∷ []; output = refl; proposals = refl; version = refl; options = refl };
   failure = refl;
   kept = refl;
+  goes = λ at running. absurd (cc);
   left = refl;
 }
-ends Closed v e = record { sends = stays_sends v v (refl, refl, refl, refl); failure = refl; kept = refl; left = e }
+ends Closed v e = record { sends = stays_sends v v (refl, refl, refl, refl); failure = refl; kept = refl; goes = λ at _. at; left = e }
 
 -- ---- what is replied
 
@@ -472,9 +477,9 @@ starving : (v : Machine) (e : Error) (w : Machine) → v.failure ≡ None → Is
 starving v e w live s = (record { messages = []; output = s.output ∙ sym (append-nil v.output); proposals = refl; version = s.version; options = s.options }, s.failure ∙ ap (λ (f : Option Error). Some (unwrap_or f no_memory)) live ∙ ap (λ x. Some x) (sym s.error))
 
 -- what comes behind commands of the await
-await_behind : (v mid : Machine) (r : Result (Result AwaitResponse Error) Error) (w : Machine) → Sends v mid → mid.failure ≡ v.failure → mid.proposals ≡ v.proposals → AwaitIs mid r w → AwaitIs v r w
-await_behind v mid (Ok a) w s f p h = record { sends = sends_then v mid w s h.sends; failure = h.failure ∙ f; kept = h.kept ∙ p; left = h.left }
-await_behind v mid (Err e) w s f p h = (sends_then v mid w s h.0, h.1)
+await_behind : (v mid : Machine) (r : Result (Result AwaitResponse Error) Error) (w : Machine) → Sends v mid → mid.failure ≡ v.failure → mid.proposals ≡ v.proposals → (v.phase ≡ Processing → mid.phase ≡ Processing) → AwaitIs mid r w → AwaitIs v r w
+await_behind v mid (Ok a) w s f p on h = record { sends = sends_then v mid w s h.sends; failure = h.failure ∙ f; kept = h.kept ∙ p; goes = λ at running. h.goes (on at) running; left = h.left }
+await_behind v mid (Err e) w s f p on h = (sends_then v mid w s h.0, h.1)
 
 -- one cancel signal
 abbrev SentIs : Machine → Result NotificationHandle Error → Machine → Type 0
@@ -495,11 +500,11 @@ sends_cancel id sent v w live (does, readable) = by_sent sent does
         h
 
 cancels : (ids : List (List ℕ)) (r : Result (Result AwaitResponse Error) Error) (v w : Machine) → v.failure ≡ None → is_running v.phase ≡ true → Cancels ids r v w → AwaitIs v r w
-cancels [] r v w live runs (answered, machine) = subst (λ (z : Result (Result AwaitResponse Error) Error × Machine). AwaitIs v z.0 z.1) (λ i. (sym answered i, sym machine i)) (record { sends = stays_sends v (cancel_taken v) (refl, refl, refl, refl); failure = refl; kept = refl; left = runs })
+cancels [] r v w live runs (answered, machine) = subst (λ (z : Result (Result AwaitResponse Error) Error × Machine). AwaitIs v z.0 z.1) (λ i. (sym answered i, sym machine i)) (record { sends = stays_sends v (cancel_taken v) (refl, refl, refl, refl); failure = refl; kept = refl; goes = λ at _. at; left = runs })
 cancels (id ∷ ids) r v w live runs (sent, mid, sends, on) = by_sent (cancels ids r mid w) sent (sends_cancel id sent v mid live sends) on
   where
     by_sent : (mid.failure ≡ None → is_running mid.phase ≡ true → Cancels ids r mid w → AwaitIs mid r w) → (sent : Result NotificationHandle Error) → SentIs v sent mid → Onward (Cancels ids) sent r mid w → AwaitIs v r w
-    by_sent more (Ok handle) h on = await_behind v mid r w h.sends h.failure h.kept (more (h.failure ∙ live) h.left on)
+    by_sent more (Ok handle) h on = await_behind v mid r w h.sends h.failure h.kept (λ at. h.goes at h.left) (more (h.failure ∙ live) h.left on)
     by_sent more (Err e) h on = subst (λ (z : Result (Result AwaitResponse Error) Error × Machine). AwaitIs v z.0 z.1) (λ i. (sym on.0 i, sym on.1 i)) h
 
 -- the first part of an await
@@ -530,12 +535,12 @@ await_whole t v live r w (first, mid, does, fin) = by_first first (first_part t 
     by_first (Err e) h on = stays_so (Err e) h on
     by_first (Ok (Ok CancelSignalReceived)) h on =
         let cleared : Machine = record mid { tracked = [] } in
-        await_behind v cleared r w (sends_then v mid cleared h.sends (stays_sends mid cleared (refl, refl, refl, refl))) h.failure h.kept (cancels (invocation_ids mid.tracked) r cleared w (h.failure ∙ live) h.left on)
+        await_behind v cleared r w (sends_then v mid cleared h.sends (stays_sends mid cleared (refl, refl, refl, refl))) h.failure h.kept (λ at. h.goes at h.left) (cancels (invocation_ids mid.tracked) r cleared w (h.failure ∙ live) h.left on)
 
 await_leaves : (future : UnresolvedFuture) (v : Machine) → v.failure ≡ None → (o : Outcome Reply) → Awaited future v o → CallLeaves StandsBy v o
 await_leaves future v live (Done given w) (a, whole, replied) =
     let h : Leaves AwaitLeaves v a w = await_whole (tree_of future) v live (Ok a) w whole in
-    subst (λ (x : Reply). Leaves StandsBy v x w) (sym replied) (record { sends = h.sends; failure = h.failure; kept = h.kept; left = await_stands a w h.left })
+    subst (λ (x : Reply). Leaves StandsBy v x w) (sym replied) (record { sends = h.sends; failure = h.failure; kept = h.kept; goes = h.goes; left = await_stands a w h.left })
 await_leaves future v live (Failed e w) whole = await_whole (tree_of future) v live (Err e) w whole
 
 asked_leaves : (a : Ask) (v : Machine) → AsksCommand a → IsLive v → (o : Outcome Reply) → PerformsBy a v o → CallLeaves StandsBy v o
@@ -545,7 +550,7 @@ asked_leaves (ask.Read r) v asks live o does = subst (CallLeaves StandsBy v) (sy
 asked_leaves (ask.Signal name) v asks live o does = subst (CallLeaves StandsBy v) (sym does) (mapping RunsOn StandsBy _ (λ h w runs. runs) v (called (signal_step name v) v) (calling RunsOn v (signal_step name v) live.failure (signals name v)))
 asked_leaves (ask.Await future) v asks live o does = await_leaves future v live.failure o does
 asked_leaves (ask.Take handle) v asks live o does = subst (CallLeaves StandsBy v) (sym does) (mapping RunsOn StandsBy _ (λ h w runs. runs) v (called (take_step handle.0 v) v) (calling RunsOn v (take_step handle.0 v) live.failure (takes handle.0 v)))
-asked_leaves (ask.Completed handle) v asks live o does = subst (CallLeaves StandsBy v) (sym does) (record { sends = stays_sends v v (refl, refl, refl, refl); failure = refl; kept = refl; left = live.phase })
+asked_leaves (ask.Completed handle) v asks live o does = subst (CallLeaves StandsBy v) (sym does) (record { sends = stays_sends v v (refl, refl, refl, refl); failure = refl; kept = refl; goes = λ at _. at; left = live.phase })
 asked_leaves ask.End v asks live o does = subst (CallLeaves StandsBy v) (sym does) (mapping HasClosed StandsBy _ (λ h w closed. closed) v (called (end_step v) v) (calling HasClosed v (end_step v) live.failure (ends v.phase v refl)))
 
 -- what a step's call has written, and where it stands

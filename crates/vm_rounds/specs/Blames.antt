@@ -32,15 +32,16 @@ use Rattle.invocation_vm.specs.Frames.{Garbage, Rest, frames_of}
 use Rattle.invocation_vm.specs.Views.{View, all_received}
 use Rattle.vm_model.specs.Calls.{Meaning}
 use Rattle.vm_model.specs.Calls.Move.{Refuses}
-use Rattle.vm_model.specs.Histories.{Handed, History, Made}
+use Rattle.vm_model.specs.Histories.{Handed, History, Made, behind as behind_first}
 use Rattle.vm_model.specs.Journal.{input_read_from}
 use Rattle.vm_model.specs.Moves.{Point, move_at}
 use Rattle.vm_model.specs.Refusals.{IsRefusedFor}
+use Rattle.vm_rounds.specs.Arrivals.{kept_after}
 use Rattle.vm_rounds.specs.Heard.{Heard}
 use Rattle.vm_rounds.specs.declared.progress.Progress.{Progress}
 use Rattle.vm_rounds.specs.Journals.{as_entries, commands_among, is_acknowledgement, is_command, is_notification, setup_for}
 use Rattle.vm_rounds.specs.Record.{Record, all_heard, heard}
-use Rattle.vm_rounds.specs.Told.{handed_out, Journal, Premises, begun, bytes_fed, frames_fed}
+use Rattle.vm_rounds.specs.Told.{ProposesLate, handed_out, Journal, Premises, begun, bytes_fed, frames_fed}
 
 -- ---- frames
 
@@ -96,7 +97,7 @@ fault_by kept phase raw false false false d = other_fault kept phase raw d
 abbrev pub fault_among : List KeptProposal → Phase → RawMessage → Option NamedFault
 fault_among kept phase raw = fault_by kept phase raw (type_number raw.ty == 1) (is_command raw) (is_notification raw) (is_acknowledgement raw)
 
--- Why a frame is refused in this phase of an attempt, if it is, where no proposal is kept that it could acknowledge.
+-- why a frame that acknowledges nothing is refused in this phase of an attempt, if it is
 abbrev pub frame_fault : Phase → RawMessage → Option NamedFault
 frame_fault phase raw = fault_among [] phase raw
 
@@ -129,17 +130,18 @@ Place Replaying k frames = Began frames (λ n known. known ≤ n)
 Place Processing k frames = Began frames (λ n known. known ≤ n)
 Place Closed k frames = ⊥
 
--- one of the frames that were fed is refused in its place
-pub record BadFrame (version : Version) (options : VMOptions) (frames : List RawMessage) (e : Error) : Type 0 where
+-- One of the frames that were fed is refused in its place, where these proposals are kept that weren't acknowledged before it.
+pub record BadFrame (version : Version) (options : VMOptions) (fed : Heard) (e : Error) : Type 0 where
   pub before : List RawMessage
   pub raw : RawMessage
   pub behind : List RawMessage
-  pub split : frames ≡ before ++ raw ∷ behind
+  pub split : frames_fed fed ≡ before ++ raw ∷ behind
   pub phase : Phase
   pub missing : ℕ
   pub place : Place phase missing before
+  pub late : ProposesLate fed phase
   pub why : NamedFault
-  pub reason : frame_fault phase raw ≡ Some why
+  pub reason : fault_among (kept_after fed.proposed (behind_first before)) phase raw ≡ Some why
   pub error : e ≡ ruled_by version options (named_error why None)
 
 -- known entries are missing
@@ -198,7 +200,7 @@ pub record RefusedResult (version : Version) (options : VMOptions) (e : Error) :
 -- refused, or fails the attempt.
 pub data Blame (m : Meaning) (version : Version) (options : VMOptions) (fed : Heard) (closed : Bool) (answers : List Answer) (e : Error) : Type 0 where
   Memory : e ≡ no_memory → Blame m version options fed closed answers e
-  Frame : BadFrame version options (frames_fed fed) e → Blame m version options fed closed answers e
+  Frame : BadFrame version options fed e → Blame m version options fed closed answers e
   NoFrame : (frames_of (bytes_fed fed)).1 ≡ Garbage → e ≡ ruled_by version options (named_error fault.BadMessage None) → Blame m version options fed closed answers e
   ClosedEarly : closed ≡ true → IsShort (frames_fed fed) → e ≡ ruled_by version options (named_error fault.InputClosedWhileWaitingEntries None) → Blame m version options fed closed answers e
   NoInput : LacksInput (frames_fed fed) → Blame m version options fed closed answers e
@@ -238,11 +240,12 @@ IfError (Err e) P = P e
 
 -- ---- honest attempts
 
--- Each frame has its place and is whole there, no bytes are garbage, the known entries are a history of the handler, and the
--- premises hold.
+-- Each frame has its place and is whole there, or acknowledges a result that the attempt has proposed, each once; no bytes are garbage,
+-- the known entries are a history of the handler, and the premises hold.
 pub record IsHonest (m : Meaning) (version : Version) (options : VMOptions) (fed : Heard) : Type 0 where
   pub premises : Premises m version options fed
-  pub frames : (before : List RawMessage) (raw : RawMessage) (behind : List RawMessage) (phase : Phase) (k : ℕ) → frames_fed fed ≡ before ++ raw ∷ behind → Place phase k before → frame_fault phase raw ≡ None
+  pub frames : (before : List RawMessage) (raw : RawMessage) (behind : List RawMessage) (phase : Phase) (k : ℕ) → frames_fed fed ≡ before ++ raw ∷ behind → Place phase k before → is_acknowledgement raw ≡ false → frame_fault phase raw ≡ None
+  pub acknowledgements : (before : List RawMessage) (raw : RawMessage) (behind : List RawMessage) → frames_fed fed ≡ before ++ raw ∷ behind → is_acknowledgement raw ≡ true → read_fault (kept_after fed.proposed (behind_first before)) (acknowledgement_in raw.body) ≡ None
   pub whole : (frames_of (bytes_fed fed)).1 ≢ Garbage
   pub history : (first : RawMessage) (entries others : List RawMessage) (st : Start) → frames_fed fed ≡ first ∷ (entries ++ others) → start_in first.body ≡ Some st → length entries ≡ st.known_entries → (base : StateMap) × History (setup_for version options st) m base (as_entries entries)
 

@@ -23,6 +23,7 @@ use Rattle.vm_parts.specs.declared.steps.Step.TheVariants as step
 use Rattle.await_trees.specs.declared.tree.UnresolvedFuture.{UnresolvedFuture}
 use Rattle.vm_machine.specs.declared.machine.Machine.{Machine}
 use Rattle.std.proofs.Common.{Global}
+use Rattle.vm_machine.specs.declared.phase.Phase.{Phase}
 use Rattle.vm_machine.specs.declared.phase.Phase.TheVariants.{Closed, Processing}
 use Rattle.vm_machine.specs.Inputs.{coverage_of, entries_in, info_of}
 use Rattle.vm_machine.specs.Making.{fresh}
@@ -238,6 +239,10 @@ pub record IsLive (v : Machine) : Type 0 where
 abbrev pub KeepsProposals : {fed : Heard} → Journal fed → Machine → Type 0
 KeepsProposals {fed} j v = (v.proposals ≡ kept_after fed.proposed (j.entries ++ j.others)) × AllFound fed.proposed (j.entries ++ j.others)
 
+-- nothing is proposed before no recorded command is left
+abbrev pub ProposesLate : Heard → Phase → Type 0
+ProposesLate fed phase = (fed.proposed ≡ []) ⊎ (phase ≡ Processing)
+
 -- the handler still makes the await that waits
 abbrev pub StillAwaits : Meaning → Point → Option UnresolvedFuture → Type 0
 StillAwaits m p None = Unit {0}
@@ -268,6 +273,7 @@ pub record Came (version : Version) (options : VMOptions) (fed : Heard) (answers
   pub wrote : Wrote taken vm.machine.output written
   pub made_for : IsLive vm.machine → (vm.machine.version ≡ version) × (vm.machine.options ≡ options)
   pub keeps : IsLive vm.machine → KeepsProposals journal vm.machine
+  pub early : IsLive vm.machine → ProposesLate fed vm.machine.phase
   pub phase : vm.machine.failure ≡ None → (is_running vm.machine.phase ≡ true) ⊎ (vm.machine.phase ≡ Closed)
   pub tail : IsLive vm.machine → (frames_of (bytes_fed fed)).1 ≡ Rest vm.undecoded
 

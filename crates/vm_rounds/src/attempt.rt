@@ -40,7 +40,7 @@ impl<H: Handler> Model for Attempt<H> {
 }
 
 impl<H: Handler> Attempt<H> {
-    ghost use Rattle.std.specs.Prelude.{◌≡◌, ◌⊎◌, [], None};
+    ghost use Rattle.std.specs.Prelude.{◌≡◌, ◌⊎◌, [], IfErr, None};
     ghost use Rattle.invocation_vm.specs.Making.{version_in};
     ghost use Rattle.vm_parts.specs.Outboxes.{WholeStream};
     ghost use Rattle.vm_rounds.specs.Stepping.{MakesAttempt, StepDoes, FeedDoes, FinishDoes, CloseDoes, IfWaits, IsReplaying, Takes, output_len};
@@ -102,11 +102,11 @@ impl<H: Handler> Attempt<H> {
         // Under the premises, while recorded commands are left, the handler's next call is answered, or it is refused where the journal
         // tells no more.
         ensures replays { IsReplaying self.old.record_of → Premises (H.meaning self.old.handler) self.old.version self.old.options (heard self.old.version self.old.record_of) → Replays (H.meaning self.old.handler) self.old.version self.old.options self.old.record_of result self.new.record_of }
-        // An error is want of memory, a frame or bytes that were refused, input closed too early, a journal without input, or a call
-        // that was refused.
+        // An error is want of memory, a frame or bytes that were refused, input closed too early, a journal without input, a call that was
+        // refused, or a run's result that was refused or failed the attempt.
         ensures blamed { IfError result (λ e. Blame (H.meaning self.old.handler) self.old.version self.old.options (all_heard self.old.version self.new.record_of) self.new.record_of.closed self.new.record_of.answers e) }
         // Where the bytes are an honest attempt's over a history of the handler, an error is only want of memory, input that was closed
-        // too early, or a call's own refusal, where no recorded command is left.
+        // too early, a call's own refusal, where no recorded command is left, or that of a run's result.
         ensures honest { IsHonest (H.meaning self.old.handler) self.old.version self.old.options (all_heard self.old.version self.new.record_of) → IfError result (λ e. IsOwnError (H.meaning self.old.handler) self.old.version self.old.options (all_heard self.old.version self.new.record_of) self.new.record_of.closed self.new.record_of.answers e) }
         ensures handler { self.new.handler ≡ self.old.handler }
         ensures made_for { (self.new.version ≡ self.old.version) × (self.new.options ≡ self.old.options) }
@@ -126,6 +126,10 @@ impl<H: Handler> Attempt<H> {
         policy: RetryPolicy,
     ) -> VMResult<()>
         ensures does { FinishDoes self.old.record_of.starved handle exit policy self.old.record_of result self.new.record_of }
+        // An error is want of memory, the VM's first error, or that of a result that was refused, or by which the run is tried again or the
+        // invocation paused.
+        ensures blamed { IfErr result (λ e. Blame (H.meaning self.old.handler) self.old.version self.old.options (all_heard self.old.version self.new.record_of) self.new.record_of.closed self.new.record_of.answers e) }
+        ensures honest { IsHonest (H.meaning self.old.handler) self.old.version self.old.options (all_heard self.old.version self.new.record_of) → IfErr result (λ e. IsOwnError (H.meaning self.old.handler) self.old.version self.old.options (all_heard self.old.version self.new.record_of) self.new.record_of.closed self.new.record_of.answers e) }
         ensures handler { self.new.handler ≡ self.old.handler }
         ensures made_for { (self.new.version ≡ self.old.version) × (self.new.options ≡ self.old.options) }
     {

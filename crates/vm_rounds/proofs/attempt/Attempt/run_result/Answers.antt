@@ -1,5 +1,6 @@
 use Rattle.vm_rounds.specs.Inside.{the_fields, the_record}
-use Rattle.vm_rounds.proofs.Finishing.{finish_blames, finish_comes, finish_late, finish_sleeps, finish_told, finish_under}
+use Rattle.vm_rounds.specs.Record.{all_heard}
+use Rattle.vm_rounds.proofs.Finishing.{finish_blame, finish_blames, finish_comes, finish_honest, finish_late, finish_sleeps, finish_told, finish_under}
 use Rattle.vm_rounds.proofs.attempt.Attempt.run_result.Goals as goal
 
 pub invariant_of-self : goal.invariant_of-self
@@ -23,3 +24,31 @@ pub returns-clause-does : goal.returns-clause-does
 returns-clause-does g c =
     let a = c.self.inside in
     rw (← c.self.view_is) (finish_told a.version a.options c.args.handle c.args.exit c.args.policy (the_fields a.inner) c.run_result-told.result (the_fields c.run_result-told.new.self) c.self.invariant.0 c.self.invariant.5 c.output_len.ensures.whole c.run_result-told.ensures.does)
+
+pub returns-clause-blamed : goal.returns-clause-blamed
+returns-clause-blamed g c =
+    let a = c.self.inside in
+    let m = g.H.Handler.meaning a.inner.handler in
+    let old = the_record a.inner in
+    let new = the_record c.run_result-told.new.self in
+    let came = c.self.invariant.0 in
+    let does = finish_told a.version a.options c.args.handle c.args.exit c.args.policy (the_fields a.inner) c.run_result-told.result (the_fields c.run_result-told.new.self) came c.self.invariant.5 c.output_len.ensures.whole c.run_result-told.ensures.does in
+    rw (← c.self.view_is)
+    (finish_blame m a.version a.options c.args.handle c.args.exit c.args.policy old c.run_result-told.result new does
+    (finish_blames a.version a.options c.args.handle c.args.exit c.args.policy old c.run_result-told.result new came does m c.self.invariant.1)
+    (finish_late a.version a.options c.args.handle c.args.exit c.args.policy old c.run_result-told.result new came does m c.self.invariant.3))
+
+pub returns-clause-honest : goal.returns-clause-honest
+returns-clause-honest g c =
+    let a = c.self.inside in
+    let m = g.H.Handler.meaning a.inner.handler in
+    let old = the_record a.inner in
+    let new = the_record c.run_result-told.new.self in
+    let came = c.self.invariant.0 in
+    let does = finish_told a.version a.options c.args.handle c.args.exit c.args.policy (the_fields a.inner) c.run_result-told.result (the_fields c.run_result-told.new.self) came c.self.invariant.5 c.output_len.ensures.whole c.run_result-told.ensures.does in
+    rw (← c.self.view_is)
+    (λ honest.
+    finish_honest m a.version a.options (all_heard a.version new) new.closed new.answers c.run_result-told.result honest
+    (finish_blame m a.version a.options c.args.handle c.args.exit c.args.policy old c.run_result-told.result new does
+    (finish_blames a.version a.options c.args.handle c.args.exit c.args.policy old c.run_result-told.result new came does m c.self.invariant.1)
+    (finish_late a.version a.options c.args.handle c.args.exit c.args.policy old c.run_result-told.result new came does m c.self.invariant.3)))
