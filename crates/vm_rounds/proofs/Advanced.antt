@@ -44,7 +44,6 @@ use Rattle.vm_rounds.specs.Heard.{acknowledged_from}
 use Rattle.vm_rounds.proofs.Arriving.{arriving_alone, kept_none}
 use Rattle.vm_rounds.proofs.Proposed.{none_found, none_front}
 use Rattle.vm_rounds.specs.Heard.{Heard}
-use Rattle.vm_rounds.specs.declared.progress.Fed.{Fed}
 use Rattle.vm_rounds.specs.declared.progress.Progress.{Progress}
 use Rattle.vm_rounds.specs.declared.progress.Progress.TheVariants as progress
 use Rattle.vm_rounds.specs.Agreement.{Agrees, Aside}

@@ -13,7 +13,6 @@ use Rattle.invocation_vm.specs.Making.{made}
 use Rattle.invocation_vm.specs.Views.{View}
 use Rattle.vm_model.specs.Calls.{Meaning}
 use Rattle.vm_rounds.specs.Heard.{Heard}
-use Rattle.vm_rounds.specs.declared.progress.Fed.{Fed}
 use Rattle.vm_rounds.specs.declared.progress.Progress.{Progress}
 use Rattle.vm_rounds.specs.declared.progress.Reply.{Reply}
 use Rattle.vm_rounds.specs.declared.progress.Reply.TheVariants as reply

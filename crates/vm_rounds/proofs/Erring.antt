@@ -30,7 +30,6 @@ use Rattle.vm_model.specs.Calls.{Setup, Meaning, identity_of}
 use Rattle.vm_model.specs.Journal.{input_read_from}
 use Rattle.vm_model.proofs.Runs.{made_add}
 use Rattle.vm_rounds.specs.Heard.{Heard}
-use Rattle.vm_rounds.specs.declared.progress.Fed.{Fed}
 use Rattle.vm_rounds.specs.declared.progress.Progress.{Progress}
 use Rattle.vm_rounds.specs.declared.progress.Progress.TheVariants as progress
 use Rattle.vm_rounds.specs.declared.progress.Reply.{Reply}

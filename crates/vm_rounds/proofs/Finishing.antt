@@ -1,7 +1,7 @@
 -- What executing a run came to is told: it is ignored, a result is proposed, or the VM fails.
-use Rattle.std.proofs.Common.{◌≡◌, ◌≢◌, ◌⊎◌, ℕ, Bool, true, false, List, [], ◌∷◌, ◌++◌, map, Option, Some, None, Result, Ok, Err, refl, sym, ap, ◌∙◌, subst, inl, inr, ⊎_elim, append-nil, Global}
+use Rattle.std.proofs.Common.{◌≡◌, ◌⊎◌, ℕ, Bool, true, false, List, [], ◌∷◌, ◌++◌, map, Option, Some, None, Result, Ok, Err, refl, sym, ap, ◌∙◌, subst, inl, inr, ⊎_elim, append-nil, Global}
 use Rattle.std.specs.Prelude.{IfErr, drop, if◌then◌else◌, is_some, length, unwrap_or}
-use Rattle.std.specs.List.{concat, find}
+use Rattle.std.specs.List.{concat}
 use Rattle.std.proofs.lemmas.List.{drop_at}
 use Rattle.std.proofs.lemmas.Option.{same_Some}
 use Rattle.await_trees.specs.declared.handle.NotificationHandle.{NotificationHandle}
@@ -21,12 +21,10 @@ use Rattle.runs.specs.declared.settling.Settlement.TheVariants as settlement
 use Rattle.runs.specs.declared.types.RunExitResult.{RunExitResult}
 use Rattle.runs.specs.Firsts.{without_first}
 use Rattle.runs.specs.Pending.{has_handle}
-use Rattle.runs.specs.Settling.{Becomes}
 use Rattle.vm_parts.specs.declared.options.VMOptions.{VMOptions}
 use Rattle.vm_parts.specs.declared.run_state.KeptProposal.{KeptProposal}
 use Rattle.vm_parts.specs.declared.run_state.PendingRun.{PendingRun}
 use Rattle.vm_parts.specs.declared.steps.Answer.{Answer}
-use Rattle.vm_parts.specs.declared.context.StateMap.{StateMap}
 use Rattle.vm_parts.specs.Outboxes.{WholeFrames}
 use Rattle.vm_machine.specs.declared.machine.Machine.{Machine}
 use Rattle.vm_machine.specs.declared.phase.Phase.{Phase}
@@ -38,24 +36,21 @@ use Rattle.vm_machine.specs.Outcomes.{CalledBy, Done, Failed, IsStarved, Outcome
 use Rattle.vm_machine.specs.Phases.{is_closed, is_from_v7, is_running}
 use Rattle.vm_machine.specs.Proposals.{Proposes, Settled, SettledAt, SettledUnless, SettlesAs, proposal_fault, proposed, without_run}
 use Rattle.vm_machine.proofs.Calling.{called_from}
-use Rattle.invocation_vm.specs.Calls.{CallsProposal}
-use Rattle.invocation_vm.specs.Frames.{Rest}
-use Rattle.invocation_vm.specs.Views.{AnswersFirst, View}
+use Rattle.invocation_vm.specs.Views.{View}
 use Rattle.invocation_vm.proofs.Lawful.{first_proposed}
 use Rattle.vm_model.specs.Calls.{Meaning, Setup}
 use Rattle.vm_model.specs.Histories.{Handed, Made}
 use Rattle.vm_model.specs.Moves.{Point, start}
 use Rattle.vm_model.specs.Journal.{stored_form}
 use Rattle.vm_rounds.specs.declared.progress.Progress.{Progress}
-use Rattle.vm_rounds.specs.Agreement.{Agrees}
 use Rattle.vm_rounds.specs.Arrivals.{AllFound, arriving}
-use Rattle.vm_rounds.specs.Blames.{BehindEnd, Blame, BlamedAt, IsBlamed, IsHonest, IsLate, IsOwnError, LateBy, RefusedResult}
+use Rattle.vm_rounds.specs.Blames.{Blame, BlamedAt, IsBlamed, IsHonest, IsLate, IsOwnError, LateBy}
 use Rattle.vm_rounds.specs.Blames.Blame.{Memory, RunResult}
 use Rattle.vm_rounds.specs.Heard.{Heard, acknowledged_from, proposals_among, proposals_in, with_pieces}
 use Rattle.vm_rounds.specs.Journals.{HasAll, StillWaits, setup_for}
 use Rattle.vm_rounds.specs.Record.{Record, all_heard, heard}
-use Rattle.vm_rounds.specs.Stepping.{FinishDoes, Finishes, IfWaits, Tells, TellsUnless, newly_proposed, with_vm}
-use Rattle.vm_rounds.specs.Told.{BeforeInput, Begun, Came, Comes, HasCome, IsKept, IsKeptUnder, IsLive, Journal, Premises, Quiet, Runs, Sleeps, StillSleeps, Wrote, arrivals, frames_fed, handed_out}
+use Rattle.vm_rounds.specs.Stepping.{FinishDoes, Finishes, Tells, TellsUnless, newly_proposed, with_vm}
+use Rattle.vm_rounds.specs.Told.{BeforeInput, Begun, Came, Comes, HasCome, IsKeptUnder, IsLive, Journal, Premises, Quiet, Runs, StillSleeps, Wrote, arrivals, frames_fed, handed_out}
 use Rattle.vm_rounds.proofs.Advanced.{done_of}
 use Rattle.vm_rounds.proofs.Blamed.{alive_blamed, none_some, over_blamed}
 use Rattle.vm_rounds.proofs.Erring.{error_blamed}

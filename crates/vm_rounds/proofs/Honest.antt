@@ -30,10 +30,9 @@ use Rattle.vm_model.proofs.Runs.{made_later}
 use Rattle.journal_attempt.specs.declared.commands.InputCommand.{InputCommand}
 use Rattle.vm_model.specs.Journal.{Entry, Recorded, Notified, commands_in, input_read_from, notifications_in, stored_form}
 use Rattle.vm_rounds.specs.Heard.{Heard}
-use Rattle.vm_rounds.specs.declared.progress.Fed.{Fed}
 use Rattle.vm_rounds.specs.Blames.{Began, IsHonest, Place, fault_by, frame_fault, notification_fault, refused_start, start_fault}
 use Rattle.vm_rounds.specs.Honest.{FeedsHonestly, IsEntry, entry_frame, frame_bytes, notification_frame}
-use Rattle.vm_rounds.specs.Journals.{AcknowledgesNothing, is_acknowledgement, as_entries, is_notification, notifications_among, notified_by, recorded_by, setup_for, told_by}
+use Rattle.vm_rounds.specs.Journals.{AcknowledgesNothing, is_acknowledgement, as_entries, is_notification, recorded_by, setup_for, told_by}
 use Rattle.vm_rounds.specs.Told.{NoneHasTwo, arrivals, begun, bytes_fed, frames_fed, handed_out}
 use Rattle.std.specs.Prelude.{IsSome}
 use Rattle.std.specs.List.{find}
@@ -49,7 +48,6 @@ use Rattle.vm_rounds.specs.Honest.{Further, further_frame, further_message}
 use Rattle.vm_rounds.specs.Honest.Further.{Acknowledges, Notifies}
 use Rattle.vm_rounds.proofs.Entries.{not_both}
 use Rattle.vm_rounds.proofs.Proposed.{arriving_append, arriving_notified, found_append, kept_all, none_found}
-use Rattle.vm_rounds.proofs.Pieces.{notifications_append, none_append}
 use Rattle.vm_rounds.proofs.Replayed.{commands_same, head_same, notes_same, tail_same}
 use Rattle.vm_rounds.proofs.Under.{fewer_waiting}
 use Rattle.vm_rounds.proofs.Written.{Fits, frames_spelled}

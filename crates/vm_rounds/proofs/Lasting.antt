@@ -1,45 +1,31 @@
 -- What lasts of a handler that runs: its run is told, and so is what came and was written.
-use Rattle.runs.specs.Kept.{is_for}
-use Rattle.vm_parts.specs.declared.run_state.KeptProposal.{KeptProposal}
-use Rattle.journal_attempt.specs.declared.runs.ProposeRunCompletionAck.{ProposeRunCompletionAck}
 use Rattle.vm_model.specs.Histories.{Handed}
-use Rattle.std.proofs.Common.{◌≡◌, ℕ, Bool, true, false, List, [], ◌∷◌, ◌++◌, Option, Some, None, refl, sym, ap, ◌∙◌, subst, inl, inr, ⊎_elim}
-use Rattle.std.specs.Prelude.{IsSome, ◌==◌}
-use Rattle.std.specs.List.{concat, find}
-use Rattle.journal_errors.specs.declared.error.Error.{Error}
+use Rattle.std.proofs.Common.{◌≡◌, ℕ, true, List, [], ◌∷◌, ◌++◌, Option, None, sym, ap, ◌∙◌, inl, inr, ⊎_elim}
+use Rattle.std.specs.Prelude.{IsSome}
+use Rattle.std.specs.List.{concat}
 use Rattle.journal_messages.specs.declared.message.RawMessage.{RawMessage}
 use Rattle.journal_errors.specs.declared.version.Version.{Version}
 use Rattle.vm_parts.specs.declared.options.VMOptions.{VMOptions}
 use Rattle.vm_parts.specs.declared.steps.Answer.{Answer}
 use Rattle.await_trees.specs.declared.tree.UnresolvedFuture.{UnresolvedFuture}
 use Rattle.vm_machine.specs.declared.machine.Machine.{Machine}
-use Rattle.vm_machine.specs.declared.phase.Phase.{Phase}
-use Rattle.vm_machine.specs.declared.phase.Phase.TheVariants.{WaitingStart, WaitingReplayEntries, Replaying, Processing, Closed}
-use Rattle.journal_errors.specs.Types.{type_number}
+use Rattle.vm_machine.specs.declared.phase.Phase.TheVariants.{Processing, Closed}
 use Rattle.vm_model.specs.Moves.{Point, later}
-use Rattle.vm_machine.specs.Inputs.{queued, acknowledged, acknowledged_by}
-use Rattle.vm_machine.specs.Outcomes.{settled, ruled}
 use Rattle.vm_machine.specs.Phases.{is_running}
 use Rattle.invocation_vm.specs.Frames.{frames_of}
-use Rattle.invocation_vm.specs.Views.{View, after_input, all_received, left_by, received}
+use Rattle.invocation_vm.specs.Views.{View, after_input, all_received}
 use Rattle.vm_model.specs.Calls.{Meaning, Setup}
 use Rattle.vm_rounds.specs.Heard.{Heard, and_piece, with_pieces}
 use Rattle.vm_rounds.specs.declared.progress.Fed.{Fed}
 use Rattle.vm_parts.specs.declared.context.StateMap.{StateMap}
 use Rattle.vm_rounds.specs.Agreement.{Agrees}
-use Rattle.vm_rounds.specs.Journals.{is_command, is_notification, notifications_among, setup_for, is_acknowledgement}
+use Rattle.vm_rounds.specs.Journals.{setup_for}
 use Rattle.vm_rounds.specs.Stepping.{emptied}
 use Rattle.vm_parts.specs.Outboxes.{WholeFrames}
 use Rattle.vm_rounds.specs.Told.{IsLive, Quiet, Runs, frames_fed, handed_out, Came}
-use Rattle.vm_rounds.proofs.Arriving.{failed_stays}
-use Rattle.vm_rounds.proofs.Entries.{message_by, receives_by}
 use Rattle.vm_rounds.proofs.Pieces.{fed_frames, journal_to, keeps_more, more_arrivals, not_failed, run_to, running_fed, still_awaits, took_in}
 use Rattle.vm_rounds.proofs.Quiet.{input_quiet, wrote_quiet}
-use Rattle.journal_errors.specs.declared.faults.NamedFault.{NamedFault}
-use Rattle.journal_values.specs.declared.notification.Notification.{Notification}
-use Rattle.journal_errors.specs.Errors.{named_error}
-use Rattle.journal_messages.specs.Reading.{notification_in, acknowledgement_in}
-use Rattle.vm_rounds.specs.Blames.{FailsAt, fault_among}
+use Rattle.vm_rounds.specs.Blames.{FailsAt}
 use Rattle.vm_rounds.proofs.Blaming.{frames_fit}
 use Rattle.vm_rounds.proofs.Staying.{all_stay, no_failure}
 use Rattle.vm_rounds.proofs.Kept.{Lasts, Reading, not_live}

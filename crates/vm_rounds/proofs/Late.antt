@@ -27,7 +27,7 @@ use Rattle.vm_rounds.specs.declared.progress.Fed.{Fed}
 use Rattle.vm_rounds.specs.declared.progress.Progress.{Progress}
 use Rattle.vm_rounds.specs.declared.progress.Reply.{Reply}
 use Rattle.vm_rounds.specs.declared.progress.Reply.TheVariants as reply
-use Rattle.vm_rounds.specs.Blames.{BadFrame, Began, BehindEnd, Blame, FailsAt, IfError, IsBlamed, IsLate, LateBy, fault_by, frame_fault, fault_among}
+use Rattle.vm_rounds.specs.Blames.{BadFrame, Began, BehindEnd, Blame, FailsAt, IfError, IsBlamed, IsLate, LateBy, fault_by, fault_among}
 use Rattle.vm_rounds.specs.Blames.Blame.{Memory, Frame, NoFrame}
 use Rattle.vm_rounds.specs.Journals.{is_command, is_notification, is_acknowledgement}
 use Rattle.vm_rounds.specs.Record.{Record, heard, all_heard}

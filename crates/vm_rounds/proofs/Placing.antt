@@ -32,7 +32,7 @@ use Rattle.vm_rounds.specs.declared.progress.Fed.{Fed}
 use Rattle.vm_model.specs.Histories.{behind}
 use Rattle.vm_rounds.specs.Arrivals.{kept_after}
 use Rattle.vm_rounds.specs.Told.{BeforeInput, Begun, Came, Comes, HasCome, IsLive, ProposesLate, frames_fed}
-use Rattle.vm_rounds.specs.Blames.{BadFrame, Began, FailsAt, Place, frame_fault, fault_among}
+use Rattle.vm_rounds.specs.Blames.{BadFrame, Began, FailsAt, Place, fault_among}
 use Rattle.vm_rounds.proofs.Arriving.{failed_stays, kept_none}
 use Rattle.vm_rounds.proofs.Blaming.{one_comes}
 use Rattle.vm_rounds.proofs.Entries.{message_by, receives_by}

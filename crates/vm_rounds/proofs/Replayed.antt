@@ -24,7 +24,6 @@ use Rattle.vm_rounds.specs.Heard.{Heard}
 use Rattle.vm_rounds.specs.declared.progress.Progress.{Progress}
 use Rattle.vm_rounds.specs.Blames.{RefusedCall, Blame, IfError, IsHonest, IsOwnError, first_input}
 use Rattle.vm_rounds.specs.Blames.Blame.{Memory, Frame, NoFrame, ClosedEarly, NoInput, Call, RunResult}
-use Rattle.vm_rounds.specs.declared.progress.Fed.{Fed}
 use Rattle.vm_rounds.specs.Journals.{as_entries, commands_among, is_command, is_notification, notifications_among, notified_by, recorded_by, setup_for, told_by}
 use Rattle.vm_rounds.specs.Told.{Journal, RefusesReplay, arrivals, handed_out}
 use Rattle.vm_rounds.specs.Arrivals.{arriving}
@@ -43,7 +42,6 @@ use Rattle.vm_rounds.specs.Journals.{is_acknowledgement}
 use Rattle.vm_rounds.proofs.Arriving.{kept_none}
 use Rattle.vm_rounds.proofs.Blaming.{none_kept}
 use Rattle.vm_rounds.proofs.Proposed.{arriving_append, arriving_notified, kept_all}
-use Rattle.vm_rounds.proofs.Pieces.{notifications_append}
 
 recorded_commands : (b : Bool) (raw : RawMessage) (es : List Entry) (cs : List RawMessage) → commands_in es ≡ cs → commands_in (recorded_by b raw es) ≡ cond b (raw ∷ cs) cs
 recorded_commands true raw es cs is = ap (λ l. raw ∷ l) is

@@ -33,7 +33,7 @@ use Rattle.vm_rounds.specs.Record.{Record, bytes_written, heard}
 use Rattle.vm_rounds.specs.Stepping.{Advances, Asks, CloseDoes, Closes, FeedDoes, Feeds, LacksMemory, MakesAttempt, Reads, StepAt, StepDoes, StepFrom, StepUnless, Takes, fresh_record, future_in, kept, kept_at, replied, step_asked, taken_from, with_vm}
 use Rattle.vm_rounds.specs.Told.{BeforeInput, Came, HasCome, IsLive, Quiet, Wrote}
 use Rattle.vm_rounds.proofs.Advanced.{done_of, failed_quiet, input_silent}
-use Rattle.vm_rounds.proofs.Quiet.{Silent, closing_quiet, input_quiet, quiet_same}
+use Rattle.vm_rounds.proofs.Quiet.{Silent, closing_quiet, input_quiet}
 use Rattle.vm_rounds.proofs.Sending.{IsLeft, Sends, step_leaves}
 use Rattle.vm_rounds.proofs.Written.{frames_propose, proposes_more}
 

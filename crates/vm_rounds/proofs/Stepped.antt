@@ -54,7 +54,6 @@ use Rattle.vm_model.proofs.Compared.{after_answers, attempt_is_told}
 use Rattle.std.proofs.lemmas.Option.{same_Some}
 use Rattle.vm_model.proofs.Runs.{and_then_some, made_add, none_some}
 use Rattle.vm_rounds.specs.Heard.{Heard}
-use Rattle.vm_rounds.specs.declared.progress.Fed.{Fed}
 use Rattle.vm_rounds.specs.declared.progress.Progress.{Progress}
 use Rattle.vm_rounds.specs.declared.progress.Reply.{Reply}
 use Rattle.vm_rounds.specs.declared.progress.Reply.TheVariants as reply

@@ -7,13 +7,11 @@ use Rattle.runs.specs.Pending.{is_executing, is_executing_in, may_execute, start
 use Rattle.await_trees.specs.Handles.{handles_of}
 use Rattle.std.specs.List.{find, list_any}
 use Rattle.std.proofs.Common.{◌≡◌, ◌<◌, ◌≤◌, ℕ, zero, suc, ◌+◌, Bool, true, false, List, [], ◌∷◌, ◌++◌, map, take, drop, length, Option, Some, None, refl, sym, ap, ◌∙◌, subst, ⊎_elim, append-nil, Ok, Err, arith}
-use Rattle.std.specs.Prelude.{if◌then◌else◌, Result}
+use Rattle.std.specs.Prelude.{Result}
 use Rattle.await_trees.specs.declared.tree.UnresolvedFuture.{UnresolvedFuture}
 use Rattle.await_trees.specs.Residual.{Residual}
 use Rattle.await_trees.specs.Tree.{Tree}
-use Rattle.await_trees.specs.Wires.{sent}
 use Rattle.await_tries.specs.Await.{AwakeAlike, LeastAwake, LeftPending}
-use Rattle.await_tries.specs.Message.{ids}
 use Rattle.journal_errors.specs.declared.error.Error.{Error}
 use Rattle.journal_errors.specs.declared.error.RelatedCommand.{RelatedCommand}
 use Rattle.journal_errors.specs.declared.faults.NamedFault.{NamedFault}
@@ -29,7 +27,7 @@ use Rattle.vm_parts.specs.declared.steps.Step.TheVariants as step
 use Rattle.vm_parts.specs.declared.types.AwaitResponse.{AwaitResponse}
 use Rattle.vm_parts.specs.declared.types.AwaitResponse.TheVariants.{AnyCompleted, CancelSignalReceived, ExecuteRun, WaitingExternalProgress}
 use Rattle.vm_machine.specs.declared.machine.Machine.{Machine}
-use Rattle.vm_machine.specs.Awaits.{Ends, StaysPending, Tries, pending_on, suspended, waiting, with_used, waits_by, waits_on, last_run}
+use Rattle.vm_machine.specs.Awaits.{Ends, StaysPending, Tries, pending_on, with_used, waits_by, waits_on, last_run}
 use Rattle.vm_machine.specs.Commands.{phase_after}
 use Rattle.vm_machine.specs.Outcomes.{Outcome, Done, Failed}
 use Rattle.vm_machine.specs.Phases.{is_closed}

@@ -8,7 +8,6 @@ use Rattle.journal_errors.specs.declared.error.Error.{Error}
 use Rattle.journal_errors.specs.declared.faults.NamedFault.TheVariants as fault
 use Rattle.journal_messages.specs.Message.{encoding}
 use Rattle.vm_parts.specs.declared.steps.Step.{Step}
-use Rattle.vm_parts.specs.declared.types.AwaitResponse.{AwaitResponse}
 use Rattle.vm_parts.specs.declared.types.AwakeableHandle.{AwakeableHandle}
 use Rattle.await_trees.specs.declared.tree.UnresolvedFuture.{UnresolvedFuture}
 use Rattle.await_trees.specs.Tree.{tree_of}
