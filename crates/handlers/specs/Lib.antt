@@ -1,5 +1,6 @@
 pub mod Answers
 pub mod Calls
+pub mod Charge
 pub mod Sleeper
 pub mod Race
 pub mod Parent

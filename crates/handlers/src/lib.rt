@@ -1,8 +1,9 @@
-//! Handlers for people: those that the programs know by their names.
+//! Handlers for people: those that the programs know by their names, and `charge`, whose run is executed outside.
 #![tactic(auto)]
 
 pub mod answers;
 pub mod calls;
+pub mod charge;
 pub mod counter;
 pub mod named;
 pub mod parent;
