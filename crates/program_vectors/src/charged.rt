@@ -122,33 +122,45 @@ fn assert_refused(
     expect_error(attempt, code, text)
 }
 
-#[test]
-fn run_that_is_acknowledged_is_taken(rt: HostRuntime) -> Result<(), Fail> {
-    let alloc = rt.alloc();
-    let mut attempt = executing(&rt, alloc)?;
+/// The attempt proposes its run's result, and waits for its acknowledgement.
+fn propose(rt: &impl Abort, alloc: Global, attempt: &mut Attempt<Charge>) -> Result<(), Fail> {
     attempt.run_result(RUN, success(), RetryPolicy::None)?;
-    expect_frames(alloc, &mut attempt, &[RUN_CHARGE, PROPOSAL_OF_X])?;
+    expect_frames(alloc, attempt, &[RUN_CHARGE, PROPOSAL_OF_X])?;
     let waiting = Progress::Waiting {
         input: true,
         run: false,
     };
-    assert_steps(&rt, &mut attempt, &[waiting])?;
-    expect_frames(alloc, &mut attempt, &[AWAITING_ON_1])?;
-    attempt.feed(Bytes::from_static(ACKNOWLEDGEMENT_1))?;
-    assert_steps(&rt, &mut attempt, &[Progress::Stepped; 3])?;
+    assert_steps(rt, attempt, &[waiting])?;
+    expect_frames(alloc, attempt, &[AWAITING_ON_1])
+}
+
+/// The attempt's last steps take "x", and end.
+fn assert_charged(
+    rt: &impl Abort,
+    alloc: Global,
+    attempt: &mut Attempt<Charge>,
+    steps: &[Progress],
+) -> Result<(), Fail> {
+    assert_steps(rt, attempt, steps)?;
     expect_answers(attempt.answers(), CHARGED)?;
-    assert_steps(&rt, &mut attempt, &[Progress::Ended])?;
-    expect_frames(alloc, &mut attempt, &[OUTPUT_X, END])
+    assert_steps(rt, attempt, &[Progress::Ended])?;
+    expect_frames(alloc, attempt, &[OUTPUT_X, END])
+}
+
+#[test]
+fn run_that_is_acknowledged_is_taken(rt: HostRuntime) -> Result<(), Fail> {
+    let alloc = rt.alloc();
+    let mut attempt = executing(&rt, alloc)?;
+    propose(&rt, alloc, &mut attempt)?;
+    attempt.feed(Bytes::from_static(ACKNOWLEDGEMENT_1))?;
+    assert_charged(&rt, alloc, &mut attempt, &[Progress::Stepped; 3])
 }
 
 #[test]
 fn run_that_is_recorded_is_not_executed(rt: HostRuntime) -> Result<(), Fail> {
     let alloc = rt.alloc();
     let mut attempt = fed(alloc, &[START_3, INPUT_TILL, RUN_CHARGE, RESULT_X])?;
-    assert_steps(&rt, &mut attempt, &[Progress::Stepped; 5])?;
-    expect_answers(attempt.answers(), CHARGED)?;
-    assert_steps(&rt, &mut attempt, &[Progress::Ended])?;
-    expect_frames(alloc, &mut attempt, &[OUTPUT_X, END])
+    assert_charged(&rt, alloc, &mut attempt, &[Progress::Stepped; 5])
 }
 
 #[test]
