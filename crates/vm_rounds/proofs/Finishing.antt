@@ -50,7 +50,7 @@ use Rattle.vm_rounds.specs.Heard.{Heard, acknowledged_from, proposals_among, pro
 use Rattle.vm_rounds.specs.Journals.{HasAll, StillWaits, setup_for}
 use Rattle.vm_rounds.specs.Record.{Record, all_heard, heard}
 use Rattle.vm_rounds.specs.Stepping.{FinishDoes, Finishes, Tells, TellsUnless, newly_proposed, with_vm}
-use Rattle.vm_rounds.specs.Told.{BeforeInput, Begun, Came, Comes, HasCome, IsKeptUnder, IsLive, Journal, Premises, Quiet, Runs, StillSleeps, Wrote, arrivals, frames_fed, handed_out}
+use Rattle.vm_rounds.specs.Told.{BeforeInput, Begun, Came, Comes, HasCome, IsKept, IsKeptUnder, IsLive, Journal, Premises, Quiet, Runs, StillSleeps, Wrote, arrivals, frames_fed, handed_out}
 use Rattle.vm_rounds.proofs.Advanced.{done_of}
 use Rattle.vm_rounds.proofs.Blamed.{alive_blamed, none_some, over_blamed}
 use Rattle.vm_rounds.proofs.Erring.{error_blamed}
@@ -445,20 +445,26 @@ module _ (version : Version) (options : VMOptions) (handle : NotificationHandle)
 
   -- ---- the handler's run
 
-  proposes_under : (m : Meaning) → IsKeptUnder m version options old → ProposesOne handle old new → IsKeptUnder m version options new
-  proposes_under m u p =
-      subst (IsKeptUnder m version options) (sym p.is)
-      (λ q.
+  proposes_keeps : (m : Meaning) → IsKept m version options old → ProposesOne handle old new → IsKept m version options new
+  proposes_keeps m kept p =
       let c = has_come p in
-      let before : Premises m version options (heard version old) = premises_less version options (heard version old) old.answers old.waiting old.taken old.vm (is_live p) p.phase handle p.id p.result (further p) c m (subst (Premises m version options) (heard_is p) q) in
-      ⊎_elim
+      subst (IsKept m version options) (sym p.is)
+      (⊎_elim
       (λ (b : BeforeInput version options (heard version old) old.answers old.waiting old.taken old.vm). absurd (c.answered b.answers))
       (λ (k : Runs m version options (heard version old) old.answers old.waiting old.taken old.vm).
       inr (told_of (λ h v. Runs m version options h old.answers old.waiting old.taken v) p (runs_proposes version options (heard version old) old.answers old.waiting old.taken old.vm (is_live p) p.phase handle p.id p.result (further p) c m k)))
-      (u before))
+      kept)
+
+  fails_keeps : (m : Meaning) → IsKept m version options old → FailsBy handle exit policy old new → IsKept m version options new
+  fails_keeps m kept f = subst (IsKept m version options) (sym f.is) (dead_same (Runs m version options) (runs_last m version options) version options old f.vm kept f.fails.quiet (some_failed f))
+
+  proposes_under : (m : Meaning) → IsKeptUnder m version options old → ProposesOne handle old new → IsKeptUnder m version options new
+  proposes_under m u p q =
+      let here : Premises m version options (and_proposed (heard version old) (further p)) = subst (Premises m version options) (ap (heard version) p.is ∙ heard_is p) q in
+      proposes_keeps m (u (premises_less version options (heard version old) old.answers old.waiting old.taken old.vm (is_live p) p.phase handle p.id p.result (further p) (has_come p) m here)) p
 
   fails_under : (m : Meaning) → IsKeptUnder m version options old → FailsBy handle exit policy old new → IsKeptUnder m version options new
-  fails_under m u f = subst (IsKeptUnder m version options) (sym f.is) (λ q. dead_same (Runs m version options) (runs_last m version options) version options old f.vm (u q) f.fails.quiet (some_failed f))
+  fails_under m u f q = fails_keeps m (u (subst (λ r. Premises m version options (heard version r)) f.is q)) f
 
   -- ---- why it failed
 
@@ -535,6 +541,10 @@ module _ (version : Version) (options : VMOptions) (handle : NotificationHandle)
 
   pub finish_comes : HasCome version options new
   finish_comes = by_case (HasCome version options) came (proposes_comes version options handle exit policy old new came) (fails_comes version options handle exit policy old new came)
+
+  -- the handler's run goes on, whatever the premises are
+  pub finish_keeps : (m : Meaning) → IsKept m version options old → IsKept m version options new
+  finish_keeps m kept = by_case (IsKept m version options) kept (proposes_keeps version options handle exit policy old new came m) (fails_keeps version options handle exit policy old new came m)
 
   pub finish_under : (m : Meaning) → IsKeptUnder m version options old → IsKeptUnder m version options new
   finish_under m u = by_case (IsKeptUnder m version options) u (proposes_under version options handle exit policy old new came m u) (fails_under version options handle exit policy old new came m u)
