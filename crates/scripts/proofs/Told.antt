@@ -1,5 +1,5 @@
 -- A reply tells what a call did.
-use Rattle.std.proofs.Common.{◌≡◌, List, [], ℕ, Result, Option, Global}
+use Rattle.std.proofs.Common.{◌≡◌, inr, List, [], ℕ, Result, Option, Global}
 use Rattle.std.specs.declared.alloc.AllocError.{AllocError}
 use Rattle.journal_errors.specs.declared.error.Error.{Error}
 use Rattle.journal_messages.specs.declared.message.RawMessage.{RawMessage}
@@ -21,7 +21,7 @@ use Rattle.requests.specs.declared.request.Request.{Request}
 use Rattle.requests.specs.Lines.{Reads}
 use Rattle.scripts.specs.Performed.{Performed}
 use Rattle.replies.specs.Replies.{reply_text}
-use Rattle.scripts.specs.Transcripts.{Transcribes}
+use Rattle.scripts.specs.Transcripts.{IsUnanswered, Transcribes}
 use Rattle.scripts.specs.Called.{Answers, Feeds, Drains, Tells, reply_of, reply_or_memory}
 
 pub answers : {A : Type 0} (f : A → Reply) (step : Machine → Outcome A) (given : Result A Error) (answer : Reply) (old new : View) → Does (called (step old.machine) old.machine) given old.machine new.machine → new.undecoded ≡ old.undecoded → answer ≡ reply_of f given → Answers f step answer old new
@@ -44,3 +44,7 @@ drains given answer old new takes told = record { given = given; takes = takes; 
 
 pub transcribes : (alloc : Global) (old new : Option CoreVM) (line answer : List ℕ) (request : Request) (reply : Reply) → Reads line request → Performed alloc request old reply new → answer ≡ reply_text reply → Transcribes alloc old new line answer
 transcribes alloc old new line answer request reply reads performed printed = record { request = request; reply = reply; reads = reads; performed = performed; printed = printed }
+
+-- what the line asks for was done, and its answer found no memory
+pub unanswered : (alloc : Global) (old new : Option CoreVM) (line : List ℕ) (request : Request) (reply : Reply) → Reads line request → Performed alloc request old reply new → IsUnanswered alloc old new line
+unanswered alloc old new line request reply reads performed = inr (request, reply, reads, performed)

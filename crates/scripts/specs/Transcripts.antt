@@ -17,6 +17,10 @@ pub record Transcribes (alloc : Global) (old new : Option CoreVM) (line answer :
   pub performed : Performed alloc request old reply new
   pub printed : answer ≡ reply_text reply
 
+-- Without memory nothing was done; or what the line asks for was done, and memory was lacking for the text of its reply.
+abbrev pub IsUnanswered : Global → Option CoreVM → Option CoreVM → List ℕ → Type 0
+IsUnanswered alloc old new line = (new ≡ old) ⊎ ((request : Request) × (reply : Reply) × Reads line request × Performed alloc request old reply new)
+
 -- the script's first line, without its end, and what follows it; the last line may have no end
 abbrev pub IsFirstLine : List ℕ → List ℕ → List ℕ → Type 0
 IsFirstLine script line rest =

@@ -1,8 +1,8 @@
 //! A run of the program: what a reader gives is a script, and its answers go to a writer.
-ghost use Rattle.std.specs.Prelude.{◌≡◌, ◌≢◌, ◌<◌, length, IfOk, OnOk, Option, None};
+ghost use Rattle.std.specs.Prelude.{◌≡◌, ◌≢◌, ◌<◌, length, IfOk, OnErr, OnOk, Option, None};
 ghost use Rattle.invocation_vm.specs.declared.core_vm.CoreVM.{CoreVM};
 ghost use Rattle.replies.specs.Replies.{reply_text};
-ghost use Rattle.scripts.specs.Transcripts.{IsFirstLine, IsRun, IsWritten, Transcribes};
+ghost use Rattle.scripts.specs.Transcripts.{IsFirstLine, IsRun, IsUnanswered, IsWritten, Transcribes};
 ghost use Rattle.scripts.specs.declared.exit_status.ExitStatus.TheVariants as status;
 
 use crate::exit_status::ExitStatus;
@@ -15,12 +15,16 @@ use std::alloc::{AllocError, Global};
 use std::io::{self, Read, Write};
 
 /// The answer to a line, both without their ends.
-#[tactic(auto, using(crate::proofs::Told::transcribes))]
+#[tactic(auto, using(crate::proofs::Told::transcribes, crate::proofs::Told::unanswered))]
 pub fn answer(alloc: Global, vm: &mut Option<CoreVM>, line: &[u8]) -> Result<Line, AllocError>
-    ensures { IfOk result (λ answer. Transcribes alloc vm.old vm.new line.now answer) }
+    ensures answered { IfOk result (λ answer. Transcribes alloc vm.old vm.new line.now answer) }
+    ensures unanswered { OnErr result (IsUnanswered alloc vm.old vm.new line.now) }
 {
     match parse(alloc, line) {
-        Ok(request) => written(alloc, perform(alloc, vm, request)),
+        Ok(request) => match written(alloc, perform(alloc, vm, request)) {
+            Ok(answer) => Ok(answer),
+            Err(error) => Err(error),
+        },
         Err(error) => Err(error),
     }
 }

@@ -6,7 +6,7 @@ use Rattle.vm_parts.specs.Outboxes.{len_of}
 use Rattle.invocation_vm.specs.declared.core_vm.CoreVM.{CoreVM}
 use Rattle.invocation_vm.specs.Seen.{seen}
 use Rattle.invocation_vm.specs.Views.{StarvesAmong, TakesOutput, after_input, brought}
-use Rattle.scripts.specs.Transcripts.{Transcribes}
+use Rattle.scripts.specs.Transcripts.{IsUnanswered, Transcribes}
 use Rattle.sessions.specs.declared.session.Session.{Session}
 use Rattle.sessions.specs.declared.status.Status.{Status}
 use Rattle.sessions.specs.declared.status.Status.TheVariants as status
@@ -21,11 +21,11 @@ IsMade status.Done (Some made) = IsEmpty made
 IsMade status.NoMemory None = Unit {0}
 IsMade told made = ⊥
 
--- A line was performed on the session's VM, and its answer is the session's. Without memory the last answer stays, and
--- nothing is said of the VM.
+-- A line was performed on the session's VM, and its answer is the session's. Without memory the last answer stays, and the VM is as it
+-- was, or the line was performed.
 abbrev pub LineDone : Global → List ℕ → Status → Session → Session → Type 0
 LineDone alloc line status.Done old new = Transcribes alloc old.vm new.vm line new.answer
-LineDone alloc line status.NoMemory old new = new.answer ≡ old.answer
+LineDone alloc line status.NoMemory old new = (new.answer ≡ old.answer) × IsUnanswered alloc old.vm new.vm line
 LineDone alloc line told old new = ⊥
 
 -- A line is performed on the session that there is; `len` is the length of its answer.

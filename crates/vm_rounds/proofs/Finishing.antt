@@ -39,7 +39,7 @@ use Rattle.vm_machine.proofs.Calling.{called_from}
 use Rattle.invocation_vm.specs.Views.{View}
 use Rattle.invocation_vm.proofs.Lawful.{first_proposed}
 use Rattle.vm_model.specs.Calls.{Meaning, Setup}
-use Rattle.vm_model.specs.Histories.{Handed, Made}
+use Rattle.vm_model.specs.Histories.{Handed, IsPrefix, Made}
 use Rattle.vm_model.specs.Moves.{Point, start}
 use Rattle.vm_model.specs.Journal.{stored_form}
 use Rattle.vm_rounds.specs.declared.progress.Progress.{Progress}
@@ -281,7 +281,7 @@ module _ (handle : NotificationHandle) (exit : RunExitResult) (policy : RetryPol
 abbrev and_proposed : Heard → List KeptProposal → Heard
 and_proposed fed more = record { pieces = fed.pieces; proposed = fed.proposed ++ more }
 
-acknowledged_more : (version : Version) (ps more : List KeptProposal) → acknowledged_from version (ps ++ more) ≡ acknowledged_from version ps ++ acknowledged_from version more
+pub acknowledged_more : (version : Version) (ps more : List KeptProposal) → acknowledged_from version (ps ++ more) ≡ acknowledged_from version ps ++ acknowledged_from version more
 acknowledged_more version ps more = by_test (is_from_v7 version)
   where
     by_test : (b : Bool) → (if b then ps ++ more else []) ≡ (if b then ps else []) ++ (if b then more else [])
@@ -544,7 +544,7 @@ module _ (version : Version) (options : VMOptions) (handle : NotificationHandle)
 
   -- the handler's run goes on, whatever the premises are
   pub finish_keeps : (m : Meaning) → IsKept m version options old → IsKept m version options new
-  finish_keeps m kept = by_case (IsKept m version options) kept (proposes_keeps version options handle exit policy old new came m) (fails_keeps version options handle exit policy old new came m)
+  finish_keeps m kept = by_case (IsKept m version options) kept (proposes_keeps version options handle exit policy old new came m kept) (fails_keeps version options handle exit policy old new came m kept)
 
   pub finish_under : (m : Meaning) → IsKeptUnder m version options old → IsKeptUnder m version options new
   finish_under m u = by_case (IsKeptUnder m version options) u (proposes_under version options handle exit policy old new came m u) (fails_under version options handle exit policy old new came m u)
@@ -557,6 +557,55 @@ module _ (version : Version) (options : VMOptions) (handle : NotificationHandle)
 
   pub finish_sleeps : (m : Meaning) → IsLate m version options old → StillSleeps m version options old → StillSleeps m version options new
   finish_sleeps m l s = by_case (StillSleeps m version options) s (proposes_sleeps version options handle exit policy old new came m l s) (fails_sleeps version options handle exit policy old new came m s)
+
+-- ---- what the call leaves of the record
+
+-- What was fed and taken stays, what was proposed and written begins what is now, and an attempt whose VM is alive is as it was or has
+-- proposed a result in Processing.
+pub record Finished (old new : Record) : Type 0 where
+  pub fed : new.fed ≡ old.fed
+  pub taken : new.taken ≡ old.taken
+  pub proposed : IsPrefix old.proposed new.proposed
+  pub output : IsPrefix old.vm.machine.output new.vm.machine.output
+  pub starved : new.starved ≡ old.starved
+  pub alive : new.vm.machine.failure ≡ None → (new.vm.machine ≡ old.vm.machine) ⊎ ((old.vm.machine.failure ≡ None) × (old.vm.machine.phase ≡ Processing))
+
+finished_same : (old new : Record) → new ≡ old → Finished old new
+finished_same old new e = record {
+  fed = ap (λ r. r.fed) e;
+  taken = ap (λ r. r.taken) e;
+  proposed = ([], ap (λ r. r.proposed) e ∙ sym (append-nil old.proposed));
+  output = ([], ap (λ r. r.vm.machine.output) e ∙ sym (append-nil old.vm.machine.output));
+  starved = ap (λ r. r.starved) e;
+  alive = λ _. inl (ap (λ r. r.vm.machine) e);
+}
+
+finished_one : (handle : NotificationHandle) (old new : Record) → ProposesOne handle old new → Finished old new
+finished_one handle old new p = record {
+  fed = ap (λ r. r.fed) p.is;
+  taken = ap (λ r. r.taken) p.is;
+  proposed = (kept_as p.id p.result ∷ [], ap (λ r. r.proposed) p.is);
+  output = (encoding (proposal p.id p.result) ∷ [], ap (λ r. r.vm.machine.output) p.is ∙ ap (λ (v : Machine). v.output) (proposed_is handle p.id p.result old.vm.machine));
+  starved = ap (λ r. r.starved) p.is;
+  alive = λ _. inr (p.live, p.phase);
+}
+
+finished_dead : (handle : NotificationHandle) (exit : RunExitResult) (policy : RetryPolicy) (old new : Record) → FailsBy handle exit policy old new → Finished old new
+finished_dead handle exit policy old new f = record {
+  fed = ap (λ r. r.fed) f.is;
+  taken = ap (λ r. r.taken) f.is;
+  proposed = ([], ap (λ r. r.proposed) f.is ∙ sym (append-nil old.proposed));
+  output = (map encoding f.fails.quiet.messages, ap (λ r. r.vm.machine.output) f.is ∙ f.fails.quiet.output);
+  starved = ap (λ r. r.starved) f.is;
+  alive = λ none. none_some f.error (sym none ∙ ap (λ (r : Record). r.vm.machine.failure) f.is ∙ f.fails.failure);
+}
+
+pub finished : (handle : NotificationHandle) (exit : RunExitResult) (policy : RetryPolicy) (old : Record) (result : Result Unit Error) (new : Record) → FinishDoes old.starved handle exit policy old result new → Finished old new
+finished handle exit policy old result new does =
+    ⊎_elim
+    (λ (x : new ≡ old). finished_same old new x)
+    (λ (x : ProposesOne handle old new ⊎ FailsBy handle exit policy old new). ⊎_elim (λ (y : ProposesOne handle old new). finished_one handle old new y) (λ (y : FailsBy handle exit policy old new). finished_dead handle exit policy old new y) x)
+    (finish_cases handle exit policy old result new does)
 
 -- ---- an error
 

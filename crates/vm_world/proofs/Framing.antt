@@ -1,7 +1,7 @@
 -- Frames of bytes that are put together, and the entries of journals.
 use Rattle.std.proofs.Common.{◌≡◌, ℕ, ◌+◌, ◌<◌, ◌^◌, ◌&&◌, Bool, true, false, cond, List, [], ◌∷◌, ◌++◌, length, Option, Some, None, refl, sym, ap, ◌∙◌, subst, arith, append_assoc, append-nil}
-use Rattle.std.specs.Prelude.{◌==◌, nat_le, nat_lt}
-use Rattle.std.specs.List.{concat}
+use Rattle.std.specs.Prelude.{◌==◌, ◌||◌, is_some, nat_le, nat_lt}
+use Rattle.std.specs.List.{AllByRecursion, concat}
 use Rattle.std.proofs.lemmas.Bool.Decides.{nat_tests}
 use Rattle.journal_messages.specs.declared.message.Message.{Message}
 use Rattle.journal_messages.specs.declared.message.RawMessage.{RawMessage}
@@ -13,7 +13,7 @@ use Rattle.journal_streams.proofs.Cuts.{whole_spelled}
 use Rattle.invocation_vm.specs.Frames.{Tail, Rest, Garbage, frames_from, frames_of, joined}
 use Rattle.invocation_vm.proofs.Cuts.{frames_of-append, frames_of-next}
 use Rattle.vm_model.specs.Journal.{Entry, messages_in, read_before}
-use Rattle.vm_rounds.specs.Journals.{as_entries, commands_among, is_command, is_notification, notifications_among, notified_by, recorded_by, told_by}
+use Rattle.vm_rounds.specs.Journals.{AcknowledgesNothing, as_entries, commands_among, is_acknowledgement, is_command, is_notification, notifications_among, notified_by, recorded_by, told_by}
 use Rattle.vm_world.specs.Entries.{AreEntries, alone, entries_of, frame_in, frame_of, framed_by, frames_in, may_stand, note_in, note_of, notes_in, read_from, said_by, said_in}
 
 -- ---- frames of bytes
@@ -151,6 +151,28 @@ command_no_note raw h = by_test (is_notification raw) refl
     by_test : (b : Bool) → is_notification raw ≡ b → is_notification raw ≡ false
     by_test false e = e
     by_test true e = absurd (let z : false ≡ true = sym (note_no_command raw e) ∙ h in cc)
+
+-- ---- entries acknowledge nothing
+
+six : (n : ℕ) → (n == 6) ≡ true → n ≡ 6
+six n h = grind (arith, nat_tests)
+
+pub note_acknowledges_nothing : (raw : RawMessage) → is_notification raw ≡ true → is_acknowledgement raw ≡ false
+note_acknowledges_nothing raw h = ap (λ k. k == 6) (thirty (type_number raw.ty) h)
+
+stands_not : (a b c : Bool) (o : Option Notification) → (c ≡ true → (a ≡ false) × (b ≡ false)) → (a || is_some (cond b o None)) ≡ true → c ≡ false
+stands_not a b false o apart h = refl
+stands_not true b true o apart h = absurd (let z : true ≡ false = (apart refl).0 in cc)
+stands_not false true true o apart h = absurd (let z : true ≡ false = (apart refl).1 in cc)
+stands_not false false true o apart h = absurd (cc)
+
+entry_acknowledges : (o : Option RawMessage) → may_stand o ≡ true → (raws : List RawMessage) → AllByRecursion AcknowledgesNothing raws → AllByRecursion AcknowledgesNothing (framed_by o raws)
+entry_acknowledges None h raws all = all
+entry_acknowledges (Some raw) h raws all = (stands_not (is_command raw) (is_notification raw) (is_acknowledgement raw) (notification_in raw.body) (λ is. let n = six (type_number raw.ty) is in (ap (λ k. nat_le 10 k && nat_lt k 30) n, ap (λ k. k == 30) n)) h, all)
+
+pub journal_acknowledges : (journal : List (List ℕ)) → AreEntries journal → AllByRecursion AcknowledgesNothing (frames_in journal)
+journal_acknowledges [] h = tt
+journal_acknowledges (x ∷ xs) h = entry_acknowledges (frame_in x) h.0 (frames_in xs) (journal_acknowledges xs h.1)
 
 -- ---- entries
 

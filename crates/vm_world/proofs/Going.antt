@@ -1,9 +1,13 @@
 -- What the events of a round do to what its attempt was fed and what was taken from it.
-use Rattle.std.proofs.Common.{◌≡◌, ◌≢◌, ◌⊎◌, inl, inr, ⊎_elim, ℕ, Bool, true, false, List, [], ◌∷◌, ◌++◌, Option, Some, None, Result, Ok, Err, refl, sym, ap, ◌∙◌, subst}
+use Rattle.std.proofs.Common.{◌≡◌, ◌≢◌, ◌⊎◌, inl, inr, ⊎_elim, ℕ, Bool, true, false, List, [], ◌∷◌, ◌++◌, Option, Some, None, Result, Ok, Err, refl, sym, ap, ◌∙◌, subst, append_assoc, append-nil}
 use Rattle.std.specs.Prelude.{is_some, IsSome}
 use Rattle.std.specs.declared.alloc.AllocError.{AllocError}
 use Rattle.journal_errors.specs.declared.error.Error.{Error}
 use Rattle.await_trees.specs.declared.tree.UnresolvedFuture.{UnresolvedFuture}
+use Rattle.await_trees.specs.declared.handle.NotificationHandle.{NotificationHandle}
+use Rattle.retries.specs.declared.policy.RetryPolicy.{RetryPolicy}
+use Rattle.runs.specs.declared.types.RunExitResult.{RunExitResult}
+use Rattle.vm_machine.specs.declared.machine.Machine.{Machine}
 use Rattle.vm_machine.specs.declared.phase.Phase.{Phase}
 use Rattle.vm_machine.specs.declared.phase.Phase.TheVariants.{WaitingStart, WaitingReplayEntries, Replaying, Processing, Closed}
 use Rattle.vm_machine.specs.Inputs.{close_step, closed_at}
@@ -11,13 +15,15 @@ use Rattle.vm_machine.specs.Outcomes.{called, called_at, settled}
 use Rattle.invocation_vm.specs.Views.{View, after_closing, after_input, left_by}
 use Rattle.invocation_vm.proofs.Feeds.{among_failed}
 use Rattle.vm_model.specs.Calls.{Meaning}
+use Rattle.vm_model.specs.Histories.{IsPrefix}
 use Rattle.vm_rounds.specs.declared.progress.Fed.{Fed}
 use Rattle.vm_rounds.specs.declared.progress.Progress.{Progress}
 use Rattle.vm_rounds.specs.declared.progress.Reply.{Reply}
 use Rattle.vm_rounds.specs.declared.progress.Reply.TheVariants as reply
 use Rattle.vm_rounds.specs.Record.{Record}
-use Rattle.vm_rounds.specs.Stepping.{Advances, CloseDoes, FeedDoes, Feeds, Reads, StepAt, StepDoes, StepFrom, StepUnless, future_in, kept_at, replied, step_asked, with_vm}
+use Rattle.vm_rounds.specs.Stepping.{Advances, CloseDoes, FeedDoes, Feeds, FinishDoes, Reads, StepAt, StepDoes, StepFrom, StepUnless, future_in, kept_at, replied, step_asked, with_vm}
 use Rattle.vm_rounds.specs.Told.{bytes_in}
+use Rattle.vm_rounds.proofs.Finishing.{Finished, finished}
 use Rattle.vm_rounds.proofs.Kept.{closed_input, piece_dropped}
 use Rattle.vm_rounds.proofs.Pieces.{pieces_behind}
 
@@ -32,11 +38,18 @@ pub record IsOpen (r : Record) : Type 0 where
 pub record Stepped (r new : Record) : Type 0 where
   pub fed : new.fed ≡ r.fed
   pub taken : new.taken ≡ r.taken
-  pub proposed : new.proposed ≡ r.proposed
+  pub proposed : IsPrefix r.proposed new.proposed
   pub opens : IsOpen new → IsOpen r
 
+-- a list that stays the same begins itself
+pub same_prefix : {A : Type 0} (old new : List A) → new ≡ old → IsPrefix old new
+same_prefix old new e = ([], e ∙ sym (append-nil old))
+
+pub prefix_then : {A : Type 0} (xs ys zs : List A) → IsPrefix xs ys → IsPrefix ys zs → IsPrefix xs zs
+prefix_then xs ys zs (a, e) (b, f) = (a ++ b, f ∙ ap (λ l. l ++ b) e ∙ append_assoc xs a b)
+
 same_stepped : (r new : Record) → new ≡ r → Stepped r new
-same_stepped r new e = record { fed = ap (λ x. x.fed) e; taken = ap (λ x. x.taken) e; proposed = ap (λ x. x.proposed) e; opens = λ o. subst IsOpen e o }
+same_stepped r new e = record { fed = ap (λ x. x.fed) e; taken = ap (λ x. x.taken) e; proposed = same_prefix r.proposed new.proposed (ap (λ x. x.proposed) e); opens = λ o. subst IsOpen e o }
 
 replied_fed : (r : Record) (future : Option UnresolvedFuture) (answer : Result Reply Error) (w : View) → ((replied r future answer w).fed ≡ r.fed) × ((replied r future answer w).taken ≡ r.taken) × ((replied r future answer w).proposed ≡ r.proposed)
 replied_fed r future (Ok (reply.Answer a)) w = (refl, refl, refl)
@@ -58,7 +71,7 @@ advances_fed m r result new (inr (inr h)) =
     (ap (λ x. x.fed) h.1.3 ∙ s.0, ap (λ x. x.taken) h.1.3 ∙ s.1, ap (λ x. x.proposed) h.1.3 ∙ s.2)
 
 advances_stepped : (m : Meaning) (r : Record) (result : Result Progress Error) (new : Record) → IsOpen r → Advances m r result new → Stepped r new
-advances_stepped m r result new o h = let f = advances_fed m r result new h in record { fed = f.0; taken = f.1; proposed = f.2; opens = λ _. o }
+advances_stepped m r result new o h = let f = advances_fed m r result new h in record { fed = f.0; taken = f.1; proposed = same_prefix r.proposed new.proposed f.2; opens = λ _. o }
 
 step_at : (m : Meaning) (r : Record) (result : Result Progress Error) (new : Record) (ph : Phase) → r.vm.machine.phase ≡ ph → r.starved ≡ false → r.vm.machine.failure ≡ None → StepAt ph m r result new → Stepped r new
 step_at m r result new WaitingStart e s f h = same_stepped r new h.1
@@ -139,12 +152,26 @@ closes r result new h = by_test r.starved refl result h
     by_test false e (Ok t) d = record {
       fed = ap (λ x. x.fed) d;
       taken = ap (λ x. x.taken) d;
-      proposed = ap (λ x. x.proposed) d;
+      proposed = same_prefix r.proposed new.proposed (ap (λ x. x.proposed) d);
       opens = λ o. let h = closing_opens r new d r.vm.machine.failure refl r.vm.machine.phase refl o in record { starved = e; failure = h.0; phase = h.1 };
     }
     by_test false e (Err f) d = record {
       fed = ap (λ x. x.fed) d.2;
       taken = ap (λ x. x.taken) d.2;
-      proposed = ap (λ x. x.proposed) d.2;
+      proposed = same_prefix r.proposed new.proposed (ap (λ x. x.proposed) d.2);
       opens = λ o. absurd (failed_shut new (ap (λ x. is_some x.vm.machine.failure) d.2 ∙ among_failed _ r.vm.machine d.0.machine d.1) o);
     }
+
+-- ---- what a run came to is told
+
+pub finishes : (handle : NotificationHandle) (exit : RunExitResult) (policy : RetryPolicy) (r : Record) (result : Result Unit Error) (new : Record) → FinishDoes r.starved handle exit policy r result new → Stepped r new
+finishes handle exit policy r result new h =
+    let f = finished handle exit policy r result new h in
+    record { fed = f.fed; taken = f.taken; proposed = f.proposed; opens = λ o. opens f o }
+  where
+    opens : Finished r new → IsOpen new → IsOpen r
+    opens f o =
+        ⊎_elim
+        (λ (same : new.vm.machine ≡ r.vm.machine). record { starved = sym f.starved ∙ o.starved; failure = sym (ap (λ (v : Machine). v.failure) same) ∙ o.failure; phase = λ c. o.phase (ap (λ (v : Machine). v.phase) same ∙ c) })
+        (λ (x : (r.vm.machine.failure ≡ None) × (r.vm.machine.phase ≡ Processing)). open_by r Processing (sym f.starved ∙ o.starved) x.0 x.1 (λ z. cc))
+        (f.alive o.failure)

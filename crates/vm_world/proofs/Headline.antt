@@ -34,27 +34,27 @@ pub record IsHonest (s : Setup) (m : Meaning) (before : List Entry) (a : Attempt
   pub told : IsToldOn s m before a
   pub honest : HonestRound before a.course after
 
-module _ (m : Meaning) (w : Setting) (begin_bytes : List ℕ) (raw : RawMessage) (st : Start) (old : List (List ℕ)) (j : IsJournal old) (framed : AreFrames begin_bytes (raw ∷ [])) (found : start_in raw.body ≡ Some st) (known : st.known_entries ≡ length old) (s : Setup) (same_setup : setup_for w.version w.options st ≡ s) (K : Knowledge) (one : IsOneRun s m K (entries_of old)) (r : Replays w.options) (now : Now) (course : List Entry) (a : Along m begin_bytes raw old j framed course now) (kept : IsKept m w.version w.options now.attempt) where
+module _ (m : Meaning) (w : Setting) (begin_bytes : List ℕ) (raw : RawMessage) (st : Start) (old : List (List ℕ)) (j : IsJournal old) (framed : AreFrames begin_bytes (raw ∷ [])) (found : start_in raw.body ≡ Some st) (known : st.known_entries ≡ length old) (s : Setup) (same_setup : setup_for w.version w.options st ≡ s) (K : Knowledge) (one : IsOneRun s m K (entries_of old)) (r : Replays w.options) (now : Now) (course : List Entry) (a : Along m w.version begin_bytes raw old j framed course now) (kept : IsKept m w.version w.options now.attempt) where
   abbrev E : List Entry
   E = entries_of old
 
-  abbrev g : Going begin_bytes old now
+  abbrev g : Going w.version begin_bytes old now
   g = a.going
 
   -- all that was delivered has arrived
   arrived : IsPrefix (notifications_in course) (notifications_in (behind_first g))
-  arrived = subst (λ l. IsPrefix l (notifications_in (behind_first g))) (sym a.came) (delivered_arrived m begin_bytes raw old j framed now g)
+  arrived = subst (λ l. IsPrefix l (notifications_in (behind_first g))) (sym a.came) (delivered_arrived m w.version begin_bytes raw old j framed now g)
 
   honest : HonestRound E course (entries_of now.journal)
   honest =
-      let s = stored_among begin_bytes old now g in
+      let s = stored_among w.version begin_bytes old now g in
       record {
         added = behind_first g;
         extends = ap entries_of g.extends ∙ entries_append old g.added;
         undelivered = arrived.0;
         notifications = arrived.1;
         stored = length (commands_among g.scanned);
-        commands = behind_commands begin_bytes old now g ∙ front_taken (commands_among g.scanned) (written_by now.attempt) s.0 s.1 ∙ ap (take (length (commands_among g.scanned))) (sym a.written);
+        commands = behind_commands w.version begin_bytes old now g ∙ front_taken (commands_among g.scanned) (written_by now.attempt) s.0 s.1 ∙ ap (take (length (commands_among g.scanned))) (sym a.written);
         order = a.order;
       }
 
@@ -67,7 +67,7 @@ module _ (m : Meaning) (w : Setting) (begin_bytes : List ℕ) (raw : RawMessage)
   from ns = first_point s one.input (notifications_in E ++ ns) one.rest
 
   -- the journal tells it by so many moves
-  told_by_moves : (moves : ℕ) (at : Point) → Made s m (Handed (given_by st)) moves (from (delivered old now.attempt)) (written_by now.attempt) at → (now.attempt.answers ≡ []) ⊎ (now.attempt.answers ≡ at.answers) → IsHonest s m E attempted (entries_of now.journal)
+  told_by_moves : (moves : ℕ) (at : Point) → Made s m (Handed (given_by st)) moves (from (delivered w.version old now.attempt)) (written_by now.attempt) at → (now.attempt.answers ≡ []) ⊎ (now.attempt.answers ≡ at.answers) → IsHonest s m E attempted (entries_of now.journal)
   told_by_moves moves at made answered =
       record {
         told = record {
@@ -87,6 +87,6 @@ module _ (m : Meaning) (w : Setting) (begin_bytes : List ℕ) (raw : RawMessage)
   pub is_honest : EndsTold m w.version w.options now.attempt → IsHonest s m E attempted (entries_of now.journal)
   is_honest end =
       ⊎_elim
-      (λ (none : now.attempt.answers ≡ []). told_by_moves 0 (from (delivered old now.attempt)) (end.begins none, refl) (inl none))
+      (λ (none : now.attempt.answers ≡ []). told_by_moves 0 (from (delivered w.version old now.attempt)) (end.begins none, refl) (inl none))
       (λ (k : AnswersAreTold m w.version w.options now.attempt). told_by_moves k.moves k.at (there m w begin_bytes raw st old j framed found known s same_setup K one r now g k.journal k.moves (written_by now.attempt) k.at k.made) (inr (sym k.answers)))
       (end.told (record { replays = r.replays; queues = r.queues; once = none_two m w begin_bytes raw st old j framed found known s same_setup K one r now g kept }))

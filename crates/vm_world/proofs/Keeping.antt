@@ -1,34 +1,36 @@
 -- A round on its way, and the journal that it leaves.
-use Rattle.std.proofs.Common.{◌≡◌, ⊎_elim, ℕ, Bool, true, false, cond, List, [], ◌∷◌, ◌++◌, take, drop, map, Option, Some, None, refl, sym, ap, ◌∙◌, subst, arith, append_assoc, append-nil, length-append}
+use Rattle.std.proofs.Common.{◌≡◌, ⊎_elim, ℕ, Bool, true, false, cond, List, [], ◌∷◌, ◌++◌, take, drop, map, Option, Some, None, refl, sym, ap, ◌∙◌, subst, append_assoc, append-nil}
 use Rattle.std.specs.Prelude.{◌||◌, is_some}
-use Rattle.std.specs.List.{concat}
+use Rattle.std.specs.List.{concat, flat_map}
 use Rattle.std.proofs.lemmas.List.{take-append-drop}
 use Rattle.std.proofs.lemmas.List.Folds.{concat-append}
 use Rattle.journal_errors.specs.declared.error.Error.{Error}
+use Rattle.journal_errors.specs.declared.version.Version.{Version}
 use Rattle.journal_messages.specs.declared.message.RawMessage.{RawMessage}
 use Rattle.journal_values.specs.declared.notification.Notification.{Notification}
 use Rattle.journal_messages.specs.Reading.{notification_in}
-use Rattle.invocation_vm.specs.Frames.{frames_of}
+use Rattle.invocation_vm.specs.Frames.{Tail, frames_of}
+use Rattle.vm_parts.specs.declared.run_state.KeptProposal.{KeptProposal}
 use Rattle.vm_model.specs.Calls.{Meaning}
-use Rattle.vm_model.specs.Carried.{AreCarried}
 use Rattle.vm_model.specs.Histories.{IsPrefix}
-use Rattle.vm_rounds.specs.Journals.{commands_among, is_command, is_notification, notifications_among, notified_by}
-use Rattle.vm_rounds.specs.Record.{Record}
+use Rattle.vm_rounds.specs.Heard.{proposals_among, proposals_in}
+use Rattle.vm_rounds.specs.Journals.{commands_among, is_command, is_notification, notified_by}
+use Rattle.vm_rounds.specs.Record.{Record, bytes_written}
 use Rattle.vm_rounds.specs.Stepping.{taken_from}
 use Rattle.vm_rounds.specs.Told.{bytes_in}
-use Rattle.vm_world.specs.Completions.{CompleteOnce}
 use Rattle.vm_rounds.proofs.Pieces.{commands_append}
+use Rattle.vm_rounds.proofs.Quiet.{proposals_append}
 use Rattle.vm_world.specs.declared.types.Event.{Event}
 use Rattle.vm_world.specs.declared.types.Event.TheVariants as event
 use Rattle.vm_world.specs.Arrivals.{arrival_fault}
-use Rattle.vm_world.specs.Entries.{AreEntries, frame_in, frame_of, framed_by, frames_in, may_stand, note_in, note_of, notes_in, read_from}
+use Rattle.vm_world.specs.Entries.{AreEntries, frame_in, framed_by, frames_in, may_stand, note_in, note_of, notes_in, read_from}
 use Rattle.vm_world.specs.Rounds.{ArrivalsDo, Happen, Happens, Now, Pieces}
-use Rattle.vm_world.specs.Storing.{Stores}
+use Rattle.vm_world.specs.Storing.{Stores, stored_as, waits_behind, written_among}
 use Rattle.vm_world.specs.Worlds.{IsJournal}
-use Rattle.vm_world.proofs.Framing.{command_no_note, entries_join, frames_append, front_grows, in_front, note_no_command, notes_append, notes_are}
-use Rattle.vm_world.proofs.Going.{IsOpen, Stepped, Takes, closes, fed, stepped}
-use Rattle.vm_model.proofs.Once.{still_carried}
-use Rattle.vm_world.proofs.Once.{carried_more, has_room, is_new, once_more}
+use Rattle.vm_world.proofs.Framing.{AreFrames, entry_framed, frames_append, front_grows, in_front, join, note_no_command, notes_append}
+use Rattle.vm_world.proofs.Going.{IsOpen, Stepped, Takes, closes, fed, finishes, prefix_then, stepped}
+use Rattle.vm_world.proofs.Once.{has_room, is_new}
+use Rattle.vm_world.proofs.Settled.{Brings, answers, are_items, brings_answers, brings_note, commands_are, completion, items_enter, items_keep, note_keeps, proposal_in_item, proposals_answered, proposals_are, waits_framed}
 
 -- ---- one entry more
 
@@ -38,6 +40,7 @@ record NoteFrame (x : List ℕ) (n : Notification) : Type 0 where
   is : frame_in x ≡ Some raw
   kind : is_notification raw ≡ true
   note : note_of raw ≡ Some n
+  reads : notification_in raw.body ≡ Some n
 
 note_frame : (x : List ℕ) (n : Notification) → note_in x ≡ Some n → NoteFrame x n
 note_frame x n e = by_frame (frame_in x) refl e
@@ -48,7 +51,7 @@ note_frame x n e = by_frame (frame_in x) refl e
 
     by_frame : (o : Option RawMessage) → frame_in x ≡ o → read_from note_of o ≡ Some n → NoteFrame x n
     by_frame None is h = absurd (cc)
-    by_frame (Some raw) is h = record { raw = raw; is = is; kind = by_kind raw (is_notification raw) refl h; note = h }
+    by_frame (Some raw) is h = let kind = by_kind raw (is_notification raw) refl h in record { raw = raw; is = is; kind = kind; note = h; reads = sym (ap (λ b. cond b (notification_in raw.body) None) kind) ∙ h }
 
 -- An arrival is an entry without a command.
 pub record OneNote (x : List ℕ) : Type 0 where
@@ -74,79 +77,62 @@ one_note x n e =
 pub arrival_keeps : (journal : List (List ℕ)) (x : List ℕ) → arrival_fault x journal ≡ None → IsJournal journal → IsJournal (journal ++ x ∷ [])
 arrival_keeps journal x e j =
     let new = is_new x journal e in
-    let room = has_room x journal e in
     let one = one_note x new.note new.reads in
-    let same : commands_among (frames_in (journal ++ x ∷ [])) ≡ commands_among (frames_in journal) =
-    ap commands_among (frames_append journal (x ∷ [])) ∙ commands_append (frames_in journal) (frames_in (x ∷ [])) ∙ ap (λ l. commands_among (frames_in journal) ++ l) one.none ∙ append-nil (commands_among (frames_in journal)) in
-    record {
-      entries = entries_join journal (x ∷ []) j.entries one.stands;
-      short = omega (arith, j.short, room, length-append journal (x ∷ []));
-      once = rw (notes_append journal (x ∷ []), new.reads) (once_more (notes_in journal) new.note j.once new.no_other);
-      carried = rw (notes_append journal (x ∷ []), new.reads, same) (carried_more (notes_in journal) new.note (commands_among (frames_in journal)) j.carried new.carried);
-    }
-
--- ---- stored commands
-
-commands_twice : (raws : List RawMessage) → (commands_among (commands_among raws) ≡ commands_among raws) × (notifications_among (commands_among raws) ≡ [])
-commands_twice [] = (refl, refl)
-commands_twice (raw ∷ raws) = by_test (is_command raw) refl (commands_twice raws)
-  where
-    C : List RawMessage
-    C = commands_among raws
-
-    by_test : (b : Bool) → is_command raw ≡ b → (commands_among C ≡ C) × (notifications_among C ≡ []) → (commands_among (cond b (raw ∷ C) C) ≡ cond b (raw ∷ C) C) × (notifications_among (cond b (raw ∷ C) C) ≡ [])
-    by_test false e h = h
-    by_test true e h = (
-      ap (λ b. cond b (raw ∷ commands_among C) (commands_among C)) e ∙ ap (λ l. raw ∷ l) h.0,
-      ap (λ b. cond b (notified_by (notification_in raw.body) (notifications_among C)) (notifications_among C)) (command_no_note raw e) ∙ h.1,
-    )
+    note_keeps journal x new (has_room x journal e) one.stands one.none j
 
 -- ---- a round on its way
 
--- What was delivered and what waits are Start, the journal from before, and what arrived; some frames of the output were looked
--- at, and the journal has grown by their commands and by what arrived.
-pub record Going (start : List ℕ) (first : List (List ℕ)) (now : Now) : Type 0 where
-  pub arrived : List (List ℕ)
-  pub arrivals : AreEntries arrived
+-- What was delivered and what waits are Start, the journal from before, and what came behind it. Some frames of the output were looked
+-- at, and the journal has grown by what is stored of them and by what arrived: what came behind the first journal brings its
+-- notifications.
+pub record Going (version : Version) (start : List ℕ) (first : List (List ℕ)) (now : Now) : Type 0 where
+  pub made_for : now.version ≡ version
+  pub bytes : List ℕ
+  pub came : List RawMessage
+  pub framed : AreFrames bytes came
   pub delivered : List ℕ
-  pub all : delivered ++ now.waiting ≡ start ++ (concat first ++ concat arrived)
+  pub all : delivered ++ now.waiting ≡ start ++ (concat first ++ bytes)
   pub fed_front : IsPrefix (bytes_in now.attempt.fed) delivered
   pub fed_open : IsOpen now.attempt → bytes_in now.attempt.fed ≡ delivered
-  pub nothing : now.attempt.proposed ≡ []
   pub output_is : concat now.attempt.taken ≡ now.output
   pub scanned : List RawMessage
   pub output_frames : frames_of now.output ≡ in_front scanned (frames_of now.unstored)
+  pub proposed : IsPrefix (proposals_among scanned) now.attempt.proposed
   pub added : List (List ℕ)
   pub extends : now.journal ≡ first ++ added
   pub commands : commands_among (frames_in added) ≡ commands_among scanned
-  pub notifications : notes_in added ≡ notes_in arrived
+  pub brings : Brings version (proposals_among scanned) came (notes_in added)
   pub journal : IsJournal now.journal
 
-module _ (m : Meaning) (start : List ℕ) (first : List (List ℕ)) where
+module _ (m : Meaning) (version : Version) (start : List ℕ) (first : List (List ℕ)) where
   -- the attempt alone has changed, and was fed nothing
-  acts : (now : Now) (r : Record) (closed : Bool) (error : Option Error) → Stepped now.attempt r → Going start first now → Going start first (record now { attempt = r; closed = closed; error = error })
+  acts : (now : Now) (r : Record) (closed : Bool) (error : Option Error) → Stepped now.attempt r → Going version start first now → Going version start first (record now { attempt = r; closed = closed; error = error })
   acts now r closed error s g = record {
-    arrived = g.arrived;
-    arrivals = g.arrivals;
+    made_for = g.made_for;
+    bytes = g.bytes;
+    came = g.came;
+    framed = g.framed;
     delivered = g.delivered;
     all = g.all;
     fed_front = subst (λ f. IsPrefix (bytes_in f) g.delivered) (sym s.fed) g.fed_front;
     fed_open = λ o. ap bytes_in s.fed ∙ g.fed_open (s.opens o);
-    nothing = s.proposed ∙ g.nothing;
     output_is = ap concat s.taken ∙ g.output_is;
     scanned = g.scanned;
     output_frames = g.output_frames;
+    proposed = prefix_then (proposals_among g.scanned) now.attempt.proposed r.proposed g.proposed s.proposed;
     added = g.added;
     extends = g.extends;
     commands = g.commands;
-    notifications = g.notifications;
+    brings = g.brings;
     journal = g.journal;
   }
 
-  takes : (now : Now) (piece rest : List ℕ) (r : Record) (error : Option Error) → now.waiting ≡ piece ++ rest → Takes piece now.attempt r → r.taken ≡ now.attempt.taken → r.proposed ≡ now.attempt.proposed → Going start first now → Going start first (record now { waiting = rest; attempt = r; error = error })
+  takes : (now : Now) (piece rest : List ℕ) (r : Record) (error : Option Error) → now.waiting ≡ piece ++ rest → Takes piece now.attempt r → r.taken ≡ now.attempt.taken → r.proposed ≡ now.attempt.proposed → Going version start first now → Going version start first (record now { waiting = rest; attempt = r; error = error })
   takes now piece rest r error is t same none g = record {
-    arrived = g.arrived;
-    arrivals = g.arrivals;
+    made_for = g.made_for;
+    bytes = g.bytes;
+    came = g.came;
+    framed = g.framed;
     delivered = g.delivered ++ piece;
     all = append_assoc g.delivered piece rest ∙ ap (λ l. g.delivered ++ l) (sym is) ∙ g.all;
     fed_front = ⊎_elim
@@ -157,14 +143,14 @@ module _ (m : Meaning) (start : List ℕ) (first : List (List ℕ)) where
         (λ (x : (bytes_in r.fed ≡ bytes_in now.attempt.fed) × (IsOpen r → ⊥)). λ o. absurd (x.1 o))
         (λ (x : IsOpen now.attempt × (bytes_in r.fed ≡ bytes_in now.attempt.fed ++ piece)). λ o. x.1 ∙ ap (λ l. l ++ piece) (g.fed_open x.0))
         t;
-    nothing = none ∙ g.nothing;
     output_is = ap concat same ∙ g.output_is;
     scanned = g.scanned;
     output_frames = g.output_frames;
+    proposed = subst (IsPrefix (proposals_among g.scanned)) (sym none) g.proposed;
     added = g.added;
     extends = g.extends;
     commands = g.commands;
-    notifications = g.notifications;
+    brings = g.brings;
     journal = g.journal;
   }
     where
@@ -174,77 +160,84 @@ module _ (m : Meaning) (start : List ℕ) (first : List (List ℕ)) where
       whole : IsOpen now.attempt → bytes_in r.fed ≡ bytes_in now.attempt.fed ++ piece → IsPrefix (bytes_in r.fed) (g.delivered ++ piece)
       whole o e = ([], ap (λ l. l ++ piece) (sym (g.fed_open o)) ∙ sym e ∙ sym (append-nil (bytes_in r.fed)))
 
-  pieces : (closed : Bool) (n : ℕ) (now new : Now) → Pieces closed n now new → Going start first now → Going start first new
-  pieces true n now new d g = subst (Going start first) (sym d) g
+  pieces : (closed : Bool) (n : ℕ) (now new : Now) → Pieces closed n now new → Going version start first now → Going version start first new
+  pieces true n now new d g = subst (Going version start first) (sym d) g
   pieces false n now new (result, r, d, is) g =
       let t = fed (take n now.waiting) now.attempt result r d in
-      subst (Going start first) (sym is) (takes now (take n now.waiting) (drop n now.waiting) r _ (sym (take-append-drop n now.waiting)) t.0 t.1 t.2 g)
+      subst (Going version start first) (sym is) (takes now (take n now.waiting) (drop n now.waiting) r _ (sym (take-append-drop n now.waiting)) t.0 t.1 t.2 g)
 
-  arrives : (now : Now) (x : List ℕ) → arrival_fault x now.journal ≡ None → Going start first now → Going start first (record now { journal = now.journal ++ x ∷ []; waiting = now.waiting ++ x })
+  -- more bytes wait behind all that came
+  more_waits : (now : Now) (x : List ℕ) (g : Going version start first now) → g.delivered ++ (now.waiting ++ x) ≡ start ++ (concat first ++ (g.bytes ++ x))
+  more_waits now x g = sym (append_assoc g.delivered now.waiting x) ∙ ap (λ l. l ++ x) g.all ∙ append_assoc start (concat first ++ g.bytes) x ∙ ap (λ l. start ++ l) (append_assoc (concat first) g.bytes x)
+
+  arrives : (now : Now) (x : List ℕ) → arrival_fault x now.journal ≡ None → Going version start first now → Going version start first (record now { journal = now.journal ++ x ∷ []; waiting = now.waiting ++ x })
   arrives now x e g =
       let new = is_new x now.journal e in
       let one = one_note x new.note new.reads in
-      let more : concat g.arrived ++ x ≡ concat (g.arrived ++ x ∷ []) = ap (λ l. concat g.arrived ++ l) (sym (append-nil x)) ∙ sym (concat-append g.arrived (x ∷ [])) in
+      let f = note_frame x new.note new.reads in
+      let notes : notes_in (g.added ++ x ∷ []) ≡ notes_in g.added ++ new.note ∷ [] = notes_append g.added (x ∷ []) ∙ ap (λ o. notes_in g.added ++ notified_by o []) new.reads in
       record {
-        arrived = g.arrived ++ x ∷ [];
-        arrivals = entries_join g.arrived (x ∷ []) g.arrivals one.stands;
+        made_for = g.made_for;
+        bytes = g.bytes ++ x;
+        came = g.came ++ f.raw ∷ [];
+        framed = join g.bytes x g.came (f.raw ∷ []) g.framed (entry_framed x f.raw f.is);
         delivered = g.delivered;
-        all = sym (append_assoc g.delivered now.waiting x) ∙ ap (λ l. l ++ x) g.all ∙ append_assoc start (concat first ++ concat g.arrived) x ∙ ap (λ l. start ++ l) (append_assoc (concat first) (concat g.arrived) x ∙ ap (λ l. concat first ++ l) more);
+        all = more_waits now x g;
         fed_front = g.fed_front;
         fed_open = g.fed_open;
-        nothing = g.nothing;
         output_is = g.output_is;
         scanned = g.scanned;
         output_frames = g.output_frames;
+        proposed = g.proposed;
         added = g.added ++ x ∷ [];
         extends = ap (λ l. l ++ x ∷ []) g.extends ∙ append_assoc first g.added (x ∷ []);
         commands = ap commands_among (frames_append g.added (x ∷ [])) ∙ commands_append (frames_in g.added) (frames_in (x ∷ [])) ∙ ap (λ l. commands_among (frames_in g.added) ++ l) one.none ∙ append-nil (commands_among (frames_in g.added)) ∙ g.commands;
-        notifications = notes_append g.added (x ∷ []) ∙ ap (λ l. l ++ notes_in (x ∷ [])) g.notifications ∙ sym (notes_append g.arrived (x ∷ []));
+        brings = subst (Brings version (proposals_among g.scanned) (g.came ++ f.raw ∷ [])) (sym notes) (brings_note version (proposals_among g.scanned) g.came (notes_in g.added) f.raw new.note f.kind f.reads g.brings);
         journal = arrival_keeps now.journal x e g.journal;
       }
 
-  stores : (n : ℕ) (now : Now) (journal : List (List ℕ)) (unstored : List ℕ) → Stores n now.journal (now.unstored ++ concat now.attempt.vm.machine.output) journal unstored → Going start first now
-      → Going start first (record now { journal = journal; output = now.output ++ concat now.attempt.vm.machine.output; unstored = unstored; attempt = taken_from now.attempt })
-  stores n now journal unstored s g =
+  stores : (n : ℕ) (now : Now) (journal : List (List ℕ)) (waiting unstored : List ℕ) → Stores version n (now.unstored ++ concat now.attempt.vm.machine.output) now.journal now.waiting journal waiting unstored → now.attempt.proposed ≡ proposals_in (bytes_written now.attempt) → Going version start first now
+      → Going version start first (record now { journal = journal; waiting = waiting; output = now.output ++ concat now.attempt.vm.machine.output; unstored = unstored; attempt = taken_from now.attempt })
+  stores n now journal waiting unstored s proposed g =
       let more = concat now.attempt.vm.machine.output in
-      let C = commands_among s.seen in
-      let twice = commands_twice s.seen in
-      let none : notes_in (map frame_of C) ≡ [] = notes_are (map frame_of C) ∙ ap notifications_among s.back ∙ twice.1 in
-      let same_notes : notes_in journal ≡ notes_in now.journal = ap notes_in s.stored ∙ notes_append now.journal (map frame_of C) ∙ ap (λ l. notes_in now.journal ++ l) none ∙ append-nil (notes_in now.journal) in
-      let more_commands : commands_among (frames_in journal) ≡ commands_among (frames_in now.journal) ++ commands_among (frames_in (map frame_of C)) =
-      ap (λ l. commands_among (frames_in l)) s.stored ∙ ap commands_among (frames_append now.journal (map frame_of C)) ∙ commands_append (frames_in now.journal) (frames_in (map frame_of C)) in
+      let W = written_among s.seen in
+      let items = are_items version s.seen s.readable in
+      let enter = items_enter version W items in
+      let ps = flat_map proposal_in_item W in
+      let stored : proposals_among (g.scanned ++ s.seen) ≡ proposals_among g.scanned ++ ps = proposals_append g.scanned s.seen ∙ ap (λ l. proposals_among g.scanned ++ l) (sym (proposals_are s.seen)) in
+      let frames : frames_of (now.output ++ more) ≡ in_front (g.scanned ++ s.seen) (frames_of unstored) = front_grows now.output now.unstored more g.scanned g.output_frames ∙ ap (in_front g.scanned) s.frames ∙ ap (λ l. (l, (frames_of unstored).1)) (sym (append_assoc g.scanned s.seen (frames_of unstored).0)) in
+      let notes : notes_in (g.added ++ map stored_as W) ≡ notes_in g.added ++ map completion ps = notes_append g.added (map stored_as W) ∙ ap (λ l. notes_in g.added ++ l) enter.1 in
       record {
-        arrived = g.arrived;
-        arrivals = g.arrivals;
+        made_for = g.made_for;
+        bytes = g.bytes ++ flat_map (waits_behind version) W;
+        came = g.came ++ answers version ps;
+        framed = join g.bytes (flat_map (waits_behind version) W) g.came (answers version ps) g.framed (waits_framed version W s.readable);
         delivered = g.delivered;
-        all = g.all;
+        all = ap (λ l. g.delivered ++ l) s.waits ∙ more_waits now (flat_map (waits_behind version) W) g;
         fed_front = g.fed_front;
         fed_open = λ o. g.fed_open (record { starved = o.starved; failure = o.failure; phase = o.phase });
-        nothing = g.nothing;
         output_is = concat-append now.attempt.taken (more ∷ []) ∙ (λ i. g.output_is i ++ append-nil more i);
         scanned = g.scanned ++ s.seen;
-        output_frames = front_grows now.output now.unstored more g.scanned g.output_frames ∙ ap (in_front g.scanned) s.frames ∙ ap (λ l. (l, (frames_of unstored).1)) (sym (append_assoc g.scanned s.seen (frames_of unstored).0));
-        added = g.added ++ map frame_of C;
-        extends = s.stored ∙ ap (λ l. l ++ map frame_of C) g.extends ∙ append_assoc first g.added (map frame_of C);
-        commands = ap commands_among (frames_append g.added (map frame_of C)) ∙ commands_append (frames_in g.added) (frames_in (map frame_of C)) ∙ (λ i. g.commands i ++ (ap commands_among s.back ∙ twice.0) i) ∙ sym (commands_append g.scanned s.seen);
-        notifications = notes_append g.added (map frame_of C) ∙ ap (λ l. notes_in g.added ++ l) none ∙ append-nil (notes_in g.added) ∙ g.notifications;
-        journal = record {
-          entries = subst AreEntries (sym s.stored) (entries_join now.journal (map frame_of C) g.journal.entries s.entries);
-          short = s.short g.journal.short;
-          once = subst CompleteOnce (sym same_notes) g.journal.once;
-          carried = subst (λ (x : List Notification × List RawMessage). AreCarried x.0 x.1) (λ i. (sym same_notes i, sym more_commands i)) (still_carried (notes_in now.journal) (commands_among (frames_in now.journal)) (commands_among (frames_in (map frame_of C))) g.journal.carried);
-        };
+        output_frames = frames;
+        proposed = (proposals_among (frames_of unstored).0, proposed ∙ ap (λ b. proposals_in (b ++ more)) g.output_is ∙ ap (λ (p : List RawMessage × Tail). proposals_among p.0) frames ∙ proposals_append (g.scanned ++ s.seen) (frames_of unstored).0);
+        added = g.added ++ map stored_as W;
+        extends = s.stored ∙ ap (λ l. l ++ map stored_as W) g.extends ∙ append_assoc first g.added (map stored_as W);
+        commands = ap commands_among (frames_append g.added (map stored_as W)) ∙ commands_append (frames_in g.added) (frames_in (map stored_as W)) ∙ (λ i. g.commands i ++ (enter.0 ∙ commands_are s.seen) i) ∙ sym (commands_append g.scanned s.seen);
+        brings = subst (λ (x : List KeptProposal × List Notification). Brings version x.0 (g.came ++ answers version ps) x.1) (λ i. (sym stored i, sym notes i)) (brings_answers version (proposals_among g.scanned) ps g.came (notes_in g.added) (proposals_answered version W s.readable) g.brings);
+        journal = subst IsJournal (sym s.stored) (items_keep version W now.journal items s.faultless g.journal);
       }
 
-  pub event_keeps : (e : Event) (now new : Now) → Happens m e now new → Going start first now → Going start first new
+  pub event_keeps : (e : Event) (now new : Now) → Happens m e now new → Going version start first now → Going version start first new
   event_keeps (event.Piece n) now new d g = pieces now.closed n now new d g
-  event_keeps event.Close now new (result, r, d, is) g = subst (Going start first) (sym is) (acts now r true _ (closes now.attempt result r d) g)
-  event_keeps event.Step now new (result, r, d, is) g = subst (Going start first) (sym is) (acts now r now.closed _ (stepped m now.attempt result r d) g)
-  event_keeps (event.Arrive x) now new (none, is) g = subst (Going start first) (sym is) (arrives now x none g)
-  event_keeps (event.Store n) now new (journal, unstored, s, is, whole) g = subst (Going start first) (sym is) (stores n now journal unstored s g)
+  event_keeps event.Close now new (result, r, d, is) g = subst (Going version start first) (sym is) (acts now r true _ (closes now.attempt result r d) g)
+  event_keeps event.Step now new (result, r, d, is) g = subst (Going version start first) (sym is) (acts now r now.closed _ (stepped m now.attempt result r d) g)
+  event_keeps (event.RunResult handle exit policy) now new (result, r, d, is) g = subst (Going version start first) (sym is) (acts now r now.closed _ (finishes handle exit policy now.attempt result r d) g)
+  event_keeps (event.Arrive x) now new (none, is) g = subst (Going version start first) (sym is) (arrives now x none g)
+  event_keeps (event.Store n) now new (journal, waiting, unstored, s, is, whole, proposed) g =
+      subst (Going version start first) (sym is) (stores n now journal waiting unstored (subst (λ v. Stores v n (now.unstored ++ concat now.attempt.vm.machine.output) now.journal now.waiting journal waiting unstored) g.made_for s) proposed g)
 
-  pub events_keep : (es : List Event) (now new : Now) → Happen m es now new → Going start first now → Going start first new
-  events_keep [] now new d g = subst (Going start first) (sym d) g
+  pub events_keep : (es : List Event) (now new : Now) → Happen m es now new → Going version start first now → Going version start first new
+  events_keep [] now new d g = subst (Going version start first) (sym d) g
   events_keep (e ∷ es) now new (mid, d, more) g = events_keep es mid new more (event_keeps e now mid d g)
 
 -- ---- arrivals alone
@@ -270,4 +263,5 @@ arrivals_keep (event.Arrive x ∷ es) old new j d =
 arrivals_keep (event.Piece n ∷ es) old new j d = arrivals_keep es old new j d
 arrivals_keep (event.Close ∷ es) old new j d = arrivals_keep es old new j d
 arrivals_keep (event.Step ∷ es) old new j d = arrivals_keep es old new j d
+arrivals_keep (event.RunResult handle exit policy ∷ es) old new j d = arrivals_keep es old new j d
 arrivals_keep (event.Store n ∷ es) old new j d = arrivals_keep es old new j d

@@ -1,6 +1,7 @@
 pub mod Framing
 pub mod Scanned
 pub mod Once
+pub mod Settled
 pub mod Going
 pub mod Keeping
 pub mod Writing

@@ -102,7 +102,7 @@ completes_none id (c ∷ cs) before e = by_read (message_in c.ty c.body) e (comp
         ap (completes_among id (messages_in cs)) (completes_not id m before x.0) ∙ ih x.1
 
 -- what a stored command completes, it carries
-completed_carried : (id : ℕ) (journal : List (List ℕ)) → (completes_among id (said_in journal) None ≡ None → ⊥) → is_carried id (commands_among (frames_in journal)) ≡ true
+pub completed_carried : (id : ℕ) (journal : List (List ℕ)) → (completes_among id (said_in journal) None ≡ None → ⊥) → is_carried id (commands_among (frames_in journal)) ≡ true
 completed_carried id journal some = by_test (is_carried id (commands_among (frames_in journal))) refl
   where
     by_test : (b : Bool) → is_carried id (commands_among (frames_in journal)) ≡ b → b ≡ true
@@ -117,7 +117,7 @@ same_number i = grind (arith, nat_tests)
 not_of : (id : ℕ) (other : NotificationId) → is_of id other ≡ false → other ≡ CompletionId id → ⊥
 not_of id other h e = let t : true ≡ false = sym (ap (is_of id) e ∙ same_number id) ∙ h in absurd (cc)
 
-absent : (id : ℕ) (ns : List Notification) → is_completed id ns ≡ false → IsAbsent (CompletionId id) ns
+pub absent : (id : ℕ) (ns : List Notification) → is_completed id ns ≡ false → IsAbsent (CompletionId id) ns
 absent id [] h = tt
 absent id (n ∷ ns) h = let x = none_true (is_of id n.id) (is_completed id ns) h in (not_of id n.id x.0, absent id ns x.1)
 
@@ -177,7 +177,7 @@ come_once (n ∷ ns) once id = by_test (same_id n.id (CompletionId id)) refl (co
 
 -- ---- room
 
-not_most : (n : ℕ) → (if n == most then Some round_fault.JournalFull else None) ≡ None → n ≢ most
+pub not_most : (n : ℕ) → (if n == most then Some round_fault.JournalFull else None) ≡ None → n ≢ most
 not_most n h e = let t : Some round_fault.JournalFull ≡ None = sym (ap (λ (k : ℕ). if k == most then Some round_fault.JournalFull else None) e) ∙ h in absurd (cc)
 
 room_by : (b : Bool) (room : Option RoundFault) → (if b then room else Some round_fault.WrongKind) ≡ None → room ≡ None

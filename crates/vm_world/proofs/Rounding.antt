@@ -19,11 +19,15 @@ use Rattle.vm_model.specs.Moves.{changed_by, start as first_point}
 use Rattle.vm_model.specs.Histories.{History, Honest, IsAllOf, IsTrueOf, Knowledge, Whole, behind}
 use Rattle.vm_model.specs.HonestRounds.{Attempted, HonestRound, IsHanded, IsOneRun, IsToldOn}
 use Rattle.vm_model.proofs.Honesty.{honest_round, honest_rounds, run_is_history, whole_round, whole_rounds}
-use Rattle.vm_rounds.specs.Journals.{commands_among, notifications_among}
+use Rattle.journal_errors.specs.declared.version.Version.{Version}
+use Rattle.vm_rounds.specs.Arrivals.{arriving}
+use Rattle.vm_rounds.specs.Heard.{acknowledged_from}
+use Rattle.vm_rounds.specs.Journals.{commands_among}
 use Rattle.vm_rounds.specs.Record.{Record}
 use Rattle.vm_rounds.specs.Stepping.{fresh_record}
 use Rattle.vm_rounds.specs.Told.{bytes_in}
 use Rattle.vm_rounds.proofs.Advanced.{made_new}
+use Rattle.vm_rounds.proofs.Coming.{made_comes}
 use Rattle.vm_rounds.proofs.Replayed.{commands_same}
 use Rattle.vm_world.specs.declared.types.Event.{Event}
 use Rattle.vm_world.specs.declared.types.Round.{Round}
@@ -41,26 +45,29 @@ use Rattle.vm_world.proofs.Headline.{IsHonest, is_honest}
 use Rattle.vm_world.proofs.Inputs.{Begins, input_says, run_begins}
 use Rattle.vm_world.proofs.Keeping.{Going, arrivals_keep, events_keep}
 use Rattle.vm_world.proofs.Running.{events_run}
+use Rattle.vm_world.proofs.Settled.{brings_nothing}
 
 -- ---- one round
 
 -- a round begins with the whole journal
-begun : (start : List ℕ) (old : List (List ℕ)) (r : Record) → IsJournal old → r.fed ≡ [] → r.taken ≡ [] → r.proposed ≡ [] → Going start old (new_now old (start ++ concat old) r)
-begun start old r j fed taken nothing = record {
-  arrived = [];
-  arrivals = tt;
+begun : (version : Version) (start : List ℕ) (old : List (List ℕ)) (r : Record) → IsJournal old → r.fed ≡ [] → r.taken ≡ [] → r.proposed ≡ [] → Going version start old (new_now version old (start ++ concat old) r)
+begun version start old r j fed taken nothing = record {
+  made_for = refl;
+  bytes = [];
+  came = [];
+  framed = none_framed;
   delivered = [];
   all = ap (λ l. start ++ l) (sym (append-nil (concat old)));
   fed_front = ([], ap (λ l. bytes_in l ++ []) (sym fed));
   fed_open = λ o. ap bytes_in fed;
-  nothing = nothing;
   output_is = ap concat taken;
   scanned = [];
   output_frames = refl;
+  proposed = (r.proposed, refl);
   added = [];
   extends = sym (append-nil old);
   commands = refl;
-  notifications = refl;
+  brings = brings_nothing version;
   journal = j;
 }
 
@@ -70,11 +77,11 @@ pub record Grows (old new : List (List ℕ)) : Type 0 where
   pub extends : new ≡ old ++ added
   pub journal : IsJournal new
 
-pub short_all : (m : Meaning) (events : List Event) (start : List ℕ) (old : List (List ℕ)) (r : Record) → IsJournal old → r.fed ≡ [] → r.taken ≡ [] → r.proposed ≡ [] → IsShort m events (new_now old (start ++ concat old) r)
-short_all m events start old r j fed taken nothing end h = (events_keep m start old events (new_now old (start ++ concat old) r) end h (begun start old r j fed taken nothing)).journal.short
+pub short_all : (m : Meaning) (version : Version) (events : List Event) (start : List ℕ) (old : List (List ℕ)) (r : Record) → IsJournal old → r.fed ≡ [] → r.taken ≡ [] → r.proposed ≡ [] → IsShort m events (new_now version old (start ++ concat old) r)
+short_all m version events start old r j fed taken nothing end h = (events_keep m version start old events (new_now version old (start ++ concat old) r) end h (begun version start old r j fed taken nothing)).journal.short
 
-attempt_goes : (m : Meaning) (w : Setting) (round : Round) (old : List (List ℕ)) (report : ReportView) (new : List (List ℕ)) → IsJournal old → (d : AttemptDoes m w round old report new) → Going (encoding (start_message w round old)) old d.ran.now
-attempt_goes m w round old report new j d = events_keep m (encoding (start_message w round old)) old round.events (begin d.alloc w round old) d.ran.now d.ran.happen (begun (encoding (start_message w round old)) old (fresh_record (made d.alloc w.options w.version)) j refl refl refl)
+attempt_goes : (m : Meaning) (w : Setting) (round : Round) (old : List (List ℕ)) (report : ReportView) (new : List (List ℕ)) → IsJournal old → (d : AttemptDoes m w round old report new) → Going w.version (encoding (start_message w round old)) old d.ran.now
+attempt_goes m w round old report new j d = events_keep m w.version (encoding (start_message w round old)) old round.events (begin d.alloc w round old) d.ran.now d.ran.happen (begun w.version (encoding (start_message w round old)) old (fresh_record (made d.alloc w.options w.version)) j refl refl refl)
 
 pub round_grows : (m : Meaning) (w : Setting) (round : Round) (old : List (List ℕ)) (report : ReportView) (new : List (List ℕ)) → IsJournal old → RoundDoes m w round old report new → Grows old new
 round_grows m w round old report new j (inl d) =
@@ -97,19 +104,19 @@ start_framed : (st : Start) → IsWhole (message.Start st) → AreFrames (encodi
 start_framed st whole = one_framed (stored_form (message.Start st)) whole.1
 
 -- the course of a round's attempt, from its beginning on
-attempt_along : (m : Meaning) (w : Setting) (round : Round) (old : List (List ℕ)) (report : ReportView) (new : List (List ℕ)) (j : IsJournal old) (d : AttemptDoes m w round old report new) → Along m (encoding (start_message w round old)) (stored_form (start_message w round old)) old j (start_framed (start_for w round old) d.start) (course_of m old round.events (begin d.alloc w round old) d.ran.now d.ran.happen) d.ran.now
+attempt_along : (m : Meaning) (w : Setting) (round : Round) (old : List (List ℕ)) (report : ReportView) (new : List (List ℕ)) (j : IsJournal old) (d : AttemptDoes m w round old report new) → Along m w.version (encoding (start_message w round old)) (stored_form (start_message w round old)) old j (start_framed (start_for w round old) d.start) (course_of m old round.events (begin d.alloc w round old) d.ran.now d.ran.happen) d.ran.now
 unfolding begun
 attempt_along m w round old report new j d =
     let none : (frames_of []).0 ≡ [] = ap (λ (p : List RawMessage × Tail). p.0) none_framed in
     let bytes = encoding (start_message w round old) in
     let framed = start_framed (start_for w round old) d.start in
-    let first : Along m bytes (stored_form (start_message w round old)) old j framed [] (begin d.alloc w round old) = record {
-      going = begun bytes old (fresh_record (made d.alloc w.options w.version)) j refl refl refl;
+    let first : Along m w.version bytes (stored_form (start_message w round old)) old j framed [] (begin d.alloc w round old) = record {
+      going = begun w.version bytes old (fresh_record (made d.alloc w.options w.version)) j refl refl refl;
       written = sym (ap commands_among none);
-      came = sym (drop_nil (length (notes_in old)) _ (ap (λ l. notifications_among (behind l)) none));
+      came = sym (drop_nil (length (notes_in old)) _ (ap (λ l. arriving (acknowledged_from w.version []) (behind l)) none));
       order = λ n h. absurd (omega (arith, h));
     } in
-    events_go_along m bytes (stored_form (start_message w round old)) old j framed round.events (begin d.alloc w round old) d.ran.now [] d.ran.happen first
+    events_go_along m w.version bytes (stored_form (start_message w round old)) old j framed round.events (begin d.alloc w round old) d.ran.now [] d.ran.happen first
   where
     drop_nil : (k : ℕ) (ns : List Notification) → ns ≡ [] → drop k ns ≡ []
     drop_nil zero ns e = e
@@ -125,8 +132,8 @@ attempt_honest K m w round old report new r j h d =
     let found = start_reads st d.start in
     let first = begin d.alloc w round old in
     let course = course_of m old round.events first d.ran.now d.ran.happen in
-    let kept = events_run m w bytes raw st old j framed found refl (setup_of w) refl K h r round.events first d.ran.now d.ran.happen (begun bytes old (fresh_record (made d.alloc w.options w.version)) j refl refl refl) (inl (made_new d.alloc w.version w.options)) in
-    let honest = is_honest m w bytes raw st old j framed found refl (setup_of w) refl K h r d.ran.now course (attempt_along m w round old report new j d) kept d.ran.ends in
+    let kept = events_run m w bytes raw st old j framed found refl (setup_of w) refl K h r round.events first d.ran.now d.ran.happen (begun w.version bytes old (fresh_record (made d.alloc w.options w.version)) j refl refl refl) (inl (made_new d.alloc w.version w.options), made_comes d.alloc w.version w.options) in
+    let honest = is_honest m w bytes raw st old j framed found refl (setup_of w) refl K h r d.ran.now course (attempt_along m w round old report new j d) kept.0 d.ran.ends in
     subst (λ (x : List Answer × List (List ℕ)). IsHonest (setup_of w) m (entries_of old) (record { given = given_by st; course = course; answers = x.0 }) (entries_of x.1)) (λ i. (sym (ap (λ (v : ReportView). v.answers) d.ran.told) i, sym d.ran.left i)) honest
 
 -- a round whose attempt was refused too: nothing was delivered or written

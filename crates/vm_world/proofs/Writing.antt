@@ -9,7 +9,10 @@ use Rattle.journal_errors.specs.declared.faults.NamedFault.TheVariants as fault
 use Rattle.journal_messages.specs.Message.{encoding}
 use Rattle.vm_parts.specs.declared.steps.Step.{Step}
 use Rattle.vm_parts.specs.declared.types.AwakeableHandle.{AwakeableHandle}
+use Rattle.await_trees.specs.declared.handle.NotificationHandle.{NotificationHandle}
 use Rattle.await_trees.specs.declared.tree.UnresolvedFuture.{UnresolvedFuture}
+use Rattle.retries.specs.declared.policy.RetryPolicy.{RetryPolicy}
+use Rattle.runs.specs.declared.types.RunExitResult.{RunExitResult}
 use Rattle.await_trees.specs.Tree.{tree_of}
 use Rattle.vm_machine.specs.declared.asks.Ask.{Ask}
 use Rattle.vm_machine.specs.declared.asks.Ask.TheVariants as ask
@@ -32,9 +35,10 @@ use Rattle.vm_rounds.specs.declared.progress.Progress.{Progress}
 use Rattle.vm_rounds.specs.declared.progress.Reply.{Reply}
 use Rattle.vm_rounds.specs.declared.progress.Reply.TheVariants as reply
 use Rattle.vm_rounds.specs.Record.{Record, bytes_written}
-use Rattle.vm_rounds.specs.Stepping.{Advances, Asks, CloseDoes, Closes, FeedDoes, Feeds, Reads, StepAt, StepDoes, StepFrom, StepUnless, future_in, kept_at, replied, step_asked, with_vm}
+use Rattle.vm_rounds.specs.Stepping.{Advances, Asks, CloseDoes, Closes, FeedDoes, Feeds, FinishDoes, Reads, StepAt, StepDoes, StepFrom, StepUnless, future_in, kept_at, replied, step_asked, with_vm}
 use Rattle.vm_rounds.specs.Steps.{Awaited, Performs, PerformsBy, mapped}
 use Rattle.invocation_vm.proofs.Endings.{whole_writes}
+use Rattle.vm_rounds.proofs.Finishing.{finished}
 use Rattle.vm_rounds.proofs.Quiet.{input_quiet}
 
 -- ---- one event of the machine
@@ -180,6 +184,9 @@ close_wrote r result new h = by_test r.starved result h
     by_test : (b : Bool) (result : Result Unit AllocError) → CloseDoes b r result new → Wrote r new
     by_test true result d = wrote_same r new d.1
     by_test false result d = closes_wrote r result new d
+
+pub finish_wrote : (handle : NotificationHandle) (exit : RunExitResult) (policy : RetryPolicy) (r : Record) (result : Result Unit Error) (new : Record) → FinishDoes r.starved handle exit policy r result new → Wrote r new
+finish_wrote handle exit policy r result new h = let f = finished handle exit policy r result new h in (f.taken, f.output)
 
 -- the bytes that were written begin those that are written now
 pub bytes_grow : (r new : Record) → Wrote r new → IsPrefix (bytes_written r) (bytes_written new)

@@ -1,4 +1,4 @@
--- Why an arrival is no fault of the rounds, or which one it is.
+-- Why an arrival, or a proposal that is stored, is no fault of the rounds, or which one it is.
 use Rattle.std.specs.Prelude.{ℕ, ◌==◌, Bool, true, false, if◌then◌else◌, List, [], ◌∷◌, length, Option, Some, None}
 use Rattle.std.specs.List.{list_any}
 use Rattle.journal_messages.specs.declared.message.Message.{Message}
@@ -92,3 +92,16 @@ read_fault (Some n) journal = note_fault n.id n.result journal
 -- id, the id was completed, an invocation's id is completed by something else, the result is a run's, the journal is full.
 abbrev pub arrival_fault : List ℕ → List (List ℕ) → Option RoundFault
 arrival_fault bytes journal = read_fault (note_in bytes) journal
+
+-- ---- proposals
+
+-- the fault of a proposal: by what completes its id, and whether it was completed
+abbrev pub proposed_fault : Option Completes → Bool → Option RoundFault → Option RoundFault
+proposed_fault None done room = Some round_fault.NoSuchId
+proposed_fault (Some kind) true room = Some round_fault.SecondCompletion
+proposed_fault (Some kind) false room = room
+
+-- The first fault of a proposal for the run of this id, which is stored as a completion, but for want of memory: no stored command
+-- carries its id, the id was completed, the journal is full.
+abbrev pub proposal_fault : ℕ → List (List ℕ) → Option RoundFault
+proposal_fault id journal = proposed_fault (completes_among id (said_in journal) None) (is_completed id (notes_in journal)) (room_fault journal)

@@ -7,15 +7,12 @@ use Rattle.vm_machine.specs.Inputs.{coverage_of}
 use Rattle.vm_parts.specs.declared.context.StateMap.{StateMap}
 use Rattle.vm_parts.specs.Entries.{entries_of as state_entries}
 use Rattle.vm_model.specs.Calls.{Meaning}
-use Rattle.invocation_vm.specs.Frames.{frames_of}
-use Rattle.journal_messages.specs.declared.message.RawMessage.{RawMessage}
-use Rattle.vm_model.specs.Histories.{Knowledge, behind}
+use Rattle.vm_model.specs.Histories.{Knowledge}
 use Rattle.vm_model.specs.HonestRounds.{Attempted, HonestRounds}
 use Rattle.vm_model.specs.Journal.{Entry, Recorded, Notified}
-use Rattle.vm_rounds.specs.Record.{Record}
-use Rattle.vm_rounds.specs.declared.progress.Fed.{Fed}
-use Rattle.vm_rounds.specs.Journals.{notifications_among}
-use Rattle.vm_rounds.specs.Told.{bytes_in, written_by}
+use Rattle.journal_errors.specs.declared.version.Version.{Version}
+use Rattle.vm_rounds.specs.Record.{Record, heard}
+use Rattle.vm_rounds.specs.Told.{arrivals_of, written_by}
 use Rattle.vm_world.specs.declared.types.Event.{Event}
 use Rattle.vm_world.specs.declared.types.Round.{Round}
 use Rattle.vm_world.specs.declared.types.Setting.{Setting}
@@ -23,31 +20,22 @@ use Rattle.vm_world.specs.Entries.{entries_of, notes_in}
 use Rattle.vm_world.specs.Rounds.{Happen, Now, ReportView, RoundDoes, RoundsDo, begin}
 use Rattle.vm_world.specs.Worlds.{setup_of, start_for}
 
--- the frames of pieces
-abbrev pub frames_of_pieces : List Fed → List RawMessage
-frames_of_pieces fed = (frames_of (bytes_in fed)).0
-
--- The arrivals among what was fed: the notifications behind the first frame. An attempt of a world proposes nothing, so that no
--- acknowledgement is among them.
-abbrev pub came_to : List Fed → List Notification
-came_to fed = notifications_among (behind (frames_of_pieces fed))
-
--- the notifications that an attempt was fed behind those of its journal
-abbrev pub delivered : List (List ℕ) → Record → List Notification
-delivered journal r = drop (length (notes_in journal)) (came_to r.fed)
+-- The notifications that an attempt was fed behind those of its journal; an acknowledgement stands as the completion of its run.
+abbrev pub delivered : Version → List (List ℕ) → Record → List Notification
+delivered version journal r = drop (length (notes_in journal)) (arrivals_of (heard version r))
 
 -- what is new in a list that has grown
 abbrev pub new_in : {A : Type 0} → List A → List A → List A
 new_in old new = drop (length old) new
 
 -- what an event brought: the notifications that were delivered by it, and the commands that were written by it
-abbrev pub brought_by : List (List ℕ) → Record → Record → List Entry
-brought_by journal old new = map Notified (new_in (delivered journal old) (delivered journal new)) ++ map Recorded (new_in (written_by old) (written_by new))
+abbrev pub brought_by : Version → List (List ℕ) → Record → Record → List Entry
+brought_by version journal old new = map Notified (new_in (delivered version journal old) (delivered version journal new)) ++ map Recorded (new_in (written_by old) (written_by new))
 
 -- the course of events, one after another, of an attempt on this journal
 abbrev pub course_of : (m : Meaning) (journal : List (List ℕ)) (events : List Event) (old new : Now) → Happen m events old new → List Entry
 course_of m journal [] old new h = []
-course_of m journal (e ∷ es) old new (mid, happens, others) = brought_by journal old.attempt mid.attempt ++ course_of m journal es mid new others
+course_of m journal (e ∷ es) old new (mid, happens, others) = brought_by old.version journal old.attempt mid.attempt ++ course_of m journal es mid new others
 
 -- the state that a Start hands out
 abbrev pub given_by : Start → StateMap

@@ -6,7 +6,7 @@ use Rattle.vm_world.specs.Rounds.{Now, ReportView}
 
 -- a round on its way
 abbrev pub the_now : Desk → Record → Now
-the_now d r = record { journal = d.journal.items; waiting = d.waiting.items; attempt = r; output = d.output.items; unstored = d.unstored; closed = d.closed; error = d.error }
+the_now d r = record { version = d.version; journal = d.journal.items; waiting = d.waiting.items; attempt = r; output = d.output.items; unstored = d.unstored; closed = d.closed; error = d.error }
 
 -- a report
 abbrev pub report_view : Report → ReportView

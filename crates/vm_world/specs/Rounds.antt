@@ -22,9 +22,10 @@ use Rattle.vm_model.specs.Deliveries.{HasNoTwo}
 use Rattle.journal_attempt.specs.declared.commands.InputCommand.{InputCommand}
 use Rattle.journal_messages.specs.declared.message.RawMessage.{RawMessage}
 use Rattle.vm_rounds.specs.declared.progress.Progress.{Progress}
-use Rattle.vm_rounds.specs.Record.{Record, heard}
+use Rattle.vm_rounds.specs.Heard.{proposals_in}
+use Rattle.vm_rounds.specs.Record.{Record, bytes_written, heard}
 use Rattle.vm_rounds.specs.Told.{AnswersAreTold, Premises, written_by}
-use Rattle.vm_rounds.specs.Stepping.{CloseDoes, FeedDoes, StepDoes, fresh_record, taken_from}
+use Rattle.vm_rounds.specs.Stepping.{CloseDoes, FeedDoes, FinishDoes, StepDoes, fresh_record, taken_from}
 use Rattle.vm_world.specs.declared.types.Event.{Event}
 use Rattle.vm_world.specs.declared.types.Event.TheVariants as event
 use Rattle.vm_world.specs.declared.types.Round.{Round}
@@ -33,14 +34,15 @@ use Rattle.vm_world.specs.declared.types.RoundFault.TheVariants as round_fault
 use Rattle.vm_world.specs.declared.types.Setting.{Setting}
 use Rattle.vm_world.specs.Arrivals.{arrival_fault, most}
 use Rattle.vm_world.specs.Entries.{entries_of}
-use Rattle.vm_world.specs.Storing.{Stores, commands_from}
+use Rattle.vm_world.specs.Storing.{FirstFault, Stores, written_from}
 use Rattle.vm_world.specs.Worlds.{start_message}
 
 -- ---- a round on its way
 
--- The journal, the bytes that wait, the attempt, all output that was taken, its bytes that weren't looked at for storing, whether
+-- The version that the attempt was made for, the journal, the bytes that wait, the attempt, all output that was taken, its bytes that weren't looked at for storing, whether
 -- the input was closed, and the first error.
 pub record Now : Type 0 where
+  pub version : Version
   pub journal : List (List ℕ)
   pub waiting : List ℕ
   pub attempt : Record
@@ -82,21 +84,26 @@ Happens m event.Close old new =
 Happens m event.Step old new =
     (result : Result Progress Error) × (r : Record) × StepDoes m old.attempt result r
     × (new ≡ record old { attempt = r; error = first_error old.error (error_of result) })
+Happens m (event.RunResult handle exit policy) old new =
+    (result : Result Unit Error) × (r : Record) × FinishDoes old.attempt.starved handle exit policy old.attempt result r
+    × (new ≡ record old { attempt = r; error = first_error old.error (error_of result) })
 Happens m (event.Arrive x) old new =
     (arrival_fault x old.journal ≡ None) × (new ≡ record old { journal = old.journal ++ x ∷ []; waiting = old.waiting ++ x })
 Happens m (event.Store n) old new =
-    (journal : List (List ℕ)) × (unstored : List ℕ) × Stores n old.journal (old.unstored ++ concat old.attempt.vm.machine.output) journal unstored
-    × (new ≡ record old { journal = journal; output = old.output ++ concat old.attempt.vm.machine.output; unstored = unstored; attempt = taken_from old.attempt })
+    (journal : List (List ℕ)) × (waiting : List ℕ) × (unstored : List ℕ)
+    × Stores old.version n (old.unstored ++ concat old.attempt.vm.machine.output) old.journal old.waiting journal waiting unstored
+    × (new ≡ record old { journal = journal; waiting = waiting; output = old.output ++ concat old.attempt.vm.machine.output; unstored = unstored; attempt = taken_from old.attempt })
     × WholeFrames old.attempt.vm.machine.output
+    × (old.attempt.proposed ≡ proposals_in (bytes_written old.attempt))
 
 -- an event's fault, but for want of memory
 abbrev pub Fault : Event → Now → RoundFault → Type 0
 Fault (event.Piece n) now f = ⊥
 Fault event.Close now f = ⊥
 Fault event.Step now f = ⊥
+Fault (event.RunResult handle exit policy) now f = ⊥
 Fault (event.Arrive x) now f = arrival_fault x now.journal ≡ Some f
-Fault (event.Store n) now f =
-    (f ≡ round_fault.JournalFull) × (most < length now.journal + length (take n (commands_from (now.unstored ++ concat now.attempt.vm.machine.output))))
+Fault (event.Store n) now f = FirstFault (take n (written_from (now.unstored ++ concat now.attempt.vm.machine.output))) now.journal f
 
 -- an event's fault
 abbrev pub Faults : Event → Now → RoundFault → Type 0
@@ -161,12 +168,12 @@ pub record EndsTold (m : Meaning) (version : Version) (options : VMOptions) (r :
   pub told : Premises m version options (heard version r) → (r.answers ≡ []) ⊎ AnswersAreTold m version options r
 
 -- a round begins with this attempt, and these bytes wait
-abbrev pub new_now : List (List ℕ) → List ℕ → Record → Now
-new_now journal waiting r = record { journal = journal; waiting = waiting; attempt = r; output = []; unstored = []; closed = false; error = None }
+abbrev pub new_now : Version → List (List ℕ) → List ℕ → Record → Now
+new_now version journal waiting r = record { version = version; journal = journal; waiting = waiting; attempt = r; output = []; unstored = []; closed = false; error = None }
 
 -- a round begins with a new attempt, and its Start and the whole journal wait
 abbrev pub begin : Global → Setting → Round → List (List ℕ) → Now
-begin alloc w round journal = new_now journal (encoding (start_message w round journal) ++ concat journal) (fresh_record (made alloc w.options w.version))
+begin alloc w round journal = new_now w.version journal (encoding (start_message w round journal) ++ concat journal) (fresh_record (made alloc w.options w.version))
 
 -- no event lets the journal have more entries than may be
 abbrev pub IsShort : Meaning → List Event → Now → Type 0

@@ -1,6 +1,6 @@
-//! The faults of arrivals.
+//! The faults of arrivals, and of proposals that are stored.
 ghost use Rattle.std.specs.Prelude.{◌≡◌, IfOk};
-ghost use Rattle.vm_world.specs.Arrivals.{arrival_fault, completion_fault, is_invocation_id, note_fault, room_fault};
+ghost use Rattle.vm_world.specs.Arrivals.{arrival_fault, completion_fault, is_invocation_id, note_fault, proposal_fault, proposed_fault, room_fault};
 
 use crate::completions::{Completes, completes_in, is_completed};
 use crate::entry::note_in;
@@ -16,7 +16,7 @@ fn is_invocation_id(brings: &NotificationResult) -> bool
 }
 
 /// The fault of a journal that is full.
-fn room_fault(journal: &[Bytes]) -> Option<RoundFault>
+pub fn room_fault(journal: &[Bytes]) -> Option<RoundFault>
     ensures { result ≡ room_fault journal.now }
 {
     if journal.len() == u32::MAX as usize {
@@ -86,4 +86,32 @@ pub fn arrival_fault(
         Ok(None) => Ok(Some(RoundFault::NotANotification)),
         Ok(Some(note)) => note_fault(alloc, &note, journal),
     }
+}
+
+/// The fault of a proposal, by what completes its id and whether it was completed.
+fn proposed_fault(
+    kind: Option<Completes>,
+    done: bool,
+    room: Option<RoundFault>,
+) -> Option<RoundFault>
+    ensures { result ≡ proposed_fault kind done room }
+{
+    match (kind, done) {
+        (None, _) => Some(RoundFault::NoSuchId),
+        (Some(_), true) => Some(RoundFault::SecondCompletion),
+        (Some(_), false) => room,
+    }
+}
+
+/// The first fault that a proposal for the run of this id has, where it is stored.
+pub fn proposal_fault(
+    alloc: Global,
+    id: u32,
+    journal: &[Bytes],
+) -> Result<Option<RoundFault>, AllocError>
+    ensures { IfOk result (λ fault. fault ≡ proposal_fault id journal.now) }
+{
+    let kind = completes_in(alloc, id, journal)?;
+    let done = is_completed(alloc, id, journal)?;
+    Ok(proposed_fault(kind, done, room_fault(journal)))
 }

@@ -10,15 +10,19 @@ use crate::arrival_faults::arrival_fault;
 use crate::storing::store_from;
 use crate::types::{Event, RoundFault};
 use bytes::{Bytes, BytesMut};
-use journal_errors::{Error, NamedFault};
+use journal_errors::{Error, NamedFault, Version};
 use journal_streams::Decoder;
+use retries::RetryPolicy;
+use runs::RunExitResult;
 use std::alloc::{AllocError, Global};
+use vm_parts::NotificationHandle;
 use vm_rounds::{Attempt, Handler};
 
 /// A round on its way, but for its attempt.
 #[derive(Drop)]
 pub struct Desk {
     pub alloc: Global,
+    pub version: Version,
     pub journal: Vec<Bytes>,
     pub waiting: BytesMut,
     pub output: Vec<u8>,
@@ -59,7 +63,7 @@ pub fn arrive_in(alloc: Global, journal: &mut Vec<Bytes>, entry: &Bytes) -> Resu
 fn arrive(desk: &mut Desk, entry: &Bytes) -> Result<(), RoundFault>
     ensures ok { OnOk result ((arrival_fault entry.now desk.old.journal.items ≡ None)
         × (desk.new.journal.items ≡ desk.old.journal.items ++ entry.now ∷ []) × (desk.new.waiting.items ≡ desk.old.waiting.items ++ entry.now)) }
-    ensures same { OnOk result ((desk.new.output ≡ desk.old.output) × (desk.new.unstored ≡ desk.old.unstored) × (desk.new.closed ≡ desk.old.closed) × (desk.new.error ≡ desk.old.error)) }
+    ensures same { OnOk result ((desk.new.version ≡ desk.old.version) × (desk.new.output ≡ desk.old.output) × (desk.new.unstored ≡ desk.old.unstored) × (desk.new.closed ≡ desk.old.closed) × (desk.new.error ≡ desk.old.error)) }
     ensures err { IfErr result (λ f. (f ≡ round_fault.Memory) ⊎ (arrival_fault entry.now desk.old.journal.items ≡ Some f)) }
 {
     arrive_in(desk.alloc, &mut desk.journal, entry)?;
@@ -130,12 +134,46 @@ fn step<H: Handler>(attempt: &mut Attempt<&H>, desk: &mut Desk)
     note(&mut desk.error, error);
 }
 
-/// The next commands that were written are stored.
+/// Copies of what a run came to, and of its policy.
+fn copy_result(
+    exit: &RunExitResult,
+    policy: &RetryPolicy,
+) -> Result<(RunExitResult, RetryPolicy), AllocError>
+    ensures { IfOk result (λ copy. (copy.0 ≡ exit.now) × (copy.1 ≡ policy.now)) }
+{
+    let exit = exit.clone()?;
+    let policy = policy.clone()?;
+    Ok((exit, policy))
+}
+
+/// What executing a run came to is told to the attempt; an error of that is kept.
+fn run_result<H: Handler>(
+    attempt: &mut Attempt<&H>,
+    desk: &mut Desk,
+    handle: NotificationHandle,
+    exit: &RunExitResult,
+    policy: &RetryPolicy,
+) -> Result<(), RoundFault>
+    ensures does { Outcome (H.meaning attempt.old.handler.now) (event.RunResult handle exit.now policy.now) (the_now desk.old attempt.old.record_of) result (the_now desk.new attempt.new.record_of) }
+    ensures handler { attempt.new.handler.now ≡ attempt.old.handler.now }
+    ensures made_for { (attempt.new.version ≡ attempt.old.version) × (attempt.new.options ≡ attempt.old.options) }
+{
+    let Ok((exit, policy)) = copy_result(exit, policy) else {
+        return Err(RoundFault::Memory);
+    };
+    let error = attempt.run_result(handle, exit, policy).err();
+    note(&mut desk.error, error);
+    Ok(())
+}
+
+/// The next commands and proposals that were written are stored.
 fn store<H: Handler>(attempt: &mut Attempt<&H>, desk: &mut Desk, n: usize) -> Result<(), RoundFault>
     ensures does { Outcome (H.meaning attempt.old.handler.now) (event.Store n) (the_now desk.old attempt.old.record_of) result (the_now desk.new attempt.new.record_of) }
     ensures handler { attempt.new.handler.now ≡ attempt.old.handler.now }
     ensures made_for { (attempt.new.version ≡ attempt.old.version) × (attempt.new.options ≡ attempt.old.options) }
 {
+    // What the record says was proposed is what the output proposes.
+    let _ = attempt.output_len();
     let Ok(bytes) = attempt.take_output() else {
         return Err(RoundFault::Memory);
     };
@@ -145,7 +183,14 @@ fn store<H: Handler>(attempt: &mut Attempt<&H>, desk: &mut Desk, n: usize) -> Re
     if desk.unstored.push(bytes).is_err() {
         return Err(RoundFault::Memory);
     }
-    store_from(desk.alloc, &mut desk.journal, &mut desk.unstored, n)
+    store_from(
+        desk.alloc,
+        desk.version,
+        &mut desk.journal,
+        &mut desk.waiting,
+        &mut desk.unstored,
+        n,
+    )
 }
 
 /// One event.
@@ -167,6 +212,9 @@ pub fn happen<H: Handler>(
         Event::Step => {
             step(attempt, desk);
             Ok(())
+        }
+        Event::RunResult(handle, exit, policy) => {
+            run_result(attempt, desk, *handle, exit, policy)
         }
         Event::Arrive(entry) => arrive(desk, entry),
         Event::Store(n) => store(attempt, desk, *n),

@@ -18,7 +18,7 @@ use crate::handed::start_bytes;
 use crate::types::{Event, Report, Round, RoundFault, Setting};
 use bytes::{Bytes, BytesMut};
 use invocation_vm::VMResult;
-use journal_errors::Error;
+use journal_errors::{Error, Version};
 use journal_streams::Decoder;
 use std::alloc::{AllocError, Global};
 use vm_rounds::{Attempt, Handler};
@@ -167,17 +167,19 @@ fn refused_round(
 /// A round with its attempt.
 fn made_round<H: Handler>(
     alloc: Global,
+    version: Version,
     attempt: &mut Attempt<&H>,
     journal: Vec<Bytes>,
     waiting: BytesMut,
     events: &[Event],
 ) -> Result<(Vec<Bytes>, Report), RoundFault>
-    requires short { IsShort (H.meaning attempt.old.handler.now) events.now (new_now journal.items waiting.items attempt.old.record_of) }
-    ensures ok { IfOk result (λ r. Ran (H.meaning attempt.old.handler.now) attempt.old.version attempt.old.options events.now (new_now journal.items waiting.items attempt.old.record_of) (report_view r.1) r.0.items) }
-    ensures err { IfErr result (λ f. (f ≡ round_fault.Memory) ⊎ HappenFaults (H.meaning attempt.old.handler.now) events.now (new_now journal.items waiting.items attempt.old.record_of) f) }
+    requires short { IsShort (H.meaning attempt.old.handler.now) events.now (new_now version journal.items waiting.items attempt.old.record_of) }
+    ensures ok { IfOk result (λ r. Ran (H.meaning attempt.old.handler.now) attempt.old.version attempt.old.options events.now (new_now version journal.items waiting.items attempt.old.record_of) (report_view r.1) r.0.items) }
+    ensures err { IfErr result (λ f. (f ≡ round_fault.Memory) ⊎ HappenFaults (H.meaning attempt.old.handler.now) events.now (new_now version journal.items waiting.items attempt.old.record_of) f) }
 {
     let mut desk = Desk {
         alloc,
+        version,
         journal,
         waiting,
         output: Vec::new(alloc),
@@ -216,6 +218,7 @@ pub fn run_round<H: Handler>(
             };
             made_round(
                 alloc,
+                setting.version,
                 &mut attempt,
                 journal,
                 waiting,

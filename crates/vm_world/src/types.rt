@@ -2,7 +2,9 @@
 
 use bytes::Bytes;
 use journal_errors::{Error, Version};
-use vm_parts::{Answer, VMOptions};
+use retries::RetryPolicy;
+use runs::RunExitResult;
+use vm_parts::{Answer, NotificationHandle, VMOptions};
 use wire::{Items, Text};
 
 /// What stays the same over all attempts of an invocation.
@@ -36,9 +38,12 @@ pub enum Event {
     Close,
     /// The attempt makes a step.
     Step,
+    /// What executing the run of this handle came to is told to the attempt.
+    RunResult(NotificationHandle, RunExitResult, RetryPolicy),
     /// A notification, as one frame, is stored and waits.
     Arrive(Bytes),
-    /// The next commands that were written are stored, or all where there are fewer.
+    /// The next commands and proposals that were written are stored, or all where there are fewer. A proposal is stored as its run's
+    /// completion, and its acknowledgement waits; before version 7 that completion waits.
     Store(usize),
 }
 
@@ -71,7 +76,7 @@ pub struct Report {
 pub enum RoundFault {
     /// An arrival isn't one whole frame of a notification.
     NotANotification = 1,
-    /// No stored command carries the completion id that an arrival completes.
+    /// No stored command carries the id of a completion.
     NoSuchId = 2,
     /// A completion id is completed once more.
     SecondCompletion = 3,

@@ -3,11 +3,15 @@
 use crate::bench::world;
 use crate::counts::{LAZY_COUNT, OUTPUT_42, READ_41, SET_42, state_of_41};
 use bytes::Bytes;
+use handlers::charge::Charge;
 use handlers::counter::Counter;
 use handlers::sleeper::Sleeper;
+use retries::RetryPolicy;
+use runs::RunExitResult;
 use std::alloc::{AllocError, Global};
 use std::test::Fail;
-use vectors::frames::{COMPLETION_1, INPUT_TILL, OUTPUT_EMPTY, SLEEP_TO_1000};
+use vectors::frames::{COMPLETION_1, INPUT_TILL, OUTPUT_EMPTY, OUTPUT_X, SLEEP_TO_1000};
+use vm_parts::NotificationHandle;
 use vm_rounds::Handler;
 use vm_world::{Event, Round, World, run_rounds};
 use wire::{Items, Text};
@@ -17,6 +21,16 @@ const COUNT_COMES: &[u8] = b"\0\x1e\0\0\0\0\0\0\0\x10\
     \0\0\0\0\x01\
     \x01\
     \0\0\0\0\0\0\0\x0241";
+
+/// The run "charge", whose result comes under id 1.
+const RUN_CHARGE: &[u8] = b"\0\x1a\0\0\0\0\0\0\0\x12\
+    \0\0\0\0\0\0\0\x06charge\
+    \0\0\0\x01";
+
+/// Id 1 is completed, with "x".
+const RESULT_X: &[u8] = b"\0\x1e\0\0\0\0\0\0\0\x0f\
+    \0\0\0\0\x01\
+    \x01\0\0\0\0\0\0\0\x01x";
 
 /// Numbers that follow from a seed, and what shapes the rounds of a run.
 #[derive(Clone, Copy)]
@@ -28,6 +42,8 @@ struct Dice {
     has_stored: bool,
     /// The state is handed out without the count.
     lacks_count: bool,
+    /// What a run came to is told, whether it is executing or not.
+    executes: bool,
 }
 
 impl Dice {
@@ -56,6 +72,19 @@ impl Dice {
         }
     }
 
+    /// The run of handle 17 came to "x"; else a step.
+    fn execute(&mut self) -> Event {
+        if self.executes {
+            Event::RunResult(
+                NotificationHandle(17),
+                RunExitResult::Success(Bytes::from_static(b"x")),
+                RetryPolicy::Infinite,
+            )
+        } else {
+            Event::Step
+        }
+    }
+
     fn event(&mut self) -> Event {
         match self.roll() % 16 {
             0 => Event::Piece(usize::from(self.roll() % 64)),
@@ -63,6 +92,7 @@ impl Dice {
             4 => self.arrive(),
             5 | 6 | 7 => self.store(),
             8 if self.roll() % 4 == 0 => Event::Close,
+            9 => self.execute(),
             _ => Event::Step,
         }
     }
@@ -163,6 +193,7 @@ fn sleeps_leave_one_history(rt: HostRuntime) -> Result<(), Fail> {
             note: Some(COMPLETION_1),
             has_stored: false,
             lacks_count: false,
+            executes: false,
         };
         if let Some(world) = played(alloc, &handler, Vec::new(alloc), dice)? {
             let journal = world.journal();
@@ -190,6 +221,7 @@ fn counts_leave_one_history(rt: HostRuntime) -> Result<(), Fail> {
             note: if lacks_count { Some(COUNT_COMES) } else { None },
             has_stored: false,
             lacks_count,
+            executes: false,
         };
         if let Some(world) = played(alloc, &handler, state_of_41(alloc)?, dice)? {
             let journal = world.journal();
@@ -200,5 +232,48 @@ fn counts_leave_one_history(rt: HostRuntime) -> Result<(), Fail> {
         }
     }
     assert!(rt; tally.faultless > 2500 && tally.whole > 250, "{tally:?}");
+    Ok(())
+}
+
+/// How many results the journal has, where each is "x" under id 1.
+fn results_of_x(journal: &[Bytes]) -> Option<usize> {
+    let mut results = 0;
+    for entry in journal {
+        let entry = entry.as_slice();
+        if entry == RESULT_X {
+            results += 1;
+        } else if is_notification(entry) {
+            return None;
+        }
+    }
+    Some(results)
+}
+
+/// Nothing arrives from outside, and what is told that isn't executing fails its attempt alone: no event has a fault.
+#[test]
+fn charges_leave_one_history(rt: HostRuntime) -> Result<(), Fail> {
+    let alloc = rt.alloc();
+    let handler = Charge { alloc };
+    let mut tally = Tally {
+        faultless: 0,
+        whole: 0,
+    };
+    for seed in 0..RUNS {
+        let dice = Dice {
+            state: seed,
+            note: None,
+            has_stored: false,
+            lacks_count: false,
+            executes: true,
+        };
+        let world = played(alloc, &handler, Vec::new(alloc), dice)?.ok_or("an event has a fault")?;
+        let journal = world.journal();
+        let commands = &[INPUT_TILL, RUN_CHARGE, OUTPUT_X];
+        assert!(rt; begins(journal, commands), "seed {seed}");
+        let results = results_of_x(journal);
+        assert!(rt; matches!(results, Some(0) | Some(1)), "seed {seed}: {results:?}");
+        tally.count(journal.len() == 4);
+    }
+    assert!(rt; tally.whole > 250, "{tally:?}");
     Ok(())
 }
