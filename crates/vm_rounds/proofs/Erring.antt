@@ -38,7 +38,7 @@ use Rattle.vm_rounds.specs.Agreement.{IsCutShort, IsRefused}
 use Rattle.vm_rounds.specs.Blames.{Blame, BlamedAt, IfError, IsBlamed, LacksInput, RefusedCall, first_input}
 use Rattle.vm_rounds.specs.Blames.Blame.{Memory, NoInput, Call}
 use Rattle.vm_rounds.specs.Journals.{BeginsOrFails, HasAll, StillWaits, commands_among, machine_fed, missing, notifications_among, setup_for}
-use Rattle.vm_rounds.specs.Record.{Record, heard}
+use Rattle.vm_rounds.specs.Record.{Record, Said, all_said, heard}
 use Rattle.vm_rounds.specs.Stepping.{Advances, Asks, LacksMemory, Reads, StepAt, StepDoes, StepFrom, StepUnless, step_asked, future_in, progress_of}
 use Rattle.vm_rounds.specs.Stepping as stepping
 use Rattle.vm_rounds.specs.Steps.{Performs}
@@ -71,10 +71,10 @@ called_done {A} v o a w live is = by_outcome o (ap (λ f. called_at f o v) (sym 
     by_outcome (Failed e x) h = absurd (cc)
 
 -- a machine whose only failure is this error, and the reason for it
-pub error_blamed : (m : Meaning) (version : Version) (options : VMOptions) (over : Option Progress) (fed : Heard) (closed : Bool) (answers : List Answer) (w : Machine) (e : Error) → w.failure ≡ Some e → Blame m version options fed closed answers e → BlamedAt m version options over fed closed answers w
-error_blamed m version options over fed closed answers w e is b = record {
+pub error_blamed : (m : Meaning) (version : Version) (options : VMOptions) (over : Option Progress) (fed : Heard) (said : Said) (answers : List Answer) (w : Machine) (e : Error) → w.failure ≡ Some e → Blame m version options fed said answers e → BlamedAt m version options over fed said answers w
+error_blamed m version options over fed said answers w e is b = record {
   open_yet = λ going none. none_some e (sym none ∙ is);
-  blame = λ going d some. subst (Blame m version options fed closed answers) (same_Some e d (sym is ∙ some)) b;
+  blame = λ going d some. subst (Blame m version options fed said answers) (same_Some e d (sym is ∙ some)) b;
 }
 
 -- ---- the input is read
@@ -175,7 +175,7 @@ reads_blamed m version options old (Err e) new b live (w, does, is) =
     (λ (x : IsStarved old.vm.machine e w.machine). starves m version options old w e live.failure x)
     does.0)
   where
-    starves : (m : Meaning) (version : Version) (options : VMOptions) (r : Record) (w : View) (e : Error) → r.vm.machine.failure ≡ None → IsStarved r.vm.machine e w.machine → BlamedAt m version options r.over (heard version r) r.closed r.answers w.machine
+    starves : (m : Meaning) (version : Version) (options : VMOptions) (r : Record) (w : View) (e : Error) → r.vm.machine.failure ≡ None → IsStarved r.vm.machine e w.machine → BlamedAt m version options r.over (heard version r) (all_said r) r.answers w.machine
     starves m version options r w e live x = error_blamed m version options _ _ _ _ w.machine no_memory (x.failure ∙ ap (λ (f : Option Error). Some (unwrap_or f no_memory)) live) (Memory refl)
 
 -- ---- the handler's call
@@ -210,8 +210,8 @@ asks_blamed : (m : Meaning) (version : Version) (options : VMOptions) (old : Rec
 asks_blamed m version options old result new runs live (x, w, does, is, made) = subst (IsBlamed m version options) (sym is) (by_reply x (step_leaves (step_asked m old) old.vm.machine live x w.machine does.0.0) does.0.0)
   where
     -- a VM whose handler runs
-    running : (answers : List Answer) → w.machine.failure ≡ old.vm.machine.failure → is_running w.machine.phase ≡ true → BlamedAt m version options old.over (heard version old) old.closed answers w.machine
-    running answers failure at = alive_blamed m version options old.over (heard version old) old.closed answers w.machine (failure ∙ live.failure) (λ closed. absurd (let z : false ≡ true = sym (ap is_running closed) ∙ at in cc))
+    running : (answers : List Answer) → w.machine.failure ≡ old.vm.machine.failure → is_running w.machine.phase ≡ true → BlamedAt m version options old.over (heard version old) (all_said old) answers w.machine
+    running answers failure at = alive_blamed m version options old.over (heard version old) (all_said old) answers w.machine (failure ∙ live.failure) (λ closed. absurd (let z : false ≡ true = sym (ap is_running closed) ∙ at in cc))
 
     by_reply : (x : Result Reply Error) → IsLeft old.vm.machine x w.machine → DoesBy (Performs (step_asked m old) old.vm.machine) x old.vm.machine w.machine → IsBlamed m version options (stepping.replied old (future_in (step_asked m old)) x w)
     by_reply (Ok (reply.Answer a)) h d = running (old.answers ++ a ∷ []) h.failure h.left
@@ -220,7 +220,7 @@ asks_blamed m version options old result new runs live (x, w, does, is, made) = 
     by_reply (Ok reply.Suspended) h d = over_blamed m version options progress.Suspended _ _ _ _
     by_reply (Ok reply.Ended) h d = over_blamed m version options progress.Ended _ _ _ _
     by_reply (Err e) h d =
-        error_blamed m version options old.over (heard version old) old.closed old.answers w.machine e h.1
+        error_blamed m version options old.over (heard version old) (all_said old) old.answers w.machine e h.1
         (⊎_elim
         (λ (y : Performs (step_asked m old) old.vm.machine (Failed e w.machine)). Call (λ p. call_refused m version options old p (runs p) live w e y))
         (λ (y : IsStarved old.vm.machine e w.machine). Memory y.error)

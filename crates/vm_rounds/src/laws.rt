@@ -37,9 +37,9 @@ ghost use Rattle.retries.specs.declared.policy.RetryPolicy.{RetryPolicy};
 ghost use Rattle.runs.specs.declared.types.RunExitResult.{RunExitResult};
 ghost use Rattle.vm_rounds.specs.Stepping.{CloseDoes, FeedDoes, FinishDoes, StepDoes, Takes, fresh_record};
 ghost use Rattle.vm_rounds.specs.Heard.{Heard};
-ghost use Rattle.vm_rounds.specs.Record.{Record, heard};
+ghost use Rattle.vm_rounds.specs.Record.{Record, Said, heard};
 ghost use Rattle.invocation_vm.specs.Views.{View, after_input};
-ghost use Rattle.std.specs.Prelude.{ℕ, Bool, Option};
+ghost use Rattle.std.specs.Prelude.{ℕ, Option};
 ghost use Rattle.vm_parts.specs.declared.steps.Answer.{Answer};
 ghost use Rattle.await_trees.specs.declared.tree.UnresolvedFuture.{UnresolvedFuture};
 
@@ -111,9 +111,9 @@ pub fn answers_are_told()
 
 /// Where the known entries are a history of the handler and each frame has its place, an error is only: want of memory; input that
 /// was closed while known entries were missing; or, where no recorded command is left, a call's own refusal, for an argument or
-/// version check, a kind of number that ran out, or a state key that is no text.
+/// version check, a kind of number that ran out, or a state key that is no text; or that of the run's result that was told last.
 pub fn honest_attempts_fail_by_themselves()
-    ensures { (m : Meaning) (version : Version) (options : VMOptions) (fed : Heard) (closed : Bool) (answers : List Answer) (e : Error) → IsHonest m version options fed → Blame m version options fed closed answers e → IsOwnError m version options fed closed answers e }
+    ensures { (m : Meaning) (version : Version) (options : VMOptions) (fed : Heard) (said : Said) (answers : List Answer) (e : Error) → IsHonest m version options fed → Blame m version options fed said answers e → IsOwnError m version options fed said answers e }
 {}
 
 /// Bytes that are a beginning of Start, of the whole journal, which is a history of the handler, and of notifications behind it are
