@@ -52,6 +52,7 @@ use Rattle.vm_rounds.specs.Record.{Record, Said, all_heard, all_said, heard}
 use Rattle.vm_rounds.specs.Stepping.{FinishDoes, Finishes, Tells, TellsUnless, newly_proposed, noted, noted_at, with_vm}
 use Rattle.vm_rounds.specs.Told.{BeforeInput, Begun, Came, Comes, HasCome, IsKept, IsKeptUnder, IsLive, Journal, Premises, Quiet, Runs, StillSleeps, Wrote, arrivals, frames_fed, handed_out}
 use Rattle.vm_rounds.proofs.Advanced.{done_of}
+use Rattle.vm_rounds.proofs.Ahead.{Fewer, LivesOn, ended_fewer, fewer_same}
 use Rattle.vm_rounds.proofs.Blamed.{alive_blamed, none_some, over_blamed}
 use Rattle.vm_rounds.proofs.Erring.{error_blamed}
 use Rattle.vm_rounds.proofs.Kept.{dead_same}
@@ -596,6 +597,18 @@ module _ (version : Version) (options : VMOptions) (handle : NotificationHandle)
 
   pub finish_sleeps : (m : Meaning) → IsLate m version options old → StillSleeps m version options old → StillSleeps m version options new
   finish_sleeps m l s = by_case (StillSleeps m version options) s (λ live. s) (proposes_sleeps version options handle exit policy old new came m l s) (fails_sleeps version options handle exit policy old new came m s)
+
+-- ---- runs
+
+-- a run whose result is told can't be handed out more often, nor can another
+pub finish_lives : (handle : NotificationHandle) (exit : RunExitResult) (policy : RetryPolicy) (old : Record) (result : Result Unit Error) (new : Record) → FinishDoes old.starved handle exit policy old result new → LivesOn old.vm.machine new.vm.machine × (new.over ≡ old.over)
+finish_lives handle exit policy old result new does =
+    in_case handle exit policy old result new does K ((λ none. (none, fewer_same old.vm.machine)), refl) (λ live. ((λ none. (none, fewer_same old.vm.machine)), refl))
+    (λ p. subst K (sym p.is) ((λ none. (p.live, subst (Fewer old.vm.machine) (sym (proposed_is handle p.id p.result old.vm.machine)) (ended_fewer handle old.vm.machine))), refl))
+    (λ f. subst K (sym f.is) ((λ none. none_some f.error (sym none ∙ f.fails.failure)), refl))
+  where
+    K : Record → Type 0
+    K r = LivesOn old.vm.machine r.vm.machine × (r.over ≡ old.over)
 
 -- ---- an error
 

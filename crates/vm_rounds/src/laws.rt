@@ -21,6 +21,7 @@ ghost use Rattle.vm_model.specs.Moves.{Point, later};
 ghost use Rattle.vm_parts.specs.declared.context.StateMap.{StateMap};
 ghost use Rattle.vm_parts.specs.Outboxes.{WholeFrames};
 ghost use Rattle.vm_rounds.specs.Agreement.{Agrees, Aside, Follows};
+ghost use Rattle.vm_rounds.specs.Courses.{Leads};
 ghost use Rattle.vm_rounds.specs.Blames.{Blame, FailsAt, IsHonest, IsOwnError};
 ghost use Rattle.vm_rounds.specs.Honest.{FeedsHonestly};
 ghost use Rattle.vm_rounds.specs.Arrivals.{arriving, kept_after};
@@ -28,8 +29,9 @@ ghost use Rattle.vm_rounds.specs.Journals.{BeginsOrFails, Started, as_entries, m
 ghost use Rattle.vm_rounds.specs.Steps.{IfDone, Performs, ReadsBack};
 ghost use Rattle.vm_rounds.specs.Told.{AnswersAreTold, HasCome, IsKeptUnder, Premises, RefusesReplay};
 ghost use Rattle.vm_rounds.specs.declared.progress.Progress.{Progress};
+ghost use Rattle.vm_rounds.specs.declared.progress.Progress.TheVariants.{ExecuteRun};
 ghost use Rattle.vm_rounds.specs.declared.progress.Reply.{Reply};
-ghost use Rattle.std.specs.Prelude.{Result};
+ghost use Rattle.std.specs.Prelude.{Result, Ok};
 ghost use Rattle.journal_errors.specs.declared.error.Error.{Error};
 ghost use Rattle.std.specs.declared.alloc.AllocError.{AllocError};
 ghost use Rattle.await_trees.specs.declared.handle.NotificationHandle.{NotificationHandle};
@@ -120,4 +122,10 @@ pub fn honest_attempts_fail_by_themselves()
 /// an honest attempt's: each of its frames has its place.
 pub fn honest_bytes_are_honest()
     ensures { (m : Meaning) (version : Version) (options : VMOptions) (fed : Heard) → FeedsHonestly m version options fed → IsHonest m version options fed }
+{}
+
+/// A run is handed out to be executed once at most: whatever calls are made of an attempt, from its first on, and whatever they answer, no
+/// two of its steps answer `ExecuteRun` with the same handle.
+pub fn runs_are_executed_once()
+    ensures { (m : Meaning) (alloc : Global) (version : Version) (options : VMOptions) (handle : NotificationHandle) (before between : ℕ) (a b c d : Record) → Leads m before (fresh_record (made alloc options version)) a → StepDoes m a (Ok (ExecuteRun handle)) b → Leads m between b c → StepDoes m c (Ok (ExecuteRun handle)) d → ⊥ }
 {}
