@@ -23,7 +23,7 @@ use Rattle.vm_model.specs.Calls.{Meaning}
 use Rattle.vm_rounds.specs.Heard.{Heard, and_piece}
 use Rattle.vm_rounds.specs.declared.progress.Fed.{Fed}
 use Rattle.vm_rounds.specs.declared.progress.Progress.{Progress}
-use Rattle.vm_rounds.specs.Record.{Record, heard}
+use Rattle.vm_rounds.specs.Record.{Record, Said, all_said, heard}
 use Rattle.vm_rounds.specs.Stepping.{CloseDoes, Closes, FeedDoes, Feeds, Takes, fresh_record, kept, kept_at, with_vm}
 use Rattle.vm_rounds.specs.Told.{BeforeInput, Came, HasCome, bytes_fed, frames_fed}
 use Rattle.vm_rounds.specs.Blames.{BadFrame, Blame, BlamedAt, FailsAt, IsBlamed, IsShort, Place}
@@ -37,8 +37,8 @@ use Rattle.vm_rounds.proofs.Placing.{bad_frame, come_keeps, come_stands, place_a
 pub none_some : {A : Type 0} (e : Error) → None ≡ Some e → A
 none_some e h = absurd (cc)
 
-pub starved_blamed : (m : Meaning) (version : Version) (options : VMOptions) (over : Option Progress) (fed : Heard) (closed : Bool) (answers : List Answer) (v w : Machine) → v.failure ≡ None → IsStarved v no_memory w → BlamedAt m version options over fed closed answers w
-starved_blamed m version options over fed closed answers v w live s =
+pub starved_blamed : (m : Meaning) (version : Version) (options : VMOptions) (over : Option Progress) (fed : Heard) (said : Said) (answers : List Answer) (v w : Machine) → v.failure ≡ None → IsStarved v no_memory w → BlamedAt m version options over fed said answers w
+starved_blamed m version options over fed said answers v w live s =
     let is : w.failure ≡ Some no_memory = s.failure ∙ ap (λ (f : Option Error). Some (unwrap_or f no_memory)) live in
     record {
       open_yet = λ going none. none_some no_memory (sym none ∙ is);
@@ -46,15 +46,15 @@ starved_blamed m version options over fed closed answers v w live s =
     }
 
 -- a VM that is alive, and not closed
-pub alive_blamed : (m : Meaning) (version : Version) (options : VMOptions) (over : Option Progress) (fed : Heard) (closed : Bool) (answers : List Answer) (w : Machine) → w.failure ≡ None → w.phase ≢ Closed → BlamedAt m version options over fed closed answers w
-alive_blamed m version options over fed closed answers w live open_yet = record {
+pub alive_blamed : (m : Meaning) (version : Version) (options : VMOptions) (over : Option Progress) (fed : Heard) (said : Said) (answers : List Answer) (w : Machine) → w.failure ≡ None → w.phase ≢ Closed → BlamedAt m version options over fed said answers w
+alive_blamed m version options over fed said answers w live open_yet = record {
   open_yet = λ going none. open_yet;
   blame = λ going e some. none_some e (sym live ∙ some);
 }
 
 -- once it is over nothing is said
-pub over_blamed : (m : Meaning) (version : Version) (options : VMOptions) (p : Progress) (fed : Heard) (closed : Bool) (answers : List Answer) (w : Machine) → BlamedAt m version options (Some p) fed closed answers w
-over_blamed m version options p fed closed answers w = record {
+pub over_blamed : (m : Meaning) (version : Version) (options : VMOptions) (p : Progress) (fed : Heard) (said : Said) (answers : List Answer) (w : Machine) → BlamedAt m version options (Some p) fed said answers w
+over_blamed m version options p fed said answers w = record {
   open_yet = λ going none. absurd (cc);
   blame = λ going e some. absurd (cc);
 }
@@ -84,7 +84,7 @@ pub spoils_not : (v : Machine) (e : Error) → v.failure ≡ Some e → spoiled 
 unfolding spoiled called
 spoils_not v e is = ap (λ f. left_by (called_at f (malformed_step v) v)) is
 
-piece_blamed : (m : Meaning) (version : Version) (options : VMOptions) (r : Record) (f : Fed) → HasCome version options r → r.vm.machine.failure ≡ None → r.vm.machine.phase ≢ Closed → BlamedAt m version options r.over (and_piece (heard version r) f) r.closed r.answers (after_input r.vm f.piece).machine
+piece_blamed : (m : Meaning) (version : Version) (options : VMOptions) (r : Record) (f : Fed) → HasCome version options r → r.vm.machine.failure ≡ None → r.vm.machine.phase ≢ Closed → BlamedAt m version options r.over (and_piece (heard version r) f) (all_said r) r.answers (after_input r.vm f.piece).machine
 piece_blamed m version options r f k live open_yet =
     let stands = come_stands version options r k live open_yet in
     let frames = fed_frames (heard version r) f r.vm (come_tail version options r k live open_yet) in
@@ -98,10 +98,10 @@ piece_blamed m version options r f k live open_yet =
     (frames_fit came.0 r.vm.machine live))
   where
     B : Machine → Type 0
-    B w = BlamedAt m version options r.over (and_piece (heard version r) f) r.closed r.answers w
+    B w = BlamedAt m version options r.over (and_piece (heard version r) f) (all_said r) r.answers w
 
     good : (t : Tail) (w : Machine) → (frames_of (bytes_fed (and_piece (heard version r) f))).1 ≡ t → w.failure ≡ None → w.phase ≢ Closed → w.version ≡ version → w.options ≡ options → B (left_over t w).machine
-    good (Rest bytes) w is alive still ver opt = alive_blamed m version options r.over (and_piece (heard version r) f) r.closed r.answers w alive still
+    good (Rest bytes) w is alive still ver opt = alive_blamed m version options r.over (and_piece (heard version r) f) (all_said r) r.answers w alive still
     good Garbage w is alive still ver opt = record {
       open_yet = λ going none. none_some _ (sym none ∙ spoils w alive);
       blame = λ going e some. NoFrame is (same_Some e _ (sym some ∙ spoils w alive) ∙ λ i. ruled_by (ver i) (opt i) (named_error fault.BadMessage None));
@@ -118,7 +118,7 @@ piece_blamed m version options r f k live open_yet =
     bad Garbage w x p made frames = subst B (sym (spoils_not w _ x.failure)) (failed_frame w x p made frames)
 
 pieces_blamed : (m : Meaning) (version : Version) (options : VMOptions) (r : Record) (piece : List ℕ) → HasCome version options r → IsBlamed m version options r → (over : Option Progress) → r.over ≡ over → (o : Option Error) → r.vm.machine.failure ≡ o → (ph : Phase) → r.vm.machine.phase ≡ ph → IsBlamed m version options (with_vm (after_input r.vm piece) (kept_at o ph piece r))
-pieces_blamed m version options r piece k b (Some p) over o is ph at = subst (λ x. BlamedAt m version options x (heard version (kept_at o ph piece r)) (kept_at o ph piece r).closed (kept_at o ph piece r).answers (after_input r.vm piece).machine) (sym over ∙ sym (same_over o ph)) (over_blamed m version options p _ _ _ _)
+pieces_blamed m version options r piece k b (Some p) over o is ph at = subst (λ x. BlamedAt m version options x (heard version (kept_at o ph piece r)) (all_said (kept_at o ph piece r)) (kept_at o ph piece r).answers (after_input r.vm piece).machine) (sym over ∙ sym (same_over o ph)) (over_blamed m version options p _ _ _ _)
   where
     same_over : (o : Option Error) (ph : Phase) → (kept_at o ph piece r).over ≡ r.over
     same_over (Some e) ph = refl
@@ -127,7 +127,7 @@ pieces_blamed m version options r piece k b (Some p) over o is ph at = subst (λ
     same_over None Replaying = refl
     same_over None Processing = refl
     same_over None Closed = refl
-pieces_blamed m version options r piece k b None over (Some e) is ph at = subst (BlamedAt m version options r.over (heard version r) r.closed r.answers) (sym (ap (λ (f : Option Error). (if is_some f then r.vm else consumed (frames_of (r.vm.undecoded ++ piece)) r.vm.machine).machine) is)) b
+pieces_blamed m version options r piece k b None over (Some e) is ph at = subst (BlamedAt m version options r.over (heard version r) (all_said r) r.answers) (sym (ap (λ (f : Option Error). (if is_some f then r.vm else consumed (frames_of (r.vm.undecoded ++ piece)) r.vm.machine).machine) is)) b
 pieces_blamed m version options r piece k b None over None is WaitingStart at = piece_blamed m version options r _ k is (b.open_yet over is)
 pieces_blamed m version options r piece k b None over None is WaitingReplayEntries at = piece_blamed m version options r _ k is (b.open_yet over is)
 pieces_blamed m version options r piece k b None over None is Replaying at = piece_blamed m version options r _ k is (b.open_yet over is)
@@ -152,15 +152,19 @@ feed_blames m version options piece old result new k b does = by_test old.starve
 
 -- ---- closing
 
+-- it is told that the input is closed
+abbrev pub closed_now : Said → Said
+closed_now said = record said { closed = true }
+
 -- closing changes no blame but that it says the input is closed
-pub closed_blame : (m : Meaning) (version : Version) (options : VMOptions) (fed : Heard) (closed : Bool) (answers : List Answer) (e : Error) → Blame m version options fed closed answers e → Blame m version options fed true answers e
-closed_blame m version options fed closed answers e (Memory x) = Memory x
-closed_blame m version options fed closed answers e (Frame x) = Frame x
-closed_blame m version options fed closed answers e (NoFrame x y) = NoFrame x y
-closed_blame m version options fed closed answers e (ClosedEarly x y z) = ClosedEarly refl y z
-closed_blame m version options fed closed answers e (NoInput x) = NoInput x
-closed_blame m version options fed closed answers e (Call x) = Call x
-closed_blame m version options fed closed answers e (RunResult x) = RunResult x
+pub closed_blame : (m : Meaning) (version : Version) (options : VMOptions) (fed : Heard) (said : Said) (answers : List Answer) (e : Error) → Blame m version options fed said answers e → Blame m version options fed (closed_now said) answers e
+closed_blame m version options fed said answers e (Memory x) = Memory x
+closed_blame m version options fed said answers e (Frame x) = Frame x
+closed_blame m version options fed said answers e (NoFrame x y) = NoFrame x y
+closed_blame m version options fed said answers e (ClosedEarly x y z) = ClosedEarly refl y z
+closed_blame m version options fed said answers e (NoInput x) = NoInput x
+closed_blame m version options fed said answers e (Call x) = Call x
+closed_blame m version options fed said answers e (RunResult x) = RunResult x
 
 pub closing_at : (v : View) → v.machine.failure ≡ None → (ph : Phase) → v.machine.phase ≡ ph → left_by (settled (closed_at ph (record v.machine { input_closed = true }))) ≡ (after_closing v).machine
 unfolding called
@@ -176,25 +180,25 @@ known_missing F k b = inr (record { first = b.first; others = b.others; is = b.i
     fewer : (n known : ℕ) → n + k ≡ known → 0 < k → n < known
     fewer n known e h = omega (arith, e, h)
 
-close_at : (m : Meaning) (version : Version) (options : VMOptions) (r : Record) → HasCome version options r → IsBlamed m version options r → (over : Option Progress) → r.over ≡ over → (o : Option Error) → r.vm.machine.failure ≡ o → (ph : Phase) → r.vm.machine.phase ≡ ph → BlamedAt m version options r.over (heard version r) true r.answers (after_closing r.vm).machine
-close_at m version options r k b (Some p) over o is ph at = subst (λ x. BlamedAt m version options x (heard version r) true r.answers (after_closing r.vm).machine) (sym over) (over_blamed m version options p _ _ _ _)
-close_at m version options r k b None over (Some e) is ph at = subst (BlamedAt m version options r.over (heard version r) true r.answers) (closing_not r.vm e is) (record { open_yet = b.open_yet; blame = λ going d some. closed_blame m version options (heard version r) r.closed r.answers d (b.blame going d some) })
+close_at : (m : Meaning) (version : Version) (options : VMOptions) (r : Record) → HasCome version options r → IsBlamed m version options r → (over : Option Progress) → r.over ≡ over → (o : Option Error) → r.vm.machine.failure ≡ o → (ph : Phase) → r.vm.machine.phase ≡ ph → BlamedAt m version options r.over (heard version r) (closed_now (all_said r)) r.answers (after_closing r.vm).machine
+close_at m version options r k b (Some p) over o is ph at = subst (λ x. BlamedAt m version options x (heard version r) (closed_now (all_said r)) r.answers (after_closing r.vm).machine) (sym over) (over_blamed m version options p _ _ _ _)
+close_at m version options r k b None over (Some e) is ph at = subst (BlamedAt m version options r.over (heard version r) (closed_now (all_said r)) r.answers) (closing_not r.vm e is) (record { open_yet = b.open_yet; blame = λ going d some. closed_blame m version options (heard version r) (all_said r) r.answers d (b.blame going d some) })
 close_at m version options r k b None over None is WaitingStart at =
     let stands = come_stands version options r k is (b.open_yet over is) in
-    subst (BlamedAt m version options r.over (heard version r) true r.answers) (closing_at r.vm is WaitingStart at)
+    subst (BlamedAt m version options r.over (heard version r) (closed_now (all_said r)) r.answers) (closing_at r.vm is WaitingStart at)
     (record {
       open_yet = λ going none. none_some _ (sym none);
       blame = λ going e some. ClosedEarly refl (inl (subst (λ ph. Place ph r.vm.machine.entries_missing (frames_fed (heard version r))) at stands.0)) (sym (same_Some _ e some) ∙ λ i. ruled_by (stands.1.0 i) (stands.1.1 i) (named_error fault.InputClosedWhileWaitingEntries None));
     })
 close_at m version options r k b None over None is WaitingReplayEntries at =
     let stands = come_stands version options r k is (b.open_yet over is) in
-    subst (BlamedAt m version options r.over (heard version r) true r.answers) (closing_at r.vm is WaitingReplayEntries at)
+    subst (BlamedAt m version options r.over (heard version r) (closed_now (all_said r)) r.answers) (closing_at r.vm is WaitingReplayEntries at)
     (record {
       open_yet = λ going none. none_some _ (sym none);
       blame = λ going e some. ClosedEarly refl (known_missing (frames_fed (heard version r)) r.vm.machine.entries_missing (subst (λ ph. Place ph r.vm.machine.entries_missing (frames_fed (heard version r))) at stands.0)) (sym (same_Some _ e some) ∙ λ i. ruled_by (stands.1.0 i) (stands.1.1 i) (named_error fault.InputClosedWhileWaitingEntries None));
     })
-close_at m version options r k b None over None is Replaying at = subst (BlamedAt m version options r.over (heard version r) true r.answers) (closing_at r.vm is Replaying at) (alive_blamed m version options r.over (heard version r) true r.answers _ is (b.open_yet over is))
-close_at m version options r k b None over None is Processing at = subst (BlamedAt m version options r.over (heard version r) true r.answers) (closing_at r.vm is Processing at) (alive_blamed m version options r.over (heard version r) true r.answers _ is (b.open_yet over is))
+close_at m version options r k b None over None is Replaying at = subst (BlamedAt m version options r.over (heard version r) (closed_now (all_said r)) r.answers) (closing_at r.vm is Replaying at) (alive_blamed m version options r.over (heard version r) (closed_now (all_said r)) r.answers _ is (b.open_yet over is))
+close_at m version options r k b None over None is Processing at = subst (BlamedAt m version options r.over (heard version r) (closed_now (all_said r)) r.answers) (closing_at r.vm is Processing at) (alive_blamed m version options r.over (heard version r) (closed_now (all_said r)) r.answers _ is (b.open_yet over is))
 close_at m version options r k b None over None is Closed at = absurd (b.open_yet over is at)
 
 closes_blamed : (m : Meaning) (version : Version) (options : VMOptions) (old : Record) (result : Result Unit AllocError) (new : Record) → HasCome version options old → IsBlamed m version options old → Closes old result new → IsBlamed m version options new
@@ -211,7 +215,7 @@ close_blames m version options old result new k b does = by_test old.starved doe
 -- ---- making, and the output
 
 pub made_blamed : (m : Meaning) (alloc : Global) (version : Version) (options : VMOptions) → IsBlamed m version options (fresh_record (made alloc options version))
-made_blamed m alloc version options = alive_blamed m version options None (heard version (fresh_record (made alloc options version))) false [] (fresh alloc version options) refl (λ h. absurd (cc))
+made_blamed m alloc version options = alive_blamed m version options None (heard version (fresh_record (made alloc options version))) (all_said (fresh_record (made alloc options version))) [] (fresh alloc version options) refl (λ h. absurd (cc))
 
 pub take_blames : (m : Meaning) (version : Version) (options : VMOptions) (old : Record) (result : Result (List ℕ) AllocError) (new : Record) → IsBlamed m version options old → Takes old result new → IsBlamed m version options new
 take_blames m version options old (Ok bytes) new b does = subst (IsBlamed m version options) (sym does.1) (record { open_yet = b.open_yet; blame = b.blame })

@@ -37,10 +37,11 @@ record Alive (version : Version) (options : VMOptions) (w : Machine) : Type 0 wh
   version_is : w.version ≡ version
   options_is : w.options ≡ options
 
--- What an event is by the table: refused for that reason, or done.
-abbrev Fits : Option NamedFault → Machine → Outcome Unit → Type 0
+-- What an event is by the table: refused for that reason, or done. It gives no numbers, and concerns no run.
+abbrev pub Fits : Option NamedFault → Machine → Outcome Unit → Type 0
 Fits (Some name) v o = o ≡ refused name v
-Fits None v o = (w : Machine) × (o ≡ Done tt w) × ((w.failure ≡ v.failure) × ((w.version ≡ v.version) × (w.options ≡ v.options)))
+Fits None v o =
+    (w : Machine) × (o ≡ Done tt w) × ((w.failure ≡ v.failure) × ((w.version ≡ v.version) × (w.options ≡ v.options))) × ((w.runs ≡ v.runs) × (w.counters ≡ v.counters))
 
 start_fits : (st : Start) (o : Option (List (List ℕ × Option (List ℕ)))) (v : Machine) → Fits (refused_start st o) v (started_with st o v)
 start_fits st None v = refl
@@ -48,7 +49,7 @@ start_fits st (Some entries) v = by_test (st.known_entries == 0)
   where
     by_test : (b : Bool) → Fits (if b then Some fault.KnownEntriesIsZero else None) v (if b then refused fault.KnownEntriesIsZero v else Done (tt {0}) (record v { start = info_of v.version v.options.fallback_random_seed st; state = record { entries = entries; coverage = coverage_of st.partial }; entries_missing = st.known_entries; phase = WaitingReplayEntries }))
     by_test true = refl
-    by_test false = (_, refl, (refl, (refl, refl)))
+    by_test false = (_, refl, (refl, (refl, refl)), (refl, refl))
 
 starts_fit : (o : Option Start) (v : Machine) → Fits (start_fault o) v (started o v)
 starts_fit None v = refl
@@ -56,11 +57,11 @@ starts_fit (Some st) v = start_fits st (entries_in st.state) v
 
 queued_fits : (o : Option Notification) (v : Machine) → Fits (notification_fault o) v (queued o counted_entry v) × Fits (notification_fault o) v (queued o (λ w. w) v)
 queued_fits None v = (refl, refl)
-queued_fits (Some n) v = ((_, refl, (refl, (refl, refl))), (_, refl, (refl, (refl, refl))))
+queued_fits (Some n) v = ((_, refl, (refl, (refl, refl)), (refl, refl)), (_, refl, (refl, (refl, refl)), (refl, refl)))
 
 kept_fits : (id : ℕ) (kept : Option KeptProposal) (v : Machine) → Fits (kept_fault kept) v (acknowledged id kept v)
 kept_fits id None v = refl
-kept_fits id (Some kept) v = (_, refl, (refl, (refl, refl)))
+kept_fits id (Some kept) v = (_, refl, (refl, (refl, refl)), (refl, refl))
 
 read_fits : (ack : Option ProposeRunCompletionAck) (v : Machine) → Fits (read_fault v.proposals ack) v (acknowledged_by ack v)
 read_fits None v = refl
@@ -71,7 +72,7 @@ acknowledgement_fits raw WaitingStart v = refl
 acknowledgement_fits raw WaitingReplayEntries v = refl
 acknowledgement_fits raw Replaying v = refl
 acknowledgement_fits raw Processing v = read_fits (acknowledgement_in raw.body) v
-acknowledgement_fits raw Closed v = (_, refl, (refl, (refl, refl)))
+acknowledgement_fits raw Closed v = (_, refl, (refl, (refl, refl)), (refl, refl))
 
 other_fits : (raw : RawMessage) (phase : Phase) (v : Machine) (d : Bool) → Fits (other_fault v.proposals phase raw d) v (if d then acknowledgement_step raw phase v else refused fault.UnexpectedInputMessage v)
 other_fits raw phase v true = acknowledgement_fits raw phase v
@@ -84,7 +85,7 @@ message_fits raw Replaying v true b c d = refl
 message_fits raw Processing v true b c d = refl
 message_fits raw Closed v true b c d = refl
 message_fits raw WaitingStart v false true c d = refl
-message_fits raw WaitingReplayEntries v false true c d = (_, refl, (refl, (refl, refl)))
+message_fits raw WaitingReplayEntries v false true c d = (_, refl, (refl, (refl, refl)), (refl, refl))
 message_fits raw Replaying v false true c d = refl
 message_fits raw Processing v false true c d = refl
 message_fits raw Closed v false true c d = refl
@@ -92,7 +93,7 @@ message_fits raw WaitingStart v false false true d = refl
 message_fits raw WaitingReplayEntries v false false true d = (queued_fits (notification_in raw.body) v).0
 message_fits raw Replaying v false false true d = (queued_fits (notification_in raw.body) v).1
 message_fits raw Processing v false false true d = (queued_fits (notification_in raw.body) v).1
-message_fits raw Closed v false false true d = (_, refl, (refl, (refl, refl)))
+message_fits raw Closed v false false true d = (_, refl, (refl, (refl, refl)), (refl, refl))
 message_fits raw WaitingStart v false false false d = other_fits raw WaitingStart v d
 message_fits raw WaitingReplayEntries v false false false d = other_fits raw WaitingReplayEntries v d
 message_fits raw Replaying v false false false d = other_fits raw Replaying v d
@@ -152,7 +153,7 @@ one_comes raw v live = by_fault (fault_among v.proposals v.phase raw) refl (mess
     is = receives_by v raw live
 
     by_fault : (f : Option NamedFault) → fault_among v.proposals v.phase raw ≡ f → Fits f v o → One raw v (received raw v)
-    by_fault None e (w, done, (failure, (version, options))) =
+    by_fault None e (w, done, (failure, (version, options)), runs) =
         let at : received raw v ≡ w = is ∙ ap (λ x. left_by (settled x)) done in
         inl (ap (λ (x : Machine). x.failure) at ∙ failure ∙ live, (ap (λ (x : Machine). x.version) at ∙ version, ap (λ (x : Machine). x.options) at ∙ options))
     by_fault (Some why) e refuses =

@@ -70,7 +70,7 @@ asks_come m version options old result new k live (x, w, does, is, made) = subst
     by_reply : (x : Result Reply Error) → IsLeft old.vm.machine x w.machine → (let r = replied old (future_in (step_asked m old)) x w in CameBy version options (heard version r) r.answers r.waiting r.taken r.vm)
     by_reply (Ok (reply.Answer a)) h = on (old.answers ++ a ∷ []) None (never_empty old.answers a) h.sends (λ _. h.kept) (λ _. h.goes) (λ _. inl h.left)
     by_reply (Ok (reply.Waiting input run)) h = on old.answers (future_in (step_asked m old)) k.answered h.sends (λ _. h.kept) (λ _. h.goes) (λ _. inl h.left)
-    by_reply (Ok (reply.Execute run)) h = on old.answers (future_in (step_asked m old)) k.answered h.sends (λ _. h.kept) (λ _. h.goes) (λ _. inl h.left)
+    by_reply (Ok (reply.Execute run)) h = on old.answers (future_in (step_asked m old)) k.answered h.sends (λ _. h.kept) (λ _. h.goes) (λ _. inl h.left.0)
     by_reply (Ok reply.Suspended) h = on old.answers old.waiting k.answered h.sends (λ _. h.kept) (λ _. h.goes) (λ _. inr h.left)
     by_reply (Ok reply.Ended) h = on old.answers old.waiting k.answered h.sends (λ _. h.kept) (λ _. h.goes) (λ _. inr h.left)
     by_reply (Err e) h = on old.answers old.waiting k.answered h.0 (λ alive. absurd (let z : None ≡ Some e = sym alive ∙ h.1 in cc)) (λ alive. absurd (let z : None ≡ Some e = sym alive ∙ h.1 in cc)) (λ alive. absurd (let z : None ≡ Some e = sym alive ∙ h.1 in cc))

@@ -38,12 +38,13 @@ use Rattle.vm_rounds.specs.Agreement.{IsCutShort, IsRefused}
 use Rattle.vm_rounds.specs.Blames.{Blame, BlamedAt, IfError, IsBlamed, LacksInput, RefusedCall, first_input}
 use Rattle.vm_rounds.specs.Blames.Blame.{Memory, NoInput, Call}
 use Rattle.vm_rounds.specs.Journals.{BeginsOrFails, HasAll, StillWaits, commands_among, machine_fed, missing, notifications_among, setup_for}
-use Rattle.vm_rounds.specs.Record.{Record, heard}
+use Rattle.vm_rounds.specs.Record.{Record, Said, all_said, heard}
 use Rattle.vm_rounds.specs.Stepping.{Advances, Asks, LacksMemory, Reads, StepAt, StepDoes, StepFrom, StepUnless, step_asked, future_in, progress_of}
 use Rattle.vm_rounds.specs.Stepping as stepping
 use Rattle.vm_rounds.specs.Steps.{Performs}
 use Rattle.vm_rounds.specs.Told.{BeforeInput, Begun, Came, Comes, HasCome, IsKeptUnder, IsLive, Premises, Runs, begun, frames_fed, handed_out}
 use Rattle.vm_rounds.proofs.Advanced.{runs_of}
+use Rattle.vm_rounds.proofs.Ahead.{Fewer, fewer_same}
 use Rattle.vm_rounds.proofs.Beginning.{input_begins}
 use Rattle.vm_rounds.proofs.Blamed.{alive_blamed, over_blamed}
 use Rattle.vm_rounds.proofs.Following.{agreeing_follows}
@@ -54,7 +55,7 @@ none_some : {A : Type 0} (e : Error) → None ≡ Some e → A
 none_some e h = absurd (cc)
 
 -- a call that failed has failed the machine, which hadn't
-called_failed : {A : Type 0} (v : Machine) (o : Outcome A) (e : Error) (w : Machine) → v.failure ≡ None → called o v ≡ Failed e w → (w.failure ≡ Some e) × ((d : Error) × (u : Machine) × (o ≡ Failed d u))
+pub called_failed : {A : Type 0} (v : Machine) (o : Outcome A) (e : Error) (w : Machine) → v.failure ≡ None → called o v ≡ Failed e w → (w.failure ≡ Some e) × ((d : Error) × (u : Machine) × (o ≡ Failed d u))
 unfolding called
 called_failed {A} v o e w live is = by_outcome o (ap (λ f. called_at f o v) (sym live) ∙ is)
   where
@@ -71,44 +72,44 @@ called_done {A} v o a w live is = by_outcome o (ap (λ f. called_at f o v) (sym 
     by_outcome (Failed e x) h = absurd (cc)
 
 -- a machine whose only failure is this error, and the reason for it
-pub error_blamed : (m : Meaning) (version : Version) (options : VMOptions) (over : Option Progress) (fed : Heard) (closed : Bool) (answers : List Answer) (w : Machine) (e : Error) → w.failure ≡ Some e → Blame m version options fed closed answers e → BlamedAt m version options over fed closed answers w
-error_blamed m version options over fed closed answers w e is b = record {
+pub error_blamed : (m : Meaning) (version : Version) (options : VMOptions) (over : Option Progress) (fed : Heard) (said : Said) (answers : List Answer) (w : Machine) (e : Error) → w.failure ≡ Some e → Blame m version options fed said answers e → BlamedAt m version options over fed said answers w
+error_blamed m version options over fed said answers w e is b = record {
   open_yet = λ going none. none_some e (sym none ∙ is);
-  blame = λ going d some. subst (Blame m version options fed closed answers) (same_Some e d (sym is ∙ some)) b;
+  blame = λ going d some. subst (Blame m version options fed said answers) (same_Some e d (sym is ∙ some)) b;
 }
 
 -- ---- the input is read
 
--- an event that is done leaves the machine alive and open
-abbrev Opens : {A : Type 0} → Machine → Outcome A → Type 0
-Opens v (Done a w) = (w.failure ≡ v.failure) × (is_closed w.phase ≡ false)
+-- an event that is done leaves the machine alive and open, and lets no run be handed out more often
+abbrev pub Opens : {A : Type 0} → Machine → Outcome A → Type 0
+Opens v (Done a w) = (w.failure ≡ v.failure) × (is_closed w.phase ≡ false) × Fewer v w
 Opens v (Failed e w) = Unit {0}
 
 open_phase : (left : List RawMessage) → is_closed (phase_after left) ≡ false
 open_phase [] = refl
 open_phase (c ∷ left) = refl
 
-read_opens : (o : Option InputCommand) (v w : Machine) → w.failure ≡ v.failure → is_closed w.phase ≡ false → Opens v (input_read o w)
-read_opens None v w f p = tt
-read_opens (Some c) v w f p = (f, p)
+read_opens : (o : Option InputCommand) (v w : Machine) → w.failure ≡ v.failure → is_closed w.phase ≡ false → Fewer v w → Opens v (input_read o w)
+read_opens None v w f p n = tt
+read_opens (Some c) v w f p n = (f, p, n)
 
-popped_opens : (commands : List RawMessage) (v w : Machine) → w.failure ≡ v.failure → Opens v (popped_from commands type.InputCommand w >>= λ raw u. input_read (input_in raw.body) u)
-popped_opens [] v w f = tt
-popped_opens (raw ∷ rest) v w f = by_test (type_number raw.ty == type_number type.InputCommand)
+popped_opens : (commands : List RawMessage) (v w : Machine) → w.failure ≡ v.failure → Fewer v w → Opens v (popped_from commands type.InputCommand w >>= λ raw u. input_read (input_in raw.body) u)
+popped_opens [] v w f n = tt
+popped_opens (raw ∷ rest) v w f n = by_test (type_number raw.ty == type_number type.InputCommand)
   where
     u : Machine
     u = record w { commands = rest; phase = phase_after rest }
 
     by_test : (b : Bool) → Opens v ((if b then Done raw u else Failed (about_last fault.CommandTypeMismatch u) u) >>= λ raw u. input_read (input_in raw.body) u)
-    by_test true = read_opens (input_in raw.body) v u f (open_phase rest)
+    by_test true = read_opens (input_in raw.body) v u f (open_phase rest) n
     by_test false = tt
 
 counted_opens : (o : Option NamedFault) (v : Machine) → Opens v (input_counted o v)
 unfolding popped
 counted_opens (Some name) v = tt
-counted_opens None v = popped_opens v.commands v (entered type.InputCommand [] v) refl
+counted_opens None v = popped_opens v.commands v (entered type.InputCommand [] v) refl (fewer_same v)
 
-input_opens : (v : Machine) → Opens v (input_step v)
+pub input_opens : (v : Machine) → Opens v (input_step v)
 unfolding input_step
 input_opens v = by_phase v.phase
   where
@@ -175,7 +176,7 @@ reads_blamed m version options old (Err e) new b live (w, does, is) =
     (λ (x : IsStarved old.vm.machine e w.machine). starves m version options old w e live.failure x)
     does.0)
   where
-    starves : (m : Meaning) (version : Version) (options : VMOptions) (r : Record) (w : View) (e : Error) → r.vm.machine.failure ≡ None → IsStarved r.vm.machine e w.machine → BlamedAt m version options r.over (heard version r) r.closed r.answers w.machine
+    starves : (m : Meaning) (version : Version) (options : VMOptions) (r : Record) (w : View) (e : Error) → r.vm.machine.failure ≡ None → IsStarved r.vm.machine e w.machine → BlamedAt m version options r.over (heard version r) (all_said r) r.answers w.machine
     starves m version options r w e live x = error_blamed m version options _ _ _ _ w.machine no_memory (x.failure ∙ ap (λ (f : Option Error). Some (unwrap_or f no_memory)) live) (Memory refl)
 
 -- ---- the handler's call
@@ -210,17 +211,17 @@ asks_blamed : (m : Meaning) (version : Version) (options : VMOptions) (old : Rec
 asks_blamed m version options old result new runs live (x, w, does, is, made) = subst (IsBlamed m version options) (sym is) (by_reply x (step_leaves (step_asked m old) old.vm.machine live x w.machine does.0.0) does.0.0)
   where
     -- a VM whose handler runs
-    running : (answers : List Answer) → w.machine.failure ≡ old.vm.machine.failure → is_running w.machine.phase ≡ true → BlamedAt m version options old.over (heard version old) old.closed answers w.machine
-    running answers failure at = alive_blamed m version options old.over (heard version old) old.closed answers w.machine (failure ∙ live.failure) (λ closed. absurd (let z : false ≡ true = sym (ap is_running closed) ∙ at in cc))
+    running : (answers : List Answer) → w.machine.failure ≡ old.vm.machine.failure → is_running w.machine.phase ≡ true → BlamedAt m version options old.over (heard version old) (all_said old) answers w.machine
+    running answers failure at = alive_blamed m version options old.over (heard version old) (all_said old) answers w.machine (failure ∙ live.failure) (λ closed. absurd (let z : false ≡ true = sym (ap is_running closed) ∙ at in cc))
 
     by_reply : (x : Result Reply Error) → IsLeft old.vm.machine x w.machine → DoesBy (Performs (step_asked m old) old.vm.machine) x old.vm.machine w.machine → IsBlamed m version options (stepping.replied old (future_in (step_asked m old)) x w)
     by_reply (Ok (reply.Answer a)) h d = running (old.answers ++ a ∷ []) h.failure h.left
     by_reply (Ok (reply.Waiting input run)) h d = running old.answers h.failure h.left
-    by_reply (Ok (reply.Execute run)) h d = running old.answers h.failure h.left
+    by_reply (Ok (reply.Execute run)) h d = running old.answers h.failure h.left.0
     by_reply (Ok reply.Suspended) h d = over_blamed m version options progress.Suspended _ _ _ _
     by_reply (Ok reply.Ended) h d = over_blamed m version options progress.Ended _ _ _ _
     by_reply (Err e) h d =
-        error_blamed m version options old.over (heard version old) old.closed old.answers w.machine e h.1
+        error_blamed m version options old.over (heard version old) (all_said old) old.answers w.machine e h.1
         (⊎_elim
         (λ (y : Performs (step_asked m old) old.vm.machine (Failed e w.machine)). Call (λ p. call_refused m version options old p (runs p) live w e y))
         (λ (y : IsStarved old.vm.machine e w.machine). Memory y.error)

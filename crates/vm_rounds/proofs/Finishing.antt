@@ -48,10 +48,11 @@ use Rattle.vm_rounds.specs.Blames.{Blame, BlamedAt, IsBlamed, IsHonest, IsLate, 
 use Rattle.vm_rounds.specs.Blames.Blame.{Memory, RunResult}
 use Rattle.vm_rounds.specs.Heard.{Heard, acknowledged_from, proposals_among, proposals_in, with_pieces}
 use Rattle.vm_rounds.specs.Journals.{HasAll, StillWaits, setup_for}
-use Rattle.vm_rounds.specs.Record.{Record, all_heard, heard}
-use Rattle.vm_rounds.specs.Stepping.{FinishDoes, Finishes, Tells, TellsUnless, newly_proposed, with_vm}
+use Rattle.vm_rounds.specs.Record.{Record, Said, all_heard, all_said, heard}
+use Rattle.vm_rounds.specs.Stepping.{FinishDoes, Finishes, Tells, TellsUnless, newly_proposed, noted, noted_at, with_vm}
 use Rattle.vm_rounds.specs.Told.{BeforeInput, Begun, Came, Comes, HasCome, IsKept, IsKeptUnder, IsLive, Journal, Premises, Quiet, Runs, StillSleeps, Wrote, arrivals, frames_fed, handed_out}
 use Rattle.vm_rounds.proofs.Advanced.{done_of}
+use Rattle.vm_rounds.proofs.Ahead.{Fewer, LivesOn, ended_fewer, fewer_same}
 use Rattle.vm_rounds.proofs.Blamed.{alive_blamed, none_some, over_blamed}
 use Rattle.vm_rounds.proofs.Erring.{error_blamed}
 use Rattle.vm_rounds.proofs.Kept.{dead_same}
@@ -192,9 +193,26 @@ module _ (handle : NotificationHandle) (exit : RunExitResult) (policy : RetryPol
 
 -- ---- the record
 
+-- the record where the run is noted
+abbrev noting : NotificationHandle → Record → Record
+noting handle r = record r { told = Some handle }
+
+-- a VM that hasn't failed is told, so the run is noted
+noted_live : (handle : NotificationHandle) (r : Record) → r.vm.machine.failure ≡ None → noted handle r ≡ noting handle r
+noted_live handle r live = ap (λ f. noted_at f handle r) live
+
+-- of one that has failed nothing is noted
+noted_dead : (handle : NotificationHandle) (r : Record) (e : Error) → r.vm.machine.failure ≡ Some e → noted handle r ≡ r
+noted_dead handle r e dead = ap (λ f. noted_at f handle r) dead
+
 -- what the record is once a result was proposed
 abbrev proposed_to : NotificationHandle → ℕ → ValueOrFailure → Record → Record
-proposed_to handle id result r = record r { proposed = r.proposed ++ kept_as id result ∷ []; vm = record r.vm { machine = proposed id result (without_run handle r.vm.machine) } }
+proposed_to handle id result r = record (noting handle r) { proposed = r.proposed ++ kept_as id result ∷ []; vm = record r.vm { machine = proposed id result (without_run handle r.vm.machine) } }
+
+-- the VM ignores it, and the run is noted
+record Ignores (handle : NotificationHandle) (old new : Record) : Type 0 where
+  live : old.vm.machine.failure ≡ None
+  is : new ≡ noting handle old
 
 record ProposesOne (handle : NotificationHandle) (old new : Record) : Type 0 where
   live : old.vm.machine.failure ≡ None
@@ -209,11 +227,11 @@ record FailsBy (handle : NotificationHandle) (exit : RunExitResult) (policy : Re
   vm : View
   error : Error
   fails : Fails handle exit policy old.vm.machine error vm.machine
-  is : new ≡ with_vm vm old
+  is : new ≡ with_vm vm (noting handle old)
 
--- nothing changes, a result is proposed, or the VM fails
+-- nothing changes, the VM ignores it, a result is proposed, or the VM fails
 abbrev Cases : NotificationHandle → RunExitResult → RetryPolicy → Record → Record → Type 0
-Cases handle exit policy old new = (new ≡ old) ⊎ (ProposesOne handle old new ⊎ FailsBy handle exit policy old new)
+Cases handle exit policy old new = (new ≡ old) ⊎ (Ignores handle old new ⊎ (ProposesOne handle old new ⊎ FailsBy handle exit policy old new))
 
 same_view : (v w : View) → w.machine ≡ v.machine → w.undecoded ≡ v.undecoded → w ≡ v
 same_view v w machine undecoded = λ i. record { undecoded = undecoded i; machine = machine i }
@@ -231,21 +249,24 @@ one_newly handle id result v whole =
 module _ (handle : NotificationHandle) (exit : RunExitResult) (policy : RetryPolicy) (old : Record) where
   -- where it answers
   ends_ok : (w : View) (new : Record) → w.undecoded ≡ old.vm.undecoded → (w.machine ≡ old.vm.machine) ⊎ IsProposed handle old.vm.machine w.machine → old.vm.machine.failure ≡ None
-      → new ≡ record old { proposed = old.proposed ++ newly_proposed old.vm.machine w.machine; vm = w } → Cases handle exit policy old new
+      → new ≡ record (noted handle old) { proposed = old.proposed ++ newly_proposed old.vm.machine w.machine; vm = w } → Cases handle exit policy old new
   ends_ok w new und ends live is =
       ⊎_elim
       (λ (x : w.machine ≡ old.vm.machine).
-      inl (is ∙ λ i. record old { proposed = (ap (λ m. old.proposed ++ newly_proposed old.vm.machine m) x ∙ ap (λ l. old.proposed ++ l) (none_newly old.vm.machine) ∙ append-nil old.proposed) i; vm = same_view old.vm w x und i }))
+      inr (inl (record {
+        live = live;
+        is = is ∙ λ i. record (noted_live handle old live i) { proposed = (ap (λ m. old.proposed ++ newly_proposed old.vm.machine m) x ∙ ap (λ l. old.proposed ++ l) (none_newly old.vm.machine) ∙ append-nil old.proposed) i; vm = same_view old.vm w x und i };
+      })))
       (λ (x : IsProposed handle old.vm.machine w.machine).
       let there : View = record old.vm { machine = proposed x.id x.result (without_run handle old.vm.machine) } in
-      inr (inl (record {
+      inr (inr (inl (record {
         live = live;
         id = x.id;
         result = x.result;
         whole = x.whole;
         phase = x.phase;
-        is = is ∙ λ i. record old { proposed = (ap (λ m. old.proposed ++ newly_proposed old.vm.machine m) x.machine ∙ ap (λ l. old.proposed ++ l) (one_newly handle x.id x.result old.vm.machine x.whole)) i; vm = same_view there w x.machine und i };
-      })))
+        is = is ∙ λ i. record (noted_live handle old live i) { proposed = (ap (λ m. old.proposed ++ newly_proposed old.vm.machine m) x.machine ∙ ap (λ l. old.proposed ++ l) (one_newly handle x.id x.result old.vm.machine x.whole)) i; vm = same_view there w x.machine und i };
+      }))))
       ends
 
   by_failure : (f : Option Error) → old.vm.machine.failure ≡ f → (result : Result Unit Error) (new : Record) → Finishes handle exit policy old result new → Cases handle exit policy old new
@@ -254,10 +275,10 @@ module _ (handle : NotificationHandle) (exit : RunExitResult) (policy : RetryPol
       absurd (⊎_elim (λ (x : Ok t ≡ Err e). let z : ⊥ = cc in z) (λ (x : Ok t ≡ Err no_memory). let z : ⊥ = cc in z) first.0)
   by_failure (Some e) dead (Err d) new (w, does, is) =
       let first = first_proposed handle exit policy (Err d) e old.vm w dead does in
-      inl (is ∙ ap (λ u. with_vm u old) first.1)
+      inl (is ∙ λ i. with_vm (first.1 i) (noted_dead handle old e dead i))
   by_failure None live (Ok t) new (w, does, is) = ends_ok w new does.1 (tells_ok handle exit policy old.vm.machine t w.machine live does.0) live is
   by_failure None live (Err e) new (w, does, is) =
-      inr (inr (record {
+      inr (inr (inr (record {
         live = live;
         vm = w;
         error = e;
@@ -265,8 +286,8 @@ module _ (handle : NotificationHandle) (exit : RunExitResult) (policy : RetryPol
             (λ (x : CalledBy (Proposes handle exit policy old.vm.machine) old.vm.machine (Failed e w.machine)). tells_err handle exit policy old.vm.machine e w.machine live x)
             (λ (x : IsStarved old.vm.machine e w.machine). starves handle exit policy old.vm.machine e w.machine live x)
             does.0;
-        is = is;
-      }))
+        is = is ∙ ap (with_vm w) (noted_live handle old live);
+      })))
 
   finish_cases : (result : Result Unit Error) (new : Record) → FinishDoes old.starved handle exit policy old result new → Cases handle exit policy old new
   finish_cases result new does = by_test old.starved does
@@ -274,6 +295,18 @@ module _ (handle : NotificationHandle) (exit : RunExitResult) (policy : RetryPol
       by_test : (b : Bool) → FinishDoes b handle exit policy old result new → Cases handle exit policy old new
       by_test true d = inl d.1
       by_test false d = by_failure old.vm.machine.failure refl result new d
+
+  -- what each of them comes to
+  in_case : (result : Result Unit Error) (new : Record) → FinishDoes old.starved handle exit policy old result new → (K : Record → Type 0) → K old → (old.vm.machine.failure ≡ None → K (noting handle old)) → (ProposesOne handle old new → K new) → (FailsBy handle exit policy old new → K new) → K new
+  in_case result new does K same ignores proposes fails =
+      ⊎_elim
+      (λ (x : new ≡ old). subst K (sym x) same)
+      (λ (x : Ignores handle old new ⊎ (ProposesOne handle old new ⊎ FailsBy handle exit policy old new)).
+      ⊎_elim
+      (λ (y : Ignores handle old new). subst K (sym y.is) (ignores y.live))
+      (λ (y : ProposesOne handle old new ⊎ FailsBy handle exit policy old new). ⊎_elim (λ (z : ProposesOne handle old new). proposes z) (λ (z : FailsBy handle exit policy old new). fails z) y)
+      x)
+      (finish_cases result new does)
 
 -- ---- one proposal more
 
@@ -469,31 +502,42 @@ module _ (version : Version) (options : VMOptions) (handle : NotificationHandle)
   -- ---- why it failed
 
   -- a result was refused, or memory was lacking
-  refuses_for : (m : Meaning) (fed : Heard) (closed : Bool) (answers : List Answer) (f : FailsBy handle exit policy old new) → (old.vm.machine.version ≡ version) → (old.vm.machine.options ≡ options) → Blame m version options fed closed answers f.error
-  refuses_for m fed closed answers f ver opt =
+  refuses_for : (m : Meaning) (fed : Heard) (said : Said) (answers : List Answer) → said.told ≡ Some handle → (f : FailsBy handle exit policy old new) → (old.vm.machine.version ≡ version) → (old.vm.machine.options ≡ options) → Blame m version options fed said answers f.error
+  refuses_for m fed said answers told f ver opt =
       ⊎_elim
       (λ (x : f.error ≡ no_memory). Memory x)
       (λ (x : Refuses handle exit policy old.vm.machine f.error).
-      RunResult (record { handle = handle; exit = exit; policy = policy; told = old.vm.machine; left = x.left; why = x.why; proposes = x.proposes; version_is = ver; error = x.error ∙ λ i. ruled_by (ver i) (opt i) x.why }))
+      RunResult (record { handle = handle; is_told = told; exit = exit; policy = policy; machine = old.vm.machine; left = x.left; why = x.why; proposes = x.proposes; version_is = ver; error = x.error ∙ λ i. ruled_by (ver i) (opt i) x.why }))
       f.fails.why
+
+  -- a VM that hasn't failed is to blame for nothing
+  ignores_blames : (m : Meaning) → IsBlamed m version options old → old.vm.machine.failure ≡ None → IsBlamed m version options (noting handle old)
+  ignores_blames m b live = record { open_yet = b.open_yet; blame = λ going e some. none_some e (sym live ∙ some) }
 
   proposes_blames : (m : Meaning) → IsBlamed m version options old → ProposesOne handle old new → IsBlamed m version options new
   proposes_blames m b p =
       subst (IsBlamed m version options) (sym p.is)
-      (alive_blamed m version options old.over (heard version (proposed_to handle p.id p.result old)) old.closed old.answers (proposed_to handle p.id p.result old).vm.machine
+      (alive_blamed m version options old.over (heard version (proposed_to handle p.id p.result old)) (all_said (noting handle old)) old.answers (proposed_to handle p.id p.result old).vm.machine
       (ap (λ (w : Machine). w.failure) (machine_is p) ∙ p.live)
       (λ closed. absurd (let z : Processing ≡ Closed = sym p.phase ∙ ap (λ (w : Machine). w.phase) (sym (machine_is p)) ∙ closed in cc)))
 
   fails_blames : (m : Meaning) → IsBlamed m version options old → FailsBy handle exit policy old new → IsBlamed m version options new
   fails_blames m b f = subst (IsBlamed m version options) (sym f.is) (by_over old.over refl)
     where
-      by_over : (over : Option Progress) → old.over ≡ over → IsBlamed m version options (with_vm f.vm old)
-      by_over (Some p) is = subst (λ o. BlamedAt m version options o (heard version old) old.closed old.answers f.vm.machine) (sym is) (over_blamed m version options p (heard version old) old.closed old.answers f.vm.machine)
+      by_over : (over : Option Progress) → old.over ≡ over → IsBlamed m version options (with_vm f.vm (noting handle old))
+      by_over (Some p) is = subst (λ o. BlamedAt m version options o (heard version old) (all_said (noting handle old)) old.answers f.vm.machine) (sym is) (over_blamed m version options p (heard version old) (all_said (noting handle old)) old.answers f.vm.machine)
       by_over None is =
           let stands = come_stands version options old came f.live (b.open_yet is f.live) in
-          error_blamed m version options old.over (heard version old) old.closed old.answers f.vm.machine f.error f.fails.failure (refuses_for m (heard version old) old.closed old.answers f stands.1.0 stands.1.1)
+          error_blamed m version options old.over (heard version old) (all_said (noting handle old)) old.answers f.vm.machine f.error f.fails.failure (refuses_for m (heard version old) (all_said (noting handle old)) old.answers refl f stands.1.0 stands.1.1)
 
   -- ---- behind the end
+
+  ignores_late : (m : Meaning) → IsLate m version options old → old.vm.machine.failure ≡ None → IsLate m version options (noting handle old)
+  ignores_late m l live = by_over old.over l
+    where
+      by_over : (over : Option Progress) → LateBy over m version options old → LateBy over m version options (noting handle old)
+      by_over None k = k
+      by_over (Some made) k = record { phase = k.phase; place = k.place; made_for = k.made_for; tail = k.tail; blame = λ e some. none_some e (sym live ∙ some) }
 
   proposes_late : (m : Meaning) → IsLate m version options old → ProposesOne handle old new → IsLate m version options new
   proposes_late m l p = subst (IsLate m version options) (sym p.is) (by_over old.over l)
@@ -505,7 +549,7 @@ module _ (version : Version) (options : VMOptions) (handle : NotificationHandle)
   fails_late : (m : Meaning) → IsLate m version options old → FailsBy handle exit policy old new → IsLate m version options new
   fails_late m l f = subst (IsLate m version options) (sym f.is) (by_over old.over l)
     where
-      by_over : (over : Option Progress) → LateBy over m version options old → LateBy over m version options (with_vm f.vm old)
+      by_over : (over : Option Progress) → LateBy over m version options old → LateBy over m version options (with_vm f.vm (noting handle old))
       by_over None k = k
       by_over (Some made) k =
           let for = k.made_for f.live in
@@ -514,7 +558,7 @@ module _ (version : Version) (options : VMOptions) (handle : NotificationHandle)
             place = λ none. none_some f.error (sym none ∙ f.fails.failure);
             made_for = λ none. none_some f.error (sym none ∙ f.fails.failure);
             tail = λ none. none_some f.error (sym none ∙ f.fails.failure);
-            blame = λ e some. subst (Blame m version options (all_heard version old) old.closed old.answers) (same_Some f.error e (sym f.fails.failure ∙ some)) (refuses_for m (all_heard version old) old.closed old.answers f for.0 for.1);
+            blame = λ e some. subst (Blame m version options (all_heard version old) (all_said (noting handle old)) old.answers) (same_Some f.error e (sym f.fails.failure ∙ some)) (refuses_for m (all_heard version old) (all_said (noting handle old)) old.answers refl f for.0 for.1);
           }
 
   -- ---- a suspension
@@ -532,31 +576,39 @@ module _ (version : Version) (options : VMOptions) (handle : NotificationHandle)
 -- ---- the call
 
 module _ (version : Version) (options : VMOptions) (handle : NotificationHandle) (exit : RunExitResult) (policy : RetryPolicy) (old : Record) (result : Result Unit Error) (new : Record) (came : HasCome version options old) (does : FinishDoes old.starved handle exit policy old result new) where
-  by_case : (K : Record → Type 0) → K old → (ProposesOne handle old new → K new) → (FailsBy handle exit policy old new → K new) → K new
-  by_case K same proposes fails =
-      ⊎_elim
-      (λ (x : new ≡ old). subst K (sym x) same)
-      (λ (x : ProposesOne handle old new ⊎ FailsBy handle exit policy old new). ⊎_elim (λ (y : ProposesOne handle old new). proposes y) (λ (y : FailsBy handle exit policy old new). fails y) x)
-      (finish_cases handle exit policy old result new does)
+  by_case : (K : Record → Type 0) → K old → (old.vm.machine.failure ≡ None → K (noting handle old)) → (ProposesOne handle old new → K new) → (FailsBy handle exit policy old new → K new) → K new
+  by_case K = in_case handle exit policy old result new does K
 
   pub finish_comes : HasCome version options new
-  finish_comes = by_case (HasCome version options) came (proposes_comes version options handle exit policy old new came) (fails_comes version options handle exit policy old new came)
+  finish_comes = by_case (HasCome version options) came (λ live. came) (proposes_comes version options handle exit policy old new came) (fails_comes version options handle exit policy old new came)
 
   -- the handler's run goes on, whatever the premises are
   pub finish_keeps : (m : Meaning) → IsKept m version options old → IsKept m version options new
-  finish_keeps m kept = by_case (IsKept m version options) kept (proposes_keeps version options handle exit policy old new came m kept) (fails_keeps version options handle exit policy old new came m kept)
+  finish_keeps m kept = by_case (IsKept m version options) kept (λ live. kept) (proposes_keeps version options handle exit policy old new came m kept) (fails_keeps version options handle exit policy old new came m kept)
 
   pub finish_under : (m : Meaning) → IsKeptUnder m version options old → IsKeptUnder m version options new
-  finish_under m u = by_case (IsKeptUnder m version options) u (proposes_under version options handle exit policy old new came m u) (fails_under version options handle exit policy old new came m u)
+  finish_under m u = by_case (IsKeptUnder m version options) u (λ live. u) (proposes_under version options handle exit policy old new came m u) (fails_under version options handle exit policy old new came m u)
 
   pub finish_blames : (m : Meaning) → IsBlamed m version options old → IsBlamed m version options new
-  finish_blames m b = by_case (IsBlamed m version options) b (proposes_blames version options handle exit policy old new came m b) (fails_blames version options handle exit policy old new came m b)
+  finish_blames m b = by_case (IsBlamed m version options) b (ignores_blames version options handle exit policy old new came m b) (proposes_blames version options handle exit policy old new came m b) (fails_blames version options handle exit policy old new came m b)
 
   pub finish_late : (m : Meaning) → IsLate m version options old → IsLate m version options new
-  finish_late m l = by_case (IsLate m version options) l (proposes_late version options handle exit policy old new came m l) (fails_late version options handle exit policy old new came m l)
+  finish_late m l = by_case (IsLate m version options) l (ignores_late version options handle exit policy old new came m l) (proposes_late version options handle exit policy old new came m l) (fails_late version options handle exit policy old new came m l)
 
   pub finish_sleeps : (m : Meaning) → IsLate m version options old → StillSleeps m version options old → StillSleeps m version options new
-  finish_sleeps m l s = by_case (StillSleeps m version options) s (proposes_sleeps version options handle exit policy old new came m l s) (fails_sleeps version options handle exit policy old new came m s)
+  finish_sleeps m l s = by_case (StillSleeps m version options) s (λ live. s) (proposes_sleeps version options handle exit policy old new came m l s) (fails_sleeps version options handle exit policy old new came m s)
+
+-- ---- runs
+
+-- a run whose result is told can't be handed out more often, nor can another
+pub finish_lives : (handle : NotificationHandle) (exit : RunExitResult) (policy : RetryPolicy) (old : Record) (result : Result Unit Error) (new : Record) → FinishDoes old.starved handle exit policy old result new → LivesOn old.vm.machine new.vm.machine × (new.over ≡ old.over)
+finish_lives handle exit policy old result new does =
+    in_case handle exit policy old result new does K ((λ none. (none, fewer_same old.vm.machine)), refl) (λ live. ((λ none. (none, fewer_same old.vm.machine)), refl))
+    (λ p. subst K (sym p.is) ((λ none. (p.live, subst (Fewer old.vm.machine) (sym (proposed_is handle p.id p.result old.vm.machine)) (ended_fewer handle old.vm.machine))), refl))
+    (λ f. subst K (sym f.is) ((λ none. none_some f.error (sym none ∙ f.fails.failure)), refl))
+  where
+    K : Record → Type 0
+    K r = LivesOn old.vm.machine r.vm.machine × (r.over ≡ old.over)
 
 -- ---- what the call leaves of the record
 
@@ -600,12 +652,11 @@ finished_dead handle exit policy old new f = record {
   alive = λ none. none_some f.error (sym none ∙ ap (λ (r : Record). r.vm.machine.failure) f.is ∙ f.fails.failure);
 }
 
+finished_noted : (handle : NotificationHandle) (old : Record) → Finished old (noting handle old)
+finished_noted handle old = record { fed = refl; taken = refl; proposed = ([], sym (append-nil old.proposed)); output = ([], sym (append-nil old.vm.machine.output)); starved = refl; alive = λ _. inl refl }
+
 pub finished : (handle : NotificationHandle) (exit : RunExitResult) (policy : RetryPolicy) (old : Record) (result : Result Unit Error) (new : Record) → FinishDoes old.starved handle exit policy old result new → Finished old new
-finished handle exit policy old result new does =
-    ⊎_elim
-    (λ (x : new ≡ old). finished_same old new x)
-    (λ (x : ProposesOne handle old new ⊎ FailsBy handle exit policy old new). ⊎_elim (λ (y : ProposesOne handle old new). finished_one handle old new y) (λ (y : FailsBy handle exit policy old new). finished_dead handle exit policy old new y) x)
-    (finish_cases handle exit policy old result new does)
+finished handle exit policy old result new does = in_case handle exit policy old result new does (Finished old) (finished_same old old refl) (λ live. finished_noted handle old) (finished_one handle old new) (finished_dead handle exit policy old new)
 
 -- ---- an error
 
@@ -637,16 +688,16 @@ error_is handle exit policy old e new does = by_test old.starved does
     by_test false d = by_failure old.vm.machine.failure refl d
 
 -- the VM of an attempt has failed for a reason
-failed_for : (m : Meaning) (version : Version) (options : VMOptions) (r : Record) (e : Error) → IsBlamed m version options r → IsLate m version options r → r.vm.machine.failure ≡ Some e → Blame m version options (all_heard version r) r.closed r.answers e
+failed_for : (m : Meaning) (version : Version) (options : VMOptions) (r : Record) (e : Error) → IsBlamed m version options r → IsLate m version options r → r.vm.machine.failure ≡ Some e → Blame m version options (all_heard version r) (all_said r) r.answers e
 failed_for m version options r e b l some = by_over r.over refl l
   where
-    by_over : (over : Option Progress) → r.over ≡ over → LateBy over m version options r → Blame m version options (all_heard version r) r.closed r.answers e
-    by_over None going none = subst (λ fed. Blame m version options fed r.closed r.answers e) (ap (λ l. with_pieces l (heard version r)) (sym (append-nil r.fed) ∙ ap (λ l. r.fed ++ l) (sym none))) (b.blame going e some)
+    by_over : (over : Option Progress) → r.over ≡ over → LateBy over m version options r → Blame m version options (all_heard version r) (all_said r) r.answers e
+    by_over None going none = subst (λ fed. Blame m version options fed (all_said r) r.answers e) (ap (λ l. with_pieces l (heard version r)) (sym (append-nil r.fed) ∙ ap (λ l. r.fed ++ l) (sym none))) (b.blame going e some)
     by_over (Some made) over k = k.blame e some
 
 -- an error has a reason
 pub finish_blame : (m : Meaning) (version : Version) (options : VMOptions) (handle : NotificationHandle) (exit : RunExitResult) (policy : RetryPolicy) (old : Record) (result : Result Unit Error) (new : Record) → FinishDoes old.starved handle exit policy old result new → IsBlamed m version options new → IsLate m version options new
-    → IfErr result (λ e. Blame m version options (all_heard version new) new.closed new.answers e)
+    → IfErr result (λ e. Blame m version options (all_heard version new) (all_said new) new.answers e)
 finish_blame m version options handle exit policy old (Ok t) new does b l = tt
 finish_blame m version options handle exit policy old (Err e) new does b l =
     ⊎_elim
@@ -654,27 +705,46 @@ finish_blame m version options handle exit policy old (Err e) new does b l =
     (λ (x : new.vm.machine.failure ≡ Some e). failed_for m version options new e b l x)
     (error_is handle exit policy old e new does)
 
-pub finish_honest : (m : Meaning) (version : Version) (options : VMOptions) (all : Heard) (closed : Bool) (answers : List Answer) (result : Result Unit Error) → IsHonest m version options all → IfErr result (λ e. Blame m version options all closed answers e) → IfErr result (λ e. IsOwnError m version options all closed answers e)
-finish_honest m version options all closed answers (Ok t) honest b = tt
-finish_honest m version options all closed answers (Err e) honest b = honest_fails m version options all closed answers e honest b
+pub finish_honest : (m : Meaning) (version : Version) (options : VMOptions) (all : Heard) (said : Said) (answers : List Answer) (result : Result Unit Error) → IsHonest m version options all → IfErr result (λ e. Blame m version options all said answers e) → IfErr result (λ e. IsOwnError m version options all said answers e)
+finish_honest m version options all said answers (Ok t) honest b = tt
+finish_honest m version options all said answers (Err e) honest b = honest_fails m version options all said answers e honest b
 
 -- ---- the fields, and the record
+
+noted_with : (ps : List KeptProposal) (o : Option Error) (handle : NotificationHandle) (r : Record) → with_proposed ps (noted_at o handle r) ≡ noted_at o handle (with_proposed ps r)
+noted_with ps (Some e) handle r = refl
+noted_with ps None handle r = refl
+
+noted_taken : (o : Option Error) (handle : NotificationHandle) (r : Record) → (noted_at o handle r).taken ≡ r.taken
+noted_taken (Some e) handle r = refl
+noted_taken None handle r = refl
 
 -- what it does to the fields, where what is written is read, is what it does to the record
 pub finish_told : (version : Version) (options : VMOptions) (handle : NotificationHandle) (exit : RunExitResult) (policy : RetryPolicy) (old : Record) (result : Result Unit Error) (new : Record) → HasCome version options (with_proposed (all_proposed old) old) → WholeFrames old.vm.machine.output → WholeFrames new.vm.machine.output
     → TellsUnless old.starved handle exit policy old result new → FinishDoes old.starved handle exit policy (with_proposed (all_proposed old) old) result (with_proposed (all_proposed new) new)
 finish_told version options handle exit policy old result new came f g does = by_test old.starved does
   where
-    quiet_told : (w : View) → new ≡ with_vm w old → (ms : List Message) → w.machine.output ≡ old.vm.machine.output ++ map encoding ms → all_proposed new ≡ all_proposed old ++ proposals_among (map stored_form ms)
+    -- what was proposed is read from what was taken and from what waits
+    told_to : (w : View) → new ≡ with_vm w (noted handle old) → all_proposed new ≡ proposals_in (concat old.taken ++ concat w.machine.output)
+    told_to w is = ap all_proposed is ∙ ap (λ t. proposals_in (concat t ++ concat w.machine.output)) (noted_taken old.vm.machine.failure handle old)
+
+    -- the record is noted as the fields are
+    noted_ok : (w : View) (ps : List KeptProposal) → new ≡ with_vm w (noted handle old) → all_proposed new ≡ ps → with_proposed (all_proposed new) new ≡ record (noted handle (with_proposed (all_proposed old) old)) { proposed = ps; vm = w }
+    noted_ok w ps is told = (λ i. with_proposed (told i) (is i)) ∙ ap (λ (r : Record). record r { proposed = ps; vm = w }) (noted_with (all_proposed old) old.vm.machine.failure handle old)
+
+    noted_err : (w : View) → new ≡ with_vm w (noted handle old) → all_proposed new ≡ all_proposed old → with_proposed (all_proposed new) new ≡ with_vm w (noted handle (with_proposed (all_proposed old) old))
+    noted_err w is told = (λ i. with_proposed (told i) (is i)) ∙ ap (with_vm w) (noted_with (all_proposed old) old.vm.machine.failure handle old)
+
+    quiet_told : (w : View) → new ≡ with_vm w (noted handle old) → (ms : List Message) → w.machine.output ≡ old.vm.machine.output ++ map encoding ms → all_proposed new ≡ all_proposed old ++ proposals_among (map stored_form ms)
     quiet_told w is ms output =
         let wrote = wrote_of version options (with_proposed (all_proposed old) old) came in
-        ap all_proposed is
+        told_to w is
         ∙ proposes_more old.taken old.vm.machine.output w.machine.output wrote.0 wrote.1 f (subst WholeFrames (ap (λ (r : Record). r.vm.machine.output) is) g) ms output
 
-    same_told : (w : View) → new ≡ with_vm w old → w.machine.output ≡ old.vm.machine.output → all_proposed new ≡ all_proposed old
-    same_told w is output = ap all_proposed is ∙ ap (λ o. proposals_in (concat old.taken ++ concat o)) output
+    same_told : (w : View) → new ≡ with_vm w (noted handle old) → w.machine.output ≡ old.vm.machine.output → all_proposed new ≡ all_proposed old
+    same_told w is output = told_to w is ∙ ap (λ o. proposals_in (concat old.taken ++ concat o)) output
 
-    ok_told : (w : View) → new ≡ with_vm w old → (w.machine ≡ old.vm.machine) ⊎ IsProposed handle old.vm.machine w.machine → all_proposed new ≡ all_proposed old ++ newly_proposed old.vm.machine w.machine
+    ok_told : (w : View) → new ≡ with_vm w (noted handle old) → (w.machine ≡ old.vm.machine) ⊎ IsProposed handle old.vm.machine w.machine → all_proposed new ≡ all_proposed old ++ newly_proposed old.vm.machine w.machine
     ok_told w is =
         ⊎_elim
         (λ (x : w.machine ≡ old.vm.machine).
@@ -684,7 +754,7 @@ finish_told version options handle exit policy old result new came f g does = by
         ∙ ap (λ l. all_proposed old ++ l) (proposes_one (record { id = x.id; result = x.result }) x.whole ∙ sym (one_newly handle x.id x.result old.vm.machine x.whole))
         ∙ ap (λ v. all_proposed old ++ newly_proposed old.vm.machine v) (sym x.machine))
 
-    err_told : (w : View) → new ≡ with_vm w old → Quiet old.vm.machine w.machine → all_proposed new ≡ all_proposed old
+    err_told : (w : View) → new ≡ with_vm w (noted handle old) → Quiet old.vm.machine w.machine → all_proposed new ≡ all_proposed old
     err_told w is q = quiet_told w is q.messages q.output ∙ ap (λ l. all_proposed old ++ l) q.proposals ∙ append-nil (all_proposed old)
 
     by_failure : (o : Option Error) → old.vm.machine.failure ≡ o → (result : Result Unit Error) → Tells handle exit policy old result new → Finishes handle exit policy (with_proposed (all_proposed old) old) result (with_proposed (all_proposed new) new)
@@ -693,9 +763,9 @@ finish_told version options handle exit policy old result new came f g does = by
         absurd (⊎_elim (λ (x : Ok t ≡ Err e). let z : ⊥ = cc in z) (λ (x : Ok t ≡ Err no_memory). let z : ⊥ = cc in z) first.0)
     by_failure (Some e) dead (Err d) (w, does, is) =
         let first = first_proposed handle exit policy (Err d) e old.vm w dead does in
-        (w, does, (λ i. with_proposed (same_told w is (ap (λ (v : View). v.machine.output) first.1) i) (is i)))
+        (w, does, noted_err w is (same_told w is (ap (λ (v : View). v.machine.output) first.1)))
     by_failure None live (Ok t) (w, does, is) =
-        (w, does, (λ i. with_proposed (ok_told w is (tells_ok handle exit policy old.vm.machine t w.machine live does.0) i) (is i)))
+        (w, does, noted_ok w (all_proposed old ++ newly_proposed old.vm.machine w.machine) is (ok_told w is (tells_ok handle exit policy old.vm.machine t w.machine live does.0)))
     by_failure None live (Err e) (w, does, is) =
         let fails =
         ⊎_elim
@@ -703,7 +773,7 @@ finish_told version options handle exit policy old result new came f g does = by
         (λ (x : IsStarved old.vm.machine e w.machine). starves handle exit policy old.vm.machine e w.machine live x)
         does.0
         in
-        (w, does, (λ i. with_proposed (err_told w is fails.quiet i) (is i)))
+        (w, does, noted_err w is (err_told w is fails.quiet))
 
     by_test : (b : Bool) → TellsUnless b handle exit policy old result new → FinishDoes b handle exit policy (with_proposed (all_proposed old) old) result (with_proposed (all_proposed new) new)
     by_test true d = (d.0, ap (λ (r : Record). with_proposed (all_proposed r) r) d.1)

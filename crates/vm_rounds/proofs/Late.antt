@@ -30,10 +30,10 @@ use Rattle.vm_rounds.specs.declared.progress.Reply.TheVariants as reply
 use Rattle.vm_rounds.specs.Blames.{BadFrame, Began, BehindEnd, Blame, FailsAt, IfError, IsBlamed, IsLate, LateBy, fault_by, fault_among}
 use Rattle.vm_rounds.specs.Blames.Blame.{Memory, Frame, NoFrame}
 use Rattle.vm_rounds.specs.Journals.{is_command, is_notification, is_acknowledgement}
-use Rattle.vm_rounds.specs.Record.{Record, heard, all_heard}
+use Rattle.vm_rounds.specs.Record.{Record, Said, heard, all_heard, all_said}
 use Rattle.vm_rounds.specs.Stepping.{Advances, Asks, CloseDoes, Closes, FeedDoes, Feeds, LacksMemory, Reads, StepAt, StepDoes, StepFrom, StepUnless, Takes, fed_now, future_in, kept, kept_at, replied, step_asked, taken_from, with_vm}
 use Rattle.vm_rounds.specs.Told.{BeforeInput, Came, HasCome, IsKeptUnder, IsLive, bytes_fed, frames_fed}
-use Rattle.vm_rounds.proofs.Blamed.{closed_blame, closing_at, closing_not, none_some, spoils, spoils_not}
+use Rattle.vm_rounds.proofs.Blamed.{closed_blame, closed_now, closing_at, closing_not, none_some, spoils, spoils_not}
 use Rattle.vm_rounds.proofs.Blaming.{frames_fit}
 use Rattle.vm_rounds.proofs.Erring.{Errs, step_blames, step_errs}
 use Rattle.vm_rounds.proofs.Kept.{closed_all, piece_dropped}
@@ -73,7 +73,7 @@ late_frame fed to G frames v m e closed b f is = record {
 
 -- ---- a piece that comes behind the end
 
-module _ (m : Meaning) (version : Version) (options : VMOptions) (all : Heard) (closed : Bool) (answers : List Answer) (vm : View) (f : Fed) (k : BehindEnd m version options all closed answers vm) (live : vm.machine.failure ≡ None) where
+module _ (m : Meaning) (version : Version) (options : VMOptions) (all : Heard) (said : Said) (answers : List Answer) (vm : View) (f : Fed) (k : BehindEnd m version options all said answers vm) (live : vm.machine.failure ≡ None) where
   abbrev came : List RawMessage × Tail
   came = frames_of (vm.undecoded ++ f.piece)
 
@@ -84,7 +84,7 @@ module _ (m : Meaning) (version : Version) (options : VMOptions) (all : Heard) (
   frames = fed_frames all f vm (k.tail live)
 
   -- the VM takes the frames in
-  taken_in : (w : Machine) → w.failure ≡ None → w.phase ≡ Closed → w.version ≡ version → w.options ≡ options → (t : Tail) → (frames_of (bytes_fed more)).1 ≡ t → BehindEnd m version options more closed answers (left_over t w)
+  taken_in : (w : Machine) → w.failure ≡ None → w.phase ≡ Closed → w.version ≡ version → w.options ≡ options → (t : Tail) → (frames_of (bytes_fed more)).1 ≡ t → BehindEnd m version options more said answers (left_over t w)
   taken_in w alive at ver opt (Rest bytes) is = record {
     phase = λ _. at;
     place = λ _. subst (λ l. Began l (λ n known. known ≤ n)) (sym (ap (λ p. p.0) frames)) (began_more (frames_fed all) came.0 (k.place live));
@@ -102,7 +102,7 @@ module _ (m : Meaning) (version : Version) (options : VMOptions) (all : Heard) (
         blame = λ e some. NoFrame is (same_Some e _ (sym some ∙ said) ∙ λ i. ruled_by (ver i) (opt i) (named_error fault.BadMessage None));
       }
 
-  refuses : (w : View) → FailsAt came.0 vm.machine w.machine → BehindEnd m version options more closed answers w
+  refuses : (w : View) → FailsAt came.0 vm.machine w.machine → BehindEnd m version options more said answers w
   refuses w x =
       let made = k.made_for live in
       record {
@@ -113,14 +113,14 @@ module _ (m : Meaning) (version : Version) (options : VMOptions) (all : Heard) (
         blame = λ e some. Frame (subst (λ (z : Version × VMOptions). BadFrame z.0 z.1 more e) (λ i. (made.0 i, made.1 i)) (late_frame all (all.pieces ++ f ∷ []) came.0 (ap (λ p. p.0) frames) vm.machine w.machine e (k.phase live) (k.place live) x some));
       }
 
-  refuses_by : (w : Machine) → FailsAt came.0 vm.machine w → (t : Tail) → BehindEnd m version options more closed answers (left_over t w)
+  refuses_by : (w : Machine) → FailsAt came.0 vm.machine w → (t : Tail) → BehindEnd m version options more said answers (left_over t w)
   refuses_by w x (Rest bytes) = refuses (left_over (Rest bytes) w) x
   refuses_by w x Garbage = refuses (left_over Garbage w) (subst (FailsAt came.0 vm.machine) (sym (spoils_not w _ x.failure)) x)
 
-  pub late_piece : BehindEnd m version options more closed answers (after_input vm f.piece)
+  pub late_piece : BehindEnd m version options more said answers (after_input vm f.piece)
   late_piece =
       let w = all_received came.0 vm.machine in
-      subst (BehindEnd m version options more closed answers) (sym (ap (λ (o : Option Error). if is_some o then vm else consumed came vm.machine) live))
+      subst (BehindEnd m version options more said answers) (sym (ap (λ (o : Option Error). if is_some o then vm else consumed came vm.machine) live))
       (⊎_elim
       (λ (x : (w.failure ≡ None) × ((w.version ≡ vm.machine.version) × (w.options ≡ vm.machine.options))).
       let made = k.made_for live in
@@ -130,8 +130,8 @@ module _ (m : Meaning) (version : Version) (options : VMOptions) (all : Heard) (
 
 -- ---- feeding
 
-starved_behind : (m : Meaning) (version : Version) (options : VMOptions) (all : Heard) (closed : Bool) (answers : List Answer) (v : Machine) (w : View) → v.failure ≡ None → IsStarved v no_memory w.machine → BehindEnd m version options all closed answers w
-starved_behind m version options all closed answers v w live s =
+starved_behind : (m : Meaning) (version : Version) (options : VMOptions) (all : Heard) (said : Said) (answers : List Answer) (v : Machine) (w : View) → v.failure ≡ None → IsStarved v no_memory w.machine → BehindEnd m version options all said answers w
+starved_behind m version options all said answers v w live s =
     let is : w.machine.failure ≡ Some no_memory = s.failure ∙ ap (λ (f : Option Error). Some (unwrap_or f no_memory)) live in
     record {
       phase = λ none. none_some _ (sym none ∙ is);
@@ -159,17 +159,17 @@ kept_late None Processing piece r open_yet none = none
 kept_late None Closed piece r open_yet none = absurd (open_yet refl refl)
 
 -- a VM that hasn't failed is fed, behind the end
-late_at : (m : Meaning) (version : Version) (options : VMOptions) (r : Record) (piece : List ℕ) → BehindEnd m version options (all_heard version r) r.closed r.answers r.vm → (o : Option Error) → r.vm.machine.failure ≡ o → (ph : Phase) → r.vm.machine.phase ≡ ph → (let k = kept_at o ph piece r in BehindEnd m version options (all_heard version k) k.closed k.answers (after_input r.vm piece))
-late_at m version options r piece k (Some e) is ph at = subst (BehindEnd m version options (all_heard version r) r.closed r.answers) (sym (piece_dropped r.vm piece e is)) k
+late_at : (m : Meaning) (version : Version) (options : VMOptions) (r : Record) (piece : List ℕ) → BehindEnd m version options (all_heard version r) (all_said r) r.answers r.vm → (o : Option Error) → r.vm.machine.failure ≡ o → (ph : Phase) → r.vm.machine.phase ≡ ph → (let k = kept_at o ph piece r in BehindEnd m version options (all_heard version k) (all_said k) k.answers (after_input r.vm piece))
+late_at m version options r piece k (Some e) is ph at = subst (BehindEnd m version options (all_heard version r) (all_said r) r.answers) (sym (piece_dropped r.vm piece e is)) k
 late_at m version options r piece k None is WaitingStart at = absurd (let z : WaitingStart ≡ Closed = sym at ∙ k.phase is in cc)
 late_at m version options r piece k None is WaitingReplayEntries at = absurd (let z : WaitingReplayEntries ≡ Closed = sym at ∙ k.phase is in cc)
 late_at m version options r piece k None is Replaying at = absurd (let z : Replaying ≡ Closed = sym at ∙ k.phase is in cc)
 late_at m version options r piece k None is Processing at = absurd (let z : Processing ≡ Closed = sym at ∙ k.phase is in cc)
 late_at m version options r piece k None is Closed at =
-    subst (λ l. BehindEnd m version options (with_pieces l (heard version r)) r.closed r.answers (after_input r.vm piece)) (append_assoc r.fed r.late (fed_now piece r ∷ [])) (late_piece m version options (all_heard version r) r.closed r.answers r.vm (fed_now piece r) k is)
+    subst (λ l. BehindEnd m version options (with_pieces l (heard version r)) (all_said r) r.answers (after_input r.vm piece)) (append_assoc r.fed r.late (fed_now piece r ∷ [])) (late_piece m version options (all_heard version r) (all_said r) r.answers r.vm (fed_now piece r) k is)
 
 -- the same where no memory was found
-late_starved : (m : Meaning) (version : Version) (options : VMOptions) (r : Record) (piece : List ℕ) (w : View) → StarvesAmong (brought r.vm piece) r.vm.machine w.machine → (let k = kept piece r in BehindEnd m version options (all_heard version k) k.closed k.answers w)
+late_starved : (m : Meaning) (version : Version) (options : VMOptions) (r : Record) (piece : List ℕ) (w : View) → StarvesAmong (brought r.vm piece) r.vm.machine w.machine → (let k = kept piece r in BehindEnd m version options (all_heard version k) (all_said k) k.answers w)
 late_starved m version options r piece w s = starved_behind m version options _ _ _ s.reached w s.live s.starved
 
 feeds_late : (m : Meaning) (version : Version) (options : VMOptions) (piece : List ℕ) (old : Record) (result : Result Unit AllocError) (new : Record) → IsBlamed m version options old → (over : Option Progress) → old.over ≡ over → LateBy over m version options old → Feeds piece old result new → LateBy over m version options new
@@ -203,12 +203,12 @@ feed_late m version options piece old result new b k does = by_test old.starved 
 
 -- ---- closing
 
-closes_behind : (m : Meaning) (version : Version) (options : VMOptions) (r : Record) → BehindEnd m version options (all_heard version r) r.closed r.answers r.vm → (o : Option Error) → r.vm.machine.failure ≡ o → BehindEnd m version options (all_heard version r) true r.answers (after_closing r.vm)
+closes_behind : (m : Meaning) (version : Version) (options : VMOptions) (r : Record) → BehindEnd m version options (all_heard version r) (all_said r) r.answers r.vm → (o : Option Error) → r.vm.machine.failure ≡ o → BehindEnd m version options (all_heard version r) (closed_now (all_said r)) r.answers (after_closing r.vm)
 closes_behind m version options r k (Some e) is =
-    subst (λ w. BehindEnd m version options (all_heard version r) true r.answers (record r.vm { machine = w })) (closing_not r.vm e is)
-    (record { phase = k.phase; place = k.place; made_for = k.made_for; tail = k.tail; blame = λ d some. closed_blame m version options (all_heard version r) r.closed r.answers d (k.blame d some) })
+    subst (λ w. BehindEnd m version options (all_heard version r) (closed_now (all_said r)) r.answers (record r.vm { machine = w })) (closing_not r.vm e is)
+    (record { phase = k.phase; place = k.place; made_for = k.made_for; tail = k.tail; blame = λ d some. closed_blame m version options (all_heard version r) (all_said r) r.answers d (k.blame d some) })
 closes_behind m version options r k None is =
-    subst (λ w. BehindEnd m version options (all_heard version r) true r.answers (record r.vm { machine = w })) (closing_at r.vm is Closed (k.phase is))
+    subst (λ w. BehindEnd m version options (all_heard version r) (closed_now (all_said r)) r.answers (record r.vm { machine = w })) (closing_at r.vm is Closed (k.phase is))
     (record { phase = λ _. k.phase is; place = λ _. k.place is; made_for = λ _. k.made_for is; tail = λ _. k.tail is; blame = λ d some. none_some d (sym is ∙ some) })
 
 closes_late : (m : Meaning) (version : Version) (options : VMOptions) (old : Record) (result : Result Unit AllocError) (new : Record) → (over : Option Progress) → LateBy over m version options old → Closes old result new → LateBy over m version options new
@@ -241,12 +241,12 @@ take_late m version options old (Err e) new k does = subst (IsLate m version opt
 -- ---- a step
 
 -- by this call the attempt is over
-ends_behind : (m : Meaning) (version : Version) (options : VMOptions) (r : Record) (w : View) → Came version options (heard version r) r.answers r.taken r.vm → IsLive r.vm.machine → r.late ≡ [] → w.undecoded ≡ r.vm.undecoded → w.machine.failure ≡ r.vm.machine.failure → w.machine.phase ≡ Closed → w.machine.version ≡ r.vm.machine.version → w.machine.options ≡ r.vm.machine.options → BehindEnd m version options (all_heard version r) r.closed r.answers w
+ends_behind : (m : Meaning) (version : Version) (options : VMOptions) (r : Record) (w : View) → Came version options (heard version r) r.answers r.taken r.vm → IsLive r.vm.machine → r.late ≡ [] → w.undecoded ≡ r.vm.undecoded → w.machine.failure ≡ r.vm.machine.failure → w.machine.phase ≡ Closed → w.machine.version ≡ r.vm.machine.version → w.machine.options ≡ r.vm.machine.options → BehindEnd m version options (all_heard version r) (all_said r) r.answers w
 ends_behind m version options r w c live none und failure at ver opt =
     let j = c.journal in
     let made = c.made_for live in
     let all : heard version r ≡ all_heard version r = ap (λ l. with_pieces l (heard version r)) (sym (append-nil r.fed) ∙ ap (λ l. r.fed ++ l) (sym none)) in
-    subst (λ l. BehindEnd m version options l r.closed r.answers w) all
+    subst (λ l. BehindEnd m version options l (all_said r) r.answers w) all
     (record {
       phase = λ _. at;
       place = λ _. record { first = j.first_frame; others = j.entries ++ j.others; is = j.frames; start = j.start; reads = j.reads_start; counts = enough (length j.entries) (length j.others) (length (j.entries ++ j.others)) j.start.known_entries j.count (length-append j.entries j.others) };
@@ -312,7 +312,7 @@ step_late m version options old result new k l does = by_test old.starved does
 -- ---- the error of a step
 
 -- an error while the attempt isn't over
-open_blame : (m : Meaning) (version : Version) (options : VMOptions) (old : Record) (result : Result Progress Error) (new : Record) → old.over ≡ None → IsBlamed m version options new → IsLate m version options new → Errs old result new → IfError result (λ e. Blame m version options (all_heard version new) new.closed new.answers e)
+open_blame : (m : Meaning) (version : Version) (options : VMOptions) (old : Record) (result : Result Progress Error) (new : Record) → old.over ≡ None → IsBlamed m version options new → IsLate m version options new → Errs old result new → IfError result (λ e. Blame m version options (all_heard version new) (all_said new) new.answers e)
 open_blame m version options old (Ok made) new going b l h = tt
 open_blame m version options old (Err e) new going b l h =
     ⊎_elim
@@ -320,26 +320,26 @@ open_blame m version options old (Err e) new going b l h =
     (λ (x : (new.vm.machine.failure ≡ Some e) × (new.over ≡ old.over)).
     let over : new.over ≡ None = x.1 ∙ going in
     let none : new.late ≡ [] = subst (λ o. LateBy o m version options new) over l in
-    subst (λ fed. Blame m version options fed new.closed new.answers e) (ap (λ l. with_pieces l (heard version new)) (sym (append-nil new.fed) ∙ ap (λ l. new.fed ++ l) (sym none))) (b.blame over e x.0))
+    subst (λ fed. Blame m version options fed (all_said new) new.answers e) (ap (λ l. with_pieces l (heard version new)) (sym (append-nil new.fed) ∙ ap (λ l. new.fed ++ l) (sym none))) (b.blame over e x.0))
     h
 
 -- an error once the attempt is over
-over_blame : (m : Meaning) (version : Version) (options : VMOptions) (made : Progress) (old : Record) (result : Result Progress Error) (new : Record) → LateBy (Some made) m version options old → (f : Option Error) → old.vm.machine.failure ≡ f → StepUnless f (Some made) m old result new → IfError result (λ e. Blame m version options (all_heard version new) new.closed new.answers e)
+over_blame : (m : Meaning) (version : Version) (options : VMOptions) (made : Progress) (old : Record) (result : Result Progress Error) (new : Record) → LateBy (Some made) m version options old → (f : Option Error) → old.vm.machine.failure ≡ f → StepUnless f (Some made) m old result new → IfError result (λ e. Blame m version options (all_heard version new) (all_said new) new.answers e)
 over_blame m version options made old result new l (Some e) is d =
     ⊎_elim
-    (λ (x : result ≡ Err e). subst (λ z. IfError z (λ e. Blame m version options (all_heard version new) new.closed new.answers e)) (sym x) (subst (λ (r : Record). Blame m version options (all_heard version r) r.closed r.answers e) (sym d.1) (l.blame e is)))
-    (λ (x : result ≡ Err no_memory). subst (λ z. IfError z (λ e. Blame m version options (all_heard version new) new.closed new.answers e)) (sym x) (Memory refl))
+    (λ (x : result ≡ Err e). subst (λ z. IfError z (λ e. Blame m version options (all_heard version new) (all_said new) new.answers e)) (sym x) (subst (λ (r : Record). Blame m version options (all_heard version r) (all_said r) r.answers e) (sym d.1) (l.blame e is)))
+    (λ (x : result ≡ Err no_memory). subst (λ z. IfError z (λ e. Blame m version options (all_heard version new) (all_said new) new.answers e)) (sym x) (Memory refl))
     d.0
-over_blame m version options made old result new l None is d = subst (λ z. IfError z (λ e. Blame m version options (all_heard version new) new.closed new.answers e)) (sym d.0) tt
+over_blame m version options made old result new l None is d = subst (λ z. IfError z (λ e. Blame m version options (all_heard version new) (all_said new) new.answers e)) (sym d.0) tt
 
 -- an error of a step has a reason
-pub step_blame : (m : Meaning) (version : Version) (options : VMOptions) (old : Record) (result : Result Progress Error) (new : Record) → HasCome version options old → IsKeptUnder m version options old → IsBlamed m version options old → IsLate m version options old → StepDoes m old result new → IfError result (λ e. Blame m version options (all_heard version new) new.closed new.answers e)
+pub step_blame : (m : Meaning) (version : Version) (options : VMOptions) (old : Record) (result : Result Progress Error) (new : Record) → HasCome version options old → IsKeptUnder m version options old → IsBlamed m version options old → IsLate m version options old → StepDoes m old result new → IfError result (λ e. Blame m version options (all_heard version new) (all_said new) new.answers e)
 step_blame m version options old result new k u b l does = by_over old.over refl l
   where
-    by_test : (made : Progress) → LateBy (Some made) m version options old → (t : Bool) → StepFrom t m old result new → old.over ≡ Some made → IfError result (λ e. Blame m version options (all_heard version new) new.closed new.answers e)
-    by_test made l true d over = subst (λ z. IfError z (λ e. Blame m version options (all_heard version new) new.closed new.answers e)) (sym d.0) (Memory refl)
+    by_test : (made : Progress) → LateBy (Some made) m version options old → (t : Bool) → StepFrom t m old result new → old.over ≡ Some made → IfError result (λ e. Blame m version options (all_heard version new) (all_said new) new.answers e)
+    by_test made l true d over = subst (λ z. IfError z (λ e. Blame m version options (all_heard version new) (all_said new) new.answers e)) (sym d.0) (Memory refl)
     by_test made l false d over = over_blame m version options made old result new l old.vm.machine.failure refl (subst (λ o. StepUnless old.vm.machine.failure o m old result new) over d)
 
-    by_over : (over : Option Progress) → old.over ≡ over → LateBy over m version options old → IfError result (λ e. Blame m version options (all_heard version new) new.closed new.answers e)
+    by_over : (over : Option Progress) → old.over ≡ over → LateBy over m version options old → IfError result (λ e. Blame m version options (all_heard version new) (all_said new) new.answers e)
     by_over None going l' = open_blame m version options old result new going (step_blames m version options old result new k u b does) (step_late m version options old result new k l does) (step_errs m version options old result new b going does)
     by_over (Some made) over l' = by_test made l' old.starved does over

@@ -17,6 +17,7 @@ pub mod Proposed
 pub mod Quiet
 pub mod Lengths
 pub mod Written
+pub mod Ahead
 pub mod Sending
 pub mod Pieces
 pub mod Kept
@@ -37,3 +38,4 @@ pub mod Blamed
 pub mod Erring
 pub mod Late
 pub mod Sleeping
+pub mod Executing

@@ -21,6 +21,7 @@ use Rattle.vm_model.proofs.Refusals.{own_reason, refused_stuck}
 use Rattle.vm_model.specs.Refusals.{IsRefusedFor}
 use Rattle.std.specs.Prelude.{Result, Ok, Err}
 use Rattle.vm_rounds.specs.Heard.{Heard}
+use Rattle.vm_rounds.specs.Record.{Said}
 use Rattle.vm_rounds.specs.declared.progress.Progress.{Progress}
 use Rattle.vm_rounds.specs.Blames.{RefusedCall, Blame, IfError, IsHonest, IsOwnError, first_input}
 use Rattle.vm_rounds.specs.Blames.Blame.{Memory, Frame, NoFrame, ClosedEarly, NoInput, Call, RunResult}
@@ -113,8 +114,8 @@ no_input s m base entries h none =
     absurd (cc)
 
 -- a call of an honest attempt that was refused
-honest_refused : (m : Meaning) (version : Version) (options : VMOptions) (fed : Heard) (closed : Bool) (answers : List Answer) (e : Error) → IsHonest m version options fed → (x : RefusedCall m version options fed answers e) → (left : List RawMessage) → x.at.left ≡ left → IsOwnError m version options fed closed answers e
-honest_refused m version options fed closed answers e honest x [] is = inr (inr (inl (record {
+honest_refused : (m : Meaning) (version : Version) (options : VMOptions) (fed : Heard) (said : Said) (answers : List Answer) (e : Error) → IsHonest m version options fed → (x : RefusedCall m version options fed answers e) → (left : List RawMessage) → x.at.left ≡ left → IsOwnError m version options fed said answers e
+honest_refused m version options fed said answers e honest x [] is = inr (inr (inl (record {
   journal = x.journal;
   at = x.at;
   answers = x.answers;
@@ -124,7 +125,7 @@ honest_refused m version options fed closed answers e honest x [] is = inr (inr 
   related = x.related;
   error = x.error;
 })))
-honest_refused m version options fed closed answers e honest x (c ∷ further) is = absurd (let h = honest.history x.journal.first_frame x.journal.entries x.journal.others x.journal.start x.journal.frames x.journal.reads_start x.journal.count in history_refuses m version options fed x.journal h.0 x.moves x.written x.at x.made c further is x.why x.reason h.1)
+honest_refused m version options fed said answers e honest x (c ∷ further) is = absurd (let h = honest.history x.journal.first_frame x.journal.entries x.journal.others x.journal.start x.journal.frames x.journal.reads_start x.journal.count in history_refuses m version options fed x.journal h.0 x.moves x.written x.at x.made c further is x.why x.reason h.1)
 
 -- an acknowledgement is refused in Processing where its proposal isn't kept
 acknowledged_by_kept : (kept : List KeptProposal) (raw : RawMessage) → is_acknowledgement raw ≡ true → fault_among kept Processing raw ≡ read_fault kept (acknowledgement_in raw.body)
@@ -149,19 +150,19 @@ honest_frame m version options fed e honest x true is =
     x.late
 
 -- an honest attempt fails for nothing but a reason of its own
-pub honest_fails : (m : Meaning) (version : Version) (options : VMOptions) (fed : Heard) (closed : Bool) (answers : List Answer) (e : Error) → IsHonest m version options fed → Blame m version options fed closed answers e → IsOwnError m version options fed closed answers e
-honest_fails m version options fed closed answers e honest (Memory x) = inl x
-honest_fails m version options fed closed answers e honest (Frame x) = absurd (honest_frame m version options fed e honest x (is_acknowledgement x.raw) refl)
-honest_fails m version options fed closed answers e honest (NoFrame x y) = absurd (honest.whole x)
-honest_fails m version options fed closed answers e honest (ClosedEarly x y z) = inr (inl (x, y, z))
-honest_fails m version options fed closed answers e honest (NoInput x) = absurd (let h = honest.history x.first x.entries x.others x.start x.is x.reads x.count in no_input (setup_for version options x.start) m h.0 x.entries h.1 x.none)
-honest_fails m version options fed closed answers e honest (Call refuses) = ⊎_elim
+pub honest_fails : (m : Meaning) (version : Version) (options : VMOptions) (fed : Heard) (said : Said) (answers : List Answer) (e : Error) → IsHonest m version options fed → Blame m version options fed said answers e → IsOwnError m version options fed said answers e
+honest_fails m version options fed said answers e honest (Memory x) = inl x
+honest_fails m version options fed said answers e honest (Frame x) = absurd (honest_frame m version options fed e honest x (is_acknowledgement x.raw) refl)
+honest_fails m version options fed said answers e honest (NoFrame x y) = absurd (honest.whole x)
+honest_fails m version options fed said answers e honest (ClosedEarly x y z) = inr (inl (x, y, z))
+honest_fails m version options fed said answers e honest (NoInput x) = absurd (let h = honest.history x.first x.entries x.others x.start x.is x.reads x.count in no_input (setup_for version options x.start) m h.0 x.entries h.1 x.none)
+honest_fails m version options fed said answers e honest (Call refuses) = ⊎_elim
     (λ (y : e ≡ no_memory). inl y)
-    (λ (y : RefusedCall m version options fed answers e). honest_refused m version options fed closed answers e honest y y.at.left refl)
+    (λ (y : RefusedCall m version options fed answers e). honest_refused m version options fed said answers e honest y y.at.left refl)
     (refuses honest.premises)
-honest_fails m version options fed closed answers e honest (RunResult x) = inr (inr (inr x))
+honest_fails m version options fed said answers e honest (RunResult x) = inr (inr (inr x))
 
 -- the error of a step of an honest attempt
-pub honest_errs : (m : Meaning) (version : Version) (options : VMOptions) (all : Heard) (closed : Bool) (answers : List Answer) (result : Result Progress Error) → IsHonest m version options all → IfError result (λ e. Blame m version options all closed answers e) → IfError result (λ e. IsOwnError m version options all closed answers e)
-honest_errs m version options all closed answers (Ok progress) honest b = tt
-honest_errs m version options all closed answers (Err e) honest b = honest_fails m version options all closed answers e honest b
+pub honest_errs : (m : Meaning) (version : Version) (options : VMOptions) (all : Heard) (said : Said) (answers : List Answer) (result : Result Progress Error) → IsHonest m version options all → IfError result (λ e. Blame m version options all said answers e) → IfError result (λ e. IsOwnError m version options all said answers e)
+honest_errs m version options all said answers (Ok progress) honest b = tt
+honest_errs m version options all said answers (Err e) honest b = honest_fails m version options all said answers e honest b

@@ -40,7 +40,7 @@ use Rattle.vm_rounds.specs.Arrivals.{kept_after}
 use Rattle.vm_rounds.specs.Heard.{Heard}
 use Rattle.vm_rounds.specs.declared.progress.Progress.{Progress}
 use Rattle.vm_rounds.specs.Journals.{as_entries, commands_among, is_acknowledgement, is_command, is_notification, setup_for}
-use Rattle.vm_rounds.specs.Record.{Record, all_heard, heard}
+use Rattle.vm_rounds.specs.Record.{Record, Said, all_heard, all_said, heard}
 use Rattle.vm_rounds.specs.Told.{ProposesLate, handed_out, Journal, Premises, begun, bytes_fed, frames_fed}
 
 -- ---- frames
@@ -181,53 +181,55 @@ pub record RefusedCall (m : Meaning) (version : Version) (options : VMOptions) (
 
 -- ---- results of runs
 
--- What executing a run came to was refused, or fails the attempt, so that it is tried again or paused.
-pub record RefusedResult (version : Version) (options : VMOptions) (e : Error) : Type 0 where
+-- What executing a run came to was refused, or fails the attempt, so that it is tried again or paused. It is the run whose result was
+-- told last.
+pub record RefusedResult (version : Version) (options : VMOptions) (told : Option NotificationHandle) (e : Error) : Type 0 where
   pub handle : NotificationHandle
+  pub is_told : told ≡ Some handle
   pub exit : RunExitResult
   pub policy : RetryPolicy
-  pub told : Machine
+  pub machine : Machine
   pub left : Machine
   pub why : Error
-  pub proposes : Proposes handle exit policy told (Failed why left)
-  pub version_is : told.version ≡ version
+  pub proposes : Proposes handle exit policy machine (Failed why left)
+  pub version_is : machine.version ≡ version
   pub error : e ≡ ruled_by version options why
 
 -- ---- why an attempt failed
 
 -- Memory was lacking; a frame was refused, or bytes were no frame; the input was closed while known entries were missing; the
--- journal has no input; the handler's call was refused, or an await found no memory for one of its commands; or a run's result was
--- refused, or fails the attempt.
-pub data Blame (m : Meaning) (version : Version) (options : VMOptions) (fed : Heard) (closed : Bool) (answers : List Answer) (e : Error) : Type 0 where
-  Memory : e ≡ no_memory → Blame m version options fed closed answers e
-  Frame : BadFrame version options fed e → Blame m version options fed closed answers e
-  NoFrame : (frames_of (bytes_fed fed)).1 ≡ Garbage → e ≡ ruled_by version options (named_error fault.BadMessage None) → Blame m version options fed closed answers e
-  ClosedEarly : closed ≡ true → IsShort (frames_fed fed) → e ≡ ruled_by version options (named_error fault.InputClosedWhileWaitingEntries None) → Blame m version options fed closed answers e
-  NoInput : LacksInput (frames_fed fed) → Blame m version options fed closed answers e
-  Call : (Premises m version options fed → (e ≡ no_memory) ⊎ RefusedCall m version options fed answers e) → Blame m version options fed closed answers e
-  RunResult : RefusedResult version options e → Blame m version options fed closed answers e
+-- journal has no input; the handler's call was refused, or an await found no memory for one of its commands; or the run's result that was
+-- told last was refused, or fails the attempt.
+pub data Blame (m : Meaning) (version : Version) (options : VMOptions) (fed : Heard) (said : Said) (answers : List Answer) (e : Error) : Type 0 where
+  Memory : e ≡ no_memory → Blame m version options fed said answers e
+  Frame : BadFrame version options fed e → Blame m version options fed said answers e
+  NoFrame : (frames_of (bytes_fed fed)).1 ≡ Garbage → e ≡ ruled_by version options (named_error fault.BadMessage None) → Blame m version options fed said answers e
+  ClosedEarly : said.closed ≡ true → IsShort (frames_fed fed) → e ≡ ruled_by version options (named_error fault.InputClosedWhileWaitingEntries None) → Blame m version options fed said answers e
+  NoInput : LacksInput (frames_fed fed) → Blame m version options fed said answers e
+  Call : (Premises m version options fed → (e ≡ no_memory) ⊎ RefusedCall m version options fed answers e) → Blame m version options fed said answers e
+  RunResult : RefusedResult version options said.told e → Blame m version options fed said answers e
 
 -- As long as an attempt is not over, its VM isn't closed, and has failed only for such a reason.
-pub record BlamedAt (m : Meaning) (version : Version) (options : VMOptions) (over : Option Progress) (fed : Heard) (closed : Bool) (answers : List Answer) (v : Machine) : Type 0 where
+pub record BlamedAt (m : Meaning) (version : Version) (options : VMOptions) (over : Option Progress) (fed : Heard) (said : Said) (answers : List Answer) (v : Machine) : Type 0 where
   pub open_yet : over ≡ None → v.failure ≡ None → v.phase ≢ Closed
-  pub blame : over ≡ None → (e : Error) → v.failure ≡ Some e → Blame m version options fed closed answers e
+  pub blame : over ≡ None → (e : Error) → v.failure ≡ Some e → Blame m version options fed said answers e
 
 -- the same of a record
 abbrev pub IsBlamed : Meaning → Version → VMOptions → Record → Type 0
-IsBlamed m version options r = BlamedAt m version options r.over (heard version r) r.closed r.answers r.vm.machine
+IsBlamed m version options r = BlamedAt m version options r.over (heard version r) (all_said r) r.answers r.vm.machine
 
 -- Once the attempt is over its VM is closed, behind the known entries, or has failed for such a reason.
-pub record BehindEnd (m : Meaning) (version : Version) (options : VMOptions) (all : Heard) (closed : Bool) (answers : List Answer) (vm : View) : Type 0 where
+pub record BehindEnd (m : Meaning) (version : Version) (options : VMOptions) (all : Heard) (said : Said) (answers : List Answer) (vm : View) : Type 0 where
   pub phase : vm.machine.failure ≡ None → vm.machine.phase ≡ Closed
   pub place : vm.machine.failure ≡ None → Began (frames_fed all) (λ n known. known ≤ n)
   pub made_for : vm.machine.failure ≡ None → (vm.machine.version ≡ version) × (vm.machine.options ≡ options)
   pub tail : vm.machine.failure ≡ None → (frames_of (bytes_fed all)).1 ≡ Rest vm.undecoded
-  pub blame : (e : Error) → vm.machine.failure ≡ Some e → Blame m version options all closed answers e
+  pub blame : (e : Error) → vm.machine.failure ≡ Some e → Blame m version options all said answers e
 
 -- no piece comes behind the end before it is there
 abbrev pub LateBy : Option Progress → Meaning → Version → VMOptions → Record → Type 0
 LateBy None m version options r = r.late ≡ []
-LateBy (Some made) m version options r = BehindEnd m version options (all_heard version r) r.closed r.answers r.vm
+LateBy (Some made) m version options r = BehindEnd m version options (all_heard version r) (all_said r) r.answers r.vm
 
 -- the same of a record
 abbrev pub IsLate : Meaning → Version → VMOptions → Record → Type 0
@@ -261,8 +263,8 @@ pub record RefusedItself (m : Meaning) (version : Version) (options : VMOptions)
   pub error : e ≡ ruled_by version options (named_error why related)
 
 -- what an error of an honest attempt is
-abbrev pub IsOwnError : Meaning → Version → VMOptions → Heard → Bool → List Answer → Error → Type 0
-IsOwnError m version options fed closed answers e =
+abbrev pub IsOwnError : Meaning → Version → VMOptions → Heard → Said → List Answer → Error → Type 0
+IsOwnError m version options fed said answers e =
     (e ≡ no_memory)
-    ⊎ (((closed ≡ true) × IsShort (frames_fed fed) × (e ≡ ruled_by version options (named_error fault.InputClosedWhileWaitingEntries None)))
-    ⊎ (RefusedItself m version options fed answers e ⊎ RefusedResult version options e))
+    ⊎ (((said.closed ≡ true) × IsShort (frames_fed fed) × (e ≡ ruled_by version options (named_error fault.InputClosedWhileWaitingEntries None)))
+    ⊎ (RefusedItself m version options fed answers e ⊎ RefusedResult version options said.told e))

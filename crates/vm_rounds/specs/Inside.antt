@@ -13,6 +13,7 @@ record_with proposed a = record {
   fed = a.fed.items;
   late = a.late.items;
   closed = a.closed;
+  told = a.told;
   answers = a.answers.items;
   taken = a.taken;
   proposed = proposed;

@@ -7,5 +7,6 @@ pub mod Stepping
 pub mod Steps
 pub mod Told
 pub mod Blames
+pub mod Courses
 pub mod Heard
 pub mod Honest

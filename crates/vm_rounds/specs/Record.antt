@@ -4,6 +4,7 @@ use Rattle.std.specs.List.{concat}
 use Rattle.journal_errors.specs.declared.version.Version.{Version}
 use Rattle.vm_parts.specs.declared.options.VMOptions.{VMOptions}
 use Rattle.vm_parts.specs.declared.steps.Answer.{Answer}
+use Rattle.await_trees.specs.declared.handle.NotificationHandle.{NotificationHandle}
 use Rattle.await_trees.specs.declared.tree.UnresolvedFuture.{UnresolvedFuture}
 use Rattle.vm_parts.specs.declared.run_state.KeptProposal.{KeptProposal}
 use Rattle.invocation_vm.specs.Views.{View}
@@ -19,6 +20,8 @@ pub record Record : Type 0 where
   pub late : List Fed
   -- the input was closed
   pub closed : Bool
+  -- the run whose result was told last, before the VM failed
+  pub told : Option NotificationHandle
   pub answers : List Answer
   -- the output that was taken, piece by piece
   pub taken : List (List ℕ)
@@ -39,6 +42,17 @@ heard version r = record { pieces = r.fed; proposed = acknowledged_from version 
 -- what it has heard until its VM failed
 abbrev pub all_heard : Version → Record → Heard
 all_heard version r = record { pieces = r.fed ++ r.late; proposed = acknowledged_from version r.proposed }
+
+-- what an attempt was told besides its bytes
+pub record Said : Type 0 where
+  -- that no more bytes come
+  pub closed : Bool
+  -- what a run came to: this run's result was the last, before the VM failed
+  pub told : Option NotificationHandle
+
+-- what an attempt was told besides its bytes, by its record
+abbrev pub all_said : Record → Said
+all_said r = record { closed = r.closed; told = r.told }
 
 -- all bytes that an attempt wrote: those that were taken, and those that wait
 abbrev pub bytes_written : Record → List ℕ

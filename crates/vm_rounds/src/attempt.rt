@@ -13,7 +13,8 @@ use std::marker::Model;
 use vm_parts::Answer;
 
 /// An attempt of a handler over the VM. It keeps a record: each piece of input until the VM failed or closed, those that
-/// came to a closed VM behind them, whether the input was closed, the answers, and all output, from which what was proposed is read.
+/// came to a closed VM behind them, whether the input was closed, whose run's result was told last, the answers, and all output, from
+/// which what was proposed is read.
 #[derive(Drop)]
 pub struct Attempt<H: Handler> {
     version: Version,
@@ -46,7 +47,7 @@ impl<H: Handler> Attempt<H> {
     ghost use Rattle.vm_rounds.specs.Stepping.{MakesAttempt, StepDoes, FeedDoes, FinishDoes, CloseDoes, IfWaits, IsReplaying, Takes, output_len};
     ghost use Rattle.vm_rounds.specs.Blames.{Blame, IfError, IsHonest, IsOwnError};
     ghost use Rattle.vm_rounds.specs.Heard.{proposals_in};
-    ghost use Rattle.vm_rounds.specs.Record.{all_heard, bytes_written, heard};
+    ghost use Rattle.vm_rounds.specs.Record.{all_heard, all_said, bytes_written, heard};
     ghost use Rattle.vm_rounds.specs.Told.{AnswersAreTold, HasCome, NothingWakes, Premises, Replays, written_by};
 
     /// An attempt for the version that the header `content-type` names; the VM's refusals are its own.
@@ -103,11 +104,11 @@ impl<H: Handler> Attempt<H> {
         // tells no more.
         ensures replays { IsReplaying self.old.record_of → Premises (H.meaning self.old.handler) self.old.version self.old.options (heard self.old.version self.old.record_of) → Replays (H.meaning self.old.handler) self.old.version self.old.options self.old.record_of result self.new.record_of }
         // An error is want of memory, a frame or bytes that were refused, input closed too early, a journal without input, a call that was
-        // refused, or a run's result that was refused or failed the attempt.
-        ensures blamed { IfError result (λ e. Blame (H.meaning self.old.handler) self.old.version self.old.options (all_heard self.old.version self.new.record_of) self.new.record_of.closed self.new.record_of.answers e) }
+        // refused, or the run's result that was told last, which was refused or failed the attempt.
+        ensures blamed { IfError result (λ e. Blame (H.meaning self.old.handler) self.old.version self.old.options (all_heard self.old.version self.new.record_of) (all_said self.new.record_of) self.new.record_of.answers e) }
         // Where the bytes are an honest attempt's over a history of the handler, an error is only want of memory, input that was closed
-        // too early, a call's own refusal, where no recorded command is left, or that of a run's result.
-        ensures honest { IsHonest (H.meaning self.old.handler) self.old.version self.old.options (all_heard self.old.version self.new.record_of) → IfError result (λ e. IsOwnError (H.meaning self.old.handler) self.old.version self.old.options (all_heard self.old.version self.new.record_of) self.new.record_of.closed self.new.record_of.answers e) }
+        // too early, a call's own refusal, where no recorded command is left, or that of the run's result that was told last.
+        ensures honest { IsHonest (H.meaning self.old.handler) self.old.version self.old.options (all_heard self.old.version self.new.record_of) → IfError result (λ e. IsOwnError (H.meaning self.old.handler) self.old.version self.old.options (all_heard self.old.version self.new.record_of) (all_said self.new.record_of) self.new.record_of.answers e) }
         ensures handler { self.new.handler ≡ self.old.handler }
         ensures made_for { (self.new.version ≡ self.old.version) × (self.new.options ≡ self.old.options) }
     {
@@ -126,10 +127,10 @@ impl<H: Handler> Attempt<H> {
         policy: RetryPolicy,
     ) -> VMResult<()>
         ensures does { FinishDoes self.old.record_of.starved handle exit policy self.old.record_of result self.new.record_of }
-        // An error is want of memory, the VM's first error, or that of a result that was refused, or by which the run is tried again or the
-        // invocation paused.
-        ensures blamed { IfErr result (λ e. Blame (H.meaning self.old.handler) self.old.version self.old.options (all_heard self.old.version self.new.record_of) self.new.record_of.closed self.new.record_of.answers e) }
-        ensures honest { IsHonest (H.meaning self.old.handler) self.old.version self.old.options (all_heard self.old.version self.new.record_of) → IfErr result (λ e. IsOwnError (H.meaning self.old.handler) self.old.version self.old.options (all_heard self.old.version self.new.record_of) self.new.record_of.closed self.new.record_of.answers e) }
+        // An error is want of memory, the VM's first error, or that of the result that was told last, which was refused, or by which the run is
+        // tried again or the invocation paused.
+        ensures blamed { IfErr result (λ e. Blame (H.meaning self.old.handler) self.old.version self.old.options (all_heard self.old.version self.new.record_of) (all_said self.new.record_of) self.new.record_of.answers e) }
+        ensures honest { IsHonest (H.meaning self.old.handler) self.old.version self.old.options (all_heard self.old.version self.new.record_of) → IfErr result (λ e. IsOwnError (H.meaning self.old.handler) self.old.version self.old.options (all_heard self.old.version self.new.record_of) (all_said self.new.record_of) self.new.record_of.answers e) }
         ensures handler { self.new.handler ≡ self.old.handler }
         ensures made_for { (self.new.version ≡ self.old.version) × (self.new.options ≡ self.old.options) }
     {

@@ -3,7 +3,7 @@ ghost use Rattle.std.specs.Prelude.{◌≡◌, ◌≤◌, ◌+◌, IfOk, OnOk, O
 ghost use Rattle.journal_errors.specs.Errors.{no_memory};
 ghost use Rattle.vm_parts.specs.Outboxes.{WholeFrames};
 ghost use Rattle.invocation_vm.specs.Seen.{seen};
-ghost use Rattle.vm_rounds.specs.Stepping.{fresh_record, replied, future_in, progress_of, asked_from, Advances, StepDoes, FeedDoes, CloseDoes, TellsUnless, Takes, output_len, kept};
+ghost use Rattle.vm_rounds.specs.Stepping.{fresh_record, replied, future_in, progress_of, asked_from, Advances, StepDoes, FeedDoes, CloseDoes, TellsUnless, Takes, output_len, kept, noted};
 
 use crate::handler::Handler;
 use crate::perform::perform;
@@ -23,6 +23,8 @@ pub struct Inner<H> {
     pub fed: Vec<Fed>,
     pub late: Vec<Fed>,
     pub closed: bool,
+    /// The run whose result was told last, before the VM failed.
+    pub told: Option<NotificationHandle>,
     pub answers: Vec<Answer>,
     pub taken: Taken,
     pub waiting: Option<UnresolvedFuture>,
@@ -73,6 +75,7 @@ impl<H: Handler> Inner<H> {
             fed: Vec::new(alloc),
             late: Vec::new(alloc),
             closed: false,
+            told: None,
             answers: Vec::new(alloc),
             taken: Taken::new(alloc),
             waiting: None,
@@ -226,6 +229,17 @@ impl<H: Handler> Inner<H> {
         self.vm.notify_input_closed()
     }
 
+    /// Notes the run whose result is told, unless the VM has failed.
+    fn note(&mut self, handle: NotificationHandle)
+        ensures record { the_fields self.new ≡ noted handle (the_fields self.old) }
+        ensures vm { seen self.new.vm ≡ seen self.old.vm }
+        ensures handler { self.new.handler ≡ self.old.handler }
+    {
+        if !self.vm.has_failed() {
+            self.told = Some(handle);
+        }
+    }
+
     /// Tells the VM what executing a run came to.
     pub fn run_result(
         &mut self,
@@ -239,6 +253,7 @@ impl<H: Handler> Inner<H> {
         if self.starved {
             return Err(memory_error());
         }
+        self.note(handle);
         self.vm.propose_run_completion(handle, exit, policy)
     }
 

@@ -21,6 +21,7 @@ ghost use Rattle.vm_model.specs.Moves.{Point, later};
 ghost use Rattle.vm_parts.specs.declared.context.StateMap.{StateMap};
 ghost use Rattle.vm_parts.specs.Outboxes.{WholeFrames};
 ghost use Rattle.vm_rounds.specs.Agreement.{Agrees, Aside, Follows};
+ghost use Rattle.vm_rounds.specs.Courses.{Leads};
 ghost use Rattle.vm_rounds.specs.Blames.{Blame, FailsAt, IsHonest, IsOwnError};
 ghost use Rattle.vm_rounds.specs.Honest.{FeedsHonestly};
 ghost use Rattle.vm_rounds.specs.Arrivals.{arriving, kept_after};
@@ -28,8 +29,9 @@ ghost use Rattle.vm_rounds.specs.Journals.{BeginsOrFails, Started, as_entries, m
 ghost use Rattle.vm_rounds.specs.Steps.{IfDone, Performs, ReadsBack};
 ghost use Rattle.vm_rounds.specs.Told.{AnswersAreTold, HasCome, IsKeptUnder, Premises, RefusesReplay};
 ghost use Rattle.vm_rounds.specs.declared.progress.Progress.{Progress};
+ghost use Rattle.vm_rounds.specs.declared.progress.Progress.TheVariants.{ExecuteRun};
 ghost use Rattle.vm_rounds.specs.declared.progress.Reply.{Reply};
-ghost use Rattle.std.specs.Prelude.{Result};
+ghost use Rattle.std.specs.Prelude.{Result, Ok};
 ghost use Rattle.journal_errors.specs.declared.error.Error.{Error};
 ghost use Rattle.std.specs.declared.alloc.AllocError.{AllocError};
 ghost use Rattle.await_trees.specs.declared.handle.NotificationHandle.{NotificationHandle};
@@ -37,9 +39,9 @@ ghost use Rattle.retries.specs.declared.policy.RetryPolicy.{RetryPolicy};
 ghost use Rattle.runs.specs.declared.types.RunExitResult.{RunExitResult};
 ghost use Rattle.vm_rounds.specs.Stepping.{CloseDoes, FeedDoes, FinishDoes, StepDoes, Takes, fresh_record};
 ghost use Rattle.vm_rounds.specs.Heard.{Heard};
-ghost use Rattle.vm_rounds.specs.Record.{Record, heard};
+ghost use Rattle.vm_rounds.specs.Record.{Record, Said, heard};
 ghost use Rattle.invocation_vm.specs.Views.{View, after_input};
-ghost use Rattle.std.specs.Prelude.{ℕ, Bool, Option};
+ghost use Rattle.std.specs.Prelude.{ℕ, Option};
 ghost use Rattle.vm_parts.specs.declared.steps.Answer.{Answer};
 ghost use Rattle.await_trees.specs.declared.tree.UnresolvedFuture.{UnresolvedFuture};
 
@@ -111,13 +113,19 @@ pub fn answers_are_told()
 
 /// Where the known entries are a history of the handler and each frame has its place, an error is only: want of memory; input that
 /// was closed while known entries were missing; or, where no recorded command is left, a call's own refusal, for an argument or
-/// version check, a kind of number that ran out, or a state key that is no text.
+/// version check, a kind of number that ran out, or a state key that is no text; or that of the run's result that was told last.
 pub fn honest_attempts_fail_by_themselves()
-    ensures { (m : Meaning) (version : Version) (options : VMOptions) (fed : Heard) (closed : Bool) (answers : List Answer) (e : Error) → IsHonest m version options fed → Blame m version options fed closed answers e → IsOwnError m version options fed closed answers e }
+    ensures { (m : Meaning) (version : Version) (options : VMOptions) (fed : Heard) (said : Said) (answers : List Answer) (e : Error) → IsHonest m version options fed → Blame m version options fed said answers e → IsOwnError m version options fed said answers e }
 {}
 
 /// Bytes that are a beginning of Start, of the whole journal, which is a history of the handler, and of notifications behind it are
 /// an honest attempt's: each of its frames has its place.
 pub fn honest_bytes_are_honest()
     ensures { (m : Meaning) (version : Version) (options : VMOptions) (fed : Heard) → FeedsHonestly m version options fed → IsHonest m version options fed }
+{}
+
+/// A run is handed out to be executed once at most: whatever calls are made of an attempt, from its first on, and whatever they answer, no
+/// two of its steps answer `ExecuteRun` with the same handle.
+pub fn runs_are_executed_once()
+    ensures { (m : Meaning) (alloc : Global) (version : Version) (options : VMOptions) (handle : NotificationHandle) (before between : ℕ) (a b c d : Record) → Leads m before (fresh_record (made alloc options version)) a → StepDoes m a (Ok (ExecuteRun handle)) b → Leads m between b c → StepDoes m c (Ok (ExecuteRun handle)) d → ⊥ }
 {}

@@ -1,5 +1,5 @@
 use Rattle.vm_rounds.specs.Inside.{the_fields, the_record}
-use Rattle.vm_rounds.specs.Record.{all_heard}
+use Rattle.vm_rounds.specs.Record.{all_heard, all_said}
 use Rattle.vm_rounds.proofs.Finishing.{finish_blame, finish_blames, finish_comes, finish_honest, finish_late, finish_sleeps, finish_told, finish_under}
 use Rattle.vm_rounds.proofs.attempt.Attempt.run_result.Goals as goal
 
@@ -48,7 +48,7 @@ returns-clause-honest g c =
     let does = finish_told a.version a.options c.args.handle c.args.exit c.args.policy (the_fields a.inner) c.run_result-told.result (the_fields c.run_result-told.new.self) came c.self.invariant.5 c.output_len.ensures.whole c.run_result-told.ensures.does in
     rw (← c.self.view_is)
     (λ honest.
-    finish_honest m a.version a.options (all_heard a.version new) new.closed new.answers c.run_result-told.result honest
+    finish_honest m a.version a.options (all_heard a.version new) (all_said new) new.answers c.run_result-told.result honest
     (finish_blame m a.version a.options c.args.handle c.args.exit c.args.policy old c.run_result-told.result new does
     (finish_blames a.version a.options c.args.handle c.args.exit c.args.policy old c.run_result-told.result new came does m c.self.invariant.1)
     (finish_late a.version a.options c.args.handle c.args.exit c.args.policy old c.run_result-told.result new came does m c.self.invariant.3)))

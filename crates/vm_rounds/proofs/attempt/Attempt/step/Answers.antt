@@ -1,5 +1,5 @@
 use Rattle.vm_rounds.specs.Inside.{the_fields, the_record}
-use Rattle.vm_rounds.specs.Record.{all_heard}
+use Rattle.vm_rounds.specs.Record.{all_heard, all_said}
 use Rattle.vm_rounds.proofs.Advanced.{step_replays}
 use Rattle.vm_rounds.proofs.Coming.{step_comes}
 use Rattle.vm_rounds.proofs.Erring.{step_blames}
@@ -52,4 +52,4 @@ returns-clause-honest g c =
     let a = c.self.inside in
     let does = step_told a.version a.options (g.H.Handler.meaning a.inner.handler) (the_fields a.inner) c.step-progress.result (the_fields c.step-progress.new.self) c.self.invariant.0 c.self.invariant.5 c.output_len.ensures.whole c.step-progress.ensures.does in
     let new = the_record c.step-progress.new.self in
-    rw (← c.self.view_is) (λ honest. honest_errs (g.H.Handler.meaning a.inner.handler) a.version a.options (all_heard a.version new) new.closed new.answers c.step-progress.result honest (step_blame (g.H.Handler.meaning a.inner.handler) a.version a.options (the_record a.inner) c.step-progress.result new c.self.invariant.0 c.self.invariant.2 c.self.invariant.1 c.self.invariant.3 does))
+    rw (← c.self.view_is) (λ honest. honest_errs (g.H.Handler.meaning a.inner.handler) a.version a.options (all_heard a.version new) (all_said new) new.answers c.step-progress.result honest (step_blame (g.H.Handler.meaning a.inner.handler) a.version a.options (the_record a.inner) c.step-progress.result new c.self.invariant.0 c.self.invariant.2 c.self.invariant.1 c.self.invariant.3 does))

@@ -1,0 +1,23 @@
+-- The calls of an attempt, one after another.
+use Rattle.std.specs.Prelude.{◌≡◌, ℕ, zero, suc, List, Result}
+use Rattle.std.specs.declared.alloc.AllocError.{AllocError}
+use Rattle.await_trees.specs.declared.handle.NotificationHandle.{NotificationHandle}
+use Rattle.journal_errors.specs.declared.error.Error.{Error}
+use Rattle.retries.specs.declared.policy.RetryPolicy.{RetryPolicy}
+use Rattle.runs.specs.declared.types.RunExitResult.{RunExitResult}
+use Rattle.vm_rounds.specs.declared.progress.Progress.{Progress}
+use Rattle.vm_rounds.specs.Record.{Record}
+use Rattle.vm_rounds.specs.Stepping.{CloseDoes, FeedDoes, FinishDoes, Meaning, StepDoes, Takes}
+
+-- One call of an attempt did this to its record, whichever call it was and whatever it answered.
+pub data Called (m : Meaning) (old new : Record) : Type 0 where
+  Feeding : (piece : List ℕ) (result : Result Unit AllocError) → FeedDoes old.starved piece old result new → Called m old new
+  Closing : (result : Result Unit AllocError) → CloseDoes old.starved old result new → Called m old new
+  Stepping : (result : Result Progress Error) → StepDoes m old result new → Called m old new
+  Telling : (handle : NotificationHandle) (exit : RunExitResult) (policy : RetryPolicy) (result : Result Unit Error) → FinishDoes old.starved handle exit policy old result new → Called m old new
+  Taking : (result : Result (List ℕ) AllocError) → Takes old result new → Called m old new
+
+-- So many calls of an attempt, one after another, lead from one record to another.
+abbrev pub Leads : Meaning → ℕ → Record → Record → Type 0
+Leads m zero old new = new ≡ old
+Leads m (suc n) old new = (mid : Record) × Called m old mid × Leads m n mid new
