@@ -151,9 +151,9 @@ module _ (version : Version) (n : ℕ) (u : List ℕ) (j : List (List ℕ)) (w :
 
   -- one frame more was looked at
   stands_next : (b : Bool) (j'' : List (List ℕ)) (w'' u'' : List ℕ) → StoresOne version j' w' u' (Some b) j'' w'' u'' → 0 < left → Stands version n u j w (if b then left - 1 else left) j'' w'' u''
-  stands_next false j'' w'' u'' (raw, next, fits, none, journal, waits) some =
+  stands_next false j'' w'' u'' (raw, next, fits, (none, journal, waits)) some =
       subst (λ (x : List (List ℕ) × List ℕ). Stands version n u j w left x.0 x.1 u'') (λ i. (sym journal i, sym waits i)) (skips version n u j w left j' w' u' s u'' raw next none)
-  stands_next true j'' w'' u'' (raw, next, fits, item, is, one) some = keeps version n u j w left j' w' u' s u'' raw item j'' w'' next fits is one some
+  stands_next true j'' w'' u'' (raw, next, fits, (item, is, one)) some = keeps version n u j w left j' w' u' s u'' raw item j'' w'' next fits is one some
 
   pub then_next : (o : Option Bool) (stored b : Bool) (j'' : List (List ℕ)) (w'' u'' : List ℕ) → o ≡ Some stored → stored ≡ b → StoresOne version j' w' u' o j'' w'' u'' → 0 < left → Stands version n u j w (if b then left - 1 else left) j'' w'' u''
   then_next o stored b j'' w'' u'' is is' h some = stands_next b j'' w'' u'' (subst (λ t. StoresOne version j' w' u' t j'' w'' u'') (is ∙ ap Some is') h) some
@@ -171,4 +171,4 @@ module _ (version : Version) (n : ℕ) (u : List ℕ) (j : List (List ℕ)) (w :
 -- the bytes that weren't looked at are fewer
 pub then_shorter : (version : Version) (j : List (List ℕ)) (w u : List ℕ) (o : Option Bool) (b : Bool) (j' : List (List ℕ)) (w' u' : List ℕ) → o ≡ Some b → StoresOne version j w u o j' w' u' → length u' < length u
 then_shorter version j w u None b j' w' u' is h = absurd (cc)
-then_shorter version j w u (Some c) b j' w' u' is (raw, next, others) = shorter u u' raw next
+then_shorter version j w u (Some c) b j' w' u' is (raw, next, fits, stores) = shorter u u' raw next
