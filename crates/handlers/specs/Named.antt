@@ -5,6 +5,7 @@ use Rattle.vm_parts.specs.declared.steps.Answer.{Answer}
 use Rattle.vm_parts.specs.declared.steps.Step.{Step}
 use Rattle.handlers.specs.declared.named.Named.{Named}
 use Rattle.handlers.specs.declared.named.Named.TheVariants as named
+use Rattle.handlers.specs.Charge.{charge_step}
 use Rattle.handlers.specs.Counter.{counter_step}
 use Rattle.handlers.specs.Parent.{parent_step}
 use Rattle.handlers.specs.Race.{race_step}
@@ -16,8 +17,9 @@ step_of (named.Sleeper sleeper) = sleeper_step
 step_of (named.Race race) = race_step
 step_of (named.Parent parent) = parent_step
 step_of (named.Counter counter) = counter_step
+step_of (named.Charge charge) = charge_step
 
--- what the handler of this name does next
+-- what the handler of this name does next, where its attempts execute nothing outside
 abbrev pub step_named : List ℕ → Option (List Answer → Step)
 step_named name =
     if pointwise nat_eq name (codes "sleeper") then Some sleeper_step
@@ -25,3 +27,7 @@ step_named name =
     else if pointwise nat_eq name (codes "parent") then Some parent_step
     else if pointwise nat_eq name (codes "counter") then Some counter_step
     else None
+
+-- what the handler of this name does next in a round, which can execute a run
+abbrev pub step_in_rounds : List ℕ → Option (List Answer → Step)
+step_in_rounds name = if pointwise nat_eq name (codes "charge") then Some charge_step else step_named name

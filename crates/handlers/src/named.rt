@@ -1,7 +1,8 @@
 //! The handlers that programs know by their names.
 ghost use Rattle.std.specs.Prelude.{◌≡◌, MatchOption, Some, None};
-ghost use Rattle.handlers.specs.Named.{step_of, step_named};
+ghost use Rattle.handlers.specs.Named.{step_of, step_named, step_in_rounds};
 
+use crate::charge::Charge;
 use crate::counter::Counter;
 use crate::parent::Parent;
 use crate::race::Race;
@@ -17,10 +18,11 @@ pub enum Named {
     Race(Race),
     Parent(Parent),
     Counter(Counter),
+    Charge(Charge),
 }
 
 impl Named {
-    /// The handler of this name, if there is one.
+    /// The handler of this name, if there is one whose attempts execute nothing outside.
     pub fn of_name(alloc: Global, name: &str) -> Option<Named>
         ensures { MatchOption result (step_named name.now ≡ None) (λ handler. step_named name.now ≡ Some (step_of handler)) }
     {
@@ -30,6 +32,16 @@ impl Named {
             "parent" => Some(Named::Parent(Parent { alloc })),
             "counter" => Some(Named::Counter(Counter { alloc })),
             _ => None,
+        }
+    }
+
+    /// The handler of this name, if there is one: `charge` too, whose run a round executes.
+    pub fn in_rounds(alloc: Global, name: &str) -> Option<Named>
+        ensures { MatchOption result (step_in_rounds name.now ≡ None) (λ handler. step_in_rounds name.now ≡ Some (step_of handler)) }
+    {
+        match name {
+            "charge" => Some(Named::Charge(Charge { alloc })),
+            _ => Named::of_name(alloc, name),
         }
     }
 }
@@ -43,6 +55,7 @@ impl Handler for Named {
             Named::Race(race) => race.next(answers),
             Named::Parent(parent) => parent.next(answers),
             Named::Counter(counter) => counter.next(answers),
+            Named::Charge(charge) => charge.next(answers),
         }
     }
 }

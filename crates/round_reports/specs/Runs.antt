@@ -14,7 +14,7 @@ use Rattle.vm_world.specs.declared.types.Round.{Round}
 use Rattle.vm_world.specs.declared.types.RoundFault.{RoundFault}
 use Rattle.vm_world.specs.declared.types.Setting.{Setting}
 use Rattle.runner.specs.Streams.{AppendsSome}
-use Rattle.round_scripts.specs.Scripts.{IsRead}
+use Rattle.round_scripts.specs.Scripts.{IsRead, StopsAt, nothing}
 use Rattle.round_scripts.specs.declared.given.Given.{Given}
 use Rattle.round_scripts.specs.declared.script.Script.{Script}
 use Rattle.round_reports.specs.Printed.{IsReport, fault_text}
@@ -49,6 +49,12 @@ pub record PlaysAll (meaning : Meaning) (version : Version) (left : Option (List
   pub plays : Plays meaning version text fault report
   pub is_written : written report
 
+-- The text is all that the reader had left, where this is known, and its line of this number is the first that has no meaning.
+pub record StopsThere (left : Option (List ℕ)) (number : ℕ) : Type 0 where
+  pub text : List ℕ
+  pub all : IfSome left (λ bytes. text ≡ bytes)
+  pub stops : StopsAt text nothing number
+
 -- what is written of a report into a writer that held and now holds these bytes, where the rounds have ended so
 abbrev pub Ends : (IoError → Type 0) → Option (List ℕ) → Option (List ℕ) → Option RoundFault → List ℕ → RunEnd → Type 0
 Ends write_fails held holds fault report (WriteFailed e) = write_fails e × AppendsSome held holds report
@@ -57,13 +63,14 @@ Ends write_fails held holds fault report Reported = (fault ≡ None) × Appends 
 Ends write_fails held holds fault report other = ⊥
 
 -- What each end of a run says. `plays` says that a script was played up to such an end, and what is written of its report into a
--- writer that held and now holds these bytes; `read` that all was read, and `unwritten` that nothing was written.
-abbrev pub Tells : (Option RoundFault → (List ℕ → Type 0) → Type 0) → Option (List ℕ) → Option (List ℕ) → (IoError → Type 0) → (IoError → Type 0) → Type 0 → Type 0 → RunEnd → Type 0
-Tells plays held holds read_fails write_fails read unwritten UnknownHandler = unwritten
-Tells plays held holds read_fails write_fails read unwritten UnknownContentType = unwritten
-Tells plays held holds read_fails write_fails read unwritten (ReadFailed e) = read_fails e × unwritten
-Tells plays held holds read_fails write_fails read unwritten (NoMeaning line) = read × unwritten
-Tells plays held holds read_fails write_fails read unwritten NoMemory = read × unwritten
-Tells plays held holds read_fails write_fails read unwritten (WriteFailed e) = write_fails e × read × ((fault : Option RoundFault) × plays fault (AppendsSome held holds))
-Tells plays held holds read_fails write_fails read unwritten (Stopped fault) = read × plays (Some fault) (Appends held holds)
-Tells plays held holds read_fails write_fails read unwritten Reported = read × plays None (Appends held holds)
+-- writer that held and now holds these bytes; `stops` that the line of a number has no meaning; `read` that all was read, and
+-- `unwritten` that nothing was written.
+abbrev pub Tells : (Option RoundFault → (List ℕ → Type 0) → Type 0) → (ℕ → Type 0) → Option (List ℕ) → Option (List ℕ) → (IoError → Type 0) → (IoError → Type 0) → Type 0 → Type 0 → RunEnd → Type 0
+Tells plays stops held holds read_fails write_fails read unwritten UnknownHandler = unwritten
+Tells plays stops held holds read_fails write_fails read unwritten UnknownContentType = unwritten
+Tells plays stops held holds read_fails write_fails read unwritten (ReadFailed e) = read_fails e × unwritten
+Tells plays stops held holds read_fails write_fails read unwritten (NoMeaning line) = stops line × read × unwritten
+Tells plays stops held holds read_fails write_fails read unwritten NoMemory = read × unwritten
+Tells plays stops held holds read_fails write_fails read unwritten (WriteFailed e) = write_fails e × read × ((fault : Option RoundFault) × plays fault (AppendsSome held holds))
+Tells plays stops held holds read_fails write_fails read unwritten (Stopped fault) = read × plays (Some fault) (Appends held holds)
+Tells plays stops held holds read_fails write_fails read unwritten Reported = read × plays None (Appends held holds)

@@ -1,6 +1,6 @@
 //! A script that is played: its rounds over its world, and their report.
-ghost use Rattle.std.specs.Prelude.{◌≡◌, IfOk};
-ghost use Rattle.round_scripts.specs.Scripts.{IsRead};
+ghost use Rattle.std.specs.Prelude.{◌≡◌, IfErr, IfOk};
+ghost use Rattle.round_scripts.specs.Scripts.{IsRead, IsUnreadFor, nothing};
 ghost use Rattle.round_reports.specs.Runs.{Plays, RoundsEnd, first_journal, setting_of};
 
 use crate::report::{report_of, report_of_fault};
@@ -66,7 +66,8 @@ pub fn play_text<H: Handler>(
     handler: &H,
     text: &[u8],
 ) -> Result<Played, Unread>
-    ensures { IfOk result (λ played. Plays (H.meaning handler.now) version text.now played.fault played.report) }
+    ensures plays { IfOk result (λ played. Plays (H.meaning handler.now) version text.now played.fault played.report) }
+    ensures unread { IfErr result (IsUnreadFor text.now nothing) }
 {
     match script_of(alloc, text) {
         Err(unread) => Err(unread),

@@ -1,9 +1,9 @@
 //! One run of the program: what a reader gives is a script, and its report goes to a writer.
 ghost use Rattle.std.specs.Prelude.{◌≡◌, ◌≢◌, ◌↔◌, IfSome, None, Some};
 ghost use Rattle.std.specs.Io.KnownBytes.{IsAtEnd};
-ghost use Rattle.handlers.specs.Named.{step_named};
+ghost use Rattle.handlers.specs.Named.{step_in_rounds};
 ghost use Rattle.journal_errors.specs.Versions.{version_of};
-ghost use Rattle.round_reports.specs.Runs.{Ends, PlaysAll, Tells};
+ghost use Rattle.round_reports.specs.Runs.{Ends, PlaysAll, StopsThere, Tells};
 ghost use Rattle.round_reports.specs.declared.run_end.RunEnd.TheVariants as run_end;
 
 use crate::play::{Played, play_text};
@@ -39,7 +39,7 @@ fn run_handler<H: Handler, R: Source, W: Sink>(
     ensures known { result ≢ run_end.UnknownHandler }
     // A text that is no content type is found before anything is read.
     ensures refused { version_of content_type.now ≡ None → (result ≡ run_end.UnknownContentType) × (reader.new ≡ reader.old) × (writer.new ≡ writer.old) }
-    ensures runs { IfSome (version_of content_type.now) (λ version. Tells (PlaysAll (H.meaning handler.now) version (R.remaining reader.old)) (W.contents writer.old) (W.contents writer.new) (R.fails reader.old) (W.fails writer.old) (IsAtEnd (R.remaining reader.new)) (writer.new ≡ writer.old) result) }
+    ensures runs { IfSome (version_of content_type.now) (λ version. Tells (PlaysAll (H.meaning handler.now) version (R.remaining reader.old)) (StopsThere (R.remaining reader.old)) (W.contents writer.old) (W.contents writer.new) (R.fails reader.old) (W.fails writer.old) (IsAtEnd (R.remaining reader.new)) (writer.new ≡ writer.old) result) }
 {
     let Some(version) = Version::of_content_type(content_type) else {
         return RunEnd::UnknownContentType;
@@ -64,16 +64,17 @@ pub fn run<R: Source, W: Sink>(
     writer: &mut W,
 ) -> RunEnd
     // An unknown handler is found before anything is read.
-    ensures usage { (result ≡ run_end.UnknownHandler) ↔ (step_named handler.now ≡ None) }
+    ensures usage { (result ≡ run_end.UnknownHandler) ↔ (step_in_rounds handler.now ≡ None) }
     ensures unread { result ≡ run_end.UnknownHandler → reader.new ≡ reader.old }
     ensures unwritten { result ≡ run_end.UnknownHandler → writer.new ≡ writer.old }
     // So is a text that is no content type.
-    ensures refused { IfSome (step_named handler.now) (λ _. version_of content_type.now ≡ None → (result ≡ run_end.UnknownContentType) × (reader.new ≡ reader.old) × (writer.new ≡ writer.old)) }
+    ensures refused { IfSome (step_in_rounds handler.now) (λ _. version_of content_type.now ≡ None → (result ≡ run_end.UnknownContentType) × (reader.new ≡ reader.old) × (writer.new ≡ writer.old)) }
     // Each other run has read all that there was as a script and played its rounds, and all of the report is written, or a beginning
-    // where writing has failed; or reading has failed, a line has no meaning, or memory was lacking, and nothing is written.
-    ensures runs { IfSome (step_named handler.now) (λ meaning. IfSome (version_of content_type.now) (λ version. Tells (PlaysAll meaning version (R.remaining reader.old)) (W.contents writer.old) (W.contents writer.new) (R.fails reader.old) (W.fails writer.old) (IsAtEnd (R.remaining reader.new)) (writer.new ≡ writer.old) result)) }
+    // where writing has failed; or reading has failed, the line of the number that is told is the first without a meaning, or memory
+    // was lacking, and nothing is written.
+    ensures runs { IfSome (step_in_rounds handler.now) (λ meaning. IfSome (version_of content_type.now) (λ version. Tells (PlaysAll meaning version (R.remaining reader.old)) (StopsThere (R.remaining reader.old)) (W.contents writer.old) (W.contents writer.new) (R.fails reader.old) (W.fails writer.old) (IsAtEnd (R.remaining reader.new)) (writer.new ≡ writer.old) result)) }
 {
-    match Named::of_name(alloc, handler) {
+    match Named::in_rounds(alloc, handler) {
         Some(handler) => run_handler(alloc, content_type, &handler, reader, writer),
         None => RunEnd::UnknownHandler,
     }

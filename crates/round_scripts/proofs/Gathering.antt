@@ -13,7 +13,7 @@ keys_more found more text keys after key all longer atom is =
     subst (λ ys. AreKeys more ys) (sym is) (subst (λ ts. AreKeys ts (keys ++ key ∷ [])) (sym longer) pushed)
 
 -- one text more that is a key with its value
-pub entries_more : (found more : List (List ℕ)) (text : List ℕ) (entries after : List (String Global × List ℕ)) (entry : String Global × List ℕ) → AreEntries found entries → more ≡ found ++ text ∷ [] → IsEntry text (string_bytes entry.0) entry.1 → after ≡ entries ++ entry ∷ [] → AreEntries more after
+pub entries_more : (found more : List (List ℕ)) (text : List ℕ) (entries after : List (String Global × List ℕ)) (entry : String Global × List ℕ) → AreEntries found entries → more ≡ found ++ text ∷ [] → IsEntry text (string_bytes entry.0, entry.1) → after ≡ entries ++ entry ∷ [] → AreEntries more after
 entries_more found more text entries after entry all longer pair is =
-    let pushed = zip_push (λ (t : List ℕ) (e : String Global × List ℕ). IsEntry t (string_bytes e.0) e.1) found entries text entry all pair in
+    let pushed = zip_push (λ (t : List ℕ) (e : String Global × List ℕ). IsEntry t (string_bytes e.0, e.1)) found entries text entry all pair in
     subst (λ ys. AreEntries more ys) (sym is) (subst (λ ts. AreEntries ts (entries ++ entry ∷ [])) (sym longer) pushed)

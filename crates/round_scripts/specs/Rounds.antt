@@ -1,11 +1,12 @@
 -- With what a round begins.
-use Rattle.std.specs.Prelude.{◌≡◌, ◌/◌, ℕ, true, List, [], ◌∷◌, codes}
+use Rattle.std.specs.Prelude.{◌≡◌, ◌/◌, ◌<◌, ◌^◌, ℕ, true, List, [], ◌∷◌, codes}
 use Rattle.std.specs.Borrow.{Bor}
+use Rattle.std.specs.Duration.{as_nanos}
 use Rattle.std.specs.List.{AllZip}
+use Rattle.std.specs.declared.time.Duration.{Duration}
 use Rattle.lines.specs.Atoms.{IsText}
-use Rattle.line_parts.specs.Durations.{IsDuration}
 use Rattle.line_parts.specs.Fields.{IsSet, are_named, texts}
-use Rattle.line_parts.specs.Values.{HasFlag, without}
+use Rattle.line_parts.specs.Values.{HasFlag, IsTime, without}
 use Rattle.line_parts.specs.Words.{IsNumberOf}
 use Rattle.vm_world.specs.declared.types.Round.{Round}
 
@@ -13,9 +14,9 @@ use Rattle.vm_world.specs.declared.types.Round.{Round}
 abbrev pub AreKeys : List (List ℕ) → List (List ℕ) → Type 0
 AreKeys found keys = AllZip (λ text key. IsText text key) found keys
 
--- the whole milliseconds of a duration
+-- the whole milliseconds of a duration, which fit 64 bits
 abbrev pub IsWholeMilliseconds : List ℕ → ℕ → Type 0
-IsWholeMilliseconds text millis = (nanos : ℕ) × IsDuration text nanos × (millis ≡ nanos / 1000000)
+IsWholeMilliseconds text millis = (time : Duration) × IsTime text time × (millis ≡ as_nanos time / 1000000) × (millis < 2 ^ 64)
 
 -- what may be said of a round, beside `partial`
 abbrev pub round_names : List (List ℕ)

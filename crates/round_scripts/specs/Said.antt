@@ -1,9 +1,13 @@
 -- What a line of a script of rounds says: its first word names it, and its numbers are in their places.
-use Rattle.std.specs.Prelude.{◌≡◌, ◌⊎◌, ◌-◌, ◌^◌, ℕ, true, false, List, [], length, codes}
+use Rattle.std.specs.Prelude.{◌≡◌, ◌≢◌, ◌⊎◌, ◌-◌, ◌^◌, ◌==◌, ◌&&◌, ℕ, Bool, true, false, not, List, [], length, nat_eq, codes}
 use Rattle.std.specs.Borrow.{Bor}
-use Rattle.std.specs.Str.{IsTrimAscii}
-use Rattle.lines.specs.Pieces.{AreWords}
+use Rattle.std.specs.Cmp.Lexicographic.{pointwise}
+use Rattle.std.specs.List.{starts_with}
+use Rattle.std.specs.Str.{IsTrimAscii, IsUtf8}
+use Rattle.lines.specs.Atoms.{IsAtom}
+use Rattle.lines.specs.Pieces.{AreWords, outside, place}
 use Rattle.requests.specs.Lines.{says_nothing}
+use Rattle.line_parts.specs.Results.{IsProposal}
 use Rattle.line_parts.specs.Words.{IsNumberOf, behind, text_at}
 use Rattle.vm_world.specs.declared.types.Event.{Event}
 use Rattle.vm_world.specs.declared.types.Event.TheVariants as event
@@ -24,13 +28,26 @@ IsOneCount words count = (length words ≡ 1) × IsCount (text_at 0 words) count
 abbrev pub AreSteps : List (Bor (List ℕ)) → ℕ → Type 0
 AreSteps words steps = ((words ≡ []) × (steps ≡ 1)) ⊎ ((length words ≡ 1) × IsNumberOf 64 (text_at 0 words) steps)
 
+-- whether the words behind `arrive` are the rest of a stream, which is no frame
+abbrev pub are_rest : List (Bor (List ℕ)) → Bool
+are_rest words = pointwise nat_eq (text_at 0 words) (codes "rest")
+
+-- whether they are bytes as they are: one word alone, which begins with `0x`
+abbrev pub are_bytes : List (Bor (List ℕ)) → Bool
+are_bytes words = length words == 1 && starts_with nat_eq (text_at 0 words) (codes "0x")
+
+-- what arrives: bytes as they are, or a frame, of whose line nothing is said here
+abbrev pub Arrives : List (Bor (List ℕ)) → List ℕ → Type 0
+Arrives words bytes = (are_rest words ≡ false) × (are_bytes words ≡ true → IsAtom (text_at 0 words) bytes)
+
 -- this word and those behind it say that this happens
 abbrev pub SaysEvent : List ℕ → List (Bor (List ℕ)) → Event → Type 0
 SaysEvent word others (event.Piece n) = (word ≡ codes "piece") × IsOneCount others n
 SaysEvent word others event.Close = (word ≡ codes "close") × (others ≡ [])
 SaysEvent word others event.Step = ⊥
-SaysEvent word others (event.Arrive bytes) = word ≡ codes "arrive"
+SaysEvent word others (event.Arrive bytes) = (word ≡ codes "arrive") × Arrives others bytes
 SaysEvent word others (event.Store n) = (word ≡ codes "store") × IsOneCount others n
+SaysEvent word others (event.RunResult handle result policy) = (word ≡ codes "run_result") × IsProposal others (record { handle = handle; result = result; policy = policy })
 
 -- this word and those behind it say this
 abbrev pub SaysBehind : List ℕ → List (Bor (List ℕ)) → ScriptLine → Type 0
@@ -49,6 +66,24 @@ abbrev pub Says : List ℕ → ScriptLine → Type 0
 Says text line.Nothing = says_nothing text ≡ true
 Says text said = (says_nothing text ≡ false) × ((words : List (Bor (List ℕ))) × AreWords text words × SaysWords words said)
 
--- what a line says; blanks at its ends don't count
+-- what a line says, which is UTF-8; blanks at its ends don't count
 abbrev pub Reads : List ℕ → ScriptLine → Type 0
-Reads text said = (trimmed : List ℕ) × IsTrimAscii text trimmed × Says trimmed said
+Reads text said = (trimmed : List ℕ) × IsTrimAscii text trimmed × IsUtf8 trimmed × Says trimmed said
+
+-- ---- lines without a meaning
+
+-- whether this word and those behind it are an arrival that is a frame
+abbrev pub is_frame : List ℕ → List (Bor (List ℕ)) → Bool
+is_frame word others = pointwise nat_eq word (codes "arrive") && not (are_rest others) && not (are_bytes others)
+
+-- words that say nothing, unless they are an arrival that is a frame: of its line nothing is said here
+pub record SayNothing (words : List (Bor (List ℕ))) : Type 0 where
+  pub nothing : is_frame (text_at 0 words) (behind words) ≡ false → (said : ScriptLine) → SaysWords words said → ⊥
+
+-- why a line that isn't empty says nothing: it isn't UTF-8, its quotes or brackets aren't closed, or its words say nothing
+abbrev pub SaysNothing : List ℕ → Type 0
+SaysNothing text = (IsUtf8 text → ⊥) ⊎ (place text ≢ outside) ⊎ ((words : List (Bor (List ℕ))) × AreWords text words × SayNothing words)
+
+-- a line that says nothing; blanks at its ends don't count
+abbrev pub IsUnread : List ℕ → Type 0
+IsUnread text = (trimmed : List ℕ) × IsTrimAscii text trimmed × SaysNothing trimmed

@@ -1,15 +1,17 @@
 -- What a whole script says: its lines, read one after another, make a world and rounds.
-use Rattle.std.specs.Prelude.{◌≡◌, ℕ, List, [], ◌∷◌, ◌++◌, Option, Some, None, replicate}
-use Rattle.scripts.specs.Transcripts.{AreLines}
+use Rattle.std.specs.Prelude.{◌≡◌, ◌≢◌, ◌⊎◌, ◌+◌, ℕ, List, [], ◌∷◌, ◌++◌, Option, Some, None, length, replicate}
+use Rattle.scripts.specs.Transcripts.{AreLines, IsFirstLine}
 use Rattle.vm_world.specs.declared.types.Event.{Event}
 use Rattle.vm_world.specs.declared.types.Event.TheVariants as event
 use Rattle.vm_world.specs.declared.types.Round.{Round}
 use Rattle.round_scripts.specs.declared.given.Given.{Given}
 use Rattle.round_scripts.specs.declared.script.Script.{Script}
+use Rattle.round_scripts.specs.declared.script.Unread.{Unread}
+use Rattle.round_scripts.specs.declared.script.Unread.TheVariants as unread
 use Rattle.round_scripts.specs.declared.script.SoFar.{SoFar}
 use Rattle.round_scripts.specs.declared.script_line.ScriptLine.{ScriptLine}
 use Rattle.round_scripts.specs.declared.script_line.ScriptLine.TheVariants as line
-use Rattle.round_scripts.specs.Said.{Reads}
+use Rattle.round_scripts.specs.Said.{IsUnread, Reads}
 use Rattle.round_scripts.specs.Worlds.{IsDefault}
 
 -- what lines have said so far: what the world is made of, if one did, the rounds but the last, and the last
@@ -84,3 +86,36 @@ pub record IsRead (text : List ℕ) (script : Script) : Type 0 where
   pub parts : Parts
   pub added : AreLinesAdded text nothing parts
   pub has : Has parts script
+
+-- ---- scripts that aren't read
+
+-- what is said has no place behind what was said before
+pub record HasNoPlace (said : ScriptLine) (before : Parts) : Type 0 where
+  pub nothing : (after : Parts) → Adds said before after → ⊥
+
+-- a line without a meaning behind what was said before: it says nothing, or what it says has no place
+abbrev pub AddsNothing : List ℕ → Parts → Type 0
+AddsNothing text before = IsUnread text ⊎ ((said : ScriptLine) × Reads text said × HasNoPlace said before)
+
+-- the text begins with these lines, and this is what stands behind them
+abbrev pub BeginsWith : List (List ℕ) → List ℕ → List ℕ → Type 0
+BeginsWith [] text rest = rest ≡ text
+BeginsWith (line ∷ lines) text rest = (text ≢ []) × ((behind : List ℕ) × IsFirstLine text line behind × BeginsWith lines behind rest)
+
+-- The line of this number, counted from 1, has no meaning behind those before it, and each of these has one.
+pub record StopsAt (text : List ℕ) (before : Parts) (number : ℕ) : Type 0 where
+  pub lines : List (List ℕ)
+  pub rest : List ℕ
+  pub begins : BeginsWith lines text rest
+  pub so_far : Parts
+  pub are_added : AreAdded lines before so_far
+  pub counted : number ≡ length lines + 1
+  pub line : List ℕ
+  pub others : List ℕ
+  pub first : IsFirstLine rest line others
+  pub nothing : AddsNothing line so_far
+
+-- why a text isn't read: a line has no meaning, or there is no memory
+abbrev pub IsUnreadFor : List ℕ → Parts → Unread → Type 0
+IsUnreadFor text before unread.Memory = Unit {0}
+IsUnreadFor text before (unread.Line number) = StopsAt text before number

@@ -35,16 +35,16 @@ pub record SaysIdentity (words : List (Bor (List ℕ))) (identity : Identity) : 
   pub idempotency_key : IsOptional IsText (texts (codes "idem=") words) identity.idempotency_key
 
 -- a key and its value, in braces
-pub record IsEntry (text key value : List ℕ) : Type 0 where
+pub record IsEntry (text : List ℕ) (entry : List ℕ × List ℕ) : Type 0 where
   pub words : List (Bor (List ℕ))
   pub are_words : AreWordsWithin 123 125 text words
   pub two : length words ≡ 2
-  pub is_key : IsText (text_at 0 words) key
-  pub is_value : IsAtom (text_at 1 words) value
+  pub is_key : IsText (text_at 0 words) entry.0
+  pub is_value : IsAtom (text_at 1 words) entry.1
 
 -- texts that are these keys with their values
 abbrev pub AreEntries : List (List ℕ) → List (String Global × List ℕ) → Type 0
-AreEntries found entries = AllZip (λ text entry. IsEntry text (string_bytes entry.0) entry.1) found entries
+AreEntries found entries = AllZip (λ text entry. IsEntry text (string_bytes entry.0, entry.1)) found entries
 
 -- what may be said of a world
 abbrev pub world_names : List (List ℕ)

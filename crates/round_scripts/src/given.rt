@@ -1,6 +1,7 @@
 //! The line `world`: what a world is made of, but for the version of its attempts.
-ghost use Rattle.std.specs.Prelude.{◌≡◌, IfOk, codes, string_bytes};
+ghost use Rattle.std.specs.Prelude.{◌≡◌, IfErr, IfOk, codes, string_bytes};
 ghost use Rattle.lines.specs.Atoms.{IsAtom, IsText};
+ghost use Rattle.lines.specs.Readings.{Blames};
 ghost use Rattle.line_parts.specs.Fields.{IsSet, are_named, texts};
 ghost use Rattle.round_scripts.specs.Worlds.{AreEntries, IsDefault, IsEntry, SaysIdentity, SaysWorld, default_identity, world_names};
 
@@ -52,13 +53,15 @@ pub fn default_given(alloc: Global) -> Result<Given, AllocError>
 }
 
 /// `[NAME=B]`, or the default.
+#[tactic(auto, using(line_parts::proofs::Missing::set_blamed, line_parts::proofs::Missing::twice_set))]
 fn bytes_or(
     alloc: Global,
     words: &[&[u8]],
     name: &str,
     default: &'static [u8],
 ) -> Result<Bytes, Fault>
-    ensures { IfOk result (λ bytes. IsSet IsAtom default.now (texts name.now words.now) bytes) }
+    ensures value { IfOk result (IsSet IsAtom default.now (texts name.now words.now)) }
+    ensures none { IfErr result (Blames (IsSet IsAtom default.now (texts name.now words.now))) }
 {
     match field_of(words, name)? {
         Some(text) => shared_of(alloc, text),
@@ -67,8 +70,10 @@ fn bytes_or(
 }
 
 /// `[NAME=T]`, or the default.
+#[tactic(auto, using(line_parts::proofs::Missing::set_blamed, line_parts::proofs::Missing::twice_set))]
 fn text_or(alloc: Global, words: &[&[u8]], name: &str, default: &str) -> Result<Text, Fault>
-    ensures { IfOk result (λ text. IsSet IsText default.now (texts name.now words.now) text) }
+    ensures value { IfOk result (IsSet IsText default.now (texts name.now words.now)) }
+    ensures none { IfErr result (Blames (IsSet IsText default.now (texts name.now words.now))) }
 {
     match field_of(words, name)? {
         Some(text) => text_of(alloc, text),
@@ -78,7 +83,8 @@ fn text_or(alloc: Global, words: &[&[u8]], name: &str, default: &str) -> Result<
 
 /// `[id=B] [debug_id=T] [key=T] [seed=N] [scope=T] [limit=T] [idem=T]`, among other words.
 fn identity_in(alloc: Global, words: &[&[u8]]) -> Result<Identity, Fault>
-    ensures { IfOk result (λ identity. SaysIdentity words.now identity) }
+    ensures value { IfOk result (SaysIdentity words.now) }
+    ensures none { IfErr result (Blames (SaysIdentity words.now)) }
 {
     let id = bytes_or(alloc, words, "id=", b"abc")?;
     let debug_id = text_or(alloc, words, "debug_id=", "abc")?;
@@ -99,23 +105,25 @@ fn identity_in(alloc: Global, words: &[&[u8]]) -> Result<Identity, Fault>
 }
 
 /// `{T B}`.
+#[tactic(auto, using(crate::proofs::Pairing::unbraced_blamed, crate::proofs::Pairing::count_blamed, crate::proofs::Pairing::key_blamed, crate::proofs::Pairing::value_blamed))]
 fn pair_of(alloc: Global, text: &[u8]) -> Result<(String, Bytes), Fault>
-    ensures { IfOk result (λ pair. IsEntry text.now (string_bytes pair.0) pair.1) }
+    ensures value { IfOk result (λ pair. IsEntry text.now (string_bytes pair.0, pair.1)) }
+    ensures none { IfErr result (Blames (IsEntry text.now)) }
 {
     let pair = words_within(alloc, text, b'{', b'}')?;
-    match pair.as_slice() {
-        [key, value] => {
-            let key = string_of(alloc, *key)?;
-            let value = shared_of(alloc, *value)?;
-            Ok((key, value))
-        }
-        _ => Err(Fault::Malformed),
-    }
+    let [key, value] = pair.as_slice() else {
+        return Err(Fault::Malformed);
+    };
+    let key = string_of(alloc, *key)?;
+    let value = shared_of(alloc, *value)?;
+    Ok((key, value))
 }
 
 /// `[state={T B}]..`, among other words.
+#[tactic(auto, using(crate::proofs::Pairing::state_blamed))]
 fn state_in(alloc: Global, words: &[&[u8]]) -> Result<Vec<(String, Bytes)>, Fault>
-    ensures { IfOk result (λ state. AreEntries (texts (codes "state=") words.now) state.items) }
+    ensures value { IfOk result (λ state. AreEntries (texts (codes "state=") words.now) state.items) }
+    ensures none { IfErr result (Blames (AreEntries (texts (codes "state=") words.now))) }
 {
     let mut state = Vec::new(alloc);
     for word in words {
@@ -154,8 +162,10 @@ fn are_of_a_world(words: &[&[u8]]) -> bool
 }
 
 /// What stands behind the word `world`; what isn't named is at its default.
+#[tactic(auto, using(crate::proofs::Worlds::others_blamed, crate::proofs::Worlds::options_blamed, crate::proofs::Worlds::identity_blamed, crate::proofs::Worlds::input_blamed, crate::proofs::Worlds::state_blamed))]
 pub fn given_of(alloc: Global, words: &[&[u8]]) -> Result<Given, Fault>
-    ensures { IfOk result (λ given. SaysWorld words.now given) }
+    ensures value { IfOk result (SaysWorld words.now) }
+    ensures none { IfErr result (Blames (SaysWorld words.now)) }
 {
     if !are_of_a_world(words) {
         return Err(Fault::Malformed);

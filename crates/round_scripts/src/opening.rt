@@ -1,5 +1,6 @@
 //! The line `round`: with what a round begins.
-ghost use Rattle.std.specs.Prelude.{◌≡◌, IfOk, codes};
+ghost use Rattle.std.specs.Prelude.{◌≡◌, IfErr, IfOk, codes};
+ghost use Rattle.lines.specs.Readings.{Blames};
 ghost use Rattle.line_parts.specs.Fields.{IsSet, are_named, texts};
 ghost use Rattle.line_parts.specs.Words.{IsNumberOf};
 ghost use Rattle.round_scripts.specs.Rounds.{AreKeys, IsWholeMilliseconds, SaysRound, round_names};
@@ -12,8 +13,10 @@ use vm_world::Round;
 use wire::{Fault, Items, Text};
 
 /// `[key=T]..`, among other words.
+#[tactic(auto, using(crate::proofs::Beginning::keys_blamed))]
 fn keys_in(alloc: Global, words: &[&[u8]]) -> Result<Items<Text>, Fault>
-    ensures { IfOk result (λ keys. AreKeys (texts (codes "key=") words.now) keys) }
+    ensures value { IfOk result (AreKeys (texts (codes "key=") words.now)) }
+    ensures none { IfErr result (Blames (AreKeys (texts (codes "key=") words.now))) }
 {
     let mut keys = Items::new(alloc);
     for word in words {
@@ -25,8 +28,10 @@ fn keys_in(alloc: Global, words: &[&[u8]]) -> Result<Items<Text>, Fault>
 }
 
 /// `[retry=N]`, by default 0.
+#[tactic(auto, using(line_parts::proofs::Missing::set_blamed, line_parts::proofs::Missing::twice_set))]
 fn retry_count_in(words: &[&[u8]]) -> Result<u32, Fault>
-    ensures { IfOk result (λ count. IsSet (IsNumberOf 32) 0 (texts (codes "retry=") words.now) count) }
+    ensures value { IfOk result (IsSet (IsNumberOf 32) 0 (texts (codes "retry=") words.now)) }
+    ensures none { IfErr result (Blames (IsSet (IsNumberOf 32) 0 (texts (codes "retry=") words.now))) }
 {
     match field_of(words, "retry=")? {
         Some(text) => u32_of(text),
@@ -34,14 +39,24 @@ fn retry_count_in(words: &[&[u8]]) -> Result<u32, Fault>
     }
 }
 
+/// A duration in whole milliseconds, rounded down.
+#[tactic(auto, using(crate::proofs::Beginning::time_blamed, crate::proofs::Beginning::too_long))]
+fn milliseconds_of(text: &[u8]) -> Result<u64, Fault>
+    ensures value { IfOk result (IsWholeMilliseconds text.now) }
+    ensures none { IfErr result (Blames (IsWholeMilliseconds text.now)) }
+{
+    let duration = duration_of(text)?;
+    u64::try_from(duration.as_millis()).map_err(|_| Fault::Malformed)
+}
+
 /// `[duration=D]` in whole milliseconds, rounded down; by default 0.
+#[tactic(auto, using(line_parts::proofs::Missing::set_blamed, line_parts::proofs::Missing::twice_set))]
 fn milliseconds_in(words: &[&[u8]]) -> Result<u64, Fault>
-    ensures { IfOk result (λ millis. IsSet IsWholeMilliseconds 0 (texts (codes "duration=") words.now) millis) }
+    ensures value { IfOk result (IsSet IsWholeMilliseconds 0 (texts (codes "duration=") words.now)) }
+    ensures none { IfErr result (Blames (IsSet IsWholeMilliseconds 0 (texts (codes "duration=") words.now))) }
 {
     match field_of(words, "duration=")? {
-        Some(text) => {
-            u64::try_from(duration_of(text)?.as_millis()).map_err(|_| Fault::Malformed)
-        }
+        Some(text) => milliseconds_of(text),
         None => Ok(0),
     }
 }
@@ -54,8 +69,10 @@ fn are_of_a_round(words: &[&[u8]]) -> bool
 }
 
 /// What stands behind the word `round`.
+#[tactic(auto, using(crate::proofs::Beginning::flag_blamed, crate::proofs::Beginning::others_blamed, crate::proofs::Beginning::retry_blamed, crate::proofs::Beginning::duration_blamed, crate::proofs::Beginning::round_keys_blamed))]
 pub fn round_of(alloc: Global, words: &[&[u8]]) -> Result<Round, Fault>
-    ensures { IfOk result (λ round. SaysRound words.now round) }
+    ensures value { IfOk result (SaysRound words.now) }
+    ensures none { IfErr result (Blames (SaysRound words.now)) }
 {
     let (others, partial) = without_flag(alloc, words, "partial")?;
     if !are_of_a_round(others.as_slice()) {

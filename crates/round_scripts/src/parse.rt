@@ -1,47 +1,93 @@
 //! A line of a script, read as a whole: one row a kind of line.
-ghost use Rattle.std.specs.Prelude.{◌≡◌, [], false, IfOk};
+ghost use Rattle.std.specs.Prelude.{◌≡◌, false, codes, IfErr, IfOk};
+ghost use Rattle.lines.specs.Readings.{Blames};
 ghost use Rattle.requests.specs.Lines.{says_nothing};
-ghost use Rattle.vm_world.specs.declared.types.Event.TheVariants as event;
-ghost use Rattle.round_scripts.specs.Said.{AreSteps, IsCount, IsOneCount, Reads, Says, SaysBehind, SaysWords};
-ghost use Rattle.round_scripts.specs.declared.script_line.ScriptLine.TheVariants as line;
+ghost use Rattle.wire.specs.declared.fault.Fault.TheVariants.{Malformed};
+ghost use Rattle.round_scripts.specs.Said.{AreSteps, Arrives, IsCount, IsOneCount, IsUnread, Reads, SayNothing, Says, SaysBehind, SaysEvent, SaysNothing, SaysWords, are_bytes, are_rest, is_frame};
 
 use crate::given::given_of;
 use crate::opening::round_of;
 use crate::script_line::ScriptLine;
 use bytes::Bytes;
 use frame_lines::entry::frame_of;
-use line_parts::atoms::shared_of;
-use lines::atoms::number_of;
+use line_parts::atoms::u64_of;
+use line_parts::results::{Proposal, proposal_of};
+use line_parts::words::bytes_in;
 use lines::pieces::words;
 use std::alloc::Global;
 use vm_world::Event;
 use wire::Fault;
 
 /// A number, or the greatest one where it is `all`.
+#[tactic(auto, using(crate::proofs::Nothing::count_blamed))]
 fn count_of(text: &[u8]) -> Result<usize, Fault>
-    ensures { IfOk result (λ count. IsCount text.now count) }
+    ensures value { IfOk result (IsCount text.now) }
+    ensures none { IfErr result (Blames (IsCount text.now)) }
 {
-    match text {
-        b"all" => Ok(usize::MAX),
-        _ => Ok(number_of(text).ok_or(Fault::Malformed)? as usize),
+    if text == b"all".as_slice() {
+        return Ok(usize::MAX);
+    }
+    Ok(u64_of(text)? as usize)
+}
+
+/// Whether the words behind `arrive` are the rest of a stream.
+fn are_rest(words: &[&[u8]]) -> bool
+    ensures { result ≡ are_rest words.now }
+{
+    match words {
+        [word, ..] => *word == b"rest".as_slice(),
+        [] => false,
+    }
+}
+
+/// Whether they are bytes as they are.
+fn are_bytes(words: &[&[u8]]) -> bool
+    ensures { result ≡ are_bytes words.now }
+{
+    match words {
+        [word] => word.starts_with(b"0x"),
+        _ => false,
     }
 }
 
 /// What stands behind the word `arrive` of a line: bytes as they are, or a frame as a line. The rest of a stream is no frame.
-fn arrival_of(alloc: Global, line: &[u8], words: &[&[u8]]) -> Result<Bytes, Fault> {
-    match words {
-        [b"rest", ..] => Err(Fault::Malformed),
-        [[b'0', b'x', ..]] => shared_of(alloc, words[0]),
-        _ => match line.strip_prefix(b"arrive") {
-            Some(frame) => frame_of(alloc, frame),
-            None => Err(Fault::Malformed),
-        },
+#[tactic(auto, using(crate::proofs::Nothing::rest_blamed, crate::proofs::Nothing::bytes_blamed, crate::proofs::Nothing::frame_blamed))]
+fn arrival_of(alloc: Global, line: &[u8], words: &[&[u8]]) -> Result<Bytes, Fault>
+    ensures value { IfOk result (Arrives words.now) }
+    ensures none { IfErr result (λ fault. is_frame (codes "arrive") words.now ≡ false → Blames (Arrives words.now) fault) }
+{
+    if are_rest(words) {
+        return Err(Fault::Malformed);
     }
+    if are_bytes(words) {
+        return bytes_in(alloc, words, 0);
+    }
+    let Some(frame) = line.strip_prefix(b"arrive") else {
+        return Err(Fault::Malformed);
+    };
+    let bytes = frame_of(alloc, frame)?;
+    Ok(bytes)
+}
+
+/// What stands behind the word `run_result`.
+#[tactic(auto, using(crate::proofs::Nothing::proposal_blamed))]
+fn run_result_of(alloc: Global, words: &[&[u8]]) -> Result<Event, Fault>
+    ensures value { IfOk result (SaysEvent (codes "run_result") words.now) }
+    ensures none { IfErr result (Blames (SaysEvent (codes "run_result") words.now)) }
+{
+    let Proposal {
+        handle,
+        result,
+        policy,
+    } = proposal_of(alloc, words)?;
+    Ok(Event::RunResult(handle, result, policy))
 }
 
 /// A count alone.
+#[tactic(auto, using(crate::proofs::Nothing::one_count_blamed))]
 fn count_alone(words: &[&[u8]]) -> Result<usize, Fault>
-    ensures { IfOk result (λ count. IsOneCount words.now count) }
+    ensures value { IfOk result (IsOneCount words.now) }
+    ensures none { IfErr result (Blames (IsOneCount words.now)) }
 {
     match words {
         [count] => count_of(*count),
@@ -50,51 +96,92 @@ fn count_alone(words: &[&[u8]]) -> Result<usize, Fault>
 }
 
 /// A number alone, or nothing, which stands for 1.
+#[tactic(auto, using(crate::proofs::Nothing::steps_blamed, crate::proofs::Nothing::many_steps_blamed))]
 fn steps_of(words: &[&[u8]]) -> Result<u64, Fault>
-    ensures { IfOk result (λ steps. AreSteps words.now steps) }
+    ensures value { IfOk result (AreSteps words.now) }
+    ensures none { IfErr result (Blames (AreSteps words.now)) }
 {
     match words {
         [] => Ok(1),
-        [steps] => number_of(*steps).ok_or(Fault::Malformed),
+        [steps] => u64_of(*steps),
         _ => Err(Fault::Malformed),
     }
 }
 
-/// The row `close`.
-fn close_of(words: &[&[u8]]) -> Result<ScriptLine, Fault>
-    ensures { IfOk result (λ said. (said ≡ line.Event event.Close) × (words.now ≡ [])) }
+/// Nothing stands behind the word `close`.
+#[tactic(auto, using(crate::proofs::Nothing::close_blamed))]
+fn close_of(words: &[&[u8]]) -> Result<Event, Fault>
+    ensures value { IfOk result (SaysEvent (codes "close") words.now) }
+    ensures none { IfErr result (Blames (SaysEvent (codes "close") words.now)) }
 {
     if words.is_empty() {
-        Ok(ScriptLine::Event(Event::Close))
+        Ok(Event::Close)
     } else {
         Err(Fault::Malformed)
     }
 }
 
+/// What happens, as a word of a line and those behind it say.
+#[tactic(auto, using(crate::proofs::Nothing::piece_row, crate::proofs::Nothing::close_row, crate::proofs::Nothing::arrive_row, crate::proofs::Nothing::store_row, crate::proofs::Nothing::run_result_row, crate::proofs::Nothing::no_row))]
+fn event_behind(alloc: Global, line: &[u8], word: &[u8], others: &[&[u8]]) -> Result<Event, Fault>
+    ensures value { IfOk result (SaysEvent word.now others.now) }
+    ensures none { IfErr result (λ fault. is_frame word.now others.now ≡ false → Blames (SaysEvent word.now others.now) fault) }
+{
+    if word == b"piece".as_slice() {
+        let count = count_alone(others)?;
+        return Ok(Event::Piece(count));
+    }
+    if word == b"close".as_slice() {
+        let event = close_of(others)?;
+        return Ok(event);
+    }
+    if word == b"arrive".as_slice() {
+        let bytes = arrival_of(alloc, line, others)?;
+        return Ok(Event::Arrive(bytes));
+    }
+    if word == b"store".as_slice() {
+        let count = count_alone(others)?;
+        return Ok(Event::Store(count));
+    }
+    if word == b"run_result".as_slice() {
+        let event = run_result_of(alloc, others)?;
+        return Ok(event);
+    }
+    Err(Fault::Malformed)
+}
+
 /// What a word of a line and those behind it say.
+#[tactic(auto, using(crate::proofs::Nothing::world_row, crate::proofs::Nothing::round_row, crate::proofs::Nothing::step_row, crate::proofs::Nothing::event_row))]
 fn said_behind(
     alloc: Global,
     line: &[u8],
     word: &[u8],
     others: &[&[u8]],
 ) -> Result<ScriptLine, Fault>
-    ensures { IfOk result (λ said. SaysBehind word.now others.now said) }
+    ensures value { IfOk result (SaysBehind word.now others.now) }
+    ensures none { IfErr result (λ fault. is_frame word.now others.now ≡ false → Blames (SaysBehind word.now others.now) fault) }
 {
-    match word {
-        b"world" => Ok(ScriptLine::World(given_of(alloc, others)?)),
-        b"round" => Ok(ScriptLine::Round(round_of(alloc, others)?)),
-        b"piece" => Ok(ScriptLine::Event(Event::Piece(count_alone(others)?))),
-        b"close" => close_of(others),
-        b"step" => Ok(ScriptLine::Steps(steps_of(others)?)),
-        b"arrive" => Ok(ScriptLine::Event(Event::Arrive(arrival_of(alloc, line, others)?))),
-        b"store" => Ok(ScriptLine::Event(Event::Store(count_alone(others)?))),
-        _ => Err(Fault::Malformed),
+    if word == b"world".as_slice() {
+        let given = given_of(alloc, others)?;
+        return Ok(ScriptLine::World(given));
     }
+    if word == b"round".as_slice() {
+        let round = round_of(alloc, others)?;
+        return Ok(ScriptLine::Round(round));
+    }
+    if word == b"step".as_slice() {
+        let steps = steps_of(others)?;
+        return Ok(ScriptLine::Steps(steps));
+    }
+    let event = event_behind(alloc, line, word, others)?;
+    Ok(ScriptLine::Event(event))
 }
 
 /// What the words of a line say that isn't empty.
+#[tactic(auto, using(crate::proofs::Nothing::no_words, crate::proofs::Nothing::words_say_nothing))]
 fn said_of(alloc: Global, line: &[u8], words: &[&[u8]]) -> Result<ScriptLine, Fault>
-    ensures { IfOk result (λ said. SaysWords words.now said) }
+    ensures value { IfOk result (SaysWords words.now) }
+    ensures none { IfErr result (λ fault. fault ≡ Malformed → SayNothing words.now) }
 {
     let [word, others @ ..] = words else {
         return Err(Fault::Malformed);
@@ -103,9 +190,11 @@ fn said_of(alloc: Global, line: &[u8], words: &[&[u8]]) -> Result<ScriptLine, Fa
 }
 
 /// What a line says that isn't empty and has no blanks at its ends.
+#[tactic(auto, using(crate::proofs::Nothing::unclosed_says_nothing, crate::proofs::Nothing::line_says_nothing))]
 fn row_of(alloc: Global, line: &[u8]) -> Result<ScriptLine, Fault>
     requires { says_nothing line.now ≡ false }
-    ensures { IfOk result (λ said. Says line.now said) }
+    ensures value { IfOk result (Says line.now) }
+    ensures none { IfErr result (λ fault. fault ≡ Malformed → SaysNothing line.now) }
 {
     let words = words(alloc, line)?;
     said_of(alloc, line, words.as_slice())
@@ -121,7 +210,8 @@ fn is_silent(line: &[u8]) -> bool
 
 /// What a line says; blanks at its ends don't count. `Malformed` where it has no meaning, as where it is no UTF-8.
 pub fn line_of(alloc: Global, line: &[u8]) -> Result<ScriptLine, Fault>
-    ensures { IfOk result (λ said. Reads line.now said) }
+    ensures value { IfOk result (Reads line.now) }
+    ensures none { IfErr result (λ fault. fault ≡ Malformed → IsUnread line.now) }
 {
     let line = line.trim_ascii();
     if std::str::from_utf8(line).is_err() {

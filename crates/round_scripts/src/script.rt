@@ -1,7 +1,8 @@
 //! A whole script: the world that it makes, and its rounds with what happens in them.
-ghost use Rattle.std.specs.Prelude.{◌≡◌, [], ◌∷◌, IfOk, OnOk, None, Some, replicate};
+ghost use Rattle.std.specs.Prelude.{◌≡◌, [], ◌∷◌, IfErr, IfOk, OnOk, None, Some, replicate};
+ghost use Rattle.wire.specs.declared.fault.Fault.TheVariants.{Malformed};
 ghost use Rattle.vm_world.specs.declared.types.Event.TheVariants as event;
-ghost use Rattle.round_scripts.specs.Scripts.{Adds, AddsLine, AreLinesAdded, Happens, Has, IsRead, parts_of, then_happen, with_last};
+ghost use Rattle.round_scripts.specs.Scripts.{Adds, AddsLine, AddsNothing, AreLinesAdded, Happens, Has, HasNoPlace, IsRead, IsUnreadFor, nothing, parts_of, then_happen, with_last};
 ghost use Rattle.round_scripts.specs.declared.script_line.ScriptLine.TheVariants as line;
 
 use crate::given::{Given, default_given};
@@ -37,8 +38,10 @@ pub struct SoFar {
 }
 
 /// Something happens next in the last round; `Malformed` where there is none.
+#[tactic(auto, using(crate::proofs::Placing::no_round))]
 fn add_event(so_far: &mut SoFar, event: Event) -> Result<(), Fault>
-    ensures { OnOk result (Happens (event ∷ []) (parts_of so_far.old) (parts_of so_far.new)) }
+    ensures value { OnOk result (Happens (event ∷ []) (parts_of so_far.old) (parts_of so_far.new)) }
+    ensures none { IfErr result (λ fault. fault ≡ Malformed → HasNoPlace (line.Event event) (parts_of so_far.old)) }
 {
     match &mut so_far.round {
         Some(round) => {
@@ -64,8 +67,10 @@ fn push_steps(round: &mut Round, steps: u64) -> Result<(), AllocError>
 }
 
 /// So many steps happen next in the last round; `Malformed` where there is none.
+#[tactic(auto, using(crate::proofs::Placing::no_round_to_step))]
 fn add_steps(so_far: &mut SoFar, steps: u64) -> Result<(), Fault>
-    ensures { OnOk result (Happens (replicate steps event.Step) (parts_of so_far.old) (parts_of so_far.new)) }
+    ensures value { OnOk result (Happens (replicate steps event.Step) (parts_of so_far.old) (parts_of so_far.new)) }
+    ensures none { IfErr result (λ fault. fault ≡ Malformed → HasNoPlace (line.Steps steps) (parts_of so_far.old)) }
 {
     match &mut so_far.round {
         Some(round) => {
@@ -77,8 +82,10 @@ fn add_steps(so_far: &mut SoFar, steps: u64) -> Result<(), Fault>
 }
 
 /// The world is made of this; `Malformed` where another world or a round stands before.
+#[tactic(auto, using(crate::proofs::Placing::world_stands, crate::proofs::Placing::round_stands))]
 fn add_world(so_far: &mut SoFar, given: Given) -> Result<(), Fault>
-    ensures { OnOk result (Adds (line.World given) (parts_of so_far.old) (parts_of so_far.new)) }
+    ensures value { OnOk result (Adds (line.World given) (parts_of so_far.old) (parts_of so_far.new)) }
+    ensures none { IfErr result (λ fault. fault ≡ Malformed → HasNoPlace (line.World given) (parts_of so_far.old)) }
 {
     if so_far.given.is_some() || so_far.round.is_some() {
         drop(given);
@@ -102,7 +109,8 @@ fn finish_round(so_far: &mut SoFar) -> Result<(), AllocError>
 
 /// A round begins.
 fn add_round(so_far: &mut SoFar, round: Round) -> Result<(), Fault>
-    ensures { OnOk result (Adds (line.Round round) (parts_of so_far.old) (parts_of so_far.new)) }
+    ensures value { OnOk result (Adds (line.Round round) (parts_of so_far.old) (parts_of so_far.new)) }
+    ensures none { IfErr result (λ fault. fault ≡ Malformed → HasNoPlace (line.Round round) (parts_of so_far.old)) }
 {
     if finish_round(so_far).is_err() {
         drop(round);
@@ -114,7 +122,8 @@ fn add_round(so_far: &mut SoFar, round: Round) -> Result<(), Fault>
 
 /// A line more; `Malformed` where it has no meaning behind those before.
 fn add(so_far: &mut SoFar, said: ScriptLine) -> Result<(), Fault>
-    ensures { OnOk result (Adds said (parts_of so_far.old) (parts_of so_far.new)) }
+    ensures value { OnOk result (Adds said (parts_of so_far.old) (parts_of so_far.new)) }
+    ensures none { IfErr result (λ fault. fault ≡ Malformed → HasNoPlace said (parts_of so_far.old)) }
 {
     match said {
         ScriptLine::Nothing => Ok(()),
@@ -126,8 +135,10 @@ fn add(so_far: &mut SoFar, said: ScriptLine) -> Result<(), Fault>
 }
 
 /// A line of the text more.
+#[tactic(auto, using(crate::proofs::Placing::unread_adds_nothing, crate::proofs::Placing::read_adds_nothing))]
 fn add_line(alloc: Global, so_far: &mut SoFar, line: &[u8]) -> Result<(), Fault>
-    ensures { OnOk result (AddsLine line.now (parts_of so_far.old) (parts_of so_far.new)) }
+    ensures value { OnOk result (AddsLine line.now (parts_of so_far.old) (parts_of so_far.new)) }
+    ensures none { IfErr result (λ fault. fault ≡ Malformed → AddsNothing line.now (parts_of so_far.old)) }
 {
     match line_of(alloc, line) {
         Ok(said) => add(so_far, said),
@@ -136,15 +147,16 @@ fn add_line(alloc: Global, so_far: &mut SoFar, line: &[u8]) -> Result<(), Fault>
 }
 
 /// All lines of the text, one after another.
-#[tactic(auto, using(crate::proofs::Reading::read_none, crate::proofs::Reading::read_more, crate::proofs::Reading::read_all))]
+#[tactic(auto, using(crate::proofs::Reading::read_none, crate::proofs::Reading::read_more, crate::proofs::Reading::read_all, crate::proofs::Placing::begun_none, crate::proofs::Placing::begun_more, crate::proofs::Placing::stops))]
 fn add_lines(alloc: Global, so_far: &mut SoFar, text: &[u8]) -> Result<(), Unread>
-    ensures { OnOk result (AreLinesAdded text.now (parts_of so_far.old) (parts_of so_far.new)) }
+    ensures value { OnOk result (AreLinesAdded text.now (parts_of so_far.old) (parts_of so_far.new)) }
+    ensures none { IfErr result (IsUnreadFor text.now (parts_of so_far.old)) }
 {
     let mut number = 0u64;
     let mut rest = text;
     while !rest.is_empty() {
         let (line, behind) = first_line(rest);
-        number = number.saturating_add(1);
+        number += 1;
         match add_line(alloc, so_far, line) {
             Ok(()) => {}
             Err(Fault::Memory) => return Err(Unread::Memory),
@@ -170,7 +182,8 @@ fn script_with(alloc: Global, mut so_far: SoFar) -> Result<Script, AllocError>
 
 /// What a text says, read as a whole. The last line may have no end.
 pub fn script_of(alloc: Global, text: &[u8]) -> Result<Script, Unread>
-    ensures { IfOk result (λ script. IsRead text.now script) }
+    ensures value { IfOk result (IsRead text.now) }
+    ensures none { IfErr result (IsUnreadFor text.now nothing) }
 {
     let mut so_far = SoFar {
         given: None,

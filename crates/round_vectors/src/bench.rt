@@ -9,6 +9,8 @@ use std::test::Fail;
 
 pub const V4: &str = "application/vnd.restate.invocation.v4";
 
+pub const V6: &str = "application/vnd.restate.invocation.v6";
+
 pub const V7: &str = "application/vnd.restate.invocation.v7";
 
 /// How a run ends, as a row tells it.
@@ -68,6 +70,28 @@ pub fn assert_run(
     );
 }
 
+/// The script of the table has its report.
+pub fn assert_table_in(
+    rt: &impl Abort,
+    alloc: Global,
+    content_type: &str,
+    handler: &str,
+    table: &str,
+    wanted: Told,
+) -> Result<(), Fail> {
+    let (script, report) = table.split_once("=>\n").ok_or("no =>")?;
+    assert_run(
+        rt,
+        alloc,
+        content_type,
+        handler,
+        script.as_bytes(),
+        wanted,
+        report,
+    );
+    Ok(())
+}
+
 /// The script of the table has its report, in version 7.
 pub fn assert_table(
     rt: &impl Abort,
@@ -76,9 +100,7 @@ pub fn assert_table(
     table: &str,
     wanted: Told,
 ) -> Result<(), Fail> {
-    let (script, report) = table.split_once("=>\n").ok_or("no =>")?;
-    assert_run(rt, alloc, V7, handler, script.as_bytes(), wanted, report);
-    Ok(())
+    assert_table_in(rt, alloc, V7, handler, table, wanted)
 }
 
 pub fn assert_reported(

@@ -4,9 +4,15 @@
 #[cfg(test)]
 mod bench;
 #[cfg(test)]
+mod charge_stops;
+#[cfg(test)]
+mod charges;
+#[cfg(test)]
 mod children;
 #[cfg(test)]
 mod counts;
+#[cfg(test)]
+mod failures;
 #[cfg(test)]
 mod faults;
 #[cfg(test)]

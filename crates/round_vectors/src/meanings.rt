@@ -44,7 +44,22 @@ arrive 0x0
 arrive 0x 0x
 arrive raw 65536 0x
 arrived 0x
-run_result 17 success ""
+run_result
+run_result 17
+run_result success ""
+run_result 17 success
+run_result 17 success x
+run_result -1 success ""
+run_result 4294967296 success ""
+run_result 17 success "" ""
+run_result 17 success "" unstable
+run_result 17 success "" policy=never
+run_result 17 failure 409
+run_result 17 failure 65536 "x"
+run_result 17 retryable 0 503
+run_result 17 retryable 503 "x"
+run_result 17 void
+run_results 17 success ""
 charge
 step "
 step )
@@ -91,6 +106,7 @@ close
 piece all
 store all
 arrive Notification id=signal(17) result=void
+run_result 17 success ""
 "#;
 
 #[test]

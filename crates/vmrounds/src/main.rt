@@ -9,7 +9,7 @@ use std::io;
 use std::process::ExitCode;
 
 const USAGE: &str =
-    "usage: vmrounds <content-type> <sleeper|race|parent|counter> < script > report";
+    "usage: vmrounds <content-type> <sleeper|race|parent|counter|charge> < script > report";
 
 /// The two arguments, where there are just two.
 fn arguments(rt: &(impl Env + AllocGlobal)) -> io::Result<Option<(String, String)>> {

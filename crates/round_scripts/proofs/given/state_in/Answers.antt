@@ -9,6 +9,6 @@ use Rattle.round_scripts.proofs.given.state_in.Goals as goal
 pub loop-word-preserved : goal.loop-word-preserved
 loop-word-preserved c = elim c.match-text_behind.branch [
   | in-Some+in_ok-pair_of+in_ok-push w ↦ entries_more (texts (codes "state=") (take c.loop-word.word-index c.args.words.now)) _ w.in-Some.text.now c.loop-word.state.items c.match-text_behind.state.items w.in_ok-pair_of.field-0
-      c.loop-word.invariant (texts_some (codes "state=") c.args.words.now c.loop-word.word-index (record { ref_ptr = (0, 0); now = [] }) w.in-Some.text.now (grind (arith, common_steps)) (grind (arith, common_steps))) w.in_ok-pair_of.ensures (grind (arith, common_steps))
+      c.loop-word.invariant (texts_some (codes "state=") c.args.words.now c.loop-word.word-index (record { ref_ptr = (0, 0); now = [] }) w.in-Some.text.now (grind (arith, common_steps)) (grind (arith, common_steps))) w.in_ok-pair_of.ensures.value (grind (arith, common_steps))
   | in_default w ↦ grind (arith, common_steps, texts_none)
 ]

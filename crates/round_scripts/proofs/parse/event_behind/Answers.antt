@@ -1,0 +1,9 @@
+use Rattle.std.proofs.Common.{◌≡◌, Err, codes, rules}
+use Rattle.round_scripts.proofs.Nothing.{piece_row}
+use Rattle.round_scripts.proofs.parse.event_behind.Goals as goal
+
+pub returns-in_err-count-clause-none : goal.returns-in_err-count-clause-none
+returns-in_err-count-clause-none c =
+    let is : c.from_residual.result ≡ Err c.in_err-count.field-0.0 = search rules in
+    let word : c.args.word.now ≡ codes "piece" = search rules in
+    rw is (λ other. piece_row c.args.word.now c.args.others.now c.in_err-count.field-0.0 word c.in_err-count.ensures.none)
