@@ -7,11 +7,11 @@ use crate::children_frames::{
 };
 use runner::exit_status::ExitStatus;
 use runner::run::run;
-use runner::streams::Plain;
 use std::alloc::Global;
 use std::io::Cursor;
 use std::process::Abort;
 use std::test::Fail;
+use streams::Plain;
 use vectors::frames::{
     COMPLETION_1, END, ERROR_INPUT_CLOSED, INPUT_TILL, OUTPUT_EMPTY, SLEEP_TO_1000, START_1,
     START_2, START_3,

@@ -2,11 +2,11 @@
 // number in two bytes, and the body with its length in eight bytes in front, as each text has.
 use runner::exit_status::ExitStatus;
 use runner::run::run;
-use runner::streams::Plain;
 use std::alloc::{AllocError, Global};
 use std::io::Cursor;
 use std::process::Abort;
 use std::test::Fail;
+use streams::Plain;
 use vectors::frames::{END, INPUT_TILL, START_1, START_3, SUSPENSION_ON_1};
 
 const V7: &str = "application/vnd.restate.invocation.v7";

@@ -2,11 +2,11 @@
 use runner::exit_status::ExitStatus;
 use runner::run::run;
 use runner::run_end::{AttemptEnd, RunEnd};
-use runner::streams::{Plain, Sink, Source};
 use std::alloc::Global;
 use std::io::{self, Cursor, ErrorKind, Read, Write};
 use std::process::Abort;
 use std::test::Fail;
+use streams::{Plain, Sink, Source};
 use vectors::frames::{
     COMPLETION_1, END, ERROR_INPUT_CLOSED, INPUT_TILL, OUTPUT_EMPTY, SLEEP_TO_1000, SLEEP_TO_2024,
     START_1, START_2, START_3, SUSPENSION_ON_1, TYPE_MISMATCH, UNCOMPLETED,

@@ -13,7 +13,7 @@ use Rattle.vm_world.specs.declared.types.Report.{Report}
 use Rattle.vm_world.specs.declared.types.Round.{Round}
 use Rattle.vm_world.specs.declared.types.RoundFault.{RoundFault}
 use Rattle.vm_world.specs.declared.types.Setting.{Setting}
-use Rattle.runner.specs.Streams.{AppendsSome}
+use Rattle.streams.specs.Streams.{AppendsSome}
 use Rattle.round_scripts.specs.Scripts.{IsRead, StopsAt, nothing}
 use Rattle.round_scripts.specs.declared.given.Given.{Given}
 use Rattle.round_scripts.specs.declared.script.Script.{Script}

@@ -11,8 +11,8 @@ use crate::run_end::RunEnd;
 use handlers::named::Named;
 use journal_errors::Version;
 use round_scripts::script::Unread;
-use runner::streams::{Sink, Source};
 use std::alloc::Global;
+use streams::{Sink, Source};
 use vm_rounds::Handler;
 
 /// Writes the report.

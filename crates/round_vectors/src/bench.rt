@@ -1,11 +1,11 @@
 // Tables: a script, a line `=>`, and the report that it must give.
 use round_reports::run::run;
 use round_reports::run_end::RunEnd;
-use runner::streams::Plain;
 use std::alloc::Global;
 use std::io::Cursor;
 use std::process::Abort;
 use std::test::Fail;
+use streams::Plain;
 
 pub const V4: &str = "application/vnd.restate.invocation.v4";
 

@@ -1,11 +1,11 @@
 // Worked rounds of `parent`: it is cancelled, and its children with it, also where it was stopped between two of their signals.
 use crate::bench::{Told, V7, assert_reported, assert_run, told_of};
 use round_reports::run::run;
-use runner::streams::Plain;
 use std::alloc::Global;
 use std::io::Cursor;
 use std::process::Abort;
 use std::test::Fail;
+use streams::Plain;
 
 /// The first of the two cancel signals is stored, and the attempt is lost; the next one sends the other.
 const CANCELLED: &str = r#"round

@@ -1,11 +1,11 @@
 // Arguments that are refused, and readers and writers that fail.
 use crate::bench::{Told, V7, code, told_of};
 use round_reports::run::run;
-use runner::streams::Plain;
 use std::alloc::Global;
 use std::io::{self, Cursor, ErrorKind, Read, Write};
 use std::process::Abort;
 use std::test::Fail;
+use streams::Plain;
 
 const SCRIPT: &[u8] = b"world input=\"a\"\nround\npiece all\nstep 2\nstore all\n";
 

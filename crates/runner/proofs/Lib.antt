@@ -1,2 +1,1 @@
 pub mod Driving
-pub mod Writing

@@ -1,4 +1,3 @@
 pub mod ContentTypes
 pub mod Runs
 pub mod Statuses
-pub mod Streams

@@ -15,7 +15,7 @@ use Rattle.vm_rounds.specs.Stepping.{Meaning, fresh_record, FeedDoes, CloseDoes,
 use Rattle.vm_rounds.specs.Told.{AnswersAreTold, NoneHasTwo}
 use Rattle.vm_rounds.specs.declared.progress.Progress.{Progress}
 use Rattle.vm_rounds.specs.declared.progress.Progress.TheVariants as progress
-use Rattle.runner.specs.Streams.{AppendsSome}
+use Rattle.streams.specs.Streams.{AppendsSome}
 use Rattle.runner.specs.declared.run_end.AttemptEnd.{AttemptEnd}
 use Rattle.runner.specs.declared.run_end.AttemptEnd.TheVariants as attempt_end
 use Rattle.runner.specs.declared.run_end.RunEnd.{RunEnd}

@@ -5,4 +5,3 @@ pub mod content_type;
 pub mod exit_status;
 pub mod run;
 pub mod run_end;
-pub mod streams;

@@ -11,11 +11,11 @@ ghost use Rattle.runner.specs.declared.run_end.RunEnd.TheVariants as run_end;
 
 use crate::content_type::ContentType;
 use crate::run_end::{AttemptEnd, RunEnd};
-use crate::streams::{Sink, Source};
 use bytes::Bytes;
 use handlers::named::Named;
 use invocation_vm::VMOptions;
 use std::alloc::{AllocError, Global};
+use streams::{Sink, Source};
 use vm_rounds::{Attempt, Handler, Progress};
 
 /// Makes a step, and tells how the attempt ends, if it is the last one.

@@ -1,7 +1,8 @@
 -- What a line of the script does, and what is printed for it.
-use Rattle.std.specs.Prelude.{◌≡◌, ◌≢◌, ◌⊎◌, ℕ, List, [], ◌∷◌, ◌++◌, Option, None, All, IfSome}
+use Rattle.std.specs.Prelude.{◌≡◌, ◌≢◌, ◌⊎◌, ℕ, List, [], ◌∷◌, ◌++◌, Option, All}
 use Rattle.std.proofs.Common.{Global}
 use Rattle.std.specs.Io.KnownBytes.{Appends}
+use Rattle.streams.specs.Streams.{AppendsSome}
 use Rattle.invocation_vm.specs.declared.core_vm.CoreVM.{CoreVM}
 use Rattle.requests.specs.declared.request.Request.{Request}
 use Rattle.replies.specs.declared.reply.Reply.{Reply}
@@ -26,10 +27,10 @@ abbrev pub IsFirstLine : List ℕ → List ℕ → List ℕ → Type 0
 IsFirstLine script line rest =
     All (λ b. b ≢ 10) line × ((script ≡ line ++ 10 ∷ rest) ⊎ ((script ≡ line) × (rest ≡ [])))
 
--- the script is these lines
-abbrev pub AreLines : List (List ℕ) → List ℕ → Type 0
-AreLines [] script = script ≡ []
-AreLines (line ∷ lines) script = (script ≢ []) × ((rest : List ℕ) × IsFirstLine script line rest × AreLines lines rest)
+-- the script is these lines, one after another, and then this rest
+abbrev pub AreFirstLines : List (List ℕ) → List ℕ → List ℕ → Type 0
+AreFirstLines [] script rest = script ≡ rest
+AreFirstLines (line ∷ lines) script rest = (script ≢ []) × ((behind : List ℕ) × IsFirstLine script line behind × AreFirstLines lines behind rest)
 
 -- the lines are answered one after another, from one VM to the next, and each answer has an end
 abbrev pub AreAnswered : Global → List (List ℕ) → Option CoreVM → Option CoreVM → List ℕ → Type 0
@@ -37,21 +38,24 @@ AreAnswered alloc [] old new transcript = (new ≡ old) × (transcript ≡ [])
 AreAnswered alloc (line ∷ lines) old new transcript =
     (next : Option CoreVM) × (answer : List ℕ) × (others : List ℕ) × Transcribes alloc old next line answer × AreAnswered alloc lines next new others × (transcript ≡ answer ++ 10 ∷ others)
 
--- the script's lines are answered
-pub record IsTranscript (alloc : Global) (script : List ℕ) (old new : Option CoreVM) (transcript : List ℕ) : Type 0 where
+-- the script's lines are answered, up to this rest
+pub record IsTranscript (alloc : Global) (script rest : List ℕ) (old new : Option CoreVM) (transcript : List ℕ) : Type 0 where
   pub lines : List (List ℕ)
-  pub are_lines : AreLines lines script
+  pub are_lines : AreFirstLines lines script rest
   pub are_answered : AreAnswered alloc lines old new transcript
 
--- a script's transcript is written behind what was there before
-pub record IsWritten (alloc : Global) (script : List ℕ) (old new : Option CoreVM) (before after : Option (List ℕ)) : Type 0 where
+-- their transcript is written behind what was there before
+pub record IsWritten (alloc : Global) (script rest : List ℕ) (old new : Option CoreVM) (before after : Option (List ℕ)) : Type 0 where
   pub transcript : List ℕ
-  pub is_transcript : IsTranscript alloc script old new transcript
+  pub is_transcript : IsTranscript alloc script rest old new transcript
   pub appended : Appends before after transcript
 
--- the script that was read, all that is known to have been left to read, is answered from no VM on
-pub record IsRun (alloc : Global) (remaining before after : Option (List ℕ)) : Type 0 where
-  pub script : List ℕ
-  pub read : IfSome remaining (λ xs. script ≡ xs)
-  pub last : Option CoreVM
-  pub written : IsWritten alloc script None last before after
+-- the first line of the rest is answered, and of its answer a beginning is written
+pub record IsBegun (alloc : Global) (rest : List ℕ) (old : Option CoreVM) (before after : Option (List ℕ)) : Type 0 where
+  pub line : List ℕ
+  pub behind : List ℕ
+  pub is_first : IsFirstLine rest line behind
+  pub new : Option CoreVM
+  pub answer : List ℕ
+  pub is_answer : Transcribes alloc old new line answer
+  pub appended : AppendsSome before after (answer ++ 10 ∷ [])

@@ -4,3 +4,4 @@
 pub mod exit_status;
 pub mod perform;
 pub mod run;
+pub mod run_end;

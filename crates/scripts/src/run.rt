@@ -1,18 +1,18 @@
 //! A run of the program: what a reader gives is a script, and its answers go to a writer.
-ghost use Rattle.std.specs.Prelude.{◌≡◌, ◌≢◌, ◌<◌, length, IfOk, OnErr, OnOk, Option, None};
-ghost use Rattle.invocation_vm.specs.declared.core_vm.CoreVM.{CoreVM};
+ghost use Rattle.std.specs.Prelude.{◌≡◌, ◌<◌, ◌++◌, ◌∷◌, [], ℕ, List, length, IfOk, OnErr, None};
+ghost use Rattle.std.specs.Io.KnownBytes.{IsAtEnd};
 ghost use Rattle.replies.specs.Replies.{reply_text};
-ghost use Rattle.scripts.specs.Transcripts.{IsFirstLine, IsRun, IsUnanswered, IsWritten, Transcribes};
-ghost use Rattle.scripts.specs.declared.exit_status.ExitStatus.TheVariants as status;
+ghost use Rattle.scripts.specs.Runs.{Ends, IsRun, Tells};
+ghost use Rattle.scripts.specs.Transcripts.{IsFirstLine, IsUnanswered, Transcribes};
 
-use crate::exit_status::ExitStatus;
 use crate::perform::perform;
+use crate::run_end::RunEnd;
 use invocation_vm::CoreVM;
 use lines::line::Line;
 use replies::{Reply, Shown};
 use requests::parse::parse;
 use std::alloc::{AllocError, Global};
-use std::io::{self, Read, Write};
+use streams::{Sink, Source};
 
 /// The answer to a line, both without their ends.
 #[tactic(auto, using(crate::proofs::Told::transcribes, crate::proofs::Told::unanswered))]
@@ -54,53 +54,58 @@ pub fn first_line(script: &[u8]) -> (&[u8], &[u8])
     }
 }
 
+/// The answer to a line, with an end of its own.
+fn answer_line(alloc: Global, vm: &mut Option<CoreVM>, line: &[u8]) -> Result<Line, AllocError>
+    ensures { IfOk result (λ ended. (told : List ℕ) × Transcribes alloc vm.old vm.new line.now told × (ended ≡ told ++ 10 ∷ [])) }
+{
+    let mut answer = answer(alloc, vm, line)?;
+    answer.word("\n")?;
+    Ok(answer)
+}
+
 /// Answers the lines one after another, and writes each answer at once. The last line may have no end.
-#[tactic(auto, using(crate::proofs::Transcribing::answered_none))]
-fn answer_all<W: Write>(
+fn answer_all<W: Sink>(
     alloc: Global,
     vm: &mut Option<CoreVM>,
     script: &[u8],
     writer: &mut W,
-) -> io::Result<()>
-    ensures { OnOk result (IsWritten alloc script.now vm.old vm.new (W.contents writer.old) (W.contents writer.new)) }
+) -> RunEnd
+    ensures { Ends alloc script.now vm.old (W.contents writer.old) (W.contents writer.new) (W.fails writer.old) result }
 {
     let mut rest = script;
     while !rest.is_empty() {
         let (line, behind) = first_line(rest);
-        let mut answer = answer(alloc, vm, line)?;
-        answer.word("\n")?;
-        writer.write_all(answer.as_str().as_bytes())?;
+        let Ok(answer) = answer_line(alloc, vm, line) else {
+            return RunEnd::NoMemory;
+        };
+        if let Err(error) = writer.write_whole(answer.as_str().as_bytes()) {
+            return RunEnd::WriteFailed(error);
+        }
         rest = behind;
     }
-    Ok(())
+    RunEnd::Done
 }
 
-fn drive<W: Write>(alloc: Global, script: &[u8], writer: &mut W) -> io::Result<()>
-    ensures { OnOk result ((last : Option CoreVM) × IsWritten alloc script.now None last (W.contents writer.old) (W.contents writer.new)) }
+/// Answers a script from no VM on.
+fn drive<W: Sink>(alloc: Global, script: &[u8], writer: &mut W) -> RunEnd
+    ensures { Ends alloc script.now None (W.contents writer.old) (W.contents writer.new) (W.fails writer.old) result }
 {
     let mut vm = None;
-    let answered = answer_all(alloc, &mut vm, script, writer);
+    let end = answer_all(alloc, &mut vm, script, writer);
     drop(vm);
-    answered
-}
-
-#[tactic(auto, using(crate::proofs::Transcribing::run_of))]
-fn try_run<R: Read, W: Write>(alloc: Global, reader: &mut R, writer: &mut W) -> io::Result<()>
-    ensures { OnOk result (IsRun alloc (R.remaining reader.old) (W.contents writer.old) (W.contents writer.new)) }
-{
-    let mut script = Vec::new(alloc);
-    reader.read_to_end(&mut script)?;
-    drive(alloc, script.as_slice(), writer)?;
-    writer.flush()
+    end
 }
 
 /// Reads a script to its end, and writes its transcript: for each line one line of answer.
-pub fn run<R: Read, W: Write>(alloc: Global, reader: &mut R, writer: &mut W) -> ExitStatus
-    ensures usage { result ≢ status.Usage }
-    ensures done { result ≡ status.Done → IsRun alloc (R.remaining reader.old) (W.contents writer.old) (W.contents writer.new) }
+pub fn run<R: Source, W: Sink>(alloc: Global, reader: &mut R, writer: &mut W) -> RunEnd
+    // Reading has failed, and nothing is written. Each other run has read all that there was as a script, and has answered its
+    // first lines, whose answers are written: all of them; or those before a line for which memory was lacking; or those before
+    // an answer whose writing has failed, and a beginning of it.
+    ensures { Tells (IsRun alloc (R.remaining reader.old) (W.contents writer.old) (W.contents writer.new) (W.fails writer.old)) (R.fails reader.old) (IsAtEnd (R.remaining reader.new)) (writer.new ≡ writer.old) result }
 {
-    match try_run(alloc, reader, writer) {
-        Ok(()) => ExitStatus::Done,
-        Err(_) => ExitStatus::Failed,
+    let mut script = Vec::new(alloc);
+    if let Err(error) = reader.read_whole(&mut script) {
+        return RunEnd::ReadFailed(error);
     }
+    drive(alloc, script.as_slice(), writer)
 }

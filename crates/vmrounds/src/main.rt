@@ -3,10 +3,10 @@
 
 use round_reports::run::run;
 use round_reports::run_end::RunEnd;
-use runner::streams::Plain;
 use std::env::{self, Env};
 use std::io;
 use std::process::ExitCode;
+use streams::Plain;
 
 const USAGE: &str =
     "usage: vmrounds <content-type> <sleeper|race|parent|counter|charge> < script > report";

@@ -3,10 +3,10 @@
 
 use runner::exit_status::ExitStatus;
 use runner::run::run;
-use runner::streams::Plain;
 use std::env::{self, Env};
 use std::io;
 use std::process::ExitCode;
+use streams::Plain;
 
 const USAGE: &str = "usage: vmrun <content-type> <sleeper|race|parent|counter>";
 

@@ -6,6 +6,7 @@ use scripts::run::run;
 use std::env::{self, Env};
 use std::io;
 use std::process::ExitCode;
+use streams::Plain;
 
 const USAGE: &str = "usage: vmscript < script > transcript";
 
@@ -18,7 +19,10 @@ fn has_argument(rt: &(impl Env + AllocGlobal)) -> io::Result<bool> {
 
 fn main(rt: HostRuntime) -> ExitCode {
     let status = match has_argument(&rt) {
-        Ok(false) => run(rt.alloc(), &mut rt.reader(), &mut io::writer(&rt)),
+        Ok(false) => {
+            let mut writer = Plain(io::writer(&rt));
+            run(rt.alloc(), &mut Plain(rt.reader()), &mut writer).status()
+        }
         Ok(true) => ExitStatus::Usage,
         Err(_) => ExitStatus::Failed,
     };

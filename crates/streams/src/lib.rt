@@ -1,10 +1,12 @@
 //! What a run reads from and writes to.
 //! Std's traits don't name their errors; these do, so that a contract can say by which error a run failed.
+#![tactic(auto)]
+
 ghost use Rattle.std.specs.Prelude.{◌≡◌, ◌≤◌, ◌++◌, List, length, take, ℕ, ⊤, IfSome, IfOk, IfErr, OnOk, OnErr};
 ghost use Rattle.std.specs.declared.option.Option.{Option};
 ghost use Rattle.std.specs.Io.KnownBytes.{Appends, IsAtEnd, Keeps};
 ghost use Rattle.std.specs.declared.io.Error.{Error as IoError};
-ghost use Rattle.runner.specs.Streams.{AppendsSome};
+ghost use Rattle.streams.specs.Streams.{AppendsSome};
 
 use std::io::{self, Read, Write};
 
@@ -28,14 +30,15 @@ pub trait Sink {
     /// The bytes that the writer holds, where they are known.
     ghost contents: { Self → Option (List ℕ) };
 
-    /// What is so where writing gives this error.
+    /// What is so where writing gives this error, now or behind what is written first.
     ghost fails: { Self → IoError → Type 0 };
 
     /// Writes all these bytes and flushes, or after an error a beginning of them.
     fn write_whole(&mut self, bytes: &[u8]) -> io::Result<()>
         ensures ok { OnOk result (Appends (contents self.old) (contents self.new) bytes.now) }
         ensures part { OnErr result (AppendsSome (contents self.old) (contents self.new) bytes.now) }
-        ensures err { IfErr result (λ e. fails self.old e) };
+        ensures err { IfErr result (λ e. fails self.old e) }
+        ensures later { OnOk result ((e : IoError) → fails self.new e → fails self.old e) };
 }
 
 /// A reader or a writer of whose errors nothing is known.
