@@ -271,7 +271,10 @@ fn charges_leave_one_history(rt: HostRuntime) -> Result<(), Fail> {
         let commands = &[INPUT_TILL, RUN_CHARGE, OUTPUT_X];
         assert!(rt; begins(journal, commands), "seed {seed}");
         let results = results_of_x(journal);
-        assert!(rt; matches!(results, Some(0) | Some(1)), "seed {seed}: {results:?}");
+        assert!(rt;
+            matches!(results, Some(0) | Some(1)),
+            "seed {seed}: {results:?}"
+        );
         tally.count(journal.len() == 4);
     }
     assert!(rt; tally.whole > 250, "{tally:?}");
