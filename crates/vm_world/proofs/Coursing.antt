@@ -90,9 +90,8 @@ takes piece r new t =
 
 -- the attempt alone has changed
 by_attempt : (now mid : Now) (r : Record) → mid.journal ≡ now.journal → mid.attempt ≡ r → IsPrefix (bytes_written now.attempt) (bytes_written r) → IsPrefix (bytes_in now.attempt.fed) (bytes_in r.fed) → IsPrefix now.attempt.proposed r.proposed → Adds now mid
-unfolding same_prefix
 by_attempt now mid r same is wrote came proposed = record {
-  stored = same_prefix now.journal mid.journal same;
+  stored = ([], same ∙ sym (append-nil now.journal));
   wrote = subst (λ (x : Record). IsPrefix (bytes_written now.attempt) (bytes_written x)) (sym is) wrote;
   fed = subst (λ (x : Record). IsPrefix (bytes_in now.attempt.fed) (bytes_in x.fed)) (sym is) came;
   proposed = subst (λ (x : Record). IsPrefix now.attempt.proposed x.proposed) (sym is) proposed;

@@ -29,6 +29,7 @@ use Rattle.vm_model.proofs.Once.{still_carried}
 use Rattle.vm_rounds.specs.Arrivals.{AllFound, FindsProposal, IsFound, arriving, kept_after, stands_for, unacknowledged}
 use Rattle.vm_rounds.specs.Heard.{acknowledged_from, is_proposal, proposal_in, proposals_among, proposed_by}
 use Rattle.vm_rounds.specs.Journals.{commands_among, is_acknowledgement, is_command, is_notification, notifications_among, notified_by}
+use Rattle.vm_rounds.proofs.Advanced.{nothing_acknowledged}
 use Rattle.vm_rounds.proofs.Arriving.{arriving_alone, kept_none}
 use Rattle.vm_rounds.proofs.Finishing.{acknowledged_more}
 use Rattle.vm_rounds.proofs.Pieces.{commands_append}
@@ -280,15 +281,8 @@ pub record Brings (version : Version) (stored : List KeptProposal) (raws : List 
   pub none_left : kept_after (acknowledged_from version stored) raws ≡ []
   pub arrive : arriving (acknowledged_from version stored) raws ≡ notes
 
-nothing_kept : (version : Version) → acknowledged_from version [] ≡ []
-nothing_kept version = by_test (is_from_v7 version)
-  where
-    by_test : (b : Bool) → (if b then [] else []) ≡ []
-    by_test true = refl
-    by_test false = refl
-
 pub brings_nothing : (version : Version) → Brings version [] [] []
-brings_nothing version = record { found = tt; none_left = nothing_kept version; arrive = refl }
+brings_nothing version = record { found = tt; none_left = nothing_acknowledged version; arrive = refl }
 
 -- further proposals change no arrival
 pub brings_still : (version : Version) (stored more : List KeptProposal) (raws : List RawMessage) (notes : List Notification) → Brings version stored raws notes → AllFound (acknowledged_from version (stored ++ more)) raws × (arriving (acknowledged_from version (stored ++ more)) raws ≡ notes)
@@ -318,7 +312,7 @@ note_found raw is acknowledges = absurd (let z : false ≡ true = sym (note_ackn
 
 note_brings : (version : Version) (raw : RawMessage) (n : Notification) → is_notification raw ≡ true → notification_in raw.body ≡ Some n → Brings version [] (raw ∷ []) (n ∷ [])
 note_brings version raw n is reads =
-    let none = nothing_kept version in
+    let none = nothing_acknowledged version in
     record {
       found = subst (λ l. AllFound l (raw ∷ [])) (sym none) (note_found raw is, tt);
       none_left = ap (λ l. kept_after l (raw ∷ [])) none ∙ kept_none (raw ∷ []);
@@ -351,17 +345,16 @@ answer_brings version p h = by_test (is_from_v7 version) refl h.1
         let x = acknowledged_brings p (whole refl) in
         let kept : acknowledged_from version (p ∷ []) ≡ p ∷ [] = ap (λ b. if b then p ∷ [] else []) is in
         let frame : answer_frame version p ≡ stored_form (acknowledgement p.completion_id) = ap (λ b. if b then stored_form (acknowledgement p.completion_id) else stored_form (completed_by p)) is in
-        let back = λ i. (sym kept i, sym frame i ∷ []) in
         record {
-          found = subst (λ (y : List KeptProposal × List RawMessage). AllFound y.0 y.1) back x.0;
-          none_left = subst (λ (y : List KeptProposal × List RawMessage). kept_after y.0 y.1 ≡ []) back x.1;
-          arrive = subst (λ (y : List KeptProposal × List RawMessage). arriving y.0 y.1 ≡ completion p ∷ []) back x.2;
+          found = subst (λ (y : List KeptProposal × List RawMessage). AllFound y.0 y.1) (λ i. (sym kept i, sym frame i ∷ [])) x.0;
+          none_left = subst (λ (y : List KeptProposal × List RawMessage). kept_after y.0 y.1 ≡ []) (λ i. (sym kept i, sym frame i ∷ [])) x.1;
+          arrive = subst (λ (y : List KeptProposal × List RawMessage). arriving y.0 y.1 ≡ completion p ∷ []) (λ i. (sym kept i, sym frame i ∷ [])) x.2;
         }
     by_test false is whole =
         let kept : acknowledged_from version (p ∷ []) ≡ [] = ap (λ b. if b then p ∷ [] else []) is in
         let frame : answer_frame version p ≡ stored_form (completed_by p) = ap (λ b. if b then stored_form (acknowledgement p.completion_id) else stored_form (completed_by p)) is in
         let b = note_brings version (stored_form (completed_by p)) (completion p) refl (notification_back (completion p) h.0) in
-        let none = nothing_kept version in
+        let none = nothing_acknowledged version in
         record {
           found = subst (λ (y : List KeptProposal × List RawMessage). AllFound y.0 y.1) (λ i. ((none ∙ sym kept) i, sym frame i ∷ [])) b.found;
           none_left = subst (λ (y : List KeptProposal × List RawMessage). kept_after y.0 y.1 ≡ []) (λ i. ((none ∙ sym kept) i, sym frame i ∷ [])) b.none_left;
