@@ -1,13 +1,13 @@
 -- What has no place behind what was said before, and the lines in front of it.
 use Rattle.std.proofs.Common.{◌≡◌, ◌≢◌, ◌+◌, ◌≤◌, inl, inr, ℕ, List, [], ◌∷◌, ◌++◌, Option, Some, None, length, replicate, ap, refl, sym, subst, ◌∙◌, arith, length-append}
-use Rattle.scripts.specs.Transcripts.{IsFirstLine}
+use Rattle.scripts.specs.Transcripts.{AreFirstLines, IsFirstLine}
 use Rattle.vm_world.specs.declared.types.Event.{Event}
 use Rattle.vm_world.specs.declared.types.Event.TheVariants as event
 use Rattle.round_scripts.specs.declared.given.Given.{Given}
 use Rattle.round_scripts.specs.declared.script_line.ScriptLine.{ScriptLine}
 use Rattle.round_scripts.specs.declared.script_line.ScriptLine.TheVariants as line
 use Rattle.round_scripts.specs.Said.{IsUnread, Reads}
-use Rattle.round_scripts.specs.Scripts.{AddsLine, AddsNothing, AreAdded, BeginsWith, Happens, HappensIn, HasNoPlace, Parts, StopsAt}
+use Rattle.round_scripts.specs.Scripts.{AddsLine, AddsNothing, AreAdded, Happens, HappensIn, HasNoPlace, Parts, StopsAt}
 
 -- ---- places
 
@@ -40,15 +40,15 @@ read_adds_nothing text said before reads none = inr (said, reads, none)
 -- so many lines of the text are read
 pub record HasRead (text rest : List ℕ) (before now : Parts) (number : ℕ) : Type 0 where
   pub lines : List (List ℕ)
-  pub begins : BeginsWith lines text rest
+  pub begins : AreFirstLines lines text rest
   pub are_added : AreAdded lines before now
   pub counted : number ≡ length lines
 
 pub begun_none : (text : List ℕ) (before : Parts) → HasRead text text before before 0
 begun_none text before = record { lines = []; begins = refl; are_added = refl; counted = refl }
 
-begins_more : (lines : List (List ℕ)) (text rest line behind : List ℕ) → BeginsWith lines text rest → rest ≢ [] → IsFirstLine rest line behind → BeginsWith (lines ++ line ∷ []) text behind
-begins_more [] text rest line behind is some first = (λ none. some (is ∙ none), (behind, subst (λ t. IsFirstLine t line behind) is first, refl))
+begins_more : (lines : List (List ℕ)) (text rest line behind : List ℕ) → AreFirstLines lines text rest → rest ≢ [] → IsFirstLine rest line behind → AreFirstLines (lines ++ line ∷ []) text behind
+begins_more [] text rest line behind is some first = (λ none. some (sym is ∙ none), (behind, subst (λ t. IsFirstLine t line behind) (sym is) first, refl))
 begins_more (l ∷ lines) text rest line behind (whole, (next, one, more)) some first = (whole, (next, one, begins_more lines next rest line behind more some first))
 
 added_more : (lines : List (List ℕ)) (line : List ℕ) (before now next : Parts) → AreAdded lines before now → AddsLine line now next → AreAdded (lines ++ line ∷ []) before next

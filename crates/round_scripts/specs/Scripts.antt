@@ -1,6 +1,6 @@
 -- What a whole script says: its lines, read one after another, make a world and rounds.
 use Rattle.std.specs.Prelude.{◌≡◌, ◌≢◌, ◌⊎◌, ◌+◌, ℕ, List, [], ◌∷◌, ◌++◌, Option, Some, None, length, replicate}
-use Rattle.scripts.specs.Transcripts.{AreLines, IsFirstLine}
+use Rattle.scripts.specs.Transcripts.{AreFirstLines, IsFirstLine}
 use Rattle.vm_world.specs.declared.types.Event.{Event}
 use Rattle.vm_world.specs.declared.types.Event.TheVariants as event
 use Rattle.vm_world.specs.declared.types.Round.{Round}
@@ -68,7 +68,7 @@ AreAdded (text ∷ texts) before after = (next : Parts) × AddsLine text before 
 -- the lines of this text more
 pub record AreLinesAdded (text : List ℕ) (before after : Parts) : Type 0 where
   pub lines : List (List ℕ)
-  pub are_lines : AreLines lines text
+  pub are_lines : AreFirstLines lines text []
   pub are_added : AreAdded lines before after
 
 -- what the world is made of: as it is said, or by default
@@ -97,16 +97,11 @@ pub record HasNoPlace (said : ScriptLine) (before : Parts) : Type 0 where
 abbrev pub AddsNothing : List ℕ → Parts → Type 0
 AddsNothing text before = IsUnread text ⊎ ((said : ScriptLine) × Reads text said × HasNoPlace said before)
 
--- the text begins with these lines, and this is what stands behind them
-abbrev pub BeginsWith : List (List ℕ) → List ℕ → List ℕ → Type 0
-BeginsWith [] text rest = rest ≡ text
-BeginsWith (line ∷ lines) text rest = (text ≢ []) × ((behind : List ℕ) × IsFirstLine text line behind × BeginsWith lines behind rest)
-
 -- The line of this number, counted from 1, has no meaning behind those before it, and each of these has one.
 pub record StopsAt (text : List ℕ) (before : Parts) (number : ℕ) : Type 0 where
   pub lines : List (List ℕ)
   pub rest : List ℕ
-  pub begins : BeginsWith lines text rest
+  pub begins : AreFirstLines lines text rest
   pub so_far : Parts
   pub are_added : AreAdded lines before so_far
   pub counted : number ≡ length lines + 1
