@@ -237,11 +237,11 @@ fn counts_leave_one_history(rt: HostRuntime) -> Result<(), Fail> {
 
 /// How many results the journal has, where each is "x" under id 1.
 fn results_of_x(journal: &[Bytes]) -> Option<usize> {
-    let mut results = 0;
+    let mut results = 0usize;
     for entry in journal {
         let entry = entry.as_slice();
         if entry == RESULT_X {
-            results += 1;
+            results = results.wrapping_add(1);
         } else if is_notification(entry) {
             return None;
         }
