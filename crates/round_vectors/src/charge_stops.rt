@@ -1,11 +1,11 @@
 // A round of `charge` that is stopped behind each of its events in turn, and then a round to the end: the journal is the same.
 use crate::bench::{Told, V6, V7, told_of};
 use round_reports::run::run;
-use runner::streams::Plain;
 use std::alloc::Global;
 use std::io::Cursor;
 use std::process::Abort;
 use std::test::Fail;
+use streams::Plain;
 
 /// The lines of the round that is stopped.
 const FIRST: [&str; 14] = [
