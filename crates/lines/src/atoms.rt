@@ -74,7 +74,7 @@ fn bytes_of_hex(alloc: Global, digits: &[u8]) -> Result<Vec<u8>, Fault>
     ensures bytes { IfOk result (λ bytes. Spells first_hex digits.now bytes.items) }
     ensures none { IfErr result (Blames (Spells first_hex digits.now)) }
 {
-    let mut bytes = Vec::new(alloc);
+    let mut bytes = Vec::with_capacity(alloc, digits.len() / 2)?;
     let mut rest = digits;
     while !rest.is_empty() {
         let Some((byte, behind)) = first_hex(rest) else {
@@ -91,7 +91,7 @@ fn bytes_of_quoted(alloc: Global, text: &[u8]) -> Result<Vec<u8>, Fault>
     ensures bytes { IfOk result (λ bytes. Spells first_char text.now bytes.items) }
     ensures none { IfErr result (Blames (Spells first_char text.now)) }
 {
-    let mut bytes = Vec::new(alloc);
+    let mut bytes = Vec::with_capacity(alloc, text.len())?;
     let mut rest = text;
     while !rest.is_empty() {
         let Some((byte, behind)) = first_byte(rest) else {

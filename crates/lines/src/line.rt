@@ -113,6 +113,7 @@ impl Line {
         ensures { OnOk result (self.new ≡ self.old ++ quoted bytes.now) }
     {
         self.word("\"")?;
+        self.text.reserve(bytes.len())?;
         for &byte in bytes {
             self.shown(byte)?;
         }
@@ -124,6 +125,7 @@ impl Line {
         ensures { OnOk result (self.new ≡ self.old ++ hexed bytes.now) }
     {
         self.word("0x")?;
+        self.text.reserve(bytes.len().saturating_mul(2))?;
         for &byte in bytes {
             self.two_digits(byte)?;
         }
