@@ -1,11 +1,8 @@
 // The names that others read: versions, types of messages, faults and errors; and small values, copied and read.
 use bytes::Bytes;
-use journal_errors::{
-    Error, ErrorBehavior, MessageType, NamedFault, RelatedCommand, Said, Version,
-};
+use journal_errors::{Error, MessageType, NamedFault, Said, Version};
 use std::str::FromStr;
 use std::test::Fail;
-use std::time::Duration;
 use wire::{Fault, Items, Text, copy_of, is_same, whole};
 
 #[test]
@@ -189,45 +186,6 @@ fn numbers_its_types(rt: HostRuntime) -> Result<(), Fail> {
         assert_eq!(rt; ty.is_command(), 10 <= number && number < 30, "{number}");
         assert_eq!(rt; ty.is_notification(), number == 30, "{number}");
     }
-    Ok(())
-}
-
-#[test]
-fn writes_an_error(rt: HostRuntime) -> Result<(), Fail> {
-    let alloc = rt.alloc();
-    let error = Error::new(570, String::from_str(alloc, "no")?)
-        .with_stacktrace(String::from_str(alloc, "at")?)
-        .with_behavior(ErrorBehavior::Pause)
-        .with_next_retry_delay(Duration::from_micros(1_999));
-    let message = error.clone()?.to_message(alloc)?;
-    let text = format!(in alloc; "{} {} {message:?}", error.code(), error.message())?;
-    assert_eq!(rt;
-        text.as_str(),
-        "570 no ErrorMessage { code: 570, message: Text { inner: \"no\" }, \
-        stacktrace: Text { inner: \"at\" }, behavior: Pause, index: None, ty: None, name: None, \
-        delay: Some(1) }"
-    );
-    Ok(())
-}
-
-#[test]
-fn writes_what_an_error_relates_to(rt: HostRuntime) -> Result<(), Fail> {
-    let alloc = rt.alloc();
-    let related = RelatedCommand {
-        index: 1,
-        ty: MessageType::SleepCommand,
-        name: Text::from_string(String::new(alloc)),
-    };
-    let error = Error::named(NamedFault::Closed, Some(related)).with_next_retry_delay(
-        Duration::MAX,
-    );
-    let text = format!(in alloc; "{:?}", error.to_message(alloc)?)?;
-    assert_eq!(rt;
-        text.as_str(),
-        "ErrorMessage { code: 598, message: Text { inner: \"ClosedError\" }, \
-        stacktrace: Text { inner: \"\" }, behavior: Retry, index: Some(1), ty: Some(18), name: None, \
-        delay: Some(18446744073709551615) }"
-    );
     Ok(())
 }
 
