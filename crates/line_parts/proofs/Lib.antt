@@ -14,6 +14,7 @@ pub mod Retrying
 pub mod Sames
 pub mod Targeting
 pub mod Timing
+pub mod TreeBlanks
 pub mod TreeEnding
 pub mod TreeReading
 pub mod TreeWords

@@ -14,7 +14,7 @@ use Rattle.await_trees.specs.declared.handle.NotificationHandle.{NotificationHan
 use Rattle.await_trees.specs.declared.tree.UnresolvedFuture.{UnresolvedFuture}
 use Rattle.lines.specs.Readings.{Blames}
 use Rattle.line_parts.specs.OpenNodes.{Closes, GoesOn, behind_word, is_break, word_of}
-use Rattle.line_parts.specs.Trees.{IsKind, SpellsFuture, SpellsTree, SpellsForest, kind_name}
+use Rattle.line_parts.specs.Trees.{IsKind, SpellsClosely, SpellsTree, SpellsForest, kind_name}
 use Rattle.line_parts.specs.Words.{IsNumberOf}
 
 -- ---- words and breaks
@@ -216,6 +216,6 @@ pub ends_empty : (nodes : ℕ) (rest : List ℕ) → rest ≡ [] → GoesOn node
 ends_empty nodes rest e (own, behind, t, i, s, c) = let long = ap length (sym e ∙ i) in let some = tree_some own t s in absurd (omega (arith, long, some, length-append own behind))
 
 pub ends_whole : (text rest : List ℕ) (nodes : ℕ) (last : Option UnresolvedFuture) (read : Result UnresolvedFuture Fault) → rest ≡ [] → read ≡ ok_or last Malformed → ((t : Tree) → SpellsTree text t → GoesOn nodes last rest)
-    → IfErr read (Blames (SpellsFuture text))
+    → IfErr read (Blames (SpellsClosely text))
 ends_whole text rest nodes None read over e on = rw e (record { nothing = λ bad future s. ends_empty nodes rest over (on (tree_of future) s) })
 ends_whole text rest nodes (Some future) read over e on = rw e tt

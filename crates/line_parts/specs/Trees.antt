@@ -1,6 +1,6 @@
 -- How a tree of awaits is spelled, in one word: a handle by its digits, and a node by its kind's name and its children
--- in round brackets, with a comma between each two.
-use Rattle.std.specs.Prelude.{◌≡◌, ℕ, List, [], ◌∷◌, ◌++◌, codes}
+-- in round brackets, with a comma between each two. Blanks behind a comma say nothing.
+use Rattle.std.specs.Prelude.{◌≡◌, ◌==◌, ◌&&◌, ℕ, Bool, true, false, if◌then◌else◌, List, [], ◌∷◌, ◌++◌, codes}
 use Rattle.journal_attempt.specs.declared.future.FutureKind.{FutureKind}
 use Rattle.journal_attempt.specs.declared.future.FutureKind.TheVariants.{FirstCompleted, AllCompleted, FirstSucceededOrAllFailed, AllSucceededOrFirstFailed, Unknown}
 use Rattle.await_trees.specs.Tree.{Tree, Forest, leaf, node, none, more, tree_of}
@@ -41,6 +41,16 @@ abbrev mutual
 abbrev pub IsKind : List ℕ → FutureKind → Type 0
 IsKind word kind = word ≡ kind_name kind
 
--- the text spells the tree that is awaited
+-- the text without blanks behind its commas; the first says whether a comma, and no more than blanks, stands in front of it
+abbrev pub without_blanks : Bool → List ℕ → List ℕ
+without_blanks after_comma [] = []
+without_blanks after_comma (c ∷ cs) =
+    if after_comma && c == 32 then without_blanks true cs else c ∷ without_blanks (c == comma) cs
+
+-- the text spells the tree that is awaited, without a blank
+abbrev pub SpellsClosely : List ℕ → UnresolvedFuture → Type 0
+SpellsClosely text future = SpellsTree text (tree_of future)
+
+-- the text, without blanks behind its commas, spells the tree that is awaited
 abbrev pub SpellsFuture : List ℕ → UnresolvedFuture → Type 0
-SpellsFuture text future = SpellsTree text (tree_of future)
+SpellsFuture text future = SpellsClosely (without_blanks false text) future

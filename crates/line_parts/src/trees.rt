@@ -1,13 +1,13 @@
-//! Trees of awaits, as a line spells them: `17`, or `fc(17,ac(18,19),un())`.
-ghost use Rattle.std.specs.Prelude.{◌≡◌, ◌≢◌, ◌++◌, ◌<◌, ℕ, List, None, Some, length, ◌∷◌, IfErr, IfNone, IfOk, IfSome};
+//! Trees of awaits, as a line spells them: `17`, or `fc(17, ac(18, 19), un())`.
+ghost use Rattle.std.specs.Prelude.{◌≡◌, ◌≢◌, ◌++◌, ◌<◌, ℕ, List, None, Some, false, length, ◌∷◌, IfErr, IfNone, IfOk, IfSome};
 ghost use Rattle.lines.specs.Readings.{Blames};
 ghost use Rattle.line_parts.specs.OpenNodes.{GoesOn, StandsAt, behind_word, is_break, word_of};
-ghost use Rattle.line_parts.specs.Trees.{IsKind, SpellsFuture, kind_name};
+ghost use Rattle.line_parts.specs.Trees.{IsKind, SpellsClosely, SpellsFuture, kind_name, without_blanks};
 ghost use Rattle.wire.specs.declared.fault.Fault.TheVariants.{Malformed};
 
 use crate::atoms::handle_of;
 use await_trees::{FutureKind, node_over};
-use std::alloc::Global;
+use std::alloc::{AllocError, Global};
 use vm_parts::UnresolvedFuture;
 use wire::{Fault, Items};
 
@@ -154,11 +154,11 @@ fn read_on<'a>(
     }
 }
 
-/// The tree that a word spells.
+/// The tree that a text spells without a blank.
 #[tactic(auto, using(crate::proofs::TreeReading::stands_first, crate::proofs::TreeReading::stands_last))]
-pub fn tree_of_word(alloc: Global, text: &[u8]) -> Result<UnresolvedFuture, Fault>
-    ensures value { IfOk result (SpellsFuture text.now) }
-    ensures none { IfErr result (Blames (SpellsFuture text.now)) }
+fn tree_without_blanks(alloc: Global, text: &[u8]) -> Result<UnresolvedFuture, Fault>
+    ensures value { IfOk result (SpellsClosely text.now) }
+    ensures none { IfErr result (Blames (SpellsClosely text.now)) }
 {
     let mut nodes = Vec::new(alloc);
     let mut last = None;
@@ -172,4 +172,44 @@ pub fn tree_of_word(alloc: Global, text: &[u8]) -> Result<UnresolvedFuture, Faul
         return Err(Fault::Malformed);
     }
     last.ok_or(Fault::Malformed)
+}
+
+/// Whether a blank stands in the text.
+fn has_blank(text: &[u8]) -> bool
+    ensures { result ≡ false → without_blanks false text.now ≡ text.now }
+{
+    for byte in text {
+        if *byte == b' ' {
+            return true;
+        }
+    }
+    false
+}
+
+/// The text without blanks behind its commas.
+fn without_blanks(alloc: Global, text: &[u8]) -> Result<Vec<u8>, AllocError>
+    ensures { IfOk result (λ tight. tight.items ≡ without_blanks false text.now) }
+{
+    let mut tight = Vec::with_capacity(alloc, text.len())?;
+    let mut after_comma = false;
+    for &byte in text {
+        if after_comma && byte == b' ' {
+            continue;
+        }
+        tight.push(byte)?;
+        after_comma = byte == b',';
+    }
+    Ok(tight)
+}
+
+/// The tree that a word spells. Blanks may stand behind its commas.
+pub fn tree_of_word(alloc: Global, text: &[u8]) -> Result<UnresolvedFuture, Fault>
+    ensures value { IfOk result (SpellsFuture text.now) }
+    ensures none { IfErr result (Blames (SpellsFuture text.now)) }
+{
+    if !has_blank(text) {
+        return tree_without_blanks(alloc, text);
+    }
+    let tight = without_blanks(alloc, text)?;
+    tree_without_blanks(alloc, tight.as_slice())
 }

@@ -60,7 +60,7 @@ verb_name verb.End = codes "end"
 -- the verbs, those that most lines have first
 abbrev pub verbs : List Verb
 verbs =
-    verb.Take ∷ verb.Await ∷ verb.Input ∷ verb.Sleep ∷ verb.Get ∷ verb.Set ∷ verb.Call ∷ verb.Signal ∷ verb.Completed ∷ verb.Send ∷ verb.Output ∷ verb.Head ∷ verb.Close ∷ verb.Ready ∷ verb.State ∷ verb.Index ∷ verb.Error ∷ verb.SysInput ∷ verb.Keys ∷ verb.Clear ∷ verb.ClearAll ∷ verb.Awakeable ∷ verb.CompleteAwakeable ∷ verb.CompleteSignal ∷ verb.Cancel ∷ verb.GetPromise ∷ verb.PeekPromise ∷ verb.CompletePromise ∷ verb.Run ∷ verb.Propose ∷ verb.Attach ∷ verb.GetOutput ∷ verb.WriteOutput ∷ verb.End ∷ []
+    verb.Take ∷ verb.Await ∷ verb.Input ∷ verb.Sleep ∷ verb.Get ∷ verb.Set ∷ verb.Call ∷ verb.Run ∷ verb.Propose ∷ verb.Signal ∷ verb.Completed ∷ verb.Send ∷ verb.Output ∷ verb.Head ∷ verb.Close ∷ verb.Ready ∷ verb.State ∷ verb.Index ∷ verb.Error ∷ verb.SysInput ∷ verb.Keys ∷ verb.Clear ∷ verb.ClearAll ∷ verb.Awakeable ∷ verb.CompleteAwakeable ∷ verb.CompleteSignal ∷ verb.Cancel ∷ verb.GetPromise ∷ verb.PeekPromise ∷ verb.CompletePromise ∷ verb.Attach ∷ verb.GetOutput ∷ verb.WriteOutput ∷ verb.End ∷ []
 
 -- the verb whose name this is
 unfoldable pub verb_named : List ℕ → Option Verb

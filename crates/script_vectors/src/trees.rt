@@ -48,6 +48,7 @@ input <completion_1>                                  => ok
 await fc(ac(17,18),asff(19))                          => ok wait true false
 input 0x001e0000000000000006000000000200              => ok
 await fc(ac(17,18),asff(19))                          => ok any
+await fc(ac(17, 18),  asff(19))                       => ok any
 
 # A failure wakes what waits for one, and not what waits for a success.
 vm "application/vnd.restate.invocation.v7" cancel=off => ok V7

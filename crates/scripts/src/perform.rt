@@ -154,6 +154,15 @@ fn perform_ask(vm: &mut CoreVM, ask: Ask) -> Reply
     }
 }
 
+/// Makes the call that a step of a handler asks for. It is apart, as `perform_any` is.
+#[inline(never)]
+fn perform_asked(vm: &mut CoreVM, step: Step) -> Reply
+    ensures { StepDone step result (seen vm.old) (seen vm.new) }
+{
+    let ask = vm.ask_of(step);
+    perform_ask(vm, ask)
+}
+
 /// Makes the call that a step of a handler is: an await or a take at once, since most lines are one.
 #[tactic(auto, using(crate::proofs::Told::answers, crate::proofs::Told::awaits))]
 fn perform_step(vm: &mut CoreVM, step: Step) -> Reply
@@ -162,17 +171,14 @@ fn perform_step(vm: &mut CoreVM, step: Step) -> Reply
     match step {
         Step::Await(future) => awaited(vm.do_await(future)),
         Step::Take(handle) => taken(vm.take_notification(handle)),
-        step => {
-            let ask = vm.ask_of(step);
-            perform_ask(vm, ask)
-        }
+        step => perform_asked(vm, step),
     }
 }
 
-/// Makes a call.
+/// Makes a call, whichever it is. It is apart, since what its arms hold is set to zero where it begins.
 #[tactic(auto, using(crate::proofs::Told::answers, crate::proofs::Told::feeds, crate::proofs::Told::drains, crate::proofs::Told::runs, crate::proofs::Told::proposes))]
-#[inline(always)]
-fn perform_call(vm: &mut CoreVM, call: Call) -> Reply
+#[inline(never)]
+fn perform_any(vm: &mut CoreVM, call: Call) -> Reply
     ensures { Called call result (seen vm.old) (seen vm.new) }
 {
     match call {
@@ -192,6 +198,19 @@ fn perform_call(vm: &mut CoreVM, call: Call) -> Reply
             policy,
         } => ended(vm.propose_run_completion(handle, result, policy)),
         Call::Step(step) => perform_step(vm, step),
+    }
+}
+
+/// Makes a call: an input and a step at once, since most lines are one.
+#[tactic(auto, using(crate::proofs::Told::feeds))]
+#[inline(always)]
+fn perform_call(vm: &mut CoreVM, call: Call) -> Reply
+    ensures { Called call result (seen vm.old) (seen vm.new) }
+{
+    match call {
+        Call::Input(bytes) => fed(vm.notify_input(bytes)),
+        Call::Step(step) => perform_step(vm, step),
+        call => perform_any(vm, call),
     }
 }
 

@@ -3,6 +3,7 @@ pub mod States
 pub mod Arrivals
 pub mod Completions
 pub mod Storing
+pub mod NextFrames
 pub mod Worlds
 pub mod Rounds
 pub mod Courses

@@ -6,7 +6,8 @@ ghost use Rattle.vm_machine.specs.Phases.{is_from_v7};
 ghost use Rattle.vm_rounds.specs.Heard.{is_proposal};
 ghost use Rattle.vm_world.specs.Arrivals.{room_fault};
 ghost use Rattle.vm_world.specs.Entries.{frame_of};
-ghost use Rattle.vm_world.specs.Storing.{FirstFault, HasFault, NextFaults, NextWritten, Stores, StoresItem, StoresOne, StoresRaw, acknowledgement, answered_by, completed_by, proposal_of, storing_fault, written_as, written_from};
+ghost use Rattle.vm_world.specs.NextFrames.{HasFault, NextFaults, NextWritten, StoresItem, StoresOne, StoresRaw};
+ghost use Rattle.vm_world.specs.Storing.{FirstFault, Stores, acknowledgement, answered_by, completed_by, proposal_of, storing_fault, written_as, written_from};
 ghost use Rattle.vm_world.specs.declared.storing.Written.TheVariants as written;
 ghost use Rattle.vm_world.specs.declared.types.RoundFault.TheVariants as round_fault;
 

@@ -3,7 +3,7 @@ use Rattle.std.proofs.lemmas.Grind.{common_steps}
 use Rattle.await_trees.specs.Tree.{tree_of}
 use Rattle.line_parts.proofs.TreeEnding.{ends_open, ends_whole, goes_on_first}
 use Rattle.line_parts.proofs.TreeReading.{stands_first}
-use Rattle.line_parts.proofs.trees.tree_of_word.Goals as goal
+use Rattle.line_parts.proofs.trees.tree_without_blanks.Goals as goal
 
 pub loop-rest-init : goal.loop-rest-init
 loop-rest-init c = record {

@@ -2,7 +2,7 @@ use Rattle.std.proofs.Common.{length}
 use Rattle.await_trees.specs.Tree.{Tree}
 use Rattle.line_parts.specs.OpenNodes.{GoesOn, StandsAt}
 use Rattle.line_parts.specs.Trees.{SpellsTree}
-use Rattle.line_parts.proofs.trees.tree_of_word.Given as goal
+use Rattle.line_parts.proofs.trees.tree_without_blanks.Given as goal
 
 abbrev pub invariant-loop-rest : goal.invariant-loop-rest
 invariant-loop-rest l = record {
