@@ -1,6 +1,8 @@
 //! A frame as a line, and a line as a frame.
 ghost use Rattle.std.specs.Prelude.{◌≡◌, ◌++◌, IfOk};
 ghost use Rattle.wire.specs.Format.{u16s, bytes};
+ghost use Rattle.lines.specs.Atoms.{IsAtom};
+ghost use Rattle.frame_lines.specs.FrameLines.{Encodes, IsRaw, LineShows, Shows};
 
 use crate::message::{parse_message, print_message};
 use crate::type_names::type_named;
@@ -41,7 +43,9 @@ pub fn print_rest(rest: &[u8], line: &mut Line) -> Result<(), AllocError> {
     line.hex(rest)
 }
 
-fn frame_of_message(alloc: Global, ty: MessageType, fields: Fields<'_>) -> Result<Bytes, Fault> {
+fn frame_of_message(alloc: Global, ty: MessageType, fields: Fields<'_>) -> Result<Bytes, Fault>
+    ensures { IfOk result (Encodes ty) }
+{
     let message = parse_message(ty, fields)?;
     let frame = Encoder::new(alloc).encode(&message);
     drop(message);
@@ -59,11 +63,15 @@ fn raw_frame(alloc: Global, number: u16, body: &Bytes) -> Result<Bytes, AllocErr
 }
 
 /// The bytes of an atom, shared.
-fn shared(alloc: Global, text: &[u8]) -> Result<Bytes, Fault> {
+fn shared(alloc: Global, text: &[u8]) -> Result<Bytes, Fault>
+    ensures { IfOk result (IsAtom text.now) }
+{
     Ok(Bytes::from_vec(bytes_of(alloc, text)?)?)
 }
 
-fn frame_of_raw(alloc: Global, number: &[u8], body: &[u8]) -> Result<Bytes, Fault> {
+fn frame_of_raw(alloc: Global, number: &[u8], body: &[u8]) -> Result<Bytes, Fault>
+    ensures { IfOk result (IsRaw number.now body.now) }
+{
     let Some(number) = number_of(number) else {
         return Err(Fault::Malformed);
     };
@@ -74,7 +82,10 @@ fn frame_of_raw(alloc: Global, number: &[u8], body: &[u8]) -> Result<Bytes, Faul
     Ok(raw_frame(alloc, number, &body)?)
 }
 
-fn frame_of_words(alloc: Global, words: &[&[u8]]) -> Result<Bytes, Fault> {
+/// The bytes that the words of a line show.
+pub fn frame_of_words(alloc: Global, words: &[&[u8]]) -> Result<Bytes, Fault>
+    ensures { IfOk result (Shows words.now) }
+{
     match words {
         [b"raw", number, body] => frame_of_raw(alloc, *number, *body),
         [b"rest", rest] => shared(alloc, *rest),
@@ -87,7 +98,9 @@ fn frame_of_words(alloc: Global, words: &[&[u8]]) -> Result<Bytes, Fault> {
 }
 
 /// The bytes that a line shows.
-pub fn frame_of(alloc: Global, line: &[u8]) -> Result<Bytes, Fault> {
+pub fn frame_of(alloc: Global, line: &[u8]) -> Result<Bytes, Fault>
+    ensures { IfOk result (LineShows line.now) }
+{
     let words = words(alloc, line)?;
     frame_of_words(alloc, words.as_slice())
 }

@@ -1,4 +1,7 @@
 //! A message as a line.
+ghost use Rattle.std.specs.Prelude.{◌≡◌, IfOk};
+ghost use Rattle.journal_messages.specs.Message.{type_of};
+
 use crate::forms::Form;
 use crate::type_names::name_of;
 use journal_errors::MessageType;
@@ -57,7 +60,9 @@ fn body_of<T: Form>(mut fields: Fields<'_>) -> Result<T, Fault> {
 }
 
 /// The message of this type that all of the fields make.
-pub fn parse_message(ty: MessageType, fields: Fields<'_>) -> Result<Message, Fault> {
+pub fn parse_message(ty: MessageType, fields: Fields<'_>) -> Result<Message, Fault>
+    ensures { IfOk result (λ message. type_of message ≡ ty) }
+{
     match ty {
         MessageType::Start => Ok(Message::Start(body_of(fields)?)),
         MessageType::Suspension => Ok(Message::Suspension(body_of(fields)?)),

@@ -1,8 +1,14 @@
 //! The names of the types of messages.
+ghost use Rattle.std.specs.Prelude.{◌≡◌, IfSome};
+ghost use Rattle.frame_lines.specs.Names.{type_name};
+
 use journal_errors::MessageType;
 
 /// The name that the type has on a line.
-pub fn name_of(ty: MessageType) -> &'static str {
+#[tactic(auto, unfolding(crate::specs::Names::type_name))]
+pub fn name_of(ty: MessageType) -> &'static str
+    ensures { result.now ≡ type_name ty }
+{
     match ty {
         MessageType::Start => "Start",
         MessageType::Suspension => "Suspension",
@@ -38,7 +44,9 @@ pub fn name_of(ty: MessageType) -> &'static str {
 }
 
 /// The type that has the name.
-pub fn type_named(name: &[u8]) -> Option<MessageType> {
+pub fn type_named(name: &[u8]) -> Option<MessageType>
+    ensures { IfSome result (λ ty. name.now ≡ type_name ty) }
+{
     for number in 1..=30 {
         let ty = MessageType::from_number(number)?;
         if name == name_of(ty).as_bytes() {

@@ -1,8 +1,6 @@
-//! Rows over whole runs of the program `vmrun`, over readers and writers in memory, and over attempts of `charge`.
+//! Rows over whole runs of the program `vmrun`, over readers and writers in memory.
 #![tactic(auto)]
 
-#[cfg(test)]
-mod charged;
 #[cfg(test)]
 mod children;
 #[cfg(test)]

@@ -6,6 +6,7 @@ use Rattle.std.specs.List.{starts_with}
 use Rattle.std.specs.Str.{IsTrimAscii, IsUtf8}
 use Rattle.lines.specs.Atoms.{IsAtom}
 use Rattle.lines.specs.Pieces.{AreWords, outside, place}
+use Rattle.frame_lines.specs.FrameLines.{Shows}
 use Rattle.requests.specs.Lines.{says_nothing}
 use Rattle.line_parts.specs.Results.{IsProposal}
 use Rattle.line_parts.specs.Words.{IsNumberOf, behind, text_at}
@@ -36,9 +37,10 @@ are_rest words = pointwise nat_eq (text_at 0 words) (codes "rest")
 abbrev pub are_bytes : List (Bor (List ℕ)) → Bool
 are_bytes words = length words == 1 && starts_with nat_eq (text_at 0 words) (codes "0x")
 
--- what arrives: bytes as they are, or a frame, of whose line nothing is said here
+-- what arrives: bytes as they are, or a frame, as the words show it
 abbrev pub Arrives : List (Bor (List ℕ)) → List ℕ → Type 0
-Arrives words bytes = (are_rest words ≡ false) × (are_bytes words ≡ true → IsAtom (text_at 0 words) bytes)
+Arrives words bytes =
+    (are_rest words ≡ false) × (are_bytes words ≡ true → IsAtom (text_at 0 words) bytes) × (are_bytes words ≡ false → Shows words bytes)
 
 -- this word and those behind it say that this happens
 abbrev pub SaysEvent : List ℕ → List (Bor (List ℕ)) → Event → Type 0
@@ -76,7 +78,7 @@ Reads text said = (trimmed : List ℕ) × IsTrimAscii text trimmed × IsUtf8 tri
 abbrev pub is_frame : List ℕ → List (Bor (List ℕ)) → Bool
 is_frame word others = pointwise nat_eq word (codes "arrive") && not (are_rest others) && not (are_bytes others)
 
--- words that say nothing, unless they are an arrival that is a frame: of its line nothing is said here
+-- words that say nothing, unless they are an arrival that is a frame: which fields make a message isn't said
 pub record SayNothing (words : List (Bor (List ℕ))) : Type 0 where
   pub nothing : is_frame (text_at 0 words) (behind words) ≡ false → (said : ScriptLine) → SaysWords words said → ⊥
 

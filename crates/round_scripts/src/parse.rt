@@ -9,7 +9,7 @@ use crate::given::given_of;
 use crate::opening::round_of;
 use crate::script_line::ScriptLine;
 use bytes::Bytes;
-use frame_lines::entry::frame_of;
+use frame_lines::entry::frame_of_words;
 use line_parts::atoms::u64_of;
 use line_parts::results::{Proposal, proposal_of};
 use line_parts::words::bytes_in;
@@ -52,7 +52,7 @@ fn are_bytes(words: &[&[u8]]) -> bool
 
 /// What stands behind the word `arrive` of a line: bytes as they are, or a frame as a line. The rest of a stream is no frame.
 #[tactic(auto, using(crate::proofs::Nothing::rest_blamed, crate::proofs::Nothing::bytes_blamed, crate::proofs::Nothing::frame_blamed))]
-fn arrival_of(alloc: Global, line: &[u8], words: &[&[u8]]) -> Result<Bytes, Fault>
+fn arrival_of(alloc: Global, words: &[&[u8]]) -> Result<Bytes, Fault>
     ensures value { IfOk result (Arrives words.now) }
     ensures none { IfErr result (λ fault. is_frame (codes "arrive") words.now ≡ false → Blames (Arrives words.now) fault) }
 {
@@ -62,10 +62,7 @@ fn arrival_of(alloc: Global, line: &[u8], words: &[&[u8]]) -> Result<Bytes, Faul
     if are_bytes(words) {
         return bytes_in(alloc, words, 0);
     }
-    let Some(frame) = line.strip_prefix(b"arrive") else {
-        return Err(Fault::Malformed);
-    };
-    let bytes = frame_of(alloc, frame)?;
+    let bytes = frame_of_words(alloc, words)?;
     Ok(bytes)
 }
 
@@ -123,7 +120,7 @@ fn close_of(words: &[&[u8]]) -> Result<Event, Fault>
 
 /// What happens, as a word of a line and those behind it say.
 #[tactic(auto, using(crate::proofs::Nothing::piece_row, crate::proofs::Nothing::close_row, crate::proofs::Nothing::arrive_row, crate::proofs::Nothing::store_row, crate::proofs::Nothing::run_result_row, crate::proofs::Nothing::no_row))]
-fn event_behind(alloc: Global, line: &[u8], word: &[u8], others: &[&[u8]]) -> Result<Event, Fault>
+fn event_behind(alloc: Global, word: &[u8], others: &[&[u8]]) -> Result<Event, Fault>
     ensures value { IfOk result (SaysEvent word.now others.now) }
     ensures none { IfErr result (λ fault. is_frame word.now others.now ≡ false → Blames (SaysEvent word.now others.now) fault) }
 {
@@ -136,7 +133,7 @@ fn event_behind(alloc: Global, line: &[u8], word: &[u8], others: &[&[u8]]) -> Re
         return Ok(event);
     }
     if word == b"arrive".as_slice() {
-        let bytes = arrival_of(alloc, line, others)?;
+        let bytes = arrival_of(alloc, others)?;
         return Ok(Event::Arrive(bytes));
     }
     if word == b"store".as_slice() {
@@ -152,12 +149,7 @@ fn event_behind(alloc: Global, line: &[u8], word: &[u8], others: &[&[u8]]) -> Re
 
 /// What a word of a line and those behind it say.
 #[tactic(auto, using(crate::proofs::Nothing::world_row, crate::proofs::Nothing::round_row, crate::proofs::Nothing::step_row, crate::proofs::Nothing::event_row))]
-fn said_behind(
-    alloc: Global,
-    line: &[u8],
-    word: &[u8],
-    others: &[&[u8]],
-) -> Result<ScriptLine, Fault>
+fn said_behind(alloc: Global, word: &[u8], others: &[&[u8]]) -> Result<ScriptLine, Fault>
     ensures value { IfOk result (SaysBehind word.now others.now) }
     ensures none { IfErr result (λ fault. is_frame word.now others.now ≡ false → Blames (SaysBehind word.now others.now) fault) }
 {
@@ -173,20 +165,20 @@ fn said_behind(
         let steps = steps_of(others)?;
         return Ok(ScriptLine::Steps(steps));
     }
-    let event = event_behind(alloc, line, word, others)?;
+    let event = event_behind(alloc, word, others)?;
     Ok(ScriptLine::Event(event))
 }
 
 /// What the words of a line say that isn't empty.
 #[tactic(auto, using(crate::proofs::Nothing::no_words, crate::proofs::Nothing::words_say_nothing))]
-fn said_of(alloc: Global, line: &[u8], words: &[&[u8]]) -> Result<ScriptLine, Fault>
+fn said_of(alloc: Global, words: &[&[u8]]) -> Result<ScriptLine, Fault>
     ensures value { IfOk result (SaysWords words.now) }
     ensures none { IfErr result (λ fault. fault ≡ Malformed → SayNothing words.now) }
 {
     let [word, others @ ..] = words else {
         return Err(Fault::Malformed);
     };
-    said_behind(alloc, line, *word, others)
+    said_behind(alloc, *word, others)
 }
 
 /// What a line says that isn't empty and has no blanks at its ends.
@@ -197,7 +189,7 @@ fn row_of(alloc: Global, line: &[u8]) -> Result<ScriptLine, Fault>
     ensures none { IfErr result (λ fault. fault ≡ Malformed → SaysNothing line.now) }
 {
     let words = words(alloc, line)?;
-    said_of(alloc, line, words.as_slice())
+    said_of(alloc, words.as_slice())
 }
 
 /// Whether a line is empty or a comment.

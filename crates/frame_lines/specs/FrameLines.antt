@@ -1,0 +1,50 @@
+-- Which frame the words of a line show.
+use Rattle.std.specs.Prelude.{◌≡◌, ◌⊎◌, ◌<◌, ◌^◌, ℕ, List, [], ◌∷◌, ◌++◌, codes}
+use Rattle.std.specs.Borrow.{Bor}
+use Rattle.std.specs.Str.Parse.{digits_value}
+use Rattle.wire.specs.Format.{u16s, bytes}
+use Rattle.journal_errors.specs.declared.types.MessageType.{MessageType}
+use Rattle.journal_messages.specs.declared.message.Message.{Message}
+use Rattle.journal_messages.specs.Message.{encoding, type_of}
+use Rattle.lines.specs.Atoms.{IsAtom, IsNumber}
+use Rattle.lines.specs.Pieces.{AreWords}
+use Rattle.frame_lines.specs.Names.{type_name}
+
+-- a frame as it is: `raw`, the number of its type, and its body
+pub record IsRaw (number body frame : List ℕ) : Type 0 where
+  pub bytes_of : List ℕ
+  pub numeral : IsNumber number
+  pub fits : digits_value 10 number < 2 ^ 16
+  pub is_body : IsAtom body bytes_of
+  pub is : frame ≡ u16s (digits_value 10 number) ++ bytes bytes_of
+
+-- a frame as it is, by the words behind `raw`
+abbrev pub AreRaw : List (Bor (List ℕ)) → List ℕ → Type 0
+AreRaw (number ∷ body ∷ []) frame = IsRaw number.now body.now frame
+AreRaw others frame = ⊥
+
+-- the rest of a stream, by the word behind `rest`
+abbrev pub IsRest : List (Bor (List ℕ)) → List ℕ → Type 0
+IsRest (rest ∷ []) shown = IsAtom rest.now shown
+IsRest others shown = ⊥
+
+-- the bytes are a message of the type
+pub record Encodes (ty : MessageType) (frame : List ℕ) : Type 0 where
+  pub message : Message
+  pub typed : type_of message ≡ ty
+  pub is : frame ≡ encoding message
+
+-- the word names a type, and the bytes are a message of it; of its fields nothing is said here
+pub record IsNamed (name frame : List ℕ) : Type 0 where
+  pub ty : MessageType
+  pub named : name ≡ type_name ty
+  pub encodes : Encodes ty frame
+
+-- the words show these bytes: a frame as it is, the rest of a stream, or a message
+abbrev pub Shows : List (Bor (List ℕ)) → List ℕ → Type 0
+Shows [] shown = ⊥
+Shows (name ∷ others) shown = ((name.now ≡ codes "raw") × AreRaw others shown) ⊎ ((name.now ≡ codes "rest") × IsRest others shown) ⊎ IsNamed name.now shown
+
+-- the words of a line show these bytes
+abbrev pub LineShows : List ℕ → List ℕ → Type 0
+LineShows line shown = (words : List (Bor (List ℕ))) × AreWords line words × Shows words shown
