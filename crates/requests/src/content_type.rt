@@ -1,5 +1,4 @@
 //! The headers of a request that has a content type and nothing else.
-ghost use Rattle.std.specs.Prelude.{◌≡◌};
 
 use journal_errors::HeaderMap;
 

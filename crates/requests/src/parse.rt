@@ -1,13 +1,11 @@
 //! A line of the script, read as a whole: one row a call.
-ghost use Rattle.std.specs.Prelude.{◌≡◌, IfErr, IfOk, Ok, true, false, codes, drop, length};
+ghost use Rattle.std.specs.Prelude.{◌≡◌, IfErr, IfOk, Ok, true, false, length};
 ghost use Rattle.requests.specs.declared.request.Call.{Call};
 ghost use Rattle.requests.specs.declared.verb.Verb.TheVariants as verb;
 ghost use Rattle.requests.specs.Lines.{Asks, AsksCall, AskNothing, AsksNothing, IsContentType, IsMade, MakesNothing, MakesWith, Reads, begins_with_vm, says_nothing};
 ghost use Rattle.lines.specs.Readings.{Blames};
 ghost use Rattle.wire.specs.declared.fault.Fault.TheVariants.{Malformed};
 ghost use Rattle.requests.specs.Verbs.{IsAsked, IsAwaited, IsBare, IsLine};
-ghost use Rattle.line_parts.specs.VmOptions.{AreOptions};
-ghost use Rattle.line_parts.specs.Words.{text_at};
 
 use crate::callees::{call_line, send_line};
 use crate::content_type::ContentType;

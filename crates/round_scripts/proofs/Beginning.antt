@@ -1,5 +1,5 @@
 -- Words that say nothing of a round.
-use Rattle.std.proofs.Common.{◌≡◌, ◌<◌, ◌≤◌, ◌/◌, ◌*◌, ◌^◌, ◌∙◌, ◌++◌, inl, inr, ℕ, zero, suc, true, false, List, [], ◌∷◌, Option, Some, None, length, get_or, ap, refl, subst, sym, arith, codes}
+use Rattle.std.proofs.Common.{◌≡◌, ◌<◌, ◌≤◌, ◌/◌, ◌^◌, ◌∙◌, ◌++◌, inl, inr, ℕ, zero, suc, true, false, List, [], ◌∷◌, Option, Some, None, length, get_or, ap, refl, subst, sym, arith, codes}
 use Rattle.std.proofs.lemmas.List.{append_cancel_right}
 use Rattle.std.specs.Borrow.{Bor}
 use Rattle.std.specs.Duration.{as_nanos}
@@ -12,7 +12,6 @@ use Rattle.line_parts.specs.Durations.{IsDuration}
 use Rattle.line_parts.specs.Fields.{IsSet, are_named, text_behind, texts}
 use Rattle.line_parts.specs.Values.{HasFlag, IsTime, without}
 use Rattle.line_parts.specs.Words.{IsNumberOf}
-use Rattle.vm_world.specs.declared.types.Round.{Round}
 use Rattle.round_scripts.specs.Rounds.{AreKeys, IsWholeMilliseconds, SaysRound, round_names}
 
 -- ---- keys

@@ -1,8 +1,6 @@
 -- Words and lines that say nothing.
-use Rattle.std.proofs.Common.{◌≡◌, ◌≢◌, ◌<◌, ◌∙◌, ◌&&◌, inl, inr, ℕ, Bool, true, false, List, [], ◌∷◌, length, get_or, ap, refl, subst, sym, arith, codes}
-use Rattle.std.specs.Prelude.{not}
+use Rattle.std.proofs.Common.{◌≡◌, ◌≢◌, ◌<◌, ◌∙◌, inl, inr, ℕ, true, false, List, [], ◌∷◌, length, get_or, ap, refl, subst, sym, arith, codes}
 use Rattle.std.specs.Borrow.{Bor}
-use Rattle.std.specs.Str.{IsUtf8}
 use Rattle.wire.specs.declared.fault.Fault.{Fault}
 use Rattle.wire.specs.declared.fault.Fault.TheVariants.{Malformed}
 use Rattle.lines.specs.Atoms.{IsAtom}

@@ -1,5 +1,5 @@
 -- What a whole script says: its lines, read one after another, make a world and rounds.
-use Rattle.std.specs.Prelude.{◌≡◌, ◌≢◌, ◌⊎◌, ◌+◌, ℕ, List, [], ◌∷◌, ◌++◌, Option, Some, None, length, replicate}
+use Rattle.std.specs.Prelude.{◌≡◌, ◌⊎◌, ◌+◌, ℕ, List, [], ◌∷◌, ◌++◌, Option, Some, None, length, replicate}
 use Rattle.scripts.specs.Transcripts.{AreFirstLines, IsFirstLine}
 use Rattle.vm_world.specs.declared.types.Event.{Event}
 use Rattle.vm_world.specs.declared.types.Event.TheVariants as event

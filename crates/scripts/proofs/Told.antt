@@ -1,5 +1,5 @@
 -- A reply tells what a call did.
-use Rattle.std.proofs.Common.{◌≡◌, inr, List, [], ℕ, Result, Option, Global}
+use Rattle.std.proofs.Common.{◌≡◌, inr, List, ℕ, Result, Option, Global}
 use Rattle.std.specs.declared.alloc.AllocError.{AllocError}
 use Rattle.journal_errors.specs.declared.error.Error.{Error}
 use Rattle.journal_messages.specs.declared.message.RawMessage.{RawMessage}

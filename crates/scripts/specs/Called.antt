@@ -17,7 +17,6 @@ use Rattle.vm_machine.specs.Queries.{IsReadyAt, last_index, state_of}
 use Rattle.vm_machine.specs.Commands.{commanded}
 use Rattle.vm_machine.specs.Inputs.{end_step, input_step}
 use Rattle.vm_machine.specs.Outcomes.{Outcome}
-use Rattle.vm_machine.specs.Requests.{ids_of}
 use Rattle.vm_machine.specs.Reads.{read_step}
 use Rattle.vm_machine.specs.Signals.{signal_step}
 use Rattle.invocation_vm.specs.Calls.{CallsFlatAwait, CallsProposal, CallsRun, new_awakeable_step}

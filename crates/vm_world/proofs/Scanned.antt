@@ -17,7 +17,7 @@ use Rattle.vm_rounds.specs.Journals.{is_command}
 use Rattle.vm_world.specs.declared.storing.Written.{Written}
 use Rattle.vm_world.specs.declared.storing.Written.TheVariants.{Command, Proposal}
 use Rattle.vm_world.specs.declared.types.RoundFault.{RoundFault}
-use Rattle.vm_world.specs.NextFrames.{IsWholeItem, NextFaults, StoresItem, StoresOne, StoresRaw}
+use Rattle.vm_world.specs.NextFrames.{IsWholeItem, NextFaults, StoresItem, StoresOne}
 use Rattle.vm_world.specs.Storing.{CanBeRead, FirstFault, NoneFaults, Stores, proposal_of, stored_as, storing_fault, waits_behind, written_among, written_as, written_before, written_from}
 use Rattle.vm_world.proofs.Framing.{in_front, next_framed}
 

@@ -1,5 +1,5 @@
 -- What was stored of what an attempt wrote: entries of commands and of completions, and the frames that answer proposals.
-use Rattle.std.proofs.Common.{◌≡◌, ◌≢◌, ◌≤◌, ◌<◌, ◌^◌, ◌||◌, ℕ, Bool, true, false, cond, List, [], ◌∷◌, ◌++◌, length, map, Option, Some, None, refl, sym, ap, ◌∙◌, subst, arith, append_assoc, append-nil, length-append}
+use Rattle.std.proofs.Common.{◌≡◌, ◌≢◌, ◌<◌, ◌^◌, ◌||◌, ℕ, Bool, true, false, cond, List, [], ◌∷◌, ◌++◌, length, map, Option, Some, None, refl, sym, ap, ◌∙◌, subst, arith, append_assoc, append-nil, length-append}
 use Rattle.std.specs.Prelude.{◌==◌, ◌&&◌, if◌then◌else◌, is_some, nat_le, nat_lt}
 use Rattle.std.specs.List.{AllByRecursion, find, flat_map}
 use Rattle.std.specs.Option.{option_map}
@@ -7,18 +7,14 @@ use Rattle.std.proofs.lemmas.Bool.Decides.{nat_tests}
 use Rattle.std.proofs.lemmas.List.{map-append}
 use Rattle.journal_attempt.specs.declared.runs.ProposeRunCompletion.{ProposeRunCompletion}
 use Rattle.journal_attempt.specs.declared.runs.ProposeRunCompletionAck.{ProposeRunCompletionAck}
-use Rattle.journal_errors.specs.declared.types.MessageType.TheVariants as type
 use Rattle.journal_errors.specs.declared.version.Version.{Version}
 use Rattle.journal_errors.specs.Types.{type_number}
-use Rattle.journal_messages.specs.declared.message.Message.{Message}
 use Rattle.journal_messages.specs.declared.message.Message.TheVariants as message
 use Rattle.journal_messages.specs.declared.message.RawMessage.{RawMessage}
 use Rattle.journal_messages.specs.Message.{IsWhole, encoding}
 use Rattle.journal_messages.specs.Reading.{acknowledgement_in, message_in, notification_in}
 use Rattle.journal_streams.proofs.Alone.{read_back}
 use Rattle.journal_values.specs.declared.notification.Notification.{Notification}
-use Rattle.journal_values.specs.declared.notification.NotificationId.TheVariants.{CompletionId}
-use Rattle.invocation_vm.specs.Frames.{frames_of}
 use Rattle.runs.specs.Kept.{is_for}
 use Rattle.vm_parts.specs.declared.run_state.KeptProposal.{KeptProposal}
 use Rattle.vm_machine.specs.Inputs.{completion_of}
@@ -28,7 +24,7 @@ use Rattle.vm_model.specs.Journal.{stored_form}
 use Rattle.vm_model.proofs.Once.{still_carried}
 use Rattle.vm_rounds.specs.Arrivals.{AllFound, FindsProposal, IsFound, arriving, kept_after, stands_for, unacknowledged}
 use Rattle.vm_rounds.specs.Heard.{acknowledged_from, is_proposal, proposal_in, proposals_among, proposed_by}
-use Rattle.vm_rounds.specs.Journals.{commands_among, is_acknowledgement, is_command, is_notification, notifications_among, notified_by}
+use Rattle.vm_rounds.specs.Journals.{commands_among, is_command, is_notification, notifications_among, notified_by}
 use Rattle.vm_rounds.proofs.Advanced.{nothing_acknowledged}
 use Rattle.vm_rounds.proofs.Arriving.{arriving_alone, kept_none}
 use Rattle.vm_rounds.proofs.Finishing.{acknowledged_more}
@@ -41,7 +37,7 @@ use Rattle.vm_world.specs.declared.types.RoundFault.{RoundFault}
 use Rattle.vm_world.specs.Arrivals.{completes_among, is_completed, most, proposal_fault, proposed_fault, room_fault}
 use Rattle.vm_world.specs.Completions.{CompleteOnce}
 use Rattle.vm_world.specs.Entries.{AreEntries, frame_in, frame_of, framed_by, frames_in, may_stand, note_in, note_of, notes_in, read_from, said_in}
-use Rattle.vm_world.specs.Storing.{CanBeRead, NoneFaults, acknowledgement, answered_by, completed_by, kept_of, proposal_of, stored_as, storing_fault, waits_behind, written_among, written_as, written_before}
+use Rattle.vm_world.specs.Storing.{CanBeRead, NoneFaults, acknowledgement, answered_by, completed_by, kept_of, proposal_of, stored_as, storing_fault, waits_behind, written_among, written_before}
 use Rattle.vm_world.specs.Worlds.{IsJournal}
 use Rattle.vm_world.proofs.Framing.{AreFrames, command_no_note, entries_join, frame_back, frames_append, join, none_framed, note_acknowledges_nothing, notes_append, notes_are, one_framed}
 use Rattle.vm_world.proofs.Once.{IsNew, absent, carried_more, completed_carried, not_most, once_more}
