@@ -1,5 +1,5 @@
 -- A text cut into pieces at a separator, and its words.
-use Rattle.std.specs.Prelude.{◌≡◌, ◌≢◌, ◌+◌, ◌-◌, ◌<◌, ◌==◌, ◌||◌, ℕ, Bool, not, if◌then◌else◌, List, [], ◌∷◌, ◌++◌, length, take, Option, Some, None, All, filter, flat_map, fold, slice_index}
+use Rattle.std.specs.Prelude.{◌≡◌, ◌≢◌, ◌+◌, ◌-◌, ◌<◌, ◌==◌, ◌||◌, ℕ, Bool, not, if◌then◌else◌, List, [], ◌∷◌, ◌++◌, length, take, Option, Some, None, All, filter, map, flat_map, fold, slice_index}
 use Rattle.std.specs.Borrow.{Bor}
 use Rattle.lines.specs.declared.pieces.Nesting.{Nesting}
 use Rattle.lines.specs.declared.pieces.Quotes.{Quotes}
@@ -55,6 +55,10 @@ IsPiece separator text = (place text ≡ outside) × IsUncut separator text
 abbrev pub ArePieces : ℕ → List ℕ → List (Bor (List ℕ)) → Type 0
 ArePieces separator text pieces =
     All (λ p. IsPiece separator p.now) pieces × (text ++ separator ∷ [] ≡ flat_map (λ p. p.now ++ separator ∷ []) pieces)
+
+-- the texts of pieces
+abbrev pub texts : List (Bor (List ℕ)) → List (List ℕ)
+texts pieces = map (λ p. p.now) pieces
 
 -- whether there is anything of a piece
 abbrev pub is_word : Bor (List ℕ) → Bool
