@@ -1,8 +1,9 @@
 //! Rows over awaits of trees, one a line, played over the notifications of an attempt.
-use crate::notation::{arrival, handle_of, id, number, tree};
+use crate::notation::{arrival, id, number};
 use crate::shown::{copy_shown, future_shown, handles_shown, left_shown, result_shown, tree_shown};
 use await_trees::UnresolvedFuture;
 use await_tries::{Residue, Resolution, future_of, list_handles, try_future};
+use line_parts::trees::tree_of_word;
 use std::alloc::Global;
 use std::test::Fail;
 use vm_parts::{AsyncResults, NotificationHandle, SignalDelivery};
@@ -53,13 +54,13 @@ fn arrive(alloc: Global, results: &mut AsyncResults, words: &str) -> Result<(), 
     Ok(())
 }
 
-/// The numbers from 1 on stand for these ids.
+/// The handles from 11 on stand for these ids.
 fn mapped(alloc: Global, ids: &str) -> Result<AsyncResults, Fail> {
     let mut results = AsyncResults::new(alloc)?;
-    let mut last = 0u32;
+    let mut last = 10u32;
     for word in ids.split_whitespace() {
         last = last.wrapping_add(1);
-        results.map_handle(handle_of(last), id(alloc, word)?)?;
+        results.map_handle(last, id(alloc, word)?)?;
     }
     Ok(results)
 }
@@ -67,10 +68,10 @@ fn mapped(alloc: Global, ids: &str) -> Result<AsyncResults, Fail> {
 /// The handle and the word of an argument.
 fn handle_and_word(argument: &str) -> Result<(NotificationHandle, &str), Fail> {
     let (word, rest) = argument.split_once(" ").ok_or("no second word")?;
-    Ok((NotificationHandle(handle_of(number(word)?)), rest))
+    Ok((NotificationHandle(number(word)?), rest))
 }
 
-/// Maps one more number.
+/// Maps one more handle.
 fn map(alloc: Global, results: &mut AsyncResults, argument: &str) -> Result<(), Fail> {
     let (handle, word) = handle_and_word(argument)?;
     Ok(results.map_handle(handle.0, id(alloc, word)?)?)
@@ -104,7 +105,7 @@ fn texts_of(alloc: Global, future: &UnresolvedFuture) -> Result<(String, String)
 
 impl<'a> Bench<'a> {
     fn ask(&mut self, text: &str) -> Result<(), Fail> {
-        let future = tree(self.alloc, text)?;
+        let future = tree_of_word(self.alloc, text.as_bytes())?;
         let left = tried(self.alloc, &mut self.results, self.delivery, &future);
         drop(future);
         self.left = left?;
@@ -160,7 +161,7 @@ impl<'a> Bench<'a> {
     }
 
     fn text(&self, wanted: &str) -> Result<(), Fail> {
-        let future = tree(self.alloc, self.asked)?;
+        let future = tree_of_word(self.alloc, self.asked.as_bytes())?;
         let texts = texts_of(self.alloc, &future);
         drop(future);
         let (text, text_of_copy) = texts?;
@@ -222,8 +223,8 @@ fn play_row(alloc: Global, row: &str, again: Again) -> Result<(), Fail> {
 
 /// Plays rows, one a line; the first that doesn't hold is the error.
 ///
-/// A row is steps with semicolons between them, each a word and its argument. The numbers 1 to 10 stand for the completions of
-/// the same number, unless the row begins with the ids of the numbers from 1 on, as `ids 1 #5 "foo"`.
+/// A row is steps with semicolons between them, each a word and its argument. The handles 11 to 20 stand for the completions 1 to
+/// 10, unless the row begins with the ids of the handles from 11 on, as `ids 1 #5 "foo"`.
 ///
 ///     arrive s1 f3      these wait, in this order
 ///     overwrite         from now on a signal's newest delivery counts
@@ -232,12 +233,12 @@ fn play_row(alloc: Global, row: &str, again: Again) -> Result<(), Fail> {
 ///     again             a try of the same tree, or of what was left of it: each row is played for both
 ///     awake             the try found it awake
 ///     left TREE         the try left this
-///     handles 3 2       of these leaves, in this order
+///     handles 13 12     of these leaves, in this order
 ///     send FUTURE       and sends this
 ///     unused N          so many that arrived weren't used; now they are
-///     map N ID          the number stands for this id
-///     copy N VALUE      the number's present result
-///     take N VALUE      it is taken
+///     map H ID          the handle stands for this id
+///     copy H VALUE      the handle's present result
+///     take H VALUE      it is taken
 ///     text TEXT         the text of the tree, and of its copy
 pub fn play(alloc: Global, rows: &str) -> Result<(), Fail> {
     for row in rows.lines() {

@@ -1,5 +1,5 @@
 //! What rows expect, as it is written: what is left of a tree, its handles, and the future that is sent of it.
-use crate::notation::{number_of, word_of};
+use crate::notation::word_of;
 use await_trees::{Label, UnresolvedFuture};
 use await_tries::Residue;
 use journal_attempt::{Future, FutureNode};
@@ -48,7 +48,7 @@ fn show_node(
 ) -> Result<(), Fail> {
     let node = left.nodes().get(number).ok_or("no such node")?;
     match node.label {
-        Label::Leaf(handle) => Ok(write!(text, "{}", number_of(handle))?),
+        Label::Leaf(handle) => Ok(write!(text, "{handle}")?),
         Label::Inner(kind) => {
             write!(text, "{}(", word_of(kind))?;
             pieces.push(Piece::End)?;
@@ -165,7 +165,7 @@ pub fn handles_shown(alloc: Global, handles: &[u32]) -> Result<String, Fail> {
         if !text.is_empty() {
             text.push_str(" ")?;
         }
-        write!(text, "{}", number_of(*handle))?;
+        write!(text, "{handle}")?;
     }
     Ok(text)
 }
