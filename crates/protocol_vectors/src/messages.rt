@@ -1,4 +1,4 @@
-// The bytes of each message, written out by hand from the layout; and that each call succeeds where there is memory.
+// Streams and messages whose bytes were written out by hand from the layout; and that each call succeeds where there is memory.
 use bytes::Bytes;
 use journal_attempt::{Future, FutureKind, FutureNode};
 use journal_equality::header_eq;
@@ -22,25 +22,11 @@ fn frame_of(alloc: Global, stream: Bytes) -> Result<RawMessage, Fail> {
     Ok(raw)
 }
 
-/// How a message is printed, and its frame.
-fn spelled(alloc: Global, message: &Message) -> Result<(String, Bytes), AllocError> {
-    let text = format!(in alloc; "{message:?}")?;
-    let frame = Encoder::new(alloc).encode(message)?;
-    Ok((text, frame))
-}
-
 /// The message of a frame, as the only one.
 fn message_of(alloc: Global, raw: &RawMessage) -> Result<Vec<Message>, Fail> {
     let mut messages = Vec::new(alloc);
     messages.push(raw.decode(alloc)?)?;
     Ok(messages)
-}
-
-/// How the message of a frame is printed, and its frame again.
-fn decoded(alloc: Global, raw: &RawMessage) -> Result<(String, Bytes), Fail> {
-    let messages = message_of(alloc, raw)?;
-    let message = messages.get(0).ok_or("no message")?;
-    spelled(alloc, message).map_err(Fail::from)
 }
 
 /// What is wrong with a frame: an error of the decoder, or of the body.
@@ -54,164 +40,10 @@ fn error_of(alloc: Global, frame: &'static [u8]) -> Result<Option<Error>, Fail> 
     })
 }
 
-/// A frame, and its message as `Debug` shows it.
-static SPELLED: [(&[u8], &str); 15] = [
-    (
-        b"\0\x01\0\0\0\0\0\0\0\x66\
-            \0\0\0\0\0\0\0\x03\xffbc\
-            \0\0\0\0\0\0\0\x03inv\
-            \0\0\0\0\0\0\0\x01k\
-            \0\0\0\x03\
-            \0\0\0\0\0\0\0\x01\0\0\0\0\0\0\0\x01a\0\0\0\0\0\0\0\x01v\
-            \x01\
-            \0\0\0\x07\
-            \0\0\0\0\0\0\x0f\xa0\
-            \x80\0\0\0\0\0\0\x01\
-            \x01\0\0\0\0\0\0\0\x01s\
-            \0\
-            \x01\0\0\0\0\0\0\0\0",
-        "Start(Start { id: b\"\\xffbc\", debug_id: Text { inner: \"inv\" }, \
-        key: Text { inner: \"k\" }, known_entries: 3, state: Items { items: [(b\"a\", b\"v\")] }, \
-        partial: true, retry_count: 7, duration: 4000, random_seed: 9223372036854775809, \
-        scope: Some(Text { inner: \"s\" }), limit_key: None, \
-        idempotency_key: Some(Text { inner: \"\" }) })",
-    ),
-    (
-        b"\0\x02\0\0\0\0\0\0\0\x7e\
-            \0\
-            \0\0\0\0\0\0\0\x01\0\0\0\x01\
-            \0\0\0\0\0\0\0\x01\0\0\0\x11\
-            \0\0\0\0\0\0\0\x01\0\0\0\0\0\0\0\x03foo\
-            \0\0\0\0\0\0\0\x02\
-            \x01\0\0\0\0\0\0\0\x02\0\0\0\x02\0\0\0\x03\0\0\0\0\0\0\0\0\0\0\0\0\0\0\0\0\0\0\0\0\0\0\0\0\
-            \x04\0\0\0\0\0\0\0\0\0\0\0\0\0\0\0\0\0\0\0\0\0\0\0\0\0\0\0\0\0\0\0\0",
-        "Suspension(Suspension { future: Future { nodes: Items { items: [\
-        FutureNode { kind: FirstCompleted, waiting_completions: Items { items: [1] }, \
-        waiting_signals: Items { items: [17] }, \
-        waiting_named_signals: Items { items: [Text { inner: \"foo\" }] }, nested: 2 }, \
-        FutureNode { kind: AllCompleted, waiting_completions: Items { items: [2, 3] }, \
-        waiting_signals: Items { items: [] }, waiting_named_signals: Items { items: [] }, \
-        nested: 0 }, \
-        FutureNode { kind: Unknown, waiting_completions: Items { items: [] }, \
-        waiting_signals: Items { items: [] }, waiting_named_signals: Items { items: [] }, \
-        nested: 0 }] } } })",
-    ),
-    (
-        b"\0\x02\0\0\0\0\0\0\0\x42\
-            \x02\0\0\0\0\0\0\0\0\0\0\0\0\0\0\0\0\0\0\0\0\0\0\0\0\0\0\0\0\0\0\0\x01\
-            \x03\0\0\0\0\0\0\0\0\0\0\0\0\0\0\0\0\0\0\0\0\0\0\0\0\0\0\0\0\0\0\0\0",
-        "Suspension(Suspension { future: Future { nodes: Items { items: [\
-        FutureNode { kind: FirstSucceededOrAllFailed, waiting_completions: Items { items: [] }, \
-        waiting_signals: Items { items: [] }, waiting_named_signals: Items { items: [] }, \
-        nested: 1 }, \
-        FutureNode { kind: AllSucceededOrFirstFailed, waiting_completions: Items { items: [] }, \
-        waiting_signals: Items { items: [] }, waiting_named_signals: Items { items: [] }, \
-        nested: 0 }] } } })",
-    ),
-    (
-        b"\0\x03\0\0\0\0\0\0\0\x36\
-            \0\0\x02\x3a\
-            \0\0\0\0\0\0\0\x02no\
-            \0\0\0\0\0\0\0\x02at\
-            \x01\
-            \x01\0\0\0\x01\
-            \x01\0\0\0\x12\
-            \x01\0\0\0\0\0\0\0\x01n\
-            \x01\0\0\0\0\0\0\x03\xe8",
-        "Error(ErrorMessage { code: 570, message: Text { inner: \"no\" }, \
-        stacktrace: Text { inner: \"at\" }, behavior: Pause, index: Some(1), ty: Some(18), \
-        name: Some(Text { inner: \"n\" }), delay: Some(1000) })",
-    ),
-    (
-        b"\0\x03\0\0\0\0\0\0\0\x19\
-            \0\0\x01\xf4\
-            \0\0\0\0\0\0\0\0\
-            \0\0\0\0\0\0\0\0\
-            \x02\
-            \0\0\0\0",
-        "Error(ErrorMessage { code: 500, message: Text { inner: \"\" }, \
-        stacktrace: Text { inner: \"\" }, behavior: Fail, index: None, ty: None, name: None, \
-        delay: None })",
-    ),
-    (b"\0\x04\0\0\0\0\0\0\0\0", "End"),
-    (
-        b"\0\x0a\0\0\0\0\0\0\0\x26\
-            \0\0\0\0\0\0\0\x01\0\0\0\0\0\0\0\x01k\0\0\0\0\0\0\0\x01v\
-            \0\0\0\0\0\0\0\x04Till",
-        "Input(InputCommand { headers: Items { items: [Header { key: Text { inner: \"k\" }, \
-        value: Text { inner: \"v\" } }] }, value: b\"Till\" })",
-    ),
-    (
-        NAP,
-        "Sleep(SleepCommand { wake_up_time: 1721123699086, result_completion_id: 1, \
-        name: Text { inner: \"nap\" } })",
-    ),
-    (
-        b"\0\x1d\0\0\0\0\0\0\0\x0b\
-            \0\0\0\0\0\0\0\0\x02ok",
-        "Output(OutputCommand { result: Value(b\"ok\") })",
-    ),
-    (
-        b"\0\x1d\0\0\0\0\0\0\0\x30\
-            \x01\0\0\x01\x99\
-            \0\0\0\0\0\0\0\x09cancelled\
-            \0\0\0\0\0\0\0\x01\0\0\0\0\0\0\0\x01a\0\0\0\0\0\0\0\x01b",
-        "Output(OutputCommand { result: Failure(Failure { code: 409, \
-        message: Text { inner: \"cancelled\" }, metadata: Items { items: [(Text { inner: \"a\" }, \
-        Text { inner: \"b\" })] } }) })",
-    ),
-    (
-        b"\0\x1e\0\0\0\0\0\0\0\x06\
-            \0\0\0\0\x01\
-            \0",
-        "Notification(Notification { id: CompletionId(1), result: Void })",
-    ),
-    (
-        b"\0\x1e\0\0\0\0\0\0\0\x0f\
-            \x01\0\0\0\x11\
-            \x01\0\0\0\0\0\0\0\x01v",
-        "Notification(Notification { id: SignalId(17), result: Value(b\"v\") })",
-    ),
-    (
-        b"\0\x1e\0\0\0\0\0\0\0\x21\
-            \x02\0\0\0\0\0\0\0\x03foo\
-            \x02\0\0\x01\x99\0\0\0\0\0\0\0\0\0\0\0\0\0\0\0\0",
-        "Notification(Notification { id: SignalName(Text { inner: \"foo\" }), \
-        result: Failure(Failure { code: 409, message: Text { inner: \"\" }, \
-        metadata: Items { items: [] } }) })",
-    ),
-    (
-        b"\0\x1e\0\0\0\0\0\0\0\x21\
-            \0\0\0\x01\x02\
-            \x03\0\0\0\0\0\0\0\x02\0\0\0\0\0\0\0\x01a\0\0\0\0\0\0\0\x02bc",
-        "Notification(Notification { id: CompletionId(258), \
-        result: StateKeys(Items { items: [b\"a\", b\"bc\"] }) })",
-    ),
-    (
-        b"\0\x1e\0\0\0\0\0\0\0\x11\
-            \0\0\0\0\x03\
-            \x04\0\0\0\0\0\0\0\x03inv",
-        "Notification(Notification { id: CompletionId(3), \
-        result: InvocationId(Text { inner: \"inv\" }) })",
-    ),
-];
-
 const NAP: &[u8] = b"\0\x12\0\0\0\0\0\0\0\x17\
     \0\0\x01\x90\xba\xf7\x79\x8e\
     \0\0\0\x01\
     \0\0\0\0\0\0\0\x03nap";
-
-#[test]
-fn spells_each_message(rt: HostRuntime) -> Result<(), Fail> {
-    let alloc = rt.alloc();
-    for (frame, shown) in &SPELLED {
-        let raw = frame_of(alloc, Bytes::from_static(frame))?;
-        let (text, again) = decoded(alloc, &raw)?;
-        assert_eq!(rt; text.as_str(), *shown);
-        assert_eq!(rt; again.as_slice(), *frame);
-    }
-    Ok(())
-}
 
 #[test]
 fn reads_a_stream_byte_by_byte(rt: HostRuntime) -> Result<(), Fail> {
