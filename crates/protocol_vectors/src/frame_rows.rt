@@ -1,7 +1,7 @@
 // Frames of each type, whose bytes were written out from the layout by another program, and their lines; lines in
 // other forms than they are printed in; and lines that have no meaning.
 /// Lines as they are printed, and the bytes of their frames.
-pub static FRAMES: [(&str, &str); 48] = [
+pub static FRAMES: [(&str, &str); 49] = [
     (
         "Start id=\"abc\" known_entries=3 partial=true",
         "0x0001000000000000003f000000000000000361626300000000000000000000000000000000000000030000000000000000010000000000000000000000000000000000000000000000",
@@ -17,6 +17,10 @@ pub static FRAMES: [(&str, &str); 48] = [
     (
         "Error code=570 message=\"no\" stacktrace=\"at x\" behaviour=Retry index=0 type=18 name=\"n\" delay=1000",
         "0x000300000000000000380000023a00000000000000026e6f00000000000000046174207800010000000001000000120100000000000000016e0100000000000003e8",
+    ),
+    (
+        "Error code=500 behaviour=Pause",
+        "0x00030000000000000019000001f4000000000000000000000000000000000100000000",
     ),
     (
         "Error code=500 behaviour=Fail",
