@@ -2,12 +2,12 @@
 // what is read is written as the same bytes again.
 ghost use Rattle.std.specs.Prelude.{◌<◌, length};
 
-use crate::frame_rows::FRAMES;
+use crate::frame_rows::{FRAMES, parts_of};
 use bytes::Bytes;
 use journal_messages::{Encoder, RawMessage};
 use journal_streams::Decoder;
-use lines::atoms::bytes_of;
 use std::alloc::Global;
+use std::process::Abort;
 use std::test::Fail;
 use wire::Fault;
 
@@ -41,6 +41,14 @@ fn seen_again(alloc: Global, raw: &RawMessage, stream: &[u8]) -> Seen {
     }
 }
 
+/// The one frame of a stream.
+fn whole_of(alloc: Global, stream: &[u8]) -> Result<RawMessage, Fail> {
+    let mut decoder = Decoder::new(alloc);
+    decoder.push(Bytes::copy_from_slice(alloc, stream)?)?;
+    Ok(decoder.next_frame()?.ok_or("no whole frame")?)
+}
+
+/// What a stream is.
 fn seen_in(alloc: Global, stream: &[u8]) -> Result<Seen, Fail> {
     let mut decoder = Decoder::new(alloc);
     decoder.push(Bytes::copy_from_slice(alloc, stream)?)?;
@@ -73,58 +81,86 @@ fn changes_at(alloc: Global, frame: &[u8], at: usize) -> Result<bool, Fail>
     Ok(true)
 }
 
-/// Each change of one byte of each of these frames.
-fn changes(alloc: Global, frames: &[(&str, &str)]) -> Result<bool, Fail> {
-    for (_line, hex) in frames {
-        let frame = bytes_of(alloc, hex.as_bytes())?;
-        for at in 0..frame.len() {
-            if !changes_at(alloc, frame.as_slice(), at)? {
-                return Ok(false);
-            }
+/// Each change of one byte of a frame.
+fn are_changes_seen(alloc: Global, frame: &[u8]) -> Result<bool, Fail> {
+    for at in 0..frame.len() {
+        if !changes_at(alloc, frame, at)? {
+            return Ok(false);
         }
     }
     Ok(true)
 }
 
-#[test]
-fn each_change_of_the_first_frames(rt: HostRuntime) -> Result<(), Fail> {
-    assert!(rt; changes(rt.alloc(), &FRAMES[..12])?);
+/// Each change of one byte of each of these frames.
+fn assert_changes(rt: &impl Abort, alloc: Global, rows: &str) -> Result<(), Fail> {
+    for row in rows.lines() {
+        let (line, frame) = parts_of(alloc, row)?;
+        assert!(rt; are_changes_seen(alloc, frame.as_slice())?, "{line}");
+    }
     Ok(())
 }
 
 #[test]
-fn each_change_of_the_next_frames(rt: HostRuntime) -> Result<(), Fail> {
-    assert!(rt; changes(rt.alloc(), &FRAMES[12..28])?);
-    Ok(())
+fn each_change_of_control_frames(rt: HostRuntime) -> Result<(), Fail> {
+    assert_changes(&rt, rt.alloc(), FRAMES[0])
 }
 
 #[test]
-fn each_change_of_the_last_frames(rt: HostRuntime) -> Result<(), Fail> {
-    assert!(rt; changes(rt.alloc(), &FRAMES[28..])?);
+fn each_change_of_state_frames(rt: HostRuntime) -> Result<(), Fail> {
+    assert_changes(&rt, rt.alloc(), FRAMES[1])
+}
+
+#[test]
+fn each_change_of_other_frames(rt: HostRuntime) -> Result<(), Fail> {
+    assert_changes(&rt, rt.alloc(), FRAMES[2])
+}
+
+/// Each part of a frame waits for the rest.
+fn do_cuts_wait(alloc: Global, frame: &[u8]) -> Result<bool, Fail> {
+    for at in 0..frame.len() {
+        if seen_in(alloc, &frame[..at])? != Seen::Waits {
+            return Ok(false);
+        }
+    }
+    Ok(true)
+}
+
+/// The part of a body, with the length that it has, is no message's.
+fn is_part_refused(alloc: Global, whole: &RawMessage, at: usize) -> Result<bool, Fail>
+    requires { at < length whole.now.body }
+{
+    let part = RawMessage {
+        ty: whole.ty,
+        body: Bytes::copy_from_slice(alloc, &whole.body.as_slice()[..at])?,
+    };
+    Ok(seen_again(alloc, &part, b"") == Seen::Refused)
+}
+
+/// Each part of the frame's body is no message's.
+fn are_parts_refused(alloc: Global, frame: &[u8]) -> Result<bool, Fail> {
+    let whole = whole_of(alloc, frame)?;
+    for at in 0..whole.body.len() {
+        if !is_part_refused(alloc, &whole, at)? {
+            return Ok(false);
+        }
+    }
+    Ok(true)
+}
+
+fn assert_cuts(rt: &impl Abort, alloc: Global, rows: &str) -> Result<(), Fail> {
+    for row in rows.lines() {
+        let (line, frame) = parts_of(alloc, row)?;
+        assert!(rt; do_cuts_wait(alloc, frame.as_slice())?, "{line}");
+        assert!(rt; are_parts_refused(alloc, frame.as_slice())?, "{line}");
+    }
     Ok(())
 }
 
 /// A part of a frame waits for the rest; a part of its body, with the length that it has, is no message's.
 #[test]
 fn each_cut_of_each_frame(rt: HostRuntime) -> Result<(), Fail> {
-    let alloc = rt.alloc();
-    for (line, hex) in &FRAMES {
-        let frame = bytes_of(alloc, hex.as_bytes())?;
-        let mut decoder = Decoder::new(alloc);
-        decoder.push(Bytes::copy_from_slice(alloc, frame.as_slice())?)?;
-        let whole = decoder.next_frame().ok().flatten().ok_or("no frame")?;
-        for at in 0..frame.len() {
-            assert_eq!(rt;
-                seen_in(alloc, &frame.as_slice()[..at])?,
-                Seen::Waits,
-                "{line}"
-            );
-        }
-        for at in 0..whole.body.len() {
-            let body = Bytes::copy_from_slice(alloc, &whole.body.as_slice()[..at])?;
-            let part = RawMessage { ty: whole.ty, body };
-            assert_eq!(rt; seen_again(alloc, &part, b""), Seen::Refused, "{line}");
-        }
+    for rows in &FRAMES {
+        assert_cuts(&rt, rt.alloc(), rows)?;
     }
     Ok(())
 }

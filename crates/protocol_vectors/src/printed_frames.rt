@@ -1,67 +1,78 @@
 // The rows as lines and as frames, and whole runs of the program.
-use crate::frame_rows::{BAD, FRAMES, OTHER};
+use crate::frame_rows::{BAD, FRAMES, OTHER_FORMS, parts_of};
 use bytes::Bytes;
 use frame_lines::entry::{frame_of, print_frame};
 use frame_lines::exit_status::ExitStatus;
 use frame_lines::run::{Unread, decode, encode, frames_of};
 use journal_streams::Decoder;
-use lines::atoms::bytes_of;
 use lines::line::Line;
 use std::alloc::Global;
 use std::io::{self, Read, Write};
+use std::process::Abort;
 use std::test::Fail;
 use wire::Fault;
 
+/// A frame as a line.
+fn line_of(alloc: Global, frame: Bytes) -> Result<Line, Fail> {
+    let mut decoder = Decoder::new(alloc);
+    decoder.push(frame)?;
+    let raw = decoder.next_frame()?.ok_or("no whole frame")?;
+    let mut line = Line::new(alloc);
+    print_frame(alloc, &raw, &mut line)?;
+    Ok(line)
+}
+
+/// The frame of each row is printed as its line.
+fn assert_printed(rt: &impl Abort, alloc: Global, rows: &str) -> Result<(), Fail> {
+    for row in rows.lines() {
+        let (line, frame) = parts_of(alloc, row)?;
+        assert_eq!(rt; line_of(alloc, Bytes::from_vec(frame)?)?.as_str(), line);
+    }
+    Ok(())
+}
+
 #[test]
 fn frames_as_lines(rt: HostRuntime) -> Result<(), Fail> {
-    let alloc = rt.alloc();
-    for (text, hex) in &FRAMES {
-        let mut decoder = Decoder::new(alloc);
-        decoder.push(Bytes::from_vec(bytes_of(alloc, hex.as_bytes())?)?)?;
-        let raw = decoder.next_frame()?.ok_or("no whole frame")?;
-        let mut line = Line::new(alloc);
-        print_frame(alloc, &raw, &mut line)?;
-        assert_eq!(rt; line.as_str(), *text);
+    for rows in &FRAMES {
+        assert_printed(&rt, rt.alloc(), rows)?;
+    }
+    Ok(())
+}
+
+/// The line of each row shows its bytes.
+fn assert_shown(rt: &impl Abort, alloc: Global, rows: &str) -> Result<(), Fail> {
+    for row in rows.lines() {
+        let (line, bytes) = parts_of(alloc, row)?;
+        assert_eq!(rt;
+            frames_of(alloc, line.as_bytes())?.as_slice(),
+            bytes.as_slice(),
+            "{line}"
+        );
     }
     Ok(())
 }
 
 #[test]
 fn lines_as_frames(rt: HostRuntime) -> Result<(), Fail> {
-    let alloc = rt.alloc();
-    for (text, hex) in &FRAMES {
-        let frame = bytes_of(alloc, hex.as_bytes())?;
-        assert_eq!(rt;
-            frame_of(alloc, text.as_bytes())?.as_slice(),
-            frame.as_slice(),
-            "{text}"
-        );
+    for rows in &FRAMES {
+        assert_shown(&rt, rt.alloc(), rows)?;
     }
     Ok(())
 }
 
 #[test]
 fn lines_in_other_forms(rt: HostRuntime) -> Result<(), Fail> {
-    let alloc = rt.alloc();
-    for (text, hex) in &OTHER {
-        let frame = bytes_of(alloc, hex.as_bytes())?;
-        assert_eq!(rt;
-            frames_of(alloc, text.as_bytes())?.as_slice(),
-            frame.as_slice(),
-            "{text}"
-        );
-    }
-    Ok(())
+    assert_shown(&rt, rt.alloc(), OTHER_FORMS)
 }
 
 #[test]
 fn lines_without_a_meaning(rt: HostRuntime) -> Result<(), Fail> {
     let alloc = rt.alloc();
-    for text in &BAD {
+    for line in BAD.lines() {
         assert_eq!(rt;
-            frame_of(alloc, text.as_bytes()).err(),
+            frame_of(alloc, line.as_bytes()).err(),
             Some(Fault::Malformed),
-            "{text}"
+            "{line}"
         );
     }
     assert_eq!(rt;
@@ -90,11 +101,7 @@ fn deep_frame(alloc: Global, depth: u64) -> Result<Bytes, Fail> {
 fn deep_futures(rt: HostRuntime) -> Result<(), Fail> {
     let alloc = rt.alloc();
     let frame = deep_frame(alloc, 100_000)?;
-    let mut decoder = Decoder::new(alloc);
-    decoder.push(frame.clone()?)?;
-    let raw = decoder.next_frame()?.ok_or("no whole frame")?;
-    let mut line = Line::new(alloc);
-    print_frame(alloc, &raw, &mut line)?;
+    let line = line_of(alloc, frame.clone()?)?;
     let levels = "(kind=Unknown nested=[])".len() * 99_999;
     assert_eq!(rt;
         line.as_str().len(),
