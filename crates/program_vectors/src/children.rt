@@ -20,7 +20,7 @@ use vectors::frames::{
 const V7: &str = "application/vnd.restate.invocation.v7";
 
 /// What came to a race, what it wrote, and how the run ended.
-const RACES: [(&[&[u8]], &[&[u8]], ExitStatus); 17] = [
+static RACES: [Row; 17] = [
     // a first attempt
     (
         &[START_1, INPUT_TILL],
@@ -185,7 +185,7 @@ const RACES: [(&[&[u8]], &[&[u8]], ExitStatus); 17] = [
 ];
 
 /// The same of a parent.
-const PARENTS: [(&[&[u8]], &[&[u8]], ExitStatus); 16] = [
+static PARENTS: [Row; 16] = [
     // a first attempt
     (
         &[START_1, INPUT_TILL],
@@ -347,46 +347,62 @@ fn assert_run(
     Ok(())
 }
 
-#[test]
-fn races_end_by_what_is_first(rt: HostRuntime) -> Result<(), Fail> {
-    for (journal, frames, status) in RACES {
-        assert_run(&rt, rt.alloc(), "race", journal, frames, status)?;
+/// What comes to a run, what it writes, and how it ends.
+type Row = (
+    &'static [&'static [u8]],
+    &'static [&'static [u8]],
+    ExitStatus,
+);
+
+fn assert_runs(rt: &impl Abort, alloc: Global, handler: &str, rows: &[Row]) -> Result<(), Fail> {
+    for (journal, frames, status) in rows {
+        assert_run(rt, alloc, handler, journal, frames, *status)?;
     }
     Ok(())
 }
 
 #[test]
+fn races_end_by_what_is_first(rt: HostRuntime) -> Result<(), Fail> {
+    assert_runs(&rt, rt.alloc(), "race", &RACES)
+}
+
+#[test]
 fn parents_wait_for_both_children(rt: HostRuntime) -> Result<(), Fail> {
-    for (journal, frames, status) in PARENTS {
-        assert_run(&rt, rt.alloc(), "parent", journal, frames, status)?;
-    }
-    Ok(())
+    assert_runs(&rt, rt.alloc(), "parent", &PARENTS)
 }
 
 /// A cancelled parent, up to the known entries, which lack the second child's id.
 const CANCELLED: &[&[u8]] = &[START_5, INPUT_TILL, CALL_A, CALL_B, INVOCATION_1, CANCEL];
 
+/// What it writes where so many bytes of its known entries and of the second child's id came, and how it ends.
+fn cut_at(place: usize, known: usize, whole: usize) -> (&'static [&'static [u8]], ExitStatus) {
+    if place < known {
+        (&[ERROR_INPUT_CLOSED], ExitStatus::Failed)
+    } else if place < whole {
+        (&[SUSPENSION_FOR_3], ExitStatus::Suspended)
+    } else {
+        (
+            &[CANCEL_INV_1, CANCEL_INV_2, OUTPUT_CANCELLED, END],
+            ExitStatus::Ended,
+        )
+    }
+}
+
 /// Its input is cut at each byte, and closed: an entry is missing, or the second child's id is, or none is.
-#[test]
-fn cancelled_parents_wait_for_the_whole_id(rt: HostRuntime) -> Result<(), Fail> {
-    let alloc = rt.alloc();
-    let known = CANCELLED.concat(alloc)?;
-    let whole = [known.as_slice(), INVOCATION_3].concat(alloc)?;
+fn assert_cuts(rt: &impl Abort, alloc: Global, known: usize, whole: &[u8]) -> Result<(), Fail> {
     for place in 0..=whole.len() {
-        let (frames, status): (&[&[u8]], ExitStatus) = if place < known.len() {
-            (&[ERROR_INPUT_CLOSED], ExitStatus::Failed)
-        } else if place < whole.len() {
-            (&[SUSPENSION_FOR_3], ExitStatus::Suspended)
-        } else {
-            (
-                &[CANCEL_INV_1, CANCEL_INV_2, OUTPUT_CANCELLED, END],
-                ExitStatus::Ended,
-            )
-        };
-        let front = whole.as_slice().get(..place).ok_or("no such place")?;
-        assert_run(&rt, alloc, "parent", &[front], frames, status)?;
+        let (frames, status) = cut_at(place, known, whole.len());
+        let front = whole.get(..place).ok_or("no such place")?;
+        assert_run(rt, alloc, "parent", &[front], frames, status)?;
     }
     Ok(())
+}
+
+#[test]
+fn cancelled_parents_wait_for_the_whole_id(rt: HostRuntime) -> Result<(), Fail> {
+    let known = CANCELLED.concat(rt.alloc())?;
+    let whole = [known.as_slice(), INVOCATION_3].concat(rt.alloc())?;
+    assert_cuts(&rt, rt.alloc(), known.len(), whole.as_slice())
 }
 
 #[test]

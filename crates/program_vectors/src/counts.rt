@@ -15,8 +15,6 @@ const START: u8 = 1;
 
 const GET_EAGER_STATE: u8 = 11;
 
-const GET_LAZY_STATE: u8 = 12;
-
 const SET_STATE: u8 = 15;
 
 const OUTPUT: u8 = 29;
@@ -26,36 +24,14 @@ const COMPLETION: u8 = 30;
 /// A name that is absent, and the key "count".
 const COUNT: &[u8] = b"\0\0\0\0\0\0\0\0\0\0\0\0\0\0\0\x05count";
 
-/// These bytes with their length in front.
-fn counted(alloc: Global, bytes: &[u8]) -> Result<Vec<u8>, AllocError> {
-    [(bytes.len() as u64).to_be_bytes().as_slice(), bytes].concat(alloc)
-}
+/// The same, and that a value was found.
+const FOUND: &[u8] = b"\0\0\0\0\0\0\0\0\0\0\0\0\0\0\0\x05count\x01\x01";
 
-/// The frame of this type whose body is these fields and, behind them, this text.
-fn frame(alloc: Global, ty: u8, fields: &[u8], text: &[u8]) -> Result<Vec<u8>, AllocError> {
-    let text = counted(alloc, text)?;
-    let body = [fields, text.as_slice()].concat(alloc)?;
-    let body = counted(alloc, body.as_slice())?;
-    [&[0, ty], body.as_slice()].concat(alloc)
-}
-
-/// What `counter` writes is these frames, and it ends with this status.
-fn assert_counts(
-    rt: &impl Abort,
-    alloc: Global,
-    input: &[&[u8]],
-    wanted: &[&[u8]],
-    status: ExitStatus,
-) -> Result<(), Fail> {
-    let input = input.concat(alloc)?;
-    let mut reader = Plain(Cursor::new(input.as_slice()));
-    let mut writer = Plain(Vec::new(alloc));
-    let end = run(alloc, V7, "counter", &mut reader, &mut writer);
-    let wanted = wanted.concat(alloc)?;
-    assert_eq!(rt; writer.0.as_slice(), wanted.as_slice());
-    assert_eq!(rt; end.status(), status);
-    Ok(())
-}
+/// The count is read, completed under id 1.
+const LAZY_READ: &[u8] = b"\0\x0c\0\0\0\0\0\0\0\x19\
+    \0\0\0\0\0\0\0\0\
+    \0\0\0\0\0\0\0\x05count\
+    \0\0\0\x01";
 
 /// Start of the invocation "abc", with 1 known entry and a state of one pair, up to the value of "count".
 const START_UP_TO_COUNT: &[u8] = b"\0\0\0\0\0\0\0\x03abc\
@@ -67,69 +43,122 @@ const START_UP_TO_COUNT: &[u8] = b"\0\0\0\0\0\0\0\x03abc\
 /// What stands behind the value: the state is whole, and all else is at its default.
 const START_BEHIND_COUNT: &[u8] = &[0; 24];
 
-/// Start with this count.
-fn start_with(alloc: Global, count: &[u8]) -> Result<Vec<u8>, AllocError> {
-    let count = counted(alloc, count)?;
-    let body = [START_UP_TO_COUNT, count.as_slice(), START_BEHIND_COUNT].concat(alloc)?;
-    let body = counted(alloc, body.as_slice())?;
-    [&[0, START], body.as_slice()].concat(alloc)
+/// Writes a frame of this type, whose body is these fields, this text with its length, and these bytes.
+fn push_frame(
+    frames: &mut Vec<u8>,
+    ty: u8,
+    fields: &[u8],
+    text: &[u8],
+    behind: &[u8],
+) -> Result<(), AllocError> {
+    let len = (fields.len() as u64)
+        .saturating_add(8)
+        .saturating_add(text.len() as u64)
+        .saturating_add(behind.len() as u64);
+    frames.extend_from_slice(&[0, ty])?;
+    frames.extend_from_slice(&len.to_be_bytes())?;
+    frames.extend_from_slice(fields)?;
+    frames.extend_from_slice(&(text.len() as u64).to_be_bytes())?;
+    frames.extend_from_slice(text)?;
+    frames.extend_from_slice(behind)
+}
+
+/// The run of `counter` over this input writes these bytes, and ends with this status.
+fn assert_counts(
+    rt: &impl Abort,
+    alloc: Global,
+    input: &[u8],
+    wanted: &[u8],
+    status: ExitStatus,
+) -> Result<(), Fail> {
+    let mut reader = Plain(Cursor::new(input));
+    let mut writer = Plain(Vec::new(alloc));
+    let end = run(alloc, V7, "counter", &mut reader, &mut writer);
+    assert_eq!(rt; writer.0.as_slice(), wanted);
+    assert_eq!(rt; end.status(), status);
+    Ok(())
+}
+
+/// What comes to an attempt whose state has this count.
+fn input_with(alloc: Global, count: &[u8]) -> Result<Vec<u8>, AllocError> {
+    let mut input = Vec::new(alloc);
+    push_frame(
+        &mut input,
+        START,
+        START_UP_TO_COUNT,
+        count,
+        START_BEHIND_COUNT,
+    )?;
+    input.extend_from_slice(INPUT_TILL)?;
+    Ok(input)
+}
+
+/// What is written where this count was found, or asked for, and the next one set.
+fn output_of(alloc: Global, found: Option<&[u8]>, next: &[u8]) -> Result<Vec<u8>, AllocError> {
+    let mut output = Vec::new(alloc);
+    if let Some(found) = found {
+        push_frame(&mut output, GET_EAGER_STATE, FOUND, found, b"")?;
+    }
+    push_frame(&mut output, SET_STATE, COUNT, next, b"")?;
+    push_frame(&mut output, OUTPUT, b"\0", next, b"")?;
+    output.extend_from_slice(END)?;
+    Ok(output)
+}
+
+/// Counts, and those behind them.
+static COUNTS: [(&[u8], &[u8]); 7] = [
+    (b"41", b"42"),
+    (b"007", b"8"),
+    (b"999999999999999999", b"1000000000000000000"),
+    (b"1000000000000000000", b"1"),
+    (b"", b"1"),
+    (b"+1", b"1"),
+    (b"4x", b"1"),
+];
+
+fn assert_next(rt: &impl Abort, alloc: Global, found: &[u8], next: &[u8]) -> Result<(), Fail> {
+    let input = input_with(alloc, found)?;
+    let wanted = output_of(alloc, Some(found), next)?;
+    assert_counts(
+        rt,
+        alloc,
+        input.as_slice(),
+        wanted.as_slice(),
+        ExitStatus::Ended,
+    )
 }
 
 #[test]
 fn counts_are_whole_numbers(rt: HostRuntime) -> Result<(), Fail> {
-    let alloc = rt.alloc();
-    let rows: [(&[u8], &[u8]); 7] = [
-        (b"41", b"42"),
-        (b"007", b"8"),
-        (b"999999999999999999", b"1000000000000000000"),
-        (b"1000000000000000000", b"1"),
-        (b"", b"1"),
-        (b"+1", b"1"),
-        (b"4x", b"1"),
-    ];
-    for (found, next) in rows {
-        let start = start_with(alloc, found)?;
-        let read = [COUNT, b"\x01\x01"].concat(alloc)?;
-        let read = frame(alloc, GET_EAGER_STATE, read.as_slice(), found)?;
-        let set = frame(alloc, SET_STATE, COUNT, next)?;
-        let output = frame(alloc, OUTPUT, b"\0", next)?;
-        assert_counts(
-            &rt,
-            alloc,
-            &[start.as_slice(), INPUT_TILL],
-            &[read.as_slice(), set.as_slice(), output.as_slice(), END],
-            ExitStatus::Ended,
-        )?;
+    for (found, next) in &COUNTS {
+        assert_next(&rt, rt.alloc(), found, next)?;
     }
     Ok(())
 }
 
-/// The count is read, completed under id 1.
-fn lazy_read(alloc: Global) -> Result<Vec<u8>, AllocError> {
-    let body = [COUNT, b"\0\0\0\x01"].concat(alloc)?;
-    let body = counted(alloc, body.as_slice())?;
-    [&[0, GET_LAZY_STATE], body.as_slice()].concat(alloc)
+#[test]
+fn count_is_waited_for_where_it_is_unknown(rt: HostRuntime) -> Result<(), Fail> {
+    let input = [START_1, INPUT_TILL].concat(rt.alloc())?;
+    let wanted = [LAZY_READ, SUSPENSION_ON_1].concat(rt.alloc())?;
+    assert_counts(
+        &rt,
+        rt.alloc(),
+        input.as_slice(),
+        wanted.as_slice(),
+        ExitStatus::Suspended,
+    )
 }
 
 #[test]
-fn count_is_waited_for_where_it_is_unknown(rt: HostRuntime) -> Result<(), Fail> {
-    let alloc = rt.alloc();
-    let read = lazy_read(alloc)?;
+fn count_that_came_is_set(rt: HostRuntime) -> Result<(), Fail> {
+    let mut input = [START_3, INPUT_TILL, LAZY_READ].concat(rt.alloc())?;
+    push_frame(&mut input, COMPLETION, b"\0\0\0\0\x01\x01", b"41", b"")?;
+    let wanted = output_of(rt.alloc(), None, b"42")?;
     assert_counts(
         &rt,
-        alloc,
-        &[START_1, INPUT_TILL],
-        &[read.as_slice(), SUSPENSION_ON_1],
-        ExitStatus::Suspended,
-    )?;
-    let found = frame(alloc, COMPLETION, b"\0\0\0\0\x01\x01", b"41")?;
-    let set = frame(alloc, SET_STATE, COUNT, b"42")?;
-    let output = frame(alloc, OUTPUT, b"\0", b"42")?;
-    assert_counts(
-        &rt,
-        alloc,
-        &[START_3, INPUT_TILL, read.as_slice(), found.as_slice()],
-        &[set.as_slice(), output.as_slice(), END],
+        rt.alloc(),
+        input.as_slice(),
+        wanted.as_slice(),
         ExitStatus::Ended,
     )
 }
