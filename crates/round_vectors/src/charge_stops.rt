@@ -8,7 +8,7 @@ use std::test::Fail;
 use streams::Plain;
 
 /// The lines of the round that is stopped.
-const FIRST: [&str; 14] = [
+static FIRST: [&str; 14] = [
     "round\n",
     "piece all\n",
     "step\n",

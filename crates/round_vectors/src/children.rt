@@ -70,7 +70,7 @@ fn cancelled_parent_cancels_each_child_once(rt: HostRuntime) -> Result<(), Fail>
 }
 
 /// Options that change nothing of these rounds, each alone.
-const IDLE: [&str; 6] = [
+static IDLE: [&str; 6] = [
     "cancel=both",
     "checks=off",
     "awaiting=always",
@@ -207,8 +207,8 @@ fn assert_with(
 #[test]
 fn options_change_what_they_name(rt: HostRuntime) -> Result<(), Fail> {
     let (rounds, report) = CANCELLED.split_once("=>\n").ok_or("no =>")?;
-    for option in IDLE {
-        assert_with(&rt, rt.alloc(), option, rounds, report)?;
+    for option in &IDLE {
+        assert_with(&rt, rt.alloc(), *option, rounds, report)?;
     }
     assert_with(&rt, rt.alloc(), "awaiting=never", rounds, SILENT)?;
     assert_with(&rt, rt.alloc(), "cancel=none", rounds, CHILDLESS)?;
@@ -217,7 +217,7 @@ fn options_change_what_they_name(rt: HostRuntime) -> Result<(), Fail> {
 }
 
 /// The round behind the calls, which is stopped behind each of its lines in turn. What arrives stays in the journal.
-const STOPPED: [&str; 12] = [
+static STOPPED: [&str; 12] = [
     "round\n",
     "piece all\n",
     "step\n",

@@ -179,7 +179,7 @@ fn only_a_pending_run_has_a_result(rt: HostRuntime) -> Result<(), Fail> {
 }
 
 /// A run's completion doesn't arrive. Before its run is stored no command carries its id; once it is completed it is completed once more.
-const ARRIVALS: [&str; 3] = [
+static ARRIVALS: [&str; 3] = [
     "round\npiece all\nstep 3\narrive Notification id=completion(1) result=value(\"x\")\n=>\nfault NoSuchId\n",
     "round\npiece all\nstep 3\nstore all\narrive Notification id=completion(1) result=value(\"x\")\n=>\nfault RunIsProposed\n",
     "round\npiece all\nstep 3\nrun_result 17 success \"x\"\nstore all\narrive Notification id=completion(1) result=value(\"x\")\n=>\nfault SecondCompletion\n",
@@ -187,8 +187,8 @@ const ARRIVALS: [&str; 3] = [
 
 #[test]
 fn completion_of_a_run_does_not_arrive(rt: HostRuntime) -> Result<(), Fail> {
-    for table in ARRIVALS {
-        assert_table(&rt, rt.alloc(), "charge", table, Told::Stopped)?;
+    for table in &ARRIVALS {
+        assert_table(&rt, rt.alloc(), "charge", *table, Told::Stopped)?;
     }
     Ok(())
 }

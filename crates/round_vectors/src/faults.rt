@@ -9,7 +9,7 @@ fn assert_stopped(rt: &impl Abort, alloc: Global, table: &str) -> Result<(), Fai
 }
 
 /// A command, no bytes, a body that doesn't decode, and two notifications are no notification.
-const NO_NOTIFICATIONS: [&str; 5] = [
+static NO_NOTIFICATIONS: [&str; 5] = [
     "round\narrive Sleep wake_up_time=1000 result_completion_id=1\n=>\nfault NotANotification\n",
     "round\narrive 0x\n=>\nfault NotANotification\n",
     "round\narrive raw 30 0x01\n=>\nfault NotANotification\n",
@@ -19,8 +19,8 @@ const NO_NOTIFICATIONS: [&str; 5] = [
 
 #[test]
 fn what_is_no_notification_stops_the_rounds(rt: HostRuntime) -> Result<(), Fail> {
-    for table in NO_NOTIFICATIONS {
-        assert_stopped(&rt, rt.alloc(), table)?;
+    for table in &NO_NOTIFICATIONS {
+        assert_stopped(&rt, rt.alloc(), *table)?;
     }
     Ok(())
 }

@@ -8,7 +8,7 @@ use std::test::Fail;
 use streams::Plain;
 
 /// The lines of the round that is stopped. Nothing is stored before the last.
-const FIRST: [&str; 6] = [
+static FIRST: [&str; 6] = [
     "round\n",
     "piece all\n",
     "step\n",
