@@ -1,6 +1,8 @@
 //! Choices as they are written on a line: the case, and in round brackets what it holds.
-use crate::forms::Form;
+//! Each case is named once, to a visitor that prints or takes it.
+use crate::forms::{Form, take_all};
 use crate::value::Value;
+use bytes::Bytes;
 use journal_calls::{InvocationTarget, Signal, SignalResult};
 use journal_errors::ErrorBehavior;
 use journal_state::VoidOrValue;
@@ -9,249 +11,220 @@ use lines::fields::Fields;
 use lines::line::Line;
 use lines::pieces::{between, words};
 use std::alloc::{AllocError, Global};
-use wire::Fault;
+use wire::{Fault, Wire};
+
+/// What prints or takes the case of a choice.
+pub trait Cases {
+    type Error;
+
+    /// A case with no brackets.
+    fn bare(&mut self, name: &str) -> Result<(), Self::Error>;
+
+    /// A case with a value in its brackets.
+    fn value<T: Value>(&mut self, name: &str, value: &mut T) -> Result<(), Self::Error>;
+
+    /// A case with fields in its brackets.
+    fn form<T: Form>(&mut self, name: &str, form: &mut T) -> Result<(), Self::Error>;
+}
+
+/// A type whose values are cases. Their bytes begin with the case's number, the first one's with 0.
+pub trait Choice: Wire {
+    /// Hands the visitor the case that the choice is at.
+    fn case<V: Cases>(&mut self, visitor: &mut V) -> Result<(), V::Error>;
+}
+
+impl Cases for Line {
+    type Error = AllocError;
+
+    fn bare(&mut self, name: &str) -> Result<(), AllocError> {
+        self.word(name)
+    }
+
+    fn value<T: Value>(&mut self, name: &str, value: &mut T) -> Result<(), AllocError> {
+        self.word(name)?;
+        self.open("(")?;
+        value.print(self)?;
+        self.word(")")
+    }
+
+    fn form<T: Form>(&mut self, name: &str, form: &mut T) -> Result<(), AllocError> {
+        self.word(name)?;
+        self.open("(")?;
+        form.fields(self)?;
+        self.word(")")
+    }
+}
 
 /// A case as it was read: its name, and what stands in its brackets, if it has any.
 #[derive(Drop)]
 struct Case<'a> {
+    alloc: Global,
     name: &'a [u8],
     inside: Option<&'a [u8]>,
+    /// A choice was at a case of this name, and has taken what stands in the brackets.
+    is_taken: bool,
 }
 
 impl<'a> Case<'a> {
-    fn of(text: &'a [u8]) -> Result<Case<'a>, Fault> {
-        match text.iter().position(|byte| *byte == b'(') {
-            None => Ok(Case {
-                name: text,
-                inside: None,
-            }),
-            Some(at) => Ok(Case {
-                name: &text[..at],
-                inside: Some(between(&text[at..], b'(', b')')?),
-            }),
+    fn of(alloc: Global, text: &'a [u8]) -> Result<Case<'a>, Fault> {
+        let (name, inside) = match text.iter().position(|byte| *byte == b'(') {
+            None => (text, None),
+            Some(at) => (&text[..at], Some(between(&text[at..], b'(', b')')?)),
+        };
+        Ok(Case {
+            alloc,
+            name,
+            inside,
+            is_taken: false,
+        })
+    }
+
+    /// Takes what stands in the brackets, if the case has this name.
+    fn take(&mut self, name: &str) -> Option<&'a [u8]> {
+        if self.name != name.as_bytes() {
+            return None;
         }
+        self.is_taken = self.inside.is_some();
+        self.inside
+    }
+}
+
+impl Cases for Case<'_> {
+    type Error = Fault;
+
+    fn bare(&mut self, name: &str) -> Result<(), Fault> {
+        self.is_taken = self.name == name.as_bytes() && self.inside.is_none();
+        Ok(())
     }
 
-    /// The case has this name, and no brackets.
-    fn is_bare(&self, name: &str) -> bool {
-        self.name == name.as_bytes() && self.inside.is_none()
-    }
-
-    /// What stands in the brackets of a case of this name.
-    fn inside(&self, name: &str) -> Option<&'a [u8]> {
-        if self.name == name.as_bytes() {
-            self.inside
-        } else {
-            None
+    fn value<T: Value>(&mut self, name: &str, value: &mut T) -> Result<(), Fault> {
+        if let Some(inside) = self.take(name) {
+            *value = T::parse(self.alloc, inside.trim_ascii())?;
         }
+        Ok(())
+    }
+
+    fn form<T: Form>(&mut self, name: &str, form: &mut T) -> Result<(), Fault> {
+        if let Some(inside) = self.take(name) {
+            let pieces = words(self.alloc, inside)?;
+            take_all(form, Fields::of_pieces(self.alloc, pieces.as_slice())?)?;
+        }
+        Ok(())
     }
 }
 
-fn print_value<T: Value>(name: &str, value: &T, line: &mut Line) -> Result<(), AllocError> {
-    line.word(name)?;
-    line.open("(")?;
-    value.print(line)?;
-    line.word(")")
+/// The bytes of each case while it holds nothing: its number, and as many zeros as any case has, or more.
+static CASES: [[u8; 27]; 5] = [
+    [
+        0, 0, 0, 0, 0, 0, 0, 0, 0, 0, 0, 0, 0, 0, 0, 0, 0, 0, 0, 0, 0, 0, 0, 0, 0, 0, 0,
+    ],
+    [
+        1, 0, 0, 0, 0, 0, 0, 0, 0, 0, 0, 0, 0, 0, 0, 0, 0, 0, 0, 0, 0, 0, 0, 0, 0, 0, 0,
+    ],
+    [
+        2, 0, 0, 0, 0, 0, 0, 0, 0, 0, 0, 0, 0, 0, 0, 0, 0, 0, 0, 0, 0, 0, 0, 0, 0, 0, 0,
+    ],
+    [
+        3, 0, 0, 0, 0, 0, 0, 0, 0, 0, 0, 0, 0, 0, 0, 0, 0, 0, 0, 0, 0, 0, 0, 0, 0, 0, 0,
+    ],
+    [
+        4, 0, 0, 0, 0, 0, 0, 0, 0, 0, 0, 0, 0, 0, 0, 0, 0, 0, 0, 0, 0, 0, 0, 0, 0, 0, 0,
+    ],
+];
+
+impl<T: Choice> Value for T {
+    fn print(&mut self, line: &mut Line) -> Result<(), AllocError> {
+        self.case(line)
+    }
+
+    fn parse(alloc: Global, text: &[u8]) -> Result<T, Fault> {
+        let mut case = Case::of(alloc, text)?;
+        for bytes in &CASES {
+            let mut choice = T::get(alloc, &mut Bytes::from_static(bytes))?;
+            choice.case(&mut case)?;
+            if case.is_taken {
+                return Ok(choice);
+            }
+        }
+        Err(Fault::Malformed)
+    }
 }
 
-fn print_form<T: Form>(name: &str, form: &T, line: &mut Line) -> Result<(), AllocError> {
-    line.word(name)?;
-    line.open("(")?;
-    form.print(line)?;
-    line.word(")")
-}
-
-fn parse_value<T: Value>(alloc: Global, inside: &[u8]) -> Result<T, Fault> {
-    T::parse(alloc, inside.trim_ascii())
-}
-
-fn parse_form<T: Form>(alloc: Global, inside: &[u8]) -> Result<T, Fault> {
-    let pieces = words(alloc, inside)?;
-    let mut fields = Fields::of_pieces(alloc, pieces.as_slice())?;
-    let form = T::parse(&mut fields)?;
-    fields.end()?;
-    Ok(form)
-}
-
-impl Value for ErrorBehavior {
-    fn print(&self, line: &mut Line) -> Result<(), AllocError> {
-        line.word(match self {
+impl Choice for ErrorBehavior {
+    fn case<V: Cases>(&mut self, visitor: &mut V) -> Result<(), V::Error> {
+        visitor.bare(match self {
             ErrorBehavior::Retry => "Retry",
             ErrorBehavior::Pause => "Pause",
             ErrorBehavior::Fail => "Fail",
         })
     }
+}
 
-    fn parse(_alloc: Global, text: &[u8]) -> Result<ErrorBehavior, Fault> {
-        match text {
-            b"Retry" => Ok(ErrorBehavior::Retry),
-            b"Pause" => Ok(ErrorBehavior::Pause),
-            b"Fail" => Ok(ErrorBehavior::Fail),
-            _ => Err(Fault::Malformed),
+impl Choice for VoidOrValue {
+    fn case<V: Cases>(&mut self, visitor: &mut V) -> Result<(), V::Error> {
+        match self {
+            VoidOrValue::Void => visitor.bare("void"),
+            VoidOrValue::Value(value) => visitor.value("value", value),
         }
     }
 }
 
-impl Value for VoidOrValue {
-    fn print(&self, line: &mut Line) -> Result<(), AllocError> {
+impl Choice for ValueOrFailure {
+    fn case<V: Cases>(&mut self, visitor: &mut V) -> Result<(), V::Error> {
         match self {
-            VoidOrValue::Void => line.word("void"),
-            VoidOrValue::Value(value) => print_value("value", value, line),
+            ValueOrFailure::Value(value) => visitor.value("value", value),
+            ValueOrFailure::Failure(failure) => visitor.form("failure", failure),
         }
-    }
-
-    fn parse(alloc: Global, text: &[u8]) -> Result<VoidOrValue, Fault> {
-        let case = Case::of(text)?;
-        if case.is_bare("void") {
-            return Ok(VoidOrValue::Void);
-        }
-        if let Some(inside) = case.inside("value") {
-            return parse_value(alloc, inside).map(VoidOrValue::Value);
-        }
-        Err(Fault::Malformed)
     }
 }
 
-impl Value for ValueOrFailure {
-    fn print(&self, line: &mut Line) -> Result<(), AllocError> {
+impl Choice for SignalResult {
+    fn case<V: Cases>(&mut self, visitor: &mut V) -> Result<(), V::Error> {
         match self {
-            ValueOrFailure::Value(value) => print_value("value", value, line),
-            ValueOrFailure::Failure(failure) => print_form("failure", failure, line),
+            SignalResult::Void => visitor.bare("void"),
+            SignalResult::Value(value) => visitor.value("value", value),
+            SignalResult::Failure(failure) => visitor.form("failure", failure),
         }
-    }
-
-    fn parse(alloc: Global, text: &[u8]) -> Result<ValueOrFailure, Fault> {
-        let case = Case::of(text)?;
-        if let Some(inside) = case.inside("value") {
-            return parse_value(alloc, inside).map(ValueOrFailure::Value);
-        }
-        if let Some(inside) = case.inside("failure") {
-            return parse_form(alloc, inside).map(ValueOrFailure::Failure);
-        }
-        Err(Fault::Malformed)
     }
 }
 
-impl Value for SignalResult {
-    fn print(&self, line: &mut Line) -> Result<(), AllocError> {
+impl Choice for NotificationResult {
+    fn case<V: Cases>(&mut self, visitor: &mut V) -> Result<(), V::Error> {
         match self {
-            SignalResult::Void => line.word("void"),
-            SignalResult::Value(value) => print_value("value", value, line),
-            SignalResult::Failure(failure) => print_form("failure", failure, line),
+            NotificationResult::Void => visitor.bare("void"),
+            NotificationResult::Value(value) => visitor.value("value", value),
+            NotificationResult::Failure(failure) => visitor.form("failure", failure),
+            NotificationResult::StateKeys(keys) => visitor.value("state_keys", keys),
+            NotificationResult::InvocationId(id) => visitor.value("invocation_id", id),
         }
-    }
-
-    fn parse(alloc: Global, text: &[u8]) -> Result<SignalResult, Fault> {
-        let case = Case::of(text)?;
-        if case.is_bare("void") {
-            return Ok(SignalResult::Void);
-        }
-        if let Some(inside) = case.inside("value") {
-            return parse_value(alloc, inside).map(SignalResult::Value);
-        }
-        if let Some(inside) = case.inside("failure") {
-            return parse_form(alloc, inside).map(SignalResult::Failure);
-        }
-        Err(Fault::Malformed)
     }
 }
 
-impl Value for NotificationResult {
-    fn print(&self, line: &mut Line) -> Result<(), AllocError> {
+impl Choice for NotificationId {
+    fn case<V: Cases>(&mut self, visitor: &mut V) -> Result<(), V::Error> {
         match self {
-            NotificationResult::Void => line.word("void"),
-            NotificationResult::Value(value) => print_value("value", value, line),
-            NotificationResult::Failure(failure) => print_form("failure", failure, line),
-            NotificationResult::StateKeys(keys) => print_value("state_keys", keys, line),
-            NotificationResult::InvocationId(id) => print_value("invocation_id", id, line),
+            NotificationId::CompletionId(id) => visitor.value("completion", id),
+            NotificationId::SignalId(id) => visitor.value("signal", id),
+            NotificationId::SignalName(name) => visitor.value("name", name),
         }
-    }
-
-    fn parse(alloc: Global, text: &[u8]) -> Result<NotificationResult, Fault> {
-        let case = Case::of(text)?;
-        if case.is_bare("void") {
-            return Ok(NotificationResult::Void);
-        }
-        if let Some(inside) = case.inside("value") {
-            return parse_value(alloc, inside).map(NotificationResult::Value);
-        }
-        if let Some(inside) = case.inside("failure") {
-            return parse_form(alloc, inside).map(NotificationResult::Failure);
-        }
-        if let Some(inside) = case.inside("state_keys") {
-            return parse_value(alloc, inside).map(NotificationResult::StateKeys);
-        }
-        if let Some(inside) = case.inside("invocation_id") {
-            return parse_value(alloc, inside).map(NotificationResult::InvocationId);
-        }
-        Err(Fault::Malformed)
     }
 }
 
-impl Value for NotificationId {
-    fn print(&self, line: &mut Line) -> Result<(), AllocError> {
+impl Choice for Signal {
+    fn case<V: Cases>(&mut self, visitor: &mut V) -> Result<(), V::Error> {
         match self {
-            NotificationId::CompletionId(id) => print_value("completion", id, line),
-            NotificationId::SignalId(id) => print_value("signal", id, line),
-            NotificationId::SignalName(name) => print_value("name", name, line),
+            Signal::Index(index) => visitor.value("index", index),
+            Signal::Name(name) => visitor.value("name", name),
         }
-    }
-
-    fn parse(alloc: Global, text: &[u8]) -> Result<NotificationId, Fault> {
-        let case = Case::of(text)?;
-        if let Some(inside) = case.inside("completion") {
-            return parse_value(alloc, inside).map(NotificationId::CompletionId);
-        }
-        if let Some(inside) = case.inside("signal") {
-            return parse_value(alloc, inside).map(NotificationId::SignalId);
-        }
-        if let Some(inside) = case.inside("name") {
-            return parse_value(alloc, inside).map(NotificationId::SignalName);
-        }
-        Err(Fault::Malformed)
     }
 }
 
-impl Value for Signal {
-    fn print(&self, line: &mut Line) -> Result<(), AllocError> {
+impl Choice for InvocationTarget {
+    fn case<V: Cases>(&mut self, visitor: &mut V) -> Result<(), V::Error> {
         match self {
-            Signal::Index(index) => print_value("index", index, line),
-            Signal::Name(name) => print_value("name", name, line),
+            InvocationTarget::InvocationId(id) => visitor.value("InvocationId", id),
+            InvocationTarget::WorkflowId(id) => visitor.form("WorkflowId", id),
+            InvocationTarget::IdempotencyId(id) => visitor.form("IdempotencyId", id),
         }
-    }
-
-    fn parse(alloc: Global, text: &[u8]) -> Result<Signal, Fault> {
-        let case = Case::of(text)?;
-        if let Some(inside) = case.inside("index") {
-            return parse_value(alloc, inside).map(Signal::Index);
-        }
-        if let Some(inside) = case.inside("name") {
-            return parse_value(alloc, inside).map(Signal::Name);
-        }
-        Err(Fault::Malformed)
-    }
-}
-
-impl Value for InvocationTarget {
-    fn print(&self, line: &mut Line) -> Result<(), AllocError> {
-        match self {
-            InvocationTarget::InvocationId(id) => print_value("InvocationId", id, line),
-            InvocationTarget::WorkflowId(id) => print_form("WorkflowId", id, line),
-            InvocationTarget::IdempotencyId(id) => print_form("IdempotencyId", id, line),
-        }
-    }
-
-    fn parse(alloc: Global, text: &[u8]) -> Result<InvocationTarget, Fault> {
-        let case = Case::of(text)?;
-        if let Some(inside) = case.inside("InvocationId") {
-            return parse_value(alloc, inside).map(InvocationTarget::InvocationId);
-        }
-        if let Some(inside) = case.inside("WorkflowId") {
-            return parse_form(alloc, inside).map(InvocationTarget::WorkflowId);
-        }
-        if let Some(inside) = case.inside("IdempotencyId") {
-            return parse_form(alloc, inside).map(InvocationTarget::IdempotencyId);
-        }
-        Err(Fault::Malformed)
     }
 }

@@ -27,8 +27,8 @@ fn print_raw(raw: &RawMessage, line: &mut Line) -> Result<(), AllocError> {
 /// Writes the message of a frame, or the frame as it is where its body doesn't decode.
 pub fn print_frame(alloc: Global, raw: &RawMessage, line: &mut Line) -> Result<(), AllocError> {
     match raw.read(alloc) {
-        Ok(message) => {
-            let printed = print_message(&message, line);
+        Ok(mut message) => {
+            let printed = print_message(&mut message, line);
             drop(message);
             printed
         }

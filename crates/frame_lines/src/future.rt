@@ -1,15 +1,17 @@
 //! What an attempt waits for, as it is written on a line.
+use crate::choices::{Cases, Choice};
+use crate::forms::{Form, Visitor, blank, take_all};
 use crate::nested::{Begun, begun_of};
-use crate::value::{PrintsValues, TakesValues, Value};
+use crate::value::Value;
 use journal_attempt::{Future, FutureKind, FutureNode};
 use lines::fields::Fields;
 use lines::line::Line;
 use std::alloc::{AllocError, Global};
 use wire::{Fault, Items};
 
-impl Value for FutureKind {
-    fn print(&self, line: &mut Line) -> Result<(), AllocError> {
-        line.word(match self {
+impl Choice for FutureKind {
+    fn case<V: Cases>(&mut self, visitor: &mut V) -> Result<(), V::Error> {
+        visitor.bare(match self {
             FutureKind::FirstCompleted => "FirstCompleted",
             FutureKind::AllCompleted => "AllCompleted",
             FutureKind::FirstSucceededOrAllFailed => "FirstSucceededOrAllFailed",
@@ -17,31 +19,23 @@ impl Value for FutureKind {
             FutureKind::Unknown => "Unknown",
         })
     }
+}
 
-    fn parse(_alloc: Global, text: &[u8]) -> Result<FutureKind, Fault> {
-        if text == "FirstCompleted".as_bytes() {
-            Ok(FutureKind::FirstCompleted)
-        } else if text == "AllCompleted".as_bytes() {
-            Ok(FutureKind::AllCompleted)
-        } else if text == "FirstSucceededOrAllFailed".as_bytes() {
-            Ok(FutureKind::FirstSucceededOrAllFailed)
-        } else if text == "AllSucceededOrFirstFailed".as_bytes() {
-            Ok(FutureKind::AllSucceededOrFirstFailed)
-        } else if text == "Unknown".as_bytes() {
-            Ok(FutureKind::Unknown)
-        } else {
-            Err(Fault::Malformed)
-        }
+/// What a future waits for itself, without those that nest in it.
+impl Form for FutureNode {
+    fn fields<V: Visitor>(&mut self, visitor: &mut V) -> Result<(), V::Error> {
+        visitor.field("kind", &mut self.kind)?;
+        visitor.field("completions", &mut self.waiting_completions)?;
+        visitor.field("signals", &mut self.waiting_signals)?;
+        visitor.field("named", &mut self.waiting_named_signals)
     }
 }
 
-/// Writes what a future waits for itself, as far as those that nest in it.
+/// Writes a future as far as those that nest in it.
 fn print_head(node: &FutureNode, line: &mut Line) -> Result<(), AllocError> {
+    let mut head = node.clone()?;
     line.open("(")?;
-    line.field("kind", &node.kind)?;
-    line.field("completions", &node.waiting_completions)?;
-    line.field("signals", &node.waiting_signals)?;
-    line.field("named", &node.waiting_named_signals)?;
+    head.fields(line)?;
     if node.nested == 0 {
         return line.word(")");
     }
@@ -62,21 +56,17 @@ fn print_ends(left: &mut Vec<u64>, line: &mut Line) -> Result<(), AllocError> {
 }
 
 fn node_of(alloc: Global, future: &Begun<'_>) -> Result<FutureNode, Fault> {
-    let mut fields = Fields::of_pieces(alloc, future.fields.as_slice())?;
-    let (kind, waiting_completions) = fields.take_two("kind", "completions")?;
-    let (waiting_signals, waiting_named_signals) = fields.take_two("signals", "named")?;
-    fields.end()?;
-    Ok(FutureNode {
-        kind,
-        waiting_completions,
-        waiting_signals,
-        waiting_named_signals,
-        nested: future.nested.unwrap_or(0),
-    })
+    let mut node: FutureNode = blank(alloc)?;
+    take_all(
+        &mut node,
+        Fields::of_pieces(alloc, future.fields.as_slice())?,
+    )?;
+    node.nested = future.nested.unwrap_or(0);
+    Ok(node)
 }
 
 impl Value for Future {
-    fn print(&self, line: &mut Line) -> Result<(), AllocError> {
+    fn print(&mut self, line: &mut Line) -> Result<(), AllocError> {
         // How many futures are still to be written at each level, the innermost last.
         let mut left = Vec::new(self.alloc());
         for node in self.nodes() {

@@ -2,108 +2,115 @@
 ghost use Rattle.std.specs.Prelude.{◌≡◌, IfOk};
 ghost use Rattle.journal_messages.specs.Message.{type_of};
 
-use crate::forms::Form;
+use crate::forms::{Form, Visitor, blank};
 use crate::type_names::name_of;
 use journal_errors::MessageType;
 use journal_messages::Message;
 use lines::fields::Fields;
 use lines::line::Line;
-use std::alloc::AllocError;
+use std::alloc::{AllocError, Global};
 use wire::Fault;
 
-fn print_fields(message: &Message, line: &mut Line) -> Result<(), AllocError> {
-    match message {
-        Message::Start(m) => m.print(line),
-        Message::Suspension(m) => m.print(line),
-        Message::Error(m) => m.print(line),
-        Message::End => Ok(()),
-        Message::ProposeRunCompletion(m) => m.print(line),
-        Message::ProposeRunCompletionAck(m) => m.print(line),
-        Message::AwaitingOn(m) => m.print(line),
-        Message::GetStateEphemeralCommand(m) => m.print(line),
-        Message::GetStateEphemeralNotification(m) => m.print(line),
-        Message::Input(m) => m.print(line),
-        Message::GetEagerState(m) => m.print(line),
-        Message::GetLazyState(m) => m.print(line),
-        Message::GetEagerStateKeys(m) => m.print(line),
-        Message::GetLazyStateKeys(m) => m.print(line),
-        Message::SetState(m) => m.print(line),
-        Message::ClearState(m) => m.print(line),
-        Message::ClearAllState(m) => m.print(line),
-        Message::Sleep(m) => m.print(line),
-        Message::Call(m) => m.print(line),
-        Message::OneWayCall(m) => m.print(line),
-        Message::CompleteAwakeable(m) => m.print(line),
-        Message::SendSignal(m) => m.print(line),
-        Message::GetPromise(m) => m.print(line),
-        Message::PeekPromise(m) => m.print(line),
-        Message::CompletePromise(m) => m.print(line),
-        Message::Run(m) => m.print(line),
-        Message::AttachInvocation(m) => m.print(line),
-        Message::GetInvocationOutput(m) => m.print(line),
-        Message::Output(m) => m.print(line),
-        Message::Notification(m) => m.print(line),
+impl Form for Message {
+    fn fields<V: Visitor>(&mut self, visitor: &mut V) -> Result<(), V::Error>
+        ensures { type_of self.new ≡ type_of self.old }
+    {
+        match self {
+            Message::Start(m) => m.fields(visitor),
+            Message::Suspension(m) => m.fields(visitor),
+            Message::Error(m) => m.fields(visitor),
+            Message::End => Ok(()),
+            Message::ProposeRunCompletion(m) => m.fields(visitor),
+            Message::ProposeRunCompletionAck(m) => m.fields(visitor),
+            Message::AwaitingOn(m) => m.fields(visitor),
+            Message::GetStateEphemeralCommand(m) => m.fields(visitor),
+            Message::GetStateEphemeralNotification(m) => m.fields(visitor),
+            Message::Input(m) => m.fields(visitor),
+            Message::GetEagerState(m) => m.fields(visitor),
+            Message::GetLazyState(m) => m.fields(visitor),
+            Message::GetEagerStateKeys(m) => m.fields(visitor),
+            Message::GetLazyStateKeys(m) => m.fields(visitor),
+            Message::SetState(m) => m.fields(visitor),
+            Message::ClearState(m) => m.fields(visitor),
+            Message::ClearAllState(m) => m.fields(visitor),
+            Message::Sleep(m) => m.fields(visitor),
+            Message::Call(m) => m.fields(visitor),
+            Message::OneWayCall(m) => m.fields(visitor),
+            Message::CompleteAwakeable(m) => m.fields(visitor),
+            Message::SendSignal(m) => m.fields(visitor),
+            Message::GetPromise(m) => m.fields(visitor),
+            Message::PeekPromise(m) => m.fields(visitor),
+            Message::CompletePromise(m) => m.fields(visitor),
+            Message::Run(m) => m.fields(visitor),
+            Message::AttachInvocation(m) => m.fields(visitor),
+            Message::GetInvocationOutput(m) => m.fields(visitor),
+            Message::Output(m) => m.fields(visitor),
+            Message::Notification(m) => m.fields(visitor),
+        }
     }
 }
 
 /// Writes the type's name, and the fields that aren't at their default.
-pub fn print_message(message: &Message, line: &mut Line) -> Result<(), AllocError> {
+pub fn print_message(message: &mut Message, line: &mut Line) -> Result<(), AllocError> {
     line.word(name_of(message.ty()))?;
-    print_fields(message, line)
+    message.fields(line)
 }
 
-/// The body that all of the fields make.
-fn body_of<T: Form>(mut fields: Fields<'_>) -> Result<T, Fault> {
-    let body = T::parse(&mut fields)?;
-    fields.end()?;
-    Ok(body)
+/// The message of this type that holds nothing yet.
+fn blank_message(alloc: Global, ty: MessageType) -> Result<Message, Fault>
+    ensures { IfOk result (λ message. type_of message ≡ ty) }
+{
+    match ty {
+        MessageType::Start => blank(alloc).map(Message::Start),
+        MessageType::Suspension => blank(alloc).map(Message::Suspension),
+        MessageType::Error => blank(alloc).map(Message::Error),
+        MessageType::End => Ok(Message::End),
+        MessageType::ProposeRunCompletion => blank(alloc).map(Message::ProposeRunCompletion),
+        MessageType::ProposeRunCompletionAck => blank(alloc).map(Message::ProposeRunCompletionAck),
+        MessageType::AwaitingOn => blank(alloc).map(Message::AwaitingOn),
+        MessageType::GetStateEphemeralCommand => blank(alloc).map(
+            Message::GetStateEphemeralCommand,
+        ),
+        MessageType::GetStateEphemeralNotification => blank(alloc).map(
+            Message::GetStateEphemeralNotification,
+        ),
+        MessageType::InputCommand => blank(alloc).map(Message::Input),
+        MessageType::GetEagerStateCommand => blank(alloc).map(Message::GetEagerState),
+        MessageType::GetLazyStateCommand => blank(alloc).map(Message::GetLazyState),
+        MessageType::GetEagerStateKeysCommand => blank(alloc).map(Message::GetEagerStateKeys),
+        MessageType::GetLazyStateKeysCommand => blank(alloc).map(Message::GetLazyStateKeys),
+        MessageType::SetStateCommand => blank(alloc).map(Message::SetState),
+        MessageType::ClearStateCommand => blank(alloc).map(Message::ClearState),
+        MessageType::ClearAllStateCommand => blank(alloc).map(Message::ClearAllState),
+        MessageType::SleepCommand => blank(alloc).map(Message::Sleep),
+        MessageType::CallCommand => blank(alloc).map(Message::Call),
+        MessageType::OneWayCallCommand => blank(alloc).map(Message::OneWayCall),
+        MessageType::CompleteAwakeableCommand => blank(alloc).map(Message::CompleteAwakeable),
+        MessageType::SendSignalCommand => blank(alloc).map(Message::SendSignal),
+        MessageType::GetPromiseCommand => blank(alloc).map(Message::GetPromise),
+        MessageType::PeekPromiseCommand => blank(alloc).map(Message::PeekPromise),
+        MessageType::CompletePromiseCommand => blank(alloc).map(Message::CompletePromise),
+        MessageType::RunCommand => blank(alloc).map(Message::Run),
+        MessageType::AttachInvocationCommand => blank(alloc).map(Message::AttachInvocation),
+        MessageType::GetInvocationOutputCommand => blank(alloc).map(Message::GetInvocationOutput),
+        MessageType::OutputCommand => blank(alloc).map(Message::Output),
+        MessageType::Notification => blank(alloc).map(Message::Notification),
+    }
+}
+
+/// Takes the fields of a blank message, which are all that there are.
+fn take_fields(message: &mut Message, mut fields: Fields<'_>) -> Result<(), Fault>
+    ensures { type_of message.new ≡ type_of message.old }
+{
+    message.fields(&mut fields)?;
+    fields.end()
 }
 
 /// The message of this type that all of the fields make.
 pub fn parse_message(ty: MessageType, fields: Fields<'_>) -> Result<Message, Fault>
     ensures { IfOk result (λ message. type_of message ≡ ty) }
 {
-    match ty {
-        MessageType::Start => Ok(Message::Start(body_of(fields)?)),
-        MessageType::Suspension => Ok(Message::Suspension(body_of(fields)?)),
-        MessageType::Error => Ok(Message::Error(body_of(fields)?)),
-        MessageType::End => {
-            fields.end()?;
-            Ok(Message::End)
-        }
-        MessageType::ProposeRunCompletion => Ok(Message::ProposeRunCompletion(body_of(fields)?)),
-        MessageType::ProposeRunCompletionAck => Ok(Message::ProposeRunCompletionAck(body_of(
-            fields,
-        )?)),
-        MessageType::AwaitingOn => Ok(Message::AwaitingOn(body_of(fields)?)),
-        MessageType::GetStateEphemeralCommand => Ok(Message::GetStateEphemeralCommand(body_of(
-            fields,
-        )?)),
-        MessageType::GetStateEphemeralNotification => Ok(Message::GetStateEphemeralNotification(
-            body_of(fields)?,
-        )),
-        MessageType::InputCommand => Ok(Message::Input(body_of(fields)?)),
-        MessageType::GetEagerStateCommand => Ok(Message::GetEagerState(body_of(fields)?)),
-        MessageType::GetLazyStateCommand => Ok(Message::GetLazyState(body_of(fields)?)),
-        MessageType::GetEagerStateKeysCommand => Ok(Message::GetEagerStateKeys(body_of(fields)?)),
-        MessageType::GetLazyStateKeysCommand => Ok(Message::GetLazyStateKeys(body_of(fields)?)),
-        MessageType::SetStateCommand => Ok(Message::SetState(body_of(fields)?)),
-        MessageType::ClearStateCommand => Ok(Message::ClearState(body_of(fields)?)),
-        MessageType::ClearAllStateCommand => Ok(Message::ClearAllState(body_of(fields)?)),
-        MessageType::SleepCommand => Ok(Message::Sleep(body_of(fields)?)),
-        MessageType::CallCommand => Ok(Message::Call(body_of(fields)?)),
-        MessageType::OneWayCallCommand => Ok(Message::OneWayCall(body_of(fields)?)),
-        MessageType::CompleteAwakeableCommand => Ok(Message::CompleteAwakeable(body_of(fields)?)),
-        MessageType::SendSignalCommand => Ok(Message::SendSignal(body_of(fields)?)),
-        MessageType::GetPromiseCommand => Ok(Message::GetPromise(body_of(fields)?)),
-        MessageType::PeekPromiseCommand => Ok(Message::PeekPromise(body_of(fields)?)),
-        MessageType::CompletePromiseCommand => Ok(Message::CompletePromise(body_of(fields)?)),
-        MessageType::RunCommand => Ok(Message::Run(body_of(fields)?)),
-        MessageType::AttachInvocationCommand => Ok(Message::AttachInvocation(body_of(fields)?)),
-        MessageType::GetInvocationOutputCommand => Ok(Message::GetInvocationOutput(body_of(
-            fields,
-        )?)),
-        MessageType::OutputCommand => Ok(Message::Output(body_of(fields)?)),
-        MessageType::Notification => Ok(Message::Notification(body_of(fields)?)),
-    }
+    let mut message = blank_message(fields.alloc(), ty)?;
+    take_fields(&mut message, fields)?;
+    Ok(message)
 }

@@ -2,7 +2,6 @@
 use bytes::Bytes;
 use journal_values::Header;
 use lines::atoms::{bytes_of, number_of};
-use lines::fields::Fields;
 use lines::line::Line;
 use lines::pieces::{between, items, words};
 use std::alloc::{AllocError, Global};
@@ -15,75 +14,10 @@ pub trait Value: Drop {
         false
     }
 
-    /// What a field is that was left out; nothing where it must stand.
-    fn left_out(_alloc: Global) -> Option<Self> {
-        None
-    }
-
-    fn print(&self, line: &mut Line) -> Result<(), AllocError>;
+    /// Writes the value, which stays as it is.
+    fn print(&mut self, line: &mut Line) -> Result<(), AllocError>;
 
     fn parse(alloc: Global, text: &[u8]) -> Result<Self, Fault>;
-}
-
-/// Fields whose values are taken out.
-pub trait TakesValues {
-    /// Takes a field out. One that isn't there is at its default, if it has one.
-    fn take<T: Value>(&mut self, name: &str) -> Result<T, Fault>;
-
-    /// Takes two fields out, one after another.
-    fn take_two<A: Value, B: Value>(&mut self, a: &str, b: &str) -> Result<(A, B), Fault>;
-
-    /// Takes three fields out, one after another.
-    fn take_three<A: Value, B: Value, C: Value>(
-        &mut self,
-        a: &str,
-        b: &str,
-        c: &str,
-    ) -> Result<(A, B, C), Fault>;
-}
-
-impl TakesValues for Fields<'_> {
-    fn take<T: Value>(&mut self, name: &str) -> Result<T, Fault> {
-        let alloc = self.alloc();
-        match self.take_text(name) {
-            Some(text) => T::parse(alloc, text),
-            None => T::left_out(alloc).ok_or(Fault::Malformed),
-        }
-    }
-
-    fn take_two<A: Value, B: Value>(&mut self, a: &str, b: &str) -> Result<(A, B), Fault> {
-        let a = self.take(a)?;
-        let b = self.take(b)?;
-        Ok((a, b))
-    }
-
-    fn take_three<A: Value, B: Value, C: Value>(
-        &mut self,
-        a: &str,
-        b: &str,
-        c: &str,
-    ) -> Result<(A, B, C), Fault> {
-        let a = self.take(a)?;
-        let b = self.take(b)?;
-        let c = self.take(c)?;
-        Ok((a, b, c))
-    }
-}
-
-/// A line on which values are printed.
-pub trait PrintsValues {
-    /// Writes a field, if it isn't left out.
-    fn field<T: Value>(&mut self, name: &str, value: &T) -> Result<(), AllocError>;
-}
-
-impl PrintsValues for Line {
-    fn field<T: Value>(&mut self, name: &str, value: &T) -> Result<(), AllocError> {
-        if value.is_left_out() {
-            return Ok(());
-        }
-        self.name(name)?;
-        value.print(self)
-    }
 }
 
 impl Value for u32 {
@@ -91,11 +25,7 @@ impl Value for u32 {
         *self == 0
     }
 
-    fn left_out(_alloc: Global) -> Option<u32> {
-        Some(0)
-    }
-
-    fn print(&self, line: &mut Line) -> Result<(), AllocError> {
+    fn print(&mut self, line: &mut Line) -> Result<(), AllocError> {
         line.number(u64::from(*self))
     }
 
@@ -112,11 +42,7 @@ impl Value for u64 {
         *self == 0
     }
 
-    fn left_out(_alloc: Global) -> Option<u64> {
-        Some(0)
-    }
-
-    fn print(&self, line: &mut Line) -> Result<(), AllocError> {
+    fn print(&mut self, line: &mut Line) -> Result<(), AllocError> {
         line.number(*self)
     }
 
@@ -130,11 +56,7 @@ impl Value for bool {
         !*self
     }
 
-    fn left_out(_alloc: Global) -> Option<bool> {
-        Some(false)
-    }
-
-    fn print(&self, line: &mut Line) -> Result<(), AllocError> {
+    fn print(&mut self, line: &mut Line) -> Result<(), AllocError> {
         line.word(if *self { "true" } else { "false" })
     }
 
@@ -152,11 +74,7 @@ impl Value for Bytes {
         self.is_empty()
     }
 
-    fn left_out(_alloc: Global) -> Option<Bytes> {
-        Some(Bytes::new())
-    }
-
-    fn print(&self, line: &mut Line) -> Result<(), AllocError> {
+    fn print(&mut self, line: &mut Line) -> Result<(), AllocError> {
         line.quoted(self.as_slice())
     }
 
@@ -170,11 +88,7 @@ impl Value for Text {
         self.as_str().is_empty()
     }
 
-    fn left_out(alloc: Global) -> Option<Text> {
-        Some(Text::from_string(String::new(alloc)))
-    }
-
-    fn print(&self, line: &mut Line) -> Result<(), AllocError> {
+    fn print(&mut self, line: &mut Line) -> Result<(), AllocError> {
         line.quoted(self.as_str().as_bytes())
     }
 
@@ -191,11 +105,7 @@ impl<T: Value> Value for Option<T> {
         self.is_none()
     }
 
-    fn left_out(_alloc: Global) -> Option<Option<T>> {
-        Some(None)
-    }
-
-    fn print(&self, line: &mut Line) -> Result<(), AllocError> {
+    fn print(&mut self, line: &mut Line) -> Result<(), AllocError> {
         match self {
             Some(value) => value.print(line),
             None => Ok(()),
@@ -207,22 +117,19 @@ impl<T: Value> Value for Option<T> {
     }
 }
 
-impl<T: Value> Value for Items<T> {
+impl<T: Value + Clone> Value for Items<T> {
     fn is_left_out(&self) -> bool {
         self.is_empty()
     }
 
-    fn left_out(alloc: Global) -> Option<Items<T>> {
-        Some(Items::new(alloc))
-    }
-
-    fn print(&self, line: &mut Line) -> Result<(), AllocError> {
+    fn print(&mut self, line: &mut Line) -> Result<(), AllocError> {
         line.open("[")?;
         for (i, item) in self.as_slice().iter().enumerate() {
             if i > 0 {
                 line.word(", ")?;
             }
-            item.print(line)?;
+            let mut copy = item.clone()?;
+            copy.print(line)?;
         }
         line.word("]")
     }
@@ -237,12 +144,8 @@ impl<T: Value> Value for Items<T> {
 }
 
 impl<A: Value, B: Value> Value for (A, B) {
-    fn print(&self, line: &mut Line) -> Result<(), AllocError> {
-        line.open("(")?;
-        self.0.print(line)?;
-        line.word(" ")?;
-        self.1.print(line)?;
-        line.word(")")
+    fn print(&mut self, line: &mut Line) -> Result<(), AllocError> {
+        print_pair(&mut self.0, &mut self.1, line)
     }
 
     fn parse(alloc: Global, text: &[u8]) -> Result<(A, B), Fault> {
@@ -259,16 +162,24 @@ impl<A: Value, B: Value> Value for (A, B) {
 }
 
 impl Value for Header {
-    fn print(&self, line: &mut Line) -> Result<(), AllocError> {
-        line.open("(")?;
-        self.key.print(line)?;
-        line.word(" ")?;
-        self.value.print(line)?;
-        line.word(")")
+    fn print(&mut self, line: &mut Line) -> Result<(), AllocError> {
+        print_pair(&mut self.key, &mut self.value, line)
     }
 
     fn parse(alloc: Global, text: &[u8]) -> Result<Header, Fault> {
         let (key, value) = <(Text, Text)>::parse(alloc, text)?;
         Ok(Header { key, value })
     }
+}
+
+fn print_pair<A: Value, B: Value>(
+    first: &mut A,
+    second: &mut B,
+    line: &mut Line,
+) -> Result<(), AllocError> {
+    line.open("(")?;
+    first.print(line)?;
+    line.word(" ")?;
+    second.print(line)?;
+    line.word(")")
 }
