@@ -51,7 +51,7 @@ pub rest_blamed : (words : List (Bor (List ℕ))) (fault : Fault) → are_rest w
 rest_blamed words fault rest = record { nothing = λ bad bytes is. absurd (cc (sym rest ∙ is.0)) }
 
 pub bytes_blamed : (words : List (Bor (List ℕ))) (fault : Fault) → are_bytes words ≡ true → Blames (IsAtom (text_at 0 words)) fault → Blames (Arrives words) fault
-bytes_blamed words fault are blames = record { nothing = λ bad bytes is. blames.nothing bad bytes (is.1.0 are) }
+bytes_blamed words fault are blames = record { nothing = λ bad bytes is. blames.nothing bad bytes (is.1 are) }
 
 pub frame_blamed : (words : List (Bor (List ℕ))) (fault : Fault) → are_rest words ≡ false → are_bytes words ≡ false → is_frame (codes "arrive") words ≡ false → Blames (Arrives words) fault
 frame_blamed words fault rest bytes other = let is : is_frame (codes "arrive") words ≡ true = rw (rest, bytes) refl in absurd (cc (sym other ∙ is))
