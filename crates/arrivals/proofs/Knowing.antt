@@ -1,18 +1,17 @@
 -- What came of an id, used or not.
-use Rattle.std.proofs.Common.{◌≡◌, ℕ, Bool, true, false, List, [], ◌∷◌, ◌++◌, length, take, drop, Option, Some, None, refl, ap, sym, ◌∙◌}
+use Rattle.std.proofs.Common.{◌≡◌, ℕ, Bool, true, false, List, [], ◌∷◌, ◌++◌, length, take, drop, refl, ap, sym, ◌∙◌}
 use Rattle.std.specs.Prelude.{◌||◌}
 use Rattle.std.proofs.Math.Seq.{take-length}
 use Rattle.std.proofs.lemmas.List.{take-append-drop}
 use Rattle.journal_values.specs.declared.notification.Notification.{Notification}
 use Rattle.journal_values.specs.declared.notification.NotificationId.{NotificationId}
-use Rattle.journal_values.specs.declared.notification.NotificationResult.{NotificationResult}
 use Rattle.arrivals.specs.declared.log.Entry.{Entry}
 use Rattle.arrivals.specs.Entries.{given, given_by}
 use Rattle.arrivals.specs.Ids.{same_id}
 use Rattle.arrivals.specs.Results.{has_result_among}
 use Rattle.arrivals.proofs.Moves.{by_append}
 
-given_append : (xs ys : List Entry) → given (xs ++ ys) ≡ given xs ++ given ys
+pub given_append : (xs ys : List Entry) → given (xs ++ ys) ≡ given xs ++ given ys
 given_append [] ys = refl
 given_append (x ∷ xs) ys = ap (given_by x.id x.result) (given_append xs ys) ∙ by_append x.id x.result (given xs) (given ys)
 

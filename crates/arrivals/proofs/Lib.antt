@@ -1,3 +1,4 @@
+pub mod Awaited
 pub mod Entries
 pub mod Ids
 pub mod Inserts

@@ -1,5 +1,5 @@
 -- What contracts see of the arrivals of an attempt.
-use Rattle.std.specs.Prelude.{Bool, true, false, List, [], ◌∷◌, ◌++◌}
+use Rattle.std.specs.Prelude.{ℕ, nat_le, Bool, true, false, List, [], ◌∷◌, ◌++◌, Option, Some, None}
 use Rattle.journal_values.specs.declared.notification.Notification.{Notification}
 
 -- the notifications that came, each list in order of arrival
@@ -25,3 +25,8 @@ used_from delivered (n ∷ ns) = record { queued = ns; delivered = delivered ++ 
 -- the oldest that waits is used
 abbrev pub one_used : Came → Came
 one_used c = used_from c.delivered c.queued
+
+-- whether n are enough, by the least number that is
+abbrev pub enough : Option ℕ → ℕ → Bool
+enough None n = false
+enough (Some least) n = nat_le least n

@@ -1,5 +1,5 @@
 -- The slot of each number.
-use Rattle.std.specs.Prelude.{ℕ, List, get_or, Option, Some, None}
+use Rattle.std.specs.Prelude.{ℕ, get_or, Option, Some, None}
 use Rattle.std.specs.Ordering.{nat_cmp}
 use Rattle.std.specs.BTreeMap.{get}
 use Rattle.arrivals.specs.declared.numbers.Numbers.{Numbers}

@@ -1,7 +1,7 @@
 //! The arrivals of an attempt: those that no await has used yet, and those that were used.
-ghost use Rattle.std.specs.Prelude.{◌≡◌, ◌||◌, [], ◌∷◌, ◌++◌, OnOk, OnErr};
-ghost use Rattle.std.specs.Option.{option_copied};
-ghost use Rattle.arrivals.specs.Came.{nothing_came, is_queued, one_used};
+ghost use Rattle.std.specs.Prelude.{◌≡◌, ◌||◌, ℕ, [], ◌∷◌, ◌++◌, take, OnOk, OnErr};
+ghost use Rattle.std.specs.Option.{option_copied, option_or};
+ghost use Rattle.arrivals.specs.Came.{nothing_came, is_queued, one_used, enough};
 ghost use Rattle.arrivals.specs.Results.{first, newest, results_of, has_result_among, without_first, without_all};
 
 use crate::log::Log;
@@ -70,6 +70,25 @@ impl Arrivals {
         ensures { result ≡ (has_result_among id.now self.now.delivered || has_result_among id.now self.now.queued) }
     {
         self.log.has(id, self.log.len())
+    }
+
+    /// How many that wait must be used until there is a used result of an id, none where all are too few.
+    pub fn uses_until(&self, id: &NotificationId) -> Option<usize>
+        ensures { (n : ℕ) → enough result n ≡ has_result_among id.now (self.now.delivered ++ take n self.now.queued) }
+    {
+        let place = self.log.front(id)?;
+        prove!(place < self.log.len());
+        if place < self.seen {
+            return Some(0);
+        }
+        Some(place - self.seen + 1)
+    }
+
+    /// The oldest result of an id that was not taken, a used one before those that wait.
+    pub fn first_known(&self, id: &NotificationId) -> Option<&NotificationResult>
+        ensures { option_copied result ≡ option_or (first (results_of id.now self.now.delivered)) (first (results_of id.now self.now.queued)) }
+    {
+        self.log.oldest(id, self.log.len())
     }
 
     /// The oldest used result of an id.

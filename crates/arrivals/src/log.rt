@@ -126,7 +126,7 @@ impl Log {
     }
 
     /// The place of the oldest result of an id that was not taken.
-    fn front(&self, id: &NotificationId) -> Option<usize>
+    pub fn front(&self, id: &NotificationId) -> Option<usize>
         ensures { result ≡ first (places id.now self.now) }
     {
         let slot = self.index.find(id)?;

@@ -1,6 +1,6 @@
 //! What a leaf or a node has come to.
 ghost use Rattle.std.specs.Prelude.{◌≡◌};
-ghost use Rattle.await_trees.specs.Outcomes.{outcome_of, is_done, fires_on};
+ghost use Rattle.await_trees.specs.Outcomes.{outcome_of, is_done, fires_on, waits_for};
 
 use journal_attempt::FutureKind;
 
@@ -33,6 +33,13 @@ pub fn fires_on(kind: FutureKind, child: Outcome) -> bool
         FutureKind::FirstSucceededOrAllFailed => child == Outcome::Succeeded,
         FutureKind::AllSucceededOrFirstFailed => child == Outcome::Failed,
     }
+}
+
+/// Whether this outcome of a child is one that its node waits for.
+pub fn waits_for(kind: FutureKind, child: Outcome) -> bool
+    ensures { result ≡ waits_for kind child }
+{
+    child.is_done() && !fires_on(kind, child)
 }
 
 /// The outcome of a node that has no child left to wait for.

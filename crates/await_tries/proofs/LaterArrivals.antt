@@ -1,5 +1,5 @@
 -- The awake moments of a tree and of its residual.
-use Rattle.std.proofs.Common.{◌≡◌, ℕ, zero, suc, ◌+◌, ◌-◌, ◌≤◌, Bool, true, false, cond, List, [], ◌∷◌, ◌++◌, length, take, drop, refl, sym, ◌∙◌, ap, subst, arith, append_assoc, Option, Some, None}
+use Rattle.std.proofs.Common.{◌≡◌, ℕ, zero, suc, ◌+◌, ◌-◌, ◌≤◌, true, List, [], ◌∷◌, ◌++◌, length, take, drop, refl, sym, ◌∙◌, ap, subst, arith, append_assoc, Option, Some, None}
 use Rattle.std.proofs.lemmas.List.{take-append-le, take-append-drop}
 use Rattle.std.proofs.Math.Seq.{take-add}
 use Rattle.std.specs.Option.{option_or}
@@ -7,8 +7,8 @@ use Rattle.journal_values.specs.declared.notification.Notification.{Notification
 use Rattle.journal_values.specs.declared.notification.NotificationId.{NotificationId}
 use Rattle.journal_values.specs.declared.notification.NotificationId.TheVariants.{CompletionId, SignalId, SignalName}
 use Rattle.journal_values.specs.declared.notification.NotificationResult.{NotificationResult}
-use Rattle.arrivals.specs.Ids.{same_id}
 use Rattle.arrivals.specs.Results.{results_of, first, newest}
+use Rattle.arrivals.proofs.Awaited.{results-append}
 use Rattle.vm_parts.specs.declared.options.SignalDelivery.{SignalDelivery}
 use Rattle.vm_parts.specs.declared.options.SignalDelivery.TheVariants.{Queued}
 use Rattle.vm_parts.specs.Arrived.{Arrived, Ready}
@@ -59,14 +59,6 @@ module _ (delivery : SignalDelivery) (v : Arrived) (later : List Notification) (
 
 pub wakes_alike : (delivery : SignalDelivery) (v : Arrived) (t r : Tree) → LeftPending delivery v t r → WakesAlike delivery v t r
 wakes_alike delivery v t r p later stays n above = p.alike (leaf_outcome delivery (used (with_later v later) n)) (grows_on delivery v later stays n above)
-
-pub results-append : (id : NotificationId) (xs ys : List Notification) → results_of id (xs ++ ys) ≡ results_of id xs ++ results_of id ys
-results-append id [] ys = refl
-results-append id (x ∷ xs) ys = rw (results-append id xs ys) (go (same_id x.id id))
-  where
-    go : (b : Bool) → cond b (x.result ∷ (results_of id xs ++ results_of id ys)) (results_of id xs ++ results_of id ys) ≡ cond b (x.result ∷ results_of id xs) (results_of id xs) ++ results_of id ys
-    go true = refl
-    go false = refl
 
 signal_stays : (ks bs es : List NotificationResult) → es ≡ [] → is_done (result_outcome (option_or (first ks) (first es))) ≡ true → option_or (first (ks ++ bs)) (first es) ≡ option_or (first ks) (first es)
 signal_stays [] bs [] e d = cc

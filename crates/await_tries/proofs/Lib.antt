@@ -1,12 +1,15 @@
+pub mod Courses
 pub mod Heading
 pub mod LaterArrivals
-pub mod Lifting
 pub mod Links
+pub mod Listing
 pub mod Messages
 pub mod Moves
+pub mod Nodes
 pub mod OneLeaf
-pub mod Settling
+pub mod PrunedTrees
 pub mod Spelled
 pub mod Sweeping
 pub mod Trying
+pub mod Waking
 pub mod Walking

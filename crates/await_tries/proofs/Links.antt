@@ -10,8 +10,12 @@ use Rattle.await_trees.specs.Preorder.{preorder, preorders, size, joined, next, 
 use Rattle.await_trees.proofs.Preorders.{codes_from, none_from}
 use Rattle.await_tries.specs.Link.{Linked}
 use Rattle.await_tries.specs.Spells.{blank, node_at, children, AllAbove, Spells, a_leaf, a_node, SpellAll, no_more, one_more}
-use Rattle.await_tries.specs.Sweep.{AllUnder}
-use Rattle.await_tries.proofs.Settling.{stable}
+use Rattle.await_tries.proofs.Nodes.{stable}
+
+-- each is less
+abbrev AllUnder : List ℕ → ℕ → Type 0
+AllUnder [] n = Unit {0}
+AllUnder (c ∷ cs) n = (c < n) × AllUnder cs n
 
 -- ---- rows of roots
 

@@ -27,7 +27,8 @@ use Rattle.await_tries.specs.Later.{with_later, EachLeaf, EachLeafOf, IsAbsent}
 use Rattle.await_tries.specs.Leaves.{leaf_outcome, result_outcome}
 use Rattle.await_tries.specs.Message.{ids, first_delivery, MessageWakes}
 use Rattle.await_tries.specs.Used.{used}
-use Rattle.await_tries.proofs.LaterArrivals.{ready, id_outcome, results-append, once_stays, wakes_alike, first_is_now}
+use Rattle.arrivals.proofs.Awaited.{results-append}
+use Rattle.await_tries.proofs.LaterArrivals.{ready, id_outcome, once_stays, wakes_alike, first_is_now}
 
 -- where two give the same to what waits, they agree on a tree whose leaves wait
 module _ (at bt ct : ℕ → Outcome) (agree : (h : ℕ) → is_done (at h) ≡ false → bt h ≡ ct h) where

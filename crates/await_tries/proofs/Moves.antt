@@ -6,14 +6,14 @@ use Rattle.vm_parts.specs.Arrived.{Arrived}
 use Rattle.vm_parts.specs.Deliveries.{next_used}
 use Rattle.await_tries.specs.Used.{used}
 
+pub take_suc : {X : Type 0} (xs : List X) (n : ℕ) → take (suc n) xs ≡ take n xs ++ take 1 (drop n xs)
+take_suc [] zero = refl
+take_suc [] (suc n) = refl
+take_suc (x ∷ xs) zero = refl
+take_suc (x ∷ xs) (suc n) = ap (λ ys. x ∷ ys) (take_suc xs n)
+
 take_next : {X : Type 0} (xs : List X) (n : ℕ) → take (n + 1) xs ≡ take n xs ++ take 1 (drop n xs)
-take_next xs n = rw add-one (go xs n)
-  where
-    go : {X : Type 0} (xs : List X) (n : ℕ) → take (suc n) xs ≡ take n xs ++ take 1 (drop n xs)
-    go [] zero = refl
-    go [] (suc n) = refl
-    go (x ∷ xs) zero = refl
-    go (x ∷ xs) (suc n) = ap (λ ys. x ∷ ys) (go xs n)
+take_next xs n = rw add-one (take_suc xs n)
 
 drop_next : {X : Type 0} (xs : List X) (n : ℕ) → drop (n + 1) xs ≡ drop 1 (drop n xs)
 drop_next xs n = rw add-one (go xs n)
@@ -47,12 +47,12 @@ used_suc v n = let e : n + 1 ≡ suc n = omega arith in used_more v n ∙ ap (us
 
 -- ---- one more is used
 
-one_more : (v : Arrived) (ns : List Notification) → v.queued ≡ ns → true ≡ is_queued ns → next_used v ≡ used v 1
-one_more v [] e q = cc
-one_more v (n ∷ ns) e q = rw e refl
+one_more : (v : Arrived) (ns : List Notification) → v.queued ≡ ns → next_used v ≡ used v 1
+one_more v [] e = same_arrived (next_used v) (used v 1) (rw e refl) (rw e (sym (append-nil v.ready.delivered))) refl refl
+one_more v (n ∷ ns) e = rw e refl
 
-pub next_is : (v : Arrived) → true ≡ is_queued v.queued → next_used v ≡ used v 1
-next_is v q = one_more v v.queued refl q
+pub next_is : (v : Arrived) → next_used v ≡ used v 1
+next_is v = one_more v v.queued refl
 
 pub none_queued : (ns : List Notification) → false ≡ is_queued ns → length ns ≡ 0
 none_queued [] q = refl

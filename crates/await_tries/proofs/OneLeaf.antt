@@ -4,7 +4,7 @@ use Rattle.await_trees.specs.declared.nodes.Label.TheVariants.{Leaf}
 use Rattle.await_trees.specs.declared.nodes.Node.{Node}
 use Rattle.await_trees.specs.Tree.{leaf}
 use Rattle.await_tries.specs.Left.{Left, IsWhole}
-use Rattle.await_tries.specs.Passes.{Ranged}
+use Rattle.await_tries.specs.Ranges.{Ranged}
 use Rattle.await_tries.specs.Spells.{node_at, a_leaf}
 use Rattle.await_tries.proofs.Spelled.{whole}
 

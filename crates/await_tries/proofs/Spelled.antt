@@ -3,7 +3,7 @@ use Rattle.std.proofs.Common.{◌≡◌, ℕ, zero, suc, ◌+◌, ◌<◌, ◌�
 use Rattle.await_trees.specs.declared.nodes.Node.{Node}
 use Rattle.await_trees.specs.Tree.{Tree, Forest, node, forest}
 use Rattle.await_tries.specs.Left.{Left, read, IsWhole}
-use Rattle.await_tries.specs.Passes.{Ranged}
+use Rattle.await_tries.specs.Ranges.{Ranged}
 use Rattle.await_tries.specs.Walks.{reads}
 use Rattle.await_tries.specs.Spells.{children, AllAbove, Spells, a_leaf, a_node, SpellAll, no_more, one_more}
 

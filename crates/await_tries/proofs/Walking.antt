@@ -1,5 +1,5 @@
 -- A walk over nodes, with a stack of the rows of children that are still to come.
-use Rattle.std.proofs.Common.{◌≡◌, ℕ, suc, ◌+◌, ◌-◌, ◌<◌, ◌≤◌, List, [], ◌∷◌, ◌++◌, length, take, drop, get_or, reverse, Option, Some, refl, sym, ap, subst, ◌∙◌, arith, append_assoc}
+use Rattle.std.proofs.Common.{◌≡◌, ℕ, suc, ◌+◌, ◌-◌, ◌<◌, ◌≤◌, List, [], ◌∷◌, ◌++◌, length, take, drop, get_or, reverse, Option, Some, refl, sym, ap, subst, ◌∙◌, arith, append_assoc, drop-cons}
 use Rattle.std.proofs.lemmas.List.{reverse-append, length-drop}
 use Rattle.journal_attempt.specs.declared.future.FutureKind.{FutureKind}
 use Rattle.journal_attempt.specs.declared.future.FutureNode.{FutureNode}
@@ -13,13 +13,22 @@ use Rattle.await_trees.specs.Wires.{head_of, nested}
 use Rattle.await_trees.specs.Tree.{Tree, Forest, leaf, node, none, more}
 use Rattle.await_tries.specs.declared.walk.Row.{Row}
 use Rattle.await_tries.specs.Left.{Left, read, tree_left, IsWhole}
-use Rattle.await_tries.specs.Passes.{Ranged}
+use Rattle.await_tries.specs.Ranges.{Ranged}
 use Rattle.await_tries.specs.Spells.{node_at, children, Spells, SpellAll, one_more}
 use Rattle.await_tries.specs.Walks.{reads, row_rest, coming, Sound, Steps}
 use Rattle.await_trees.proofs.Preorders.{codes_next}
-use Rattle.await_tries.proofs.Settling.{opened, leaf_is}
+use Rattle.await_tries.proofs.Nodes.{opened, leaf_is}
 use Rattle.await_tries.proofs.Spelled.{reads_are, spells_within}
-use Rattle.await_tries.proofs.Sweeping.{come_next}
+
+-- the part of a list that is still to come
+abbrev pub to_come : ℕ → ℕ → List ℕ → List ℕ
+to_come i count xs = take (count - i) (drop i xs)
+
+pub come_next : (xs : List ℕ) (i count : ℕ) → i < count → count ≤ length xs → to_come i count xs ≡ get_or xs i 0 ∷ to_come (suc i) count xs
+come_next xs i count l b =
+    let m : count - i ≡ suc (count - suc i) = omega arith in
+    let inside : i < length xs = omega arith in
+    rw (m, drop-cons xs i 0 inside) refl
 
 pub on_top : (rs rest : List Row) (r : Row) → rs ≡ rest ++ r ∷ [] → reverse rs ≡ r ∷ reverse rest
 on_top rs rest r e = ap reverse e ∙ reverse-append rest (r ∷ [])

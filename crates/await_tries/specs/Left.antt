@@ -4,7 +4,7 @@ use Rattle.await_trees.specs.declared.nodes.Node.{Node}
 use Rattle.await_trees.specs.declared.nodes.Label.{Label}
 use Rattle.await_trees.specs.declared.nodes.Label.TheVariants.{Leaf, Inner}
 use Rattle.await_trees.specs.Tree.{Tree, Forest, leaf, node, forest}
-use Rattle.await_tries.specs.Passes.{Ranged}
+use Rattle.await_tries.specs.Ranges.{Ranged}
 use Rattle.await_tries.specs.Spells.{node_at, children, Spells}
 
 -- nodes, and the numbers of their children

@@ -1,7 +1,7 @@
 -- Nodes with their ranges of children.
 use Rattle.std.specs.Prelude.{ℕ, ◌<◌, List, length}
 use Rattle.await_trees.specs.declared.nodes.Node.{Node}
-use Rattle.await_tries.specs.Passes.{Ranged}
+use Rattle.await_tries.specs.Ranges.{Ranged}
 use Rattle.await_tries.specs.Spells.{Spells}
 use Rattle.await_trees.specs.Tree.{Tree}
 

@@ -1,21 +1,20 @@
-//! Awaits of trees: arrivals are used one by one until a tree is awake; else what is left of it is answered, and what
+//! Awaits of trees: arrivals are used until a tree is awake, and no further; else what is left of it is answered, and what
 //! the invocation then waits for.
 #![tactic(auto)]
 
+pub mod course;
+pub mod following;
 pub mod handles;
 pub mod laws;
-pub mod leaf_tries;
-pub mod leaves;
 pub mod linking;
-pub mod pass;
+pub mod pruning;
 pub mod residue;
-pub mod sweep;
 pub mod tries;
+pub mod using;
 pub mod walk;
 pub mod wire_future;
 
 pub use handles::{has_leaf, list_handles};
-pub use leaves::{Asked, Leaves};
 pub use residue::{Residue, Resolution};
 pub use tries::try_future;
 pub use wire_future::future_of;

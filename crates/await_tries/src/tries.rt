@@ -1,59 +1,39 @@
-//! Notifications are used one by one until a tree is awake.
-ghost use Rattle.std.specs.Prelude.{◌≡◌, ◌<◌, length, IfOk, OnErr};
-ghost use Rattle.await_trees.specs.Tree.{Tree, tree_of};
-ghost use Rattle.await_tries.specs.Passes.{Ranged};
+//! Notifications are used until a tree is awake.
+ghost use Rattle.std.specs.Prelude.{◌≡◌, IfOk, OnErr};
+ghost use Rattle.await_trees.specs.Tree.{leaf, tree_of};
 ghost use Rattle.await_tries.specs.Resolved.{Resolved};
-ghost use Rattle.await_tries.specs.Spells.{Spells};
-ghost use Rattle.await_tries.specs.Try.{Tried};
 
-use crate::leaf_tries::try_leaf;
-use crate::leaves::Asked;
+use crate::following::list_courses;
 use crate::linking::link;
-use crate::pass::pass;
+use crate::pruning::prune;
 use crate::residue::{Residue, Resolution};
-use await_trees::{Node, Outcome, UnresolvedFuture, list_nodes};
+use crate::using::{use_all, use_first};
+use await_trees::{Label, Node, UnresolvedFuture, list_nodes};
 use std::alloc::{AllocError, Global};
 use vm_parts::{AsyncResults, SignalDelivery};
 
-/// Whether the tree is awake; else the nodes spell what is left of it. It takes no memory.
-fn try_nodes(
+/// As `try_future`, of the leaf of a handle: there is nothing to walk over.
+fn try_leaf(
+    alloc: Global,
     results: &mut AsyncResults,
     delivery: SignalDelivery,
-    nodes: &mut Vec<Node>,
-    kids: &mut Vec<usize>,
-    values: &mut Vec<Option<Outcome>>,
-) -> bool
-    requires some { 0 < length nodes.old.items }
-    requires ranged { Ranged nodes.old.items kids.old.items }
-    requires valued { length values.old.items ≡ length nodes.old.items }
-    ensures len { length nodes.new.items ≡ length nodes.old.items }
-    ensures ranged { Ranged nodes.new.items kids.new.items }
-    ensures tried { (t : Tree) → Spells nodes.old.items kids.old.items 0 t → Tried delivery results.old t results.new nodes.new.items kids.new.items result }
+    handle: u32,
+) -> Result<Resolution, AllocError>
+    ensures ok { IfOk result (λ answer. Resolved delivery results.old (leaf handle) results.new answer) }
+    ensures err { OnErr result (results.new ≡ results.old) }
 {
-    'notifications: loop {
-        pass(&Asked { results, delivery }, nodes, kids, values);
-        match values[0] {
-            None => return true,
-            Some(outcome) => {
-                if outcome.is_done() {
-                    return true;
-                }
-            }
-        }
-        if !results.use_one() {
-            return false;
-        }
+    let mut nodes = Vec::with_capacity(alloc, 1)?;
+    nodes.push(Node {
+        label: Label::Leaf(handle),
+        first: 0,
+        count: 0,
+    })?;
+    if let Some(enough) = results.uses_until(handle) {
+        use_first(results, enough);
+        return Ok(Resolution::AnyCompleted);
     }
-}
-
-fn no_values(alloc: Global, len: usize) -> Result<Vec<Option<Outcome>>, AllocError>
-    ensures { IfOk result (λ values. length values.items ≡ len) }
-{
-    let mut values = Vec::new(alloc);
-    for _ in 0..len {
-        values.push(None)?;
-    }
-    Ok(values)
+    use_all(results);
+    Ok(Resolution::Pending(Residue::new(nodes, Vec::new(alloc))))
 }
 
 /// Uses notifications in order of arrival until the future is awake, and no further. Where none wakes it, all are used and
@@ -72,10 +52,12 @@ pub fn try_future(
     }
     let mut nodes = list_nodes(alloc, future)?;
     let mut kids = link(alloc, &mut nodes)?;
-    let mut values = no_values(alloc, nodes.len())?;
-    if try_nodes(results, delivery, &mut nodes, &mut kids, &mut values) {
-        Ok(Resolution::AnyCompleted)
-    } else {
-        Ok(Resolution::Pending(Residue::new(nodes, kids)))
+    let courses = list_courses(alloc, results, delivery, &nodes, &kids)?;
+    if let Some(enough) = courses[0].awake() {
+        use_first(results, enough);
+        return Ok(Resolution::AnyCompleted);
     }
+    prune(alloc, &mut nodes, &mut kids, &courses)?;
+    use_all(results);
+    Ok(Resolution::Pending(Residue::new(nodes, kids)))
 }

@@ -1,6 +1,6 @@
 //! A walk over the nodes of what is left, in preorder: children in the order of their ranges.
 ghost use Rattle.std.specs.Prelude.{◌≡◌, ◌<◌, ◌∷◌, [], IfOk, length, reverse};
-ghost use Rattle.await_tries.specs.Passes.{Ranged};
+ghost use Rattle.await_tries.specs.Ranges.{Ranged};
 ghost use Rattle.await_tries.specs.Walks.{coming, Sound, Steps};
 
 use await_trees::{Label, Node};

@@ -27,7 +27,11 @@ arrive s1; await ac(fc(11, 12), fc(13, 14)); awake; unused 0
 arrive s1; await ac(11, 12, 11); left ac(12)
 arrive f1; await ac(asff(11, 12), asff(11, 12)); awake; unused 0
 arrive s1 s2; await ac(11, 12, 13, 14); left ac(14, 13)
-arrive s2 s1; await ac(11, 12, 13, 14); left ac(13, 14)";
+arrive s2 s1; await ac(11, 12, 13, 14); left ac(13, 14)
+arrive s1 s2; await ac(11, 12, 13, 12, 14); left ac(14, 13)
+arrive s2 s1; await ac(11, 12, 13, 12, 14); left ac(13, 14)
+arrive s3 s1; await ac(11, 12, 13, un(12)); left ac(un(12), 12)
+arrive s2 s1; await ac(11, 12, ac(12, 11), 14, 15); left ac(14, 15)";
 
 #[test]
 fn tries_wake_or_leave_a_residual(rt: HostRuntime) -> Result<(), Fail> {

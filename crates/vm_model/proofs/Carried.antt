@@ -5,7 +5,7 @@ use Rattle.std.specs.Cmp.Lexicographic.{pointwise}
 use Rattle.std.proofs.lemmas.Bool.{eqb-true}
 use Rattle.std.proofs.lemmas.Option.{same_Some}
 use Rattle.arrivals.specs.Results.{results_of}
-use Rattle.await_tries.proofs.LaterArrivals.{results-append}
+use Rattle.arrivals.proofs.Awaited.{results-append}
 use Rattle.journal_attempt.specs.declared.commands.InputCommand.{InputCommand}
 use Rattle.journal_calls.specs.declared.calls.CallRequest.{CallRequest}
 use Rattle.journal_errors.specs.declared.faults.NamedFault.{NamedFault}

@@ -7,7 +7,8 @@ use Rattle.await_tries.specs.Await.{LeastAwake, NeverAwake, outcomes}
 use Rattle.await_tries.specs.Later.{EachOnce, Stays}
 use Rattle.await_tries.specs.Leaves.{leaf_outcome, result_outcome}
 use Rattle.await_tries.specs.Used.{used}
-use Rattle.await_tries.proofs.LaterArrivals.{first_is_now, once_stays, plainly_least, results-append}
+use Rattle.arrivals.proofs.Awaited.{results-append}
+use Rattle.await_tries.proofs.LaterArrivals.{first_is_now, once_stays, plainly_least}
 use Rattle.journal_values.specs.declared.notification.Notification.{Notification}
 use Rattle.journal_values.specs.declared.notification.NotificationId.{NotificationId}
 use Rattle.journal_values.specs.declared.notification.NotificationId.TheVariants.{CompletionId}

@@ -6,7 +6,7 @@ use Rattle.journal_values.specs.declared.notification.NotificationResult.{Notifi
 use Rattle.std.specs.Prelude.{◌||◌}
 use Rattle.vm_parts.specs.Arrived.{Arrived, Ready}
 use Rattle.std.specs.Option.{option_or}
-use Rattle.vm_parts.specs.Deliveries.{same_id, results_of, first, newest, newest_after, without_first, without_all, left_among, left_ready, present, present_among, id_at, is_listed, Taken}
+use Rattle.vm_parts.specs.Deliveries.{same_id, results_of, first, newest, newest_after, without_first, without_all, left_among, left_ready, present, present_among, present_for, first_result_for, id_at, is_listed, Taken}
 use Rattle.vm_parts.specs.declared.options.SignalDelivery.{SignalDelivery}
 
 -- ---- an id without a result
@@ -61,6 +61,20 @@ pub none_taken : (delivery : SignalDelivery) (handle : ℕ) (v : Arrived) (id : 
     → Some id ≡ id_at handle v.handles → None ≡ present delivery id v.ready → ready ≡ left_ready delivery id v.ready → answer ≡ None → Taken delivery handle v answer (record v { ready = ready })
 none_taken delivery handle v id answer ready i p r a =
     record { result = rw (← i, sym p) a; left = rw (← i, sym p) (ap (λ t. record v { ready = t }) (r ∙ nothing_left delivery id v.ready (sym p))) }
+
+-- ---- the first result of an id that comes
+
+none_at_first : (b : Bool) (rs : List NotificationResult) → cond b (first rs) (newest rs) ≡ None → first rs ≡ None
+none_at_first true rs e = e
+none_at_first false [] e = refl
+none_at_first false (r ∷ rs) e = absurd (newest_some r rs e)
+
+pub first_comes : (delivery : SignalDelivery) (v : Arrived) (id : NotificationId) (o : Option NotificationId) (answer : Option NotificationResult) → Some id ≡ o → None ≡ present_for delivery o v.ready
+    → answer ≡ option_or (first (results_of id v.ready.delivered)) (first (results_of id v.queued)) → answer ≡ first_result_for delivery o v
+first_comes delivery v id o answer i p a =
+    let none : None ≡ present delivery id v.ready = rw (← i) at p in
+    let here : present_among delivery id v.ready.delivered ≡ None = first_none (present_among delivery id v.ready.delivered) (present_among delivery id v.ready.eager) (sym none) in
+    rw (← i, ← none) (a ∙ ap (λ z. option_or z (first (results_of id v.queued))) (none_at_first (is_listed delivery id) (results_of id v.ready.delivered) here))
 
 -- ---- what is known of an id
 

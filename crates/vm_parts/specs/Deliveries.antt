@@ -1,6 +1,6 @@
 -- Which result a handle has: notifications are used in order of arrival, and each id has a present result among
 -- the used ones that were not taken.
-use Rattle.std.specs.Prelude.{ℕ, ◌≡◌, ◌==◌, Bool, true, false, ◌||◌, cond, List, [], ◌∷◌, ◌++◌, Option, Some, None}
+use Rattle.std.specs.Prelude.{ℕ, ◌≡◌, ◌==◌, Bool, true, false, ◌||◌, cond, List, [], ◌∷◌, ◌++◌, take, Option, Some, None}
 use Rattle.std.specs.Option.{option_or}
 use Rattle.journal_values.specs.declared.notification.Notification.{Notification}
 use Rattle.journal_values.specs.declared.notification.NotificationId.{NotificationId}
@@ -102,3 +102,12 @@ taken_by delivery handle _ _ v = v
 pub record Taken (delivery : SignalDelivery) (handle : ℕ) (old : Arrived) (answer : Option NotificationResult) (new : Arrived) : Type 0 where
   pub result : answer ≡ present_for delivery (id_at handle old.handles) old.ready
   pub left : new ≡ taken_by delivery handle (id_at handle old.handles) (present_for delivery (id_at handle old.handles) old.ready) old
+
+-- what is ready once the first n that wait are used
+abbrev pub ready_after : ℕ → Arrived → Ready
+ready_after n v = record v.ready { delivered = v.ready.delivered ++ take n v.queued }
+
+-- the present result of a handle, or else the first that waits of its id
+abbrev pub first_result_for : SignalDelivery → Option NotificationId → Arrived → Option NotificationResult
+first_result_for delivery None v = None
+first_result_for delivery (Some id) v = option_or (present delivery id v.ready) (first (results_of id v.queued))

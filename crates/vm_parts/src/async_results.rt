@@ -1,9 +1,9 @@
 //! The notifications of an attempt: those that no await has used yet, the results that are ready, and which id
 //! each handle stands for.
-ghost use Rattle.std.specs.Prelude.{◌≡◌, ◌∷◌, ◌++◌, [], OnOk, OnErr, IfOk};
+ghost use Rattle.std.specs.Prelude.{◌≡◌, ℕ, ◌∷◌, ◌++◌, [], OnOk, OnErr, IfOk};
 ghost use Rattle.std.specs.Option.{option_copied};
-ghost use Rattle.arrivals.specs.Came.{is_queued};
-ghost use Rattle.vm_parts.specs.Deliveries.{id_at, is_known, no_results, is_listed, left_among, present_among, present_for, has_result_for, next_used, with_eager, Taken};
+ghost use Rattle.arrivals.specs.Came.{is_queued, enough};
+ghost use Rattle.vm_parts.specs.Deliveries.{id_at, is_known, no_results, is_listed, left_among, present_among, present_for, has_result_for, next_used, with_eager, ready_after, first_result_for, Taken};
 
 use crate::handles::Handles;
 use crate::options::SignalDelivery;
@@ -178,6 +178,27 @@ impl AsyncResults {
         match self.handles.find(handle) {
             None => false,
             Some(id) => self.arrivals.has(id) || self.eager.has(id),
+        }
+    }
+
+    /// How many that wait must be used until a handle has a ready result, none where all are too few.
+    pub fn uses_until(&self, handle: u32) -> Option<usize>
+        ensures { (n : ℕ) → enough result n ≡ has_result_for (id_at handle self.now.handles) (ready_after n self.now) }
+    {
+        let id = self.handles.find(handle)?;
+        if self.eager.has(id) {
+            return Some(0);
+        }
+        self.arrivals.uses_until(id)
+    }
+
+    /// The present result of a handle, or else the first that waits.
+    pub fn first_result(&self, delivery: SignalDelivery, handle: u32) -> Option<&NotificationResult>
+        ensures { option_copied result ≡ first_result_for delivery (id_at handle self.now.handles) self.now }
+    {
+        match self.present(delivery, handle) {
+            Some(result) => Some(result),
+            None => self.arrivals.first_known(self.handles.find(handle)?),
         }
     }
 

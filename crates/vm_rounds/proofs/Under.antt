@@ -4,7 +4,7 @@ use Rattle.std.specs.declared.alloc.AllocError.{AllocError}
 use Rattle.journal_errors.specs.declared.error.Error.{Error}
 use Rattle.journal_values.specs.declared.notification.Notification.{Notification}
 use Rattle.arrivals.specs.Results.{results_of}
-use Rattle.await_tries.proofs.LaterArrivals.{results-append}
+use Rattle.arrivals.proofs.Awaited.{results-append}
 use Rattle.journal_values.specs.declared.notification.NotificationId.TheVariants.{CompletionId}
 use Rattle.journal_values.specs.declared.notification.NotificationResult.{NotificationResult}
 use Rattle.journal_errors.specs.declared.version.Version.{Version}

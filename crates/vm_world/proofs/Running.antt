@@ -3,7 +3,7 @@ use Rattle.std.proofs.Common.{◌≡◌, ◌≤◌, ⊎_elim, ℕ, Bool, true, f
 use Rattle.std.proofs.lemmas.Option.{same_Some}
 use Rattle.std.specs.List.{concat}
 use Rattle.arrivals.specs.Results.{results_of}
-use Rattle.await_tries.proofs.LaterArrivals.{results-append}
+use Rattle.arrivals.proofs.Awaited.{results-append}
 use Rattle.journal_attempt.specs.declared.commands.InputCommand.{InputCommand}
 use Rattle.journal_attempt.specs.declared.start.Start.{Start}
 use Rattle.journal_messages.specs.declared.message.RawMessage.{RawMessage}

@@ -1,5 +1,5 @@
-use Rattle.std.proofs.Common.{rules, ℕ, ◌≡◌, ◌+◌, ◌∷◌, [], List, Option, Some, reverse, refl, sym, ap, subst, ◌∙◌}
-use Rattle.await_trees.specs.Handles.{are_some, handles_of, handles_in}
+use Rattle.std.proofs.Common.{ℕ, ◌≡◌, ◌+◌, ◌∷◌, [], List, Option, Some, reverse, refl, sym, ap, subst, ◌∙◌}
+use Rattle.await_trees.specs.Handles.{handles_of, handles_in}
 use Rattle.await_tries.specs.declared.walk.Row.{Row}
 use Rattle.await_tries.specs.Left.{Left, IsWhole}
 use Rattle.await_tries.specs.Spells.{node_at}

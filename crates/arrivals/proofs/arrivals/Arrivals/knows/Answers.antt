@@ -1,4 +1,3 @@
-use Rattle.std.proofs.Common.{refl}
 use Rattle.arrivals.proofs.Knowing.{has_in_all}
 use Rattle.arrivals.proofs.arrivals.Arrivals.knows.Goals as goal
 
