@@ -28,7 +28,7 @@ static KINDS: [FutureKind; 5] = [
 
 /// The word for a kind.
 #[tactic(auto, unfolding(crate::specs::Trees::kind_name))]
-fn name_of_kind(kind: FutureKind) -> &'static str
+pub fn name_of_kind(kind: FutureKind) -> &'static str
     ensures { result.now ≡ kind_name kind }
 {
     match kind {

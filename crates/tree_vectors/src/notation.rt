@@ -1,6 +1,5 @@
 //! What rows write: ids and what arrives. Trees are written as in scripts, and so are handles; the first of a row is 11, since
 //! handle 1 is the cancel signal's.
-use await_trees::FutureKind;
 use bytes::Bytes;
 use journal_values::{Failure, Notification, NotificationId, NotificationResult};
 use std::alloc::Global;
@@ -10,17 +9,6 @@ use wire::{Items, Text};
 /// The number of a word.
 pub fn number(word: &str) -> Result<u32, Fail> {
     Ok(word.parse()?)
-}
-
-/// The name of a kind of nodes.
-pub fn word_of(kind: FutureKind) -> &'static str {
-    match kind {
-        FutureKind::FirstCompleted => "fc",
-        FutureKind::AllCompleted => "ac",
-        FutureKind::FirstSucceededOrAllFailed => "fsaf",
-        FutureKind::AllSucceededOrFirstFailed => "asff",
-        FutureKind::Unknown => "un",
-    }
 }
 
 /// The id of a word: a completion's number, `#` and a signal's number, or a signal's name in quotes.

@@ -81,7 +81,7 @@ fn shown(alloc: Global, results: &AsyncResults, left: &Residue) -> Result<Left, 
     Ok(Left {
         tree: left_shown(alloc, left)?,
         handles: handles_shown(alloc, list_handles(alloc, left)?.as_slice())?,
-        future: future_shown(alloc, &future_of(alloc, results, left)?)?,
+        future: future_shown(alloc, future_of(alloc, results, left)?)?,
     })
 }
 
