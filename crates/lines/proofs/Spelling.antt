@@ -1,9 +1,10 @@
 -- Bytes that are taken off a text one by one, and that what is printed is read back.
-use Rattle.std.proofs.Common.{◌≡◌, ◌<◌, ◌+◌, ◌/◌, ◌%◌, ◌++◌, ℕ, suc, List, [], ◌∷◌, Option, Some, length, get_or, take, ap, refl, sym, ◌∙◌, append_assoc, arith}
+use Rattle.std.proofs.Common.{◌≡◌, ◌≢◌, ◌<◌, ◌+◌, ◌/◌, ◌%◌, ◌++◌, ℕ, suc, List, [], ◌∷◌, Option, Some, length, get_or, take, ap, refl, sym, ◌∙◌, append_assoc, arith}
 use Rattle.std.specs.List.{flat_map}
 use Rattle.std.specs.Char.{digit_char}
 use Rattle.std.proofs.lemmas.Str.{digit_value-digit_char}
 use Rattle.std.proofs.lemmas.List.{append-nil, take_more, flat_map_more}
+use Rattle.memchr.specs.Find.{Nowhere, Passes, is_byte2}
 use Rattle.lines.specs.Atoms.{Spells, first_char, first_hex, escaped, hex_byte, shown, in_hex, before}
 
 -- one byte more is taken off
@@ -25,6 +26,17 @@ pub printed_more : (f : ℕ → List ℕ) (before line after xs : List ℕ) (i x
     → after ≡ before ++ flat_map f (take (i + 1) xs)
 printed_more f before line after xs i x h e l a =
     a ∙ ap (λ y. y ++ f x) l ∙ flat_map_more f before (take i xs) x ∙ ap (λ y. before ++ flat_map f (take i xs ++ y ∷ [])) e ∙ ap (λ y. before ++ flat_map f y) (sym (take_more xs i x h))
+
+-- a text without a quote and a backslash is spelled as it is
+spelled_as_is : (text : List ℕ) → ((k : ℕ) → k < length text → (get_or text k 0 ≢ 34) × (get_or text k 0 ≢ 92)) → Spells first_char text text
+unfolding first_char
+spelled_as_is [] plain = refl
+spelled_as_is (c ∷ text) plain =
+    let here : (c ≢ 34) × (c ≢ 92) = plain 0 (omega arith) in
+    (text, grind (arith, here), spelled_as_is text (λ k h. plain (suc k) (omega (arith, h))))
+
+pub all_stand_for_themselves : (text : List ℕ) → Nowhere (Passes (is_byte2 34 92) text) 0 (length text) → Spells first_char text text
+all_stand_for_themselves text nowhere = spelled_as_is text (λ k h. let not = nowhere k (omega arith) h in (λ e. not (rw e refl), λ e. not (rw e refl)))
 
 -- two hex digits are read as their byte
 pub hex_read : (b : ℕ) → b < 256 → hex_byte (digit_char (b / 16)) (digit_char (b % 16)) ≡ Some b

@@ -1,10 +1,11 @@
 //! Numbers and bytes as they are written on a line.
-ghost use Rattle.std.specs.Prelude.{◌≡◌, ◌<◌, length, Some, None, IfSome, IfNone, IfOk, IfErr, MatchOption};
+ghost use Rattle.std.specs.Prelude.{◌≡◌, ◌<◌, length, Some, None, IfSome, IfNone, IfOk, IfErr, IsTrue, MatchOption};
 ghost use Rattle.std.specs.Str.Parse.{digits_value};
 ghost use Rattle.lines.specs.Atoms.{IsNumber, IsAtom, Spells, escaped, first_char, first_hex, hex_byte};
 ghost use Rattle.lines.specs.Readings.{Blames};
 
 use crate::pieces::between;
+use memchr::memchr2;
 use std::alloc::Global;
 use wire::Fault;
 
@@ -86,11 +87,22 @@ fn bytes_of_hex(alloc: Global, digits: &[u8]) -> Result<Vec<u8>, Fault>
     Ok(bytes)
 }
 
+/// Whether all between quotes stands for itself, as where there is no escape.
+#[tactic(auto, using(crate::proofs::Spelling::all_stand_for_themselves))]
+fn is_verbatim(text: &[u8]) -> bool
+    ensures { IsTrue result → Spells first_char text.now text.now }
+{
+    memchr2(b'"', b'\\', text).is_none()
+}
+
 /// The bytes that stand between quotes.
 fn bytes_of_quoted(alloc: Global, text: &[u8]) -> Result<Vec<u8>, Fault>
     ensures bytes { IfOk result (λ bytes. Spells first_char text.now bytes.items) }
     ensures none { IfErr result (Blames (Spells first_char text.now)) }
 {
+    if is_verbatim(text) {
+        return Ok(text.to_vec(alloc)?);
+    }
     let mut bytes = Vec::with_capacity(alloc, text.len())?;
     let mut rest = text;
     while !rest.is_empty() {

@@ -1,5 +1,5 @@
 //! A line that is being written.
-ghost use Rattle.std.specs.Prelude.{◌≡◌, ◌++◌, ◌<◌, [], ◌∷◌, if◌then◌else◌, OnOk};
+ghost use Rattle.std.specs.Prelude.{◌≡◌, ◌++◌, ◌<◌, [], ◌∷◌, if◌then◌else◌, IfOk, OnOk};
 ghost use Rattle.std.specs.Char.{digit_char};
 ghost use Rattle.std.specs.Fmt.{decimal};
 ghost use Rattle.lines.specs.Atoms.{in_hex, shown, quoted, hexed};
@@ -45,6 +45,16 @@ impl Line {
         }
     }
 
+    /// An empty line with room for so many bytes, whose writing takes no memory.
+    pub fn with_capacity(alloc: Global, bytes: usize) -> Result<Line, AllocError>
+        ensures { IfOk result (λ line. line ≡ []) }
+    {
+        Ok(Line {
+            text: String::with_capacity(alloc, bytes)?,
+            fresh: true,
+        })
+    }
+
     pub fn as_str(&self) -> &str
         ensures { result.now ≡ self.now }
     {
@@ -87,7 +97,6 @@ impl Line {
     }
 
     /// Writes a byte as two hex digits.
-    #[inline(always)]
     fn two_digits(&mut self, byte: u8) -> Result<(), AllocError>
         ensures { OnOk result (self.new ≡ self.old ++ in_hex byte) }
     {
@@ -125,10 +134,8 @@ impl Line {
         ensures { OnOk result (self.new ≡ self.old ++ hexed bytes.now) }
     {
         self.word("0x")?;
-        self.text.reserve(bytes.len().saturating_mul(2))?;
-        for &byte in bytes {
-            self.two_digits(byte)?;
-        }
+        let digits = hex::encode(*self.text.allocator(), bytes)?;
+        self.text.push_str(digits.as_str())?;
         Ok(())
     }
 

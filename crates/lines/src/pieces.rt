@@ -40,6 +40,10 @@ impl Nesting {
         ensures some { IfSome result (λ after. behind (Some self) byte ≡ Some after) }
         ensures none { IfNone result (self.brackets < 2 ^ 64 - 1 → behind (Some self) byte ≡ None) }
     {
+        // Most bytes are letters and digits, which change nothing but behind a backslash.
+        if byte.is_ascii_alphanumeric() && self.quotes != Quotes::Escaped {
+            return Some(self);
+        }
         let Nesting {
             mut brackets,
             mut quotes,
@@ -99,6 +103,9 @@ pub fn first_word<'a>(text: &'a [u8]) -> Result<(&'a [u8], &'a [u8]), Fault>
     Err(Fault::Malformed)
 }
 
+/// How many words a line has room for at once.
+const USUAL_WORDS: usize = 8;
+
 /// Adds a piece that isn't empty.
 #[tactic(auto, unfolding(crate::specs::Pieces::with_word))]
 fn add_word<'a>(words: &mut Vec<&'a [u8]>, piece: &'a [u8]) -> Result<(), AllocError>
@@ -117,7 +124,7 @@ pub fn words<'a>(alloc: Global, text: &'a [u8]) -> Result<Vec<&'a [u8]>, Fault>
     ensures words { IfOk result (λ words. AreWords text.now words.items) }
     ensures unclosed { IfErr result (λ fault. fault ≡ Malformed → place text.now ≢ outside) }
 {
-    let mut words = Vec::new(alloc);
+    let mut words = Vec::with_capacity(alloc, USUAL_WORDS)?;
     let mut start = 0;
     let mut nesting = Nesting::NONE;
     for i in 0..text.len() {

@@ -9,6 +9,7 @@ use crate::perform::perform;
 use crate::run_end::RunEnd;
 use invocation_vm::CoreVM;
 use lines::line::Line;
+use memchr::memchr;
 use replies::{Reply, Shown};
 use requests::parse::parse;
 use std::alloc::{AllocError, Global};
@@ -29,11 +30,14 @@ pub fn answer(alloc: Global, vm: &mut Option<CoreVM>, line: &[u8]) -> Result<Lin
     }
 }
 
+/// How many bytes of an answer are written without taking memory again.
+const USUAL_ANSWER: usize = 32;
+
 /// A reply as it is written.
 fn written(alloc: Global, reply: Reply) -> Result<Line, AllocError>
     ensures { IfOk result (λ answer. answer ≡ reply_text reply) }
 {
-    let mut answer = Line::new(alloc);
+    let mut answer = Line::with_capacity(alloc, USUAL_ANSWER)?;
     let printed = reply.show(&mut answer);
     drop(reply);
     match printed {
@@ -43,12 +47,13 @@ fn written(alloc: Global, reply: Reply) -> Result<Line, AllocError>
 }
 
 /// The first line, without its end, and what follows it.
+#[tactic(auto, using(crate::proofs::FirstLines::ends_at, crate::proofs::FirstLines::never_ends))]
 pub fn first_line(script: &[u8]) -> (&[u8], &[u8])
     requires { 0 < length script.now }
     ensures shorter { length result.1.now < length script.now }
     ensures first { IsFirstLine script.now result.0.now result.1.now }
 {
-    match script.iter().position(|byte| *byte == b'\n') {
+    match memchr(b'\n', script) {
         Some(at) => (&script[..at], &script[at + 1..]),
         None => (script, &script[script.len()..]),
     }
