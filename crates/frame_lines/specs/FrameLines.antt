@@ -40,11 +40,20 @@ pub record IsNamed (name frame : List ℕ) : Type 0 where
   pub named : name ≡ type_name ty
   pub encodes : Encodes ty frame
 
--- the words show these bytes: a frame as it is, the rest of a stream, or a message
+-- the words show these bytes as they are: a frame of any type, or the rest of a stream
+abbrev pub ShowAsIs : List (Bor (List ℕ)) → List ℕ → Type 0
+ShowAsIs [] shown = ⊥
+ShowAsIs (name ∷ others) shown = ((name.now ≡ codes "raw") × AreRaw others shown) ⊎ ((name.now ≡ codes "rest") × IsRest others shown)
+
+-- the words show these bytes: as they are, or as a message
 abbrev pub Shows : List (Bor (List ℕ)) → List ℕ → Type 0
 Shows [] shown = ⊥
-Shows (name ∷ others) shown = ((name.now ≡ codes "raw") × AreRaw others shown) ⊎ ((name.now ≡ codes "rest") × IsRest others shown) ⊎ IsNamed name.now shown
+Shows (name ∷ others) shown = ShowAsIs (name ∷ others) shown ⊎ IsNamed name.now shown
 
 -- the words of a line show these bytes
 abbrev pub LineShows : List ℕ → List ℕ → Type 0
 LineShows line shown = (words : List (Bor (List ℕ))) × AreWords line words × Shows words shown
+
+-- the words of a line show these bytes as they are
+abbrev pub LineShowsAsIs : List ℕ → List ℕ → Type 0
+LineShowsAsIs line shown = (words : List (Bor (List ℕ))) × AreWords line words × ShowAsIs words shown

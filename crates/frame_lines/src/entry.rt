@@ -1,8 +1,9 @@
 //! A frame as a line, and a line as a frame.
-ghost use Rattle.std.specs.Prelude.{◌≡◌, ◌++◌, IfOk};
+ghost use Rattle.std.specs.Prelude.{◌≡◌, ◌++◌, IfErr, IfOk};
 ghost use Rattle.wire.specs.Format.{u16s, bytes};
 ghost use Rattle.lines.specs.Atoms.{IsAtom};
-ghost use Rattle.frame_lines.specs.FrameLines.{Encodes, IsRaw, LineShows, Shows};
+ghost use Rattle.lines.specs.Readings.{Blames};
+ghost use Rattle.frame_lines.specs.FrameLines.{Encodes, IsRaw, LineShows, LineShowsAsIs, ShowAsIs, Shows};
 
 use crate::message::{parse_message, print_message};
 use crate::type_names::type_named;
@@ -64,13 +65,16 @@ fn raw_frame(alloc: Global, number: u16, body: &Bytes) -> Result<Bytes, AllocErr
 
 /// The bytes of an atom, shared.
 fn shared(alloc: Global, text: &[u8]) -> Result<Bytes, Fault>
-    ensures { IfOk result (IsAtom text.now) }
+    ensures value { IfOk result (IsAtom text.now) }
+    ensures none { IfErr result (Blames (IsAtom text.now)) }
 {
     Ok(Bytes::from_vec(bytes_of(alloc, text)?)?)
 }
 
+#[tactic(auto, using(crate::proofs::Showing::body_blamed))]
 fn frame_of_raw(alloc: Global, number: &[u8], body: &[u8]) -> Result<Bytes, Fault>
-    ensures { IfOk result (IsRaw number.now body.now) }
+    ensures value { IfOk result (IsRaw number.now body.now) }
+    ensures none { IfErr result (Blames (IsRaw number.now body.now)) }
 {
     let Some(number) = number_of(number) else {
         return Err(Fault::Malformed);
@@ -82,9 +86,11 @@ fn frame_of_raw(alloc: Global, number: &[u8], body: &[u8]) -> Result<Bytes, Faul
     Ok(raw_frame(alloc, number, &body)?)
 }
 
-/// The bytes that the words of a line show.
+/// The bytes that the words of a line show. Where a message's fields are refused is not said: those of frames as they are and
+/// of a stream's rest aren't, but for want of memory.
 pub fn frame_of_words(alloc: Global, words: &[&[u8]]) -> Result<Bytes, Fault>
-    ensures { IfOk result (Shows words.now) }
+    ensures value { IfOk result (Shows words.now) }
+    ensures none { IfErr result (Blames (ShowAsIs words.now)) }
 {
     match words {
         [b"raw", number, body] => frame_of_raw(alloc, *number, *body),
@@ -98,8 +104,10 @@ pub fn frame_of_words(alloc: Global, words: &[&[u8]]) -> Result<Bytes, Fault>
 }
 
 /// The bytes that a line shows.
+#[tactic(auto, using(crate::proofs::Showing::line_blamed, crate::proofs::Showing::unclosed_line_blamed))]
 pub fn frame_of(alloc: Global, line: &[u8]) -> Result<Bytes, Fault>
-    ensures { IfOk result (LineShows line.now) }
+    ensures value { IfOk result (LineShows line.now) }
+    ensures none { IfErr result (Blames (LineShowsAsIs line.now)) }
 {
     let words = words(alloc, line)?;
     frame_of_words(alloc, words.as_slice())

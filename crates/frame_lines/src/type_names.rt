@@ -1,5 +1,6 @@
 //! The names of the types of messages.
-ghost use Rattle.std.specs.Prelude.{◌≡◌, IfSome};
+ghost use Rattle.std.specs.Prelude.{◌≡◌, ◌≢◌, IfNone, IfSome};
+ghost use Rattle.journal_errors.specs.declared.types.MessageType.{MessageType};
 ghost use Rattle.frame_lines.specs.Names.{type_name};
 
 use journal_errors::MessageType;
@@ -45,11 +46,13 @@ pub fn name_of(ty: MessageType) -> &'static str
 
 /// The type that has the name.
 pub fn type_named(name: &[u8]) -> Option<MessageType>
-    ensures { IfSome result (λ ty. name.now ≡ type_name ty) }
+    ensures named { IfSome result (λ ty. name.now ≡ type_name ty) }
+    ensures none { IfNone result ((ty : MessageType) → name.now ≢ type_name ty) }
 {
-    for number in 1..=30 {
-        let ty = MessageType::from_number(number)?;
-        if name == name_of(ty).as_bytes() {
+    for number in 0..=30 {
+        if let Some(ty) = MessageType::from_number(number)
+            && name == name_of(ty).as_bytes()
+        {
             return Some(ty);
         }
     }
