@@ -22,16 +22,16 @@ fn try_leaf(
     ensures ok { IfOk result (λ answer. Resolved delivery results.old (leaf handle) results.new answer) }
     ensures err { OnErr result (results.new ≡ results.old) }
 {
+    if let Some(enough) = results.uses_until(handle) {
+        use_first(results, enough);
+        return Ok(Resolution::AnyCompleted);
+    }
     let mut nodes = Vec::with_capacity(alloc, 1)?;
     nodes.push(Node {
         label: Label::Leaf(handle),
         first: 0,
         count: 0,
     })?;
-    if let Some(enough) = results.uses_until(handle) {
-        use_first(results, enough);
-        return Ok(Resolution::AnyCompleted);
-    }
     use_all(results);
     Ok(Resolution::Pending(Residue::new(nodes, Vec::new(alloc))))
 }
