@@ -24,8 +24,8 @@ use runs::{RunExitResult, RunHandle};
 use std::alloc::{AllocError, Global};
 use std::fmt;
 use std::time::Duration;
-use vm_machine::settle::flatten;
-use vm_machine::{Ask, Command, Machine, StateRead, asks};
+use vm_machine::awaited::flatten;
+use vm_machine::{Ask, Awaited, Command, Machine, StateRead, asks};
 use vm_parts::{
     AttachInvocationTarget, AwaitResponse, AwakeableHandle, CallHandle, CommandRelationship, Input,
     NonEmptyValue, NotificationHandle, PayloadOptions, ResponseHead, SendHandle, State, Step,
@@ -142,7 +142,7 @@ impl CoreVM {
     }
 
     /// The first part of an await: notifications are used, and the ids are read of the invocations that are to be cancelled.
-    fn await_tree(&mut self, future: UnresolvedFuture) -> VMResult<VMResult<AwaitResponse>>
+    fn await_tree(&mut self, future: UnresolvedFuture) -> VMResult<Awaited>
         ensures { CallsTry future result (seen self.old) (seen self.new) }
     {
         if let Err(error) = self.machine.live() {
@@ -154,7 +154,7 @@ impl CoreVM {
     }
 
     /// The second part of a cancelled await: each of these invocations is sent the cancel signal.
-    fn cancel_all(&mut self, calls: Vec<TrackedCall>) -> VMResult<VMResult<AwaitResponse>>
+    fn cancel_all(&mut self, calls: Vec<TrackedCall>) -> VMResult<Awaited>
         ensures does { Cancels (invocation_ids calls.items) result (seen self.old).machine (seen self.new).machine }
         ensures same { (seen self.new).undecoded ≡ (seen self.old).undecoded }
     {
@@ -166,11 +166,11 @@ impl CoreVM {
             }
         }
         self.machine.drop_cancel();
-        Ok(Ok(AwaitResponse::CancelSignalReceived))
+        Ok(Awaited::with(AwaitResponse::CancelSignalReceived))
     }
 
     /// As `do_await`, where an error by which the VM doesn't fail is an answer.
-    pub fn try_await(&mut self, future: UnresolvedFuture) -> VMResult<VMResult<AwaitResponse>>
+    pub fn try_await(&mut self, future: UnresolvedFuture) -> VMResult<Awaited>
         ensures { CallsAwait future result (seen self.old) (seen self.new) }
     {
         let given = self.await_tree(future);

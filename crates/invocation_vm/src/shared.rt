@@ -11,7 +11,7 @@ use std::alloc::Global;
 use vm_machine::asks::{call_handles, send_handle};
 use vm_machine::fault::refuse;
 use vm_machine::machine::empty_text;
-use vm_machine::{Fault, Machine};
+use vm_machine::{Awaited, Fault, Machine};
 use vm_parts::{
     AwaitResponse, AwakeableHandle, CallHandle, JournalReplay, NotificationHandle, SendHandle,
     VMResult,
@@ -84,8 +84,14 @@ pub(crate) fn make_awakeable(machine: &mut Machine) -> Result<AwakeableHandle, F
 }
 
 /// Whether an await sends cancel signals next.
-pub(crate) fn sends_cancels(given: &VMResult<VMResult<AwaitResponse>>) -> bool
+pub(crate) fn sends_cancels(given: &VMResult<Awaited>) -> bool
     ensures { result ≡ sends_cancels given.now }
 {
-    matches!(given, Ok(Ok(AwaitResponse::CancelSignalReceived)))
+    match given {
+        Ok(awaited) => matches!(
+            awaited.response(),
+            Some(AwaitResponse::CancelSignalReceived)
+        ),
+        Err(_) => false,
+    }
 }

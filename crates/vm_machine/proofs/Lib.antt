@@ -6,5 +6,6 @@ pub mod Endings
 pub mod Preparing
 pub mod Replaying
 pub mod Resolving
+pub mod Ruling
 pub mod Running
 pub mod States

@@ -1,4 +1,5 @@
 pub mod Asks
+pub mod Answered
 pub mod Awaits
 pub mod Cancels
 pub mod Commands

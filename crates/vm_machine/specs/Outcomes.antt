@@ -147,6 +147,12 @@ abbrev pub Lives : Option Error → Result Unit Error → Type 0
 Lives None r = r ≡ Ok tt
 Lives (Some e) r = (r ≡ Err e) ⊎ (r ≡ Err no_memory)
 
+-- what the error rule answers and leaves where an event wasn't carried out, in a call that began with these counters
+abbrev pub Rules : Counters → Fault → Error → Machine → Machine → Type 0
+Rules before fault.Memory e old new = (e ≡ no_memory) × (new ≡ starved before old)
+Rules before (fault.Refused said) e old new =
+    ((e ≡ ruled old said) × (new ≡ failed (ruled old said) old)) ⊎ ((e ≡ no_memory) × (new ≡ starved before old))
+
 -- what the error rule leaves of an inner function's answer, in a call that began with these counters
 abbrev pub Settles : {A : Type 0} → Counters → Result A Fault → Result A Error → Machine → Machine → Type 0
 Settles before (Ok a) r old new = (r ≡ Ok a) × (new ≡ old)

@@ -17,6 +17,7 @@ ghost use Rattle.vm_parts.specs.Tracked.{id_of_result, unresolved};
 ghost use Rattle.vm_machine.specs.Awaits.{Awaits, Gathers, ReadsId, Tries, TriesOrCancels, allows, executed, has_woken, is_cancelled, is_first_of_none, last_run, or_cancelled, pending_on, result_at, run_at, says_so, waiting, waits_by};
 ghost use Rattle.vm_machine.specs.Cancels.{cancel_taken};
 
+use crate::awaited::Awaited;
 use crate::fault::{Fault, refuse};
 use crate::machine::Machine;
 use crate::phase::Phase;
@@ -52,10 +53,10 @@ fn ends_awaits(option: ImplicitCancellationOption) -> bool
 }
 
 /// Whether an await has woken.
-fn has_woken(answer: &Result<AwaitResponse, Error>) -> bool
+fn has_woken(answer: &Awaited) -> bool
     ensures { result ≡ has_woken answer.now }
 {
-    matches!(answer, Ok(AwaitResponse::AnyCompleted))
+    matches!(answer.response(), Some(AwaitResponse::AnyCompleted))
 }
 
 /// Whether it is the first of none.
@@ -166,22 +167,18 @@ impl Machine {
 
     /// An await waits for input and for the results of runs, by whether a run that it waits for is executing; where neither can come,
     /// the invocation is suspended.
-    fn wait_or_suspend(
-        &mut self,
-        left: &Residue,
-        executing: bool,
-    ) -> Result<Result<AwaitResponse, Error>, Fault>
+    fn wait_or_suspend(&mut self, left: &Residue, executing: bool) -> Result<Awaited, Fault>
         ensures { Gives (waits_by self.old.input_closed executing (tree_left left.now) self.old) result self.old self.new }
     {
         if !self.input_closed {
             self.wait_on(left)?;
-            return Ok(Ok(AwaitResponse::WaitingExternalProgress {
+            return Ok(Awaited::with(AwaitResponse::WaitingExternalProgress {
                 waiting_input: true,
                 waiting_run_proposal: executing,
             }));
         }
         if executing {
-            return Ok(Ok(AwaitResponse::WaitingExternalProgress {
+            return Ok(Awaited::with(AwaitResponse::WaitingExternalProgress {
                 waiting_input: false,
                 waiting_run_proposal: true,
             }));
@@ -189,11 +186,12 @@ impl Machine {
         self.suspend_on(left)?;
         self.output_ended = true;
         self.phase = Phase::Closed;
-        Ok(Err(Error::named(NamedFault::Suspended, None)))
+        Ok(Awaited::suspended())
     }
 
     /// An await that stays pending on what is left of a tree.
-    fn pend_on(&mut self, left: &Residue) -> Result<Result<AwaitResponse, Error>, Fault>
+    #[inline(never)]
+    fn pend_on(&mut self, left: &Residue) -> Result<Awaited, Fault>
         ensures { Gives (pending_on (tree_left left.now) self.old) result self.old self.new }
     {
         let handles = list_handles(self.alloc, left)?;
@@ -203,7 +201,7 @@ impl Machine {
             return Err(Fault::Refused(Error::named(fault, related)));
         }
         if let Some(run) = self.execute_run(handles.as_slice()) {
-            return Ok(Ok(AwaitResponse::ExecuteRun(run)));
+            return Ok(Awaited::with(AwaitResponse::ExecuteRun(run)));
         }
         let executing = self.runs.any_executing_in_this_set(handles.as_slice());
         self.wait_or_suspend(left, executing)
@@ -211,15 +209,12 @@ impl Machine {
 
     /// One try of a future by the notifications alone; it may stay pending.
     #[tactic(auto, using(crate::proofs::Resolving::stays_pending))]
-    fn try_future(
-        &mut self,
-        future: &UnresolvedFuture,
-    ) -> Result<Result<AwaitResponse, Error>, Fault>
+    fn try_future(&mut self, future: &UnresolvedFuture) -> Result<Awaited, Fault>
         ensures { GivesBy (Tries (tree_of future.now) self.old) result self.old self.new }
     {
         let delivery = self.options.signal_delivery;
         match try_future(self.alloc, &mut self.results, delivery, future)? {
-            Resolution::AnyCompleted => Ok(Ok(AwaitResponse::AnyCompleted)),
+            Resolution::AnyCompleted => Ok(Awaited::with(AwaitResponse::AnyCompleted)),
             Resolution::Pending(left) => self.pend_on(&left),
         }
     }
@@ -245,7 +240,7 @@ impl Machine {
     }
 
     /// Awaits the handle of a tracked call's id by itself, the first whose id isn't known, and reads the id.
-    fn read_id(&mut self, handle: u32) -> Result<Result<AwaitResponse, Error>, Fault>
+    fn read_id(&mut self, handle: u32) -> Result<Awaited, Fault>
         ensures { GivesBy (ReadsId handle self.old) result self.old self.new }
     {
         let future = UnresolvedFuture::Single(NotificationHandle(handle));
@@ -259,11 +254,11 @@ impl Machine {
             Some(id) => self.tracked.resolve_first(id),
             None => return Err(refuse(NamedFault::UnexpectedInvocationIdResult)),
         }
-        Ok(Ok(AwaitResponse::AnyCompleted))
+        Ok(Awaited::with(AwaitResponse::AnyCompleted))
     }
 
     /// Reads the ids of tracked calls that aren't known, as they come.
-    fn gather_ids(&mut self) -> Result<Result<AwaitResponse, Error>, Fault>
+    fn gather_ids(&mut self) -> Result<Awaited, Fault>
         ensures { GivesBy (Gathers (unresolved self.old.tracked) self.old) result self.old self.new }
     {
         while let Some(handle) = self.tracked.first_unresolved() {
@@ -272,14 +267,11 @@ impl Machine {
                 return Ok(answer);
             }
         }
-        Ok(Ok(AwaitResponse::CancelSignalReceived))
+        Ok(Awaited::with(AwaitResponse::CancelSignalReceived))
     }
 
     /// Awaits a future, or the cancel signal.
-    fn try_or_cancel(
-        &mut self,
-        future: UnresolvedFuture,
-    ) -> Result<Result<AwaitResponse, Error>, Fault>
+    fn try_or_cancel(&mut self, future: UnresolvedFuture) -> Result<Awaited, Fault>
         ensures { GivesBy (TriesOrCancels (tree_of future) self.old) result self.old self.new }
     {
         let future = or_cancelled(self.alloc, future)?;
@@ -290,16 +282,13 @@ impl Machine {
             return Ok(answer);
         }
         if !self.is_cancelled() {
-            return Ok(Ok(AwaitResponse::AnyCompleted));
+            return Ok(Awaited::with(AwaitResponse::AnyCompleted));
         }
         self.gather_ids()
     }
 
     /// The handler awaits a tree. The inner error is an answer by which the machine doesn't fail.
-    pub fn await_tree(
-        &mut self,
-        future: UnresolvedFuture,
-    ) -> Result<Result<AwaitResponse, Error>, Fault>
+    pub fn await_tree(&mut self, future: UnresolvedFuture) -> Result<Awaited, Fault>
         ensures { GivesBy (Awaits (tree_of future) self.old) result self.old self.new }
     {
         if !self.phase.is_running() {

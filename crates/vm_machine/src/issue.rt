@@ -90,6 +90,7 @@ impl Machine {
     }
 
     #[tactic(auto, unfolding(crate::specs::Commands::replayed))]
+    #[inline(never)]
     fn replay(&mut self, message: &Message, ignore_payloads: bool) -> Result<(), Fault>
         ensures { Gives (replayed message.now ignore_payloads self.old) result self.old self.new }
     {

@@ -2,6 +2,7 @@
 #![tactic(auto)]
 
 pub mod asks;
+pub mod awaited;
 pub mod awaits;
 pub mod fault;
 pub mod input;
@@ -20,6 +21,7 @@ pub mod signals;
 pub mod takes;
 
 pub use asks::{Ask, Command};
+pub use awaited::Awaited;
 pub use fault::Fault;
 pub use machine::Machine;
 pub use phase::Phase;

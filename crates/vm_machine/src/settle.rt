@@ -1,9 +1,9 @@
 //! The error rule: what becomes of a machine whose event was refused or found no memory.
-ghost use Rattle.std.specs.Prelude.{◌≡◌, ◌∷◌, ◌++◌, [], IfOk, OnOk, OnErr, IsErr, Ok, is_some};
+ghost use Rattle.std.specs.Prelude.{◌≡◌, ◌∷◌, ◌++◌, [], IfOk, OnOk, OnErr, IsErr, Ok, Some, is_some};
 ghost use Rattle.journal_errors.specs.Errors.{no_memory, error_message};
 ghost use Rattle.journal_messages.specs.Message.{encoding};
 ghost use Rattle.journal_messages.specs.declared.message.Message.TheVariants as message;
-ghost use Rattle.vm_machine.specs.Outcomes.{ruled, failed, starved, Settles, Lives, mismatch_behavior, flattened};
+ghost use Rattle.vm_machine.specs.Outcomes.{ruled, failed, starved, Rules, Settles, Lives, mismatch_behavior};
 ghost use Rattle.vm_machine.specs.Inputs.{Quiets};
 
 use crate::fault::Fault;
@@ -23,6 +23,18 @@ fn mismatch_behavior(option: JournalMismatchRetryBehavior) -> ErrorBehavior
     }
 }
 
+/// The first error, answered once more. It is apart, as `stop` is, since a function sets all that its ways hold to zero where
+/// it begins: what is rare stands outside the usual way.
+#[inline(never)]
+fn said_again(first: &Error) -> Result<(), Error>
+    ensures { Lives (Some first.now) result }
+{
+    match first.clone() {
+        Ok(error) => Err(error),
+        Err(_) => Err(Error::named(NamedFault::Memory, None)),
+    }
+}
+
 impl Machine {
     /// Answers the first error of a failed machine.
     pub fn live(&self) -> Result<(), Error>
@@ -30,10 +42,7 @@ impl Machine {
     {
         match &self.failure {
             None => Ok(()),
-            Some(error) => match error.clone() {
-                Ok(error) => Err(error),
-                Err(_) => Err(Error::named(NamedFault::Memory, None)),
-            },
+            Some(error) => said_again(error),
         }
     }
 
@@ -88,20 +97,31 @@ impl Machine {
         Error::named(NamedFault::Memory, None)
     }
 
+    /// The error rule, where an event wasn't carried out.
+    #[inline(never)]
+    fn stop(&mut self, before: Counters, fault: Fault) -> Error
+        ensures { Rules before fault result self.old self.new }
+    {
+        match fault {
+            Fault::Memory => self.starve(before),
+            Fault::Refused(error) => {
+                let error = self.rule(error);
+                match self.fail(&error) {
+                    Ok(()) => error,
+                    Err(_) => self.starve(before),
+                }
+            }
+        }
+    }
+
     /// Ends an event by the error rule, in a call that began with these counters.
+    #[tactic(auto, using(crate::proofs::Ruling::settles_by))]
     pub fn settle<T: Drop>(&mut self, before: Counters, given: Result<T, Fault>) -> Result<T, Error>
         ensures { Settles before given result self.old self.new }
     {
         match given {
             Ok(answer) => Ok(answer),
-            Err(Fault::Memory) => Err(self.starve(before)),
-            Err(Fault::Refused(error)) => {
-                let error = self.rule(error);
-                match self.fail(&error) {
-                    Ok(()) => Err(error),
-                    Err(_) => Err(self.starve(before)),
-                }
-            }
+            Err(fault) => Err(self.stop(before, fault)),
         }
     }
 
@@ -130,15 +150,5 @@ impl Machine {
                 }
             }
         }
-    }
-}
-
-/// An answer that is an error, though the machine didn't fail.
-pub fn flatten<T>(given: Result<Result<T, Error>, Error>) -> Result<T, Error>
-    ensures { result ≡ flattened given }
-{
-    match given {
-        Ok(answer) => answer,
-        Err(error) => Err(error),
     }
 }

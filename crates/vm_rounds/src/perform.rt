@@ -100,7 +100,7 @@ fn wait(vm: &mut CoreVM, future: UnresolvedFuture) -> VMResult<Reply>
     ensures { Asked (Awaited future) result (seen vm.old) (seen vm.new) }
 {
     match vm.try_await(future) {
-        Ok(response) => Ok(reply_of(response)),
+        Ok(awaited) => Ok(reply_of(awaited.into_result())),
         Err(error) => Err(error),
     }
 }
