@@ -4,7 +4,7 @@ ghost use Rattle.handlers.specs.Calls.{both, call_of};
 
 use bytes::Bytes;
 use std::alloc::{AllocError, Global};
-use vm_parts::{NotificationHandle, PayloadOptions, Step, Target, UnresolvedFuture};
+use vm_parts::{Boxed, NotificationHandle, PayloadOptions, Step, Target, UnresolvedFuture};
 use wire::{Items, Text};
 
 /// The call of a service's handler, without a key.
@@ -21,7 +21,7 @@ pub fn call(alloc: Global, service: &str, handler: &str, input: Bytes) -> Result
         headers: Items::new(alloc),
     };
     Ok(Step::Call {
-        target,
+        target: Boxed::new(alloc, target)?,
         input,
         name: None,
         options: PayloadOptions::stable_serialization(),

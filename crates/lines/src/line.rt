@@ -45,7 +45,7 @@ impl Line {
         }
     }
 
-    /// An empty line with room for so many bytes, whose writing takes no memory.
+    /// An empty line with room for so many bytes.
     pub fn with_capacity(alloc: Global, bytes: usize) -> Result<Line, AllocError>
         ensures { IfOk result (λ line. line ≡ []) }
     {
@@ -53,6 +53,14 @@ impl Line {
             text: String::with_capacity(alloc, bytes)?,
             fresh: true,
         })
+    }
+
+    /// Drops what was written, and keeps its memory.
+    pub fn clear(&mut self)
+        ensures { self.new ≡ [] }
+    {
+        self.text.clear();
+        self.fresh = true;
     }
 
     pub fn as_str(&self) -> &str

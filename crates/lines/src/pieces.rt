@@ -118,18 +118,18 @@ fn add_word<'a>(words: &mut Vec<&'a [u8]>, piece: &'a [u8]) -> Result<(), AllocE
     Ok(())
 }
 
-/// The pieces between blanks, without those that are empty.
+/// As `words`, in the memory of others, which are dropped.
 #[tactic(auto, using(crate::proofs::Wording::words_none, crate::proofs::Wording::words_within, crate::proofs::Wording::words_here, crate::proofs::Wording::words_all))]
-pub fn words<'a>(alloc: Global, text: &'a [u8]) -> Result<Vec<&'a [u8]>, Fault>
-    ensures words { IfOk result (λ words. AreWords text.now words.items) }
+pub fn words_in<'a>(words: &mut Vec<&'a [u8]>, text: &'a [u8]) -> Result<(), Fault>
+    ensures words { IfOk result (λ _. AreWords text.now words.new.items) }
     ensures unclosed { IfErr result (λ fault. fault ≡ Malformed → place text.now ≢ outside) }
 {
-    let mut words = Vec::with_capacity(alloc, USUAL_WORDS)?;
+    words.clear();
     let mut start = 0;
     let mut nesting = Nesting::NONE;
     for i in 0..text.len() {
         if text[i] == b' ' && nesting.is_none() {
-            add_word(&mut words, &text[start..i])?;
+            add_word(words, &text[start..i])?;
             start = i + 1;
         } else {
             nesting = nesting.behind(text[i]).ok_or(Fault::Malformed)?;
@@ -138,7 +138,17 @@ pub fn words<'a>(alloc: Global, text: &'a [u8]) -> Result<Vec<&'a [u8]>, Fault>
     if !nesting.is_none() {
         return Err(Fault::Malformed);
     }
-    add_word(&mut words, &text[start..])?;
+    add_word(words, &text[start..])?;
+    Ok(())
+}
+
+/// The pieces between blanks, without those that are empty.
+pub fn words<'a>(alloc: Global, text: &'a [u8]) -> Result<Vec<&'a [u8]>, Fault>
+    ensures words { IfOk result (λ words. AreWords text.now words.items) }
+    ensures unclosed { IfErr result (λ fault. fault ≡ Malformed → place text.now ≢ outside) }
+{
+    let mut words = Vec::with_capacity(alloc, USUAL_WORDS)?;
+    words_in(&mut words, text)?;
     Ok(words)
 }
 

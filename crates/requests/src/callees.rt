@@ -14,7 +14,7 @@ use line_parts::fields::{are_named, text_behind};
 use line_parts::values::pair_of;
 use line_parts::words::{behind, bytes_in, text_in};
 use std::alloc::Global;
-use vm_parts::{Step, Target};
+use vm_parts::{Boxed, Step, Target};
 use wire::{Fault, Items, Text};
 
 /// What is called, and with what.
@@ -133,7 +133,7 @@ pub fn call_line(alloc: Global, arguments: &[&[u8]]) -> Result<Call, Fault>
     } = callee;
     let (target, name) = target_with(alloc, service, handler, words.as_slice())?;
     Ok(Call::Step(Step::Call {
-        target,
+        target: Boxed::new(alloc, target)?,
         input,
         name,
         options,
@@ -159,7 +159,7 @@ pub fn send_line(alloc: Global, arguments: &[&[u8]]) -> Result<Call, Fault>
     } = callee;
     let (target, name) = target_with(alloc, service, handler, words.as_slice())?;
     Ok(Call::Step(Step::Send {
-        target,
+        target: Boxed::new(alloc, target)?,
         input,
         execution_time_since_unix_epoch,
         name,

@@ -23,9 +23,9 @@ use line_parts::targets::target_of;
 use line_parts::trees::tree_of_word;
 use line_parts::values::{value_and_payload, value_of};
 use line_parts::words::{behind, bytes_in, text_in, time_in};
-use lines::pieces::words;
+use lines::pieces::words_in;
 use std::alloc::{AllocError, Global};
-use vm_parts::{Step, UnresolvedFuture, VMOptions};
+use vm_parts::{Boxed, Step, UnresolvedFuture, VMOptions};
 use wire::{Fault, Text};
 
 #[tactic(auto, using(lines::proofs::Blaming::first_blamed, lines::proofs::Blaming::second_blamed))]
@@ -190,7 +190,7 @@ fn propose_of(alloc: Global, arguments: &[&[u8]]) -> Result<Call, Fault>
     } = proposal_of(alloc, arguments)?;
     Ok(Call::Propose {
         handle,
-        result,
+        result: Boxed::new(alloc, result)?,
         policy,
     })
 }
@@ -201,7 +201,7 @@ fn attach_of(alloc: Global, arguments: &[&[u8]]) -> Result<Call, Fault>
     ensures none { IfErr result (Blames (IsLine verb.Attach arguments.now)) }
 {
     let target = target_of(alloc, arguments)?;
-    Ok(Call::Step(Step::AttachInvocation(target)))
+    Ok(Call::Step(Step::AttachInvocation(Boxed::new(alloc, target)?)))
 }
 
 #[tactic(auto, using(lines::proofs::Blaming::one_blamed))]
@@ -210,7 +210,7 @@ fn get_output_of(alloc: Global, arguments: &[&[u8]]) -> Result<Call, Fault>
     ensures none { IfErr result (Blames (IsLine verb.GetOutput arguments.now)) }
 {
     let target = target_of(alloc, arguments)?;
-    Ok(Call::Step(Step::GetInvocationOutput(target)))
+    Ok(Call::Step(Step::GetInvocationOutput(Boxed::new(alloc, target)?)))
 }
 
 #[tactic(auto, using(lines::proofs::Blaming::one_blamed))]
@@ -297,7 +297,7 @@ fn error_of(alloc: Global, arguments: &[&[u8]]) -> Result<Call, Fault>
     ensures none { IfErr result (Blames (IsLine verb.Error arguments.now)) }
 {
     let (error, relationship) = report_of(alloc, arguments)?;
-    Ok(Call::Error(error, relationship))
+    Ok(Call::Error(Boxed::new(alloc, error)?, relationship))
 }
 
 /// The call of this name, with the arguments behind it.
@@ -416,21 +416,25 @@ fn make_of_words(alloc: Global, words: &[&[u8]]) -> Result<(ContentType, VMOptio
 
 /// The row `vm`.
 #[tactic(auto, using(crate::proofs::Making::unclosed_makes, crate::proofs::Making::words_make))]
-fn make_of(alloc: Global, line: &[u8]) -> Result<(ContentType, VMOptions), Fault>
+fn make_of<'a>(
+    alloc: Global,
+    words: &mut Vec<&'a [u8]>,
+    line: &'a [u8],
+) -> Result<(ContentType, VMOptions), Fault>
     ensures value { IfOk result (λ made. MakesWith line.now made.0 made.1) }
     ensures none { IfErr result (λ fault. fault ≡ Malformed → MakesNothing line.now) }
 {
-    let words = words(alloc, line)?;
+    words_in(words, line)?;
     make_of_words(alloc, words.as_slice())
 }
 
 /// Any other row that isn't empty.
 #[tactic(auto, using(crate::proofs::Asking::unclosed_asks, crate::proofs::Asking::words_ask))]
-fn row_of(alloc: Global, line: &[u8]) -> Result<Call, Fault>
+fn row_of<'a>(alloc: Global, words: &mut Vec<&'a [u8]>, line: &'a [u8]) -> Result<Call, Fault>
     ensures value { IfOk result (AsksCall line.now) }
     ensures none { IfErr result (λ fault. fault ≡ Malformed → AsksNothing line.now) }
 {
-    let words = words(alloc, line)?;
+    words_in(words, line)?;
     call_of(alloc, words.as_slice())
 }
 
@@ -451,7 +455,11 @@ fn makes(line: &[u8]) -> bool
 }
 
 /// What a line that begins with `vm` asks for. An `Err` is want of memory.
-fn parse_make(alloc: Global, line: &[u8]) -> Result<Request, AllocError>
+fn parse_make<'a>(
+    alloc: Global,
+    words: &mut Vec<&'a [u8]>,
+    line: &'a [u8],
+) -> Result<Request, AllocError>
     requires silent { says_nothing line.now ≡ false }
     requires makes { begins_with_vm line.now ≡ true }
     ensures value { IfOk result (Asks line.now) }
@@ -459,7 +467,7 @@ fn parse_make(alloc: Global, line: &[u8]) -> Result<Request, AllocError>
     if std::str::from_utf8(line).is_err() {
         return Ok(Request::BadMake);
     }
-    match make_of(alloc, line) {
+    match make_of(alloc, words, line) {
         Ok((content_type, options)) => Ok(Request::Make(content_type, options)),
         Err(Fault::Malformed) => Ok(Request::BadMake),
         Err(Fault::Memory) => Err(AllocError),
@@ -467,7 +475,11 @@ fn parse_make(alloc: Global, line: &[u8]) -> Result<Request, AllocError>
 }
 
 /// What any other line that isn't empty asks for. An `Err` is want of memory.
-fn parse_call(alloc: Global, line: &[u8]) -> Result<Request, AllocError>
+fn parse_call<'a>(
+    alloc: Global,
+    words: &mut Vec<&'a [u8]>,
+    line: &'a [u8],
+) -> Result<Request, AllocError>
     requires silent { says_nothing line.now ≡ false }
     requires makes { begins_with_vm line.now ≡ false }
     ensures value { IfOk result (Asks line.now) }
@@ -475,15 +487,19 @@ fn parse_call(alloc: Global, line: &[u8]) -> Result<Request, AllocError>
     if std::str::from_utf8(line).is_err() {
         return Ok(Request::Bad);
     }
-    match row_of(alloc, line) {
+    match row_of(alloc, words, line) {
         Ok(call) => Ok(Request::Call(call)),
         Err(Fault::Malformed) => Ok(Request::Bad),
         Err(Fault::Memory) => Err(AllocError),
     }
 }
 
-/// What a line asks for.
-pub fn parse(alloc: Global, line: &[u8]) -> Result<Request, AllocError>
+/// What a line asks for. Its words take the place of others, whose memory is used again.
+pub fn parse<'a>(
+    alloc: Global,
+    words: &mut Vec<&'a [u8]>,
+    line: &'a [u8],
+) -> Result<Request, AllocError>
     ensures value { IfOk result (Reads line.now) }
 {
     let line = line.trim_ascii();
@@ -491,7 +507,7 @@ pub fn parse(alloc: Global, line: &[u8]) -> Result<Request, AllocError>
         return Ok(Request::Nothing);
     }
     if makes(line) {
-        return parse_make(alloc, line);
+        return parse_make(alloc, words, line);
     }
-    parse_call(alloc, line)
+    parse_call(alloc, words, line)
 }

@@ -188,14 +188,16 @@ fn perform_any(vm: &mut CoreVM, call: Call) -> Reply
         Call::Ready => ready(vm.is_ready_to_execute()),
         Call::State => Reply::State(vm.state()),
         Call::Index => Reply::Index(vm.last_command_index()),
-        Call::Error(error, relationship) => fed(vm.notify_error(error, relationship)),
+        Call::Error(error, relationship) => {
+            fed(vm.notify_error(error.into_inner(), relationship))
+        },
         Call::SysInput => input(vm.sys_input()),
         Call::Run(name) => ran(vm.sys_run(name.into_string())),
         Call::Propose {
             handle,
             result,
             policy,
-        } => ended(vm.propose_run_completion(handle, result, policy)),
+        } => ended(vm.propose_run_completion(handle, result.into_inner(), policy)),
         Call::Step(step) => perform_step(vm, step),
     }
 }

@@ -1,7 +1,6 @@
 //! A run of the program: what a reader gives is a script, and its answers go to a writer.
 ghost use Rattle.std.specs.Prelude.{◌≡◌, ◌<◌, ◌++◌, ◌∷◌, [], ℕ, List, length, IfOk, OnErr, None};
 ghost use Rattle.std.specs.Io.KnownBytes.{IsAtEnd};
-ghost use Rattle.replies.specs.Replies.{reply_text};
 ghost use Rattle.scripts.specs.Runs.{Ends, IsRun, Tells};
 ghost use Rattle.scripts.specs.Transcripts.{IsFirstLine, IsUnanswered, Transcribes};
 
@@ -10,40 +9,82 @@ use crate::run_end::RunEnd;
 use invocation_vm::CoreVM;
 use lines::line::Line;
 use memchr::memchr;
-use replies::{Reply, Shown};
+use replies::Shown;
 use requests::parse::parse;
 use std::alloc::{AllocError, Global};
 use streams::{Sink, Source};
 
+/// How many words a line has room for at once.
+const USUAL_WORDS: usize = 8;
+/// How many bytes of an answer are written without taking memory again.
+const USUAL_ANSWER: usize = 32;
+
+/// What one line after another is read and answered in, so that most take no memory for it.
+#[derive(Drop)]
+struct Room<'a> {
+    words: Vec<&'a [u8]>,
+    answer: Line,
+}
+
+impl<'a> Room<'a> {
+    /// It has no memory yet.
+    fn new(alloc: Global) -> Room<'a> {
+        Room {
+            words: Vec::new(alloc),
+            answer: Line::new(alloc),
+        }
+    }
+
+    /// It has the memory that a usual line takes.
+    fn usual(alloc: Global) -> Result<Room<'a>, AllocError> {
+        Ok(Room {
+            words: Vec::with_capacity(alloc, USUAL_WORDS)?,
+            answer: Line::with_capacity(alloc, USUAL_ANSWER)?,
+        })
+    }
+
+    /// Writes the answer to a line, both without their ends.
+    #[tactic(auto, using(crate::proofs::Told::transcribes, crate::proofs::Told::unanswered))]
+    fn answer(
+        &mut self,
+        alloc: Global,
+        vm: &mut Option<CoreVM>,
+        line: &'a [u8],
+    ) -> Result<(), AllocError>
+        ensures answered { IfOk result (λ _. Transcribes alloc vm.old vm.new line.now self.new.answer) }
+        ensures unanswered { OnErr result (IsUnanswered alloc vm.old vm.new line.now) }
+    {
+        self.answer.clear();
+        let request = parse(alloc, &mut self.words, line)?;
+        let reply = perform(alloc, vm, request);
+        let shown = reply.show(&mut self.answer);
+        drop(reply);
+        shown
+    }
+
+    /// The same, with an end of its own.
+    fn answer_line(
+        &mut self,
+        alloc: Global,
+        vm: &mut Option<CoreVM>,
+        line: &'a [u8],
+    ) -> Result<(), AllocError>
+        ensures { IfOk result (λ _. (told : List ℕ) × Transcribes alloc vm.old vm.new line.now told × (self.new.answer ≡ told ++ 10 ∷ [])) }
+    {
+        self.answer(alloc, vm, line)?;
+        self.answer.word("\n")
+    }
+}
+
 /// The answer to a line, both without their ends.
-#[tactic(auto, using(crate::proofs::Told::transcribes, crate::proofs::Told::unanswered))]
 pub fn answer(alloc: Global, vm: &mut Option<CoreVM>, line: &[u8]) -> Result<Line, AllocError>
     ensures answered { IfOk result (λ answer. Transcribes alloc vm.old vm.new line.now answer) }
     ensures unanswered { OnErr result (IsUnanswered alloc vm.old vm.new line.now) }
 {
-    match parse(alloc, line) {
-        Ok(request) => match written(alloc, perform(alloc, vm, request)) {
-            Ok(answer) => Ok(answer),
-            Err(error) => Err(error),
-        },
-        Err(error) => Err(error),
-    }
-}
-
-/// How many bytes of an answer are written without taking memory again.
-const USUAL_ANSWER: usize = 32;
-
-/// A reply as it is written.
-fn written(alloc: Global, reply: Reply) -> Result<Line, AllocError>
-    ensures { IfOk result (λ answer. answer ≡ reply_text reply) }
-{
-    let mut answer = Line::with_capacity(alloc, USUAL_ANSWER)?;
-    let printed = reply.show(&mut answer);
-    drop(reply);
-    match printed {
-        Ok(()) => Ok(answer),
-        Err(error) => Err(error),
-    }
+    let mut room = Room::usual(alloc)?;
+    room.answer(alloc, vm, line)?;
+    let Room { answer, .. } = room;
+    Ok(answer)
 }
 
 /// The first line, without its end, and what follows it.
@@ -59,15 +100,6 @@ pub fn first_line(script: &[u8]) -> (&[u8], &[u8])
     }
 }
 
-/// The answer to a line, with an end of its own.
-fn answer_line(alloc: Global, vm: &mut Option<CoreVM>, line: &[u8]) -> Result<Line, AllocError>
-    ensures { IfOk result (λ ended. (told : List ℕ) × Transcribes alloc vm.old vm.new line.now told × (ended ≡ told ++ 10 ∷ [])) }
-{
-    let mut answer = answer(alloc, vm, line)?;
-    answer.word("\n")?;
-    Ok(answer)
-}
-
 /// Answers the lines one after another, and writes each answer at once. The last line may have no end.
 fn answer_all<W: Sink>(
     alloc: Global,
@@ -77,13 +109,14 @@ fn answer_all<W: Sink>(
 ) -> RunEnd
     ensures { Ends alloc script.now vm.old (W.contents writer.old) (W.contents writer.new) (W.fails writer.old) result }
 {
+    let mut room = Room::new(alloc);
     let mut rest = script;
     while !rest.is_empty() {
         let (line, behind) = first_line(rest);
-        let Ok(answer) = answer_line(alloc, vm, line) else {
+        let Ok(()) = room.answer_line(alloc, vm, line) else {
             return RunEnd::NoMemory;
         };
-        if let Err(error) = writer.write_whole(answer.as_str().as_bytes()) {
+        if let Err(error) = writer.write_whole(room.answer.as_str().as_bytes()) {
             return RunEnd::WriteFailed(error);
         }
         rest = behind;

@@ -441,7 +441,7 @@ pub fn ask_of(alloc: Global, version: Version, step: Step) -> Ask
             options,
         } => {
             let name = name_in(alloc, name);
-            Ask::Command(call(alloc, target, input, name, options, version))
+            Ask::Command(call(alloc, target.into_inner(), input, name, options, version))
         }
         Step::Send {
             target,
@@ -452,6 +452,7 @@ pub fn ask_of(alloc: Global, version: Version, step: Step) -> Ask
         } => {
             let name = name_in(alloc, name);
             let time = execution_time_since_unix_epoch;
+            let target = target.into_inner();
             Ask::Command(send(alloc, target, input, time, name, options, version))
         }
         Step::Awakeable => Ask::Awakeable,
@@ -475,8 +476,12 @@ pub fn ask_of(alloc: Global, version: Version, step: Step) -> Ask
             options,
         } => Ask::Command(complete_promise(key, value, options, version)),
         Step::Run { name } => Ask::Command(run(name)),
-        Step::AttachInvocation(target) => Ask::Command(attach_invocation(target, version)),
-        Step::GetInvocationOutput(target) => Ask::Command(get_invocation_output(target, version)),
+        Step::AttachInvocation(target) => {
+            Ask::Command(attach_invocation(target.into_inner(), version))
+        }
+        Step::GetInvocationOutput(target) => {
+            Ask::Command(get_invocation_output(target.into_inner(), version))
+        }
         Step::WriteOutput(value, options) => Ask::Command(output(value, options, version)),
         Step::Await(future) => Ask::Await(future),
         Step::Take(handle) => Ask::Take(handle),

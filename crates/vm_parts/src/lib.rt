@@ -3,6 +3,7 @@
 #![tactic(auto)]
 
 pub mod async_results;
+pub mod boxed;
 pub mod command_type;
 pub mod context;
 pub mod entries;
@@ -19,6 +20,7 @@ pub mod values;
 
 pub use async_results::{AsyncResults, Mapping};
 pub use await_trees::{CANCEL_NOTIFICATION_HANDLE, NotificationHandle, UnresolvedFuture};
+pub use boxed::Boxed;
 pub use command_type::{CommandRelationship, CommandType};
 pub use context::{Counters, Known, LastCommand, StartInfo, StateCoverage, StateMap};
 pub use entries::Entries;

@@ -1,5 +1,6 @@
 //! What a handler asks for next, and what it was answered.
 
+use crate::boxed::Boxed;
 use crate::options::PayloadOptions;
 use crate::types::{AwakeableHandle, CallHandle, SendHandle};
 use crate::values::{Input, NonEmptyValue, Target, Value};
@@ -39,13 +40,13 @@ pub enum Step {
         name: Option<Text>,
     },
     Call {
-        target: Target,
+        target: Boxed<Target>,
         input: Bytes,
         name: Option<Text>,
         options: PayloadOptions,
     },
     Send {
-        target: Target,
+        target: Boxed<Target>,
         input: Bytes,
         execution_time_since_unix_epoch: Option<Duration>,
         name: Option<Text>,
@@ -82,8 +83,8 @@ pub enum Step {
     Run {
         name: Text,
     },
-    AttachInvocation(InvocationTarget),
-    GetInvocationOutput(InvocationTarget),
+    AttachInvocation(Boxed<InvocationTarget>),
+    GetInvocationOutput(Boxed<InvocationTarget>),
     WriteOutput(NonEmptyValue, PayloadOptions),
     Await(UnresolvedFuture),
     Take(NotificationHandle),

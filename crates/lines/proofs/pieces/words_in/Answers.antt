@@ -3,8 +3,8 @@ use Rattle.std.proofs.Math.Seq.{take-length}
 use Rattle.lines.specs.Pieces.{behind, outside}
 use Rattle.lines.proofs.Closing.{on_err, unclosed_within, unclosed_end, blank_closed}
 use Rattle.lines.proofs.Wording.{IsCutToWords, words_within, words_here, words_all}
-use Rattle.lines.proofs.pieces.words.Goals as goal
-use Rattle.lines.proofs.pieces.words.Goals.{then-text-i-eq32+then-is_none+in_ok-add_word, else-text-i-eq32+in_ok-nesting, else-text-i-eq32-via-then-text-i-eq32+else-is_none, else-text-i-eq32-via-else-text-i-eq32}
+use Rattle.lines.proofs.pieces.words_in.Goals as goal
+use Rattle.lines.proofs.pieces.words_in.Goals.{then-text-i-eq32+then-is_none+in_ok-add_word, else-text-i-eq32+in_ok-nesting, else-text-i-eq32-via-then-text-i-eq32+else-is_none, else-text-i-eq32-via-else-text-i-eq32}
 
 pub loop-i-preserved : goal.loop-i-preserved
 loop-i-preserved c = elim c.if-text-i-eq32.branch [
