@@ -84,6 +84,9 @@ fn long_number_of(digits: &[u8]) -> Option<u128>
     ensures value { IfSome result (λ number. number ≡ digits_value 10 digits.now) }
     ensures none { IfNone result (IsNumeral 10 digits.now → 2 ^ 128 ≤ digits_value 10 digits.now) }
 {
+    if let Some(number) = number_of(digits) {
+        return Some(u128::from(number));
+    }
     match digits {
         [b'0'..=b'9', ..] => std::str::from_utf8(digits).ok()?.parse().ok(),
         _ => None,

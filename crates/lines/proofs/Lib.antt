@@ -3,6 +3,7 @@ pub mod Closing
 pub mod Cutting
 pub mod Determined
 pub mod Hexing
+pub mod Numerals
 pub mod Once
 pub mod Spelling
 pub mod Wording

@@ -1,10 +1,13 @@
 -- A text that is cut into words byte by byte.
-use Rattle.std.proofs.Common.{◌≡◌, ◌≢◌, ◌<◌, ◌+◌, ◌++◌, ℕ, List, [], ◌∷◌, length, drop, filter, get_or, sym, ap, refl, ◌∙◌, Some}
+use Rattle.std.proofs.Common.{◌≡◌, ◌≢◌, ◌<◌, ◌≤◌, ◌+◌, ◌++◌, ℕ, zero, suc, Bool, true, false, nat_lt, nat_eq, List, [], ◌∷◌, length, drop, filter, get_or, sym, ap, subst, refl, ◌∙◌, arith, Some}
 use Rattle.std.specs.Borrow.{Bor}
+use Rattle.std.specs.Char.{is_ascii_alphanumeric}
 use Rattle.std.specs.List.{slice_range}
+use Rattle.std.proofs.lemmas.Bool.Decides.{nat_tests}
 use Rattle.std.proofs.lemmas.List.Elements.{filter-append}
 use Rattle.lines.specs.declared.pieces.Nesting.{Nesting}
-use Rattle.lines.specs.Pieces.{behind, outside, is_word, with_word, AreWords}
+use Rattle.lines.specs.declared.pieces.Quotes.TheVariants.{Escaped}
+use Rattle.lines.specs.Pieces.{ArePlain, behind, outside, is_word, with_word, AreWords}
 use Rattle.lines.proofs.Cutting.{IsCut, cut_none, cut_within, cut_here, cut_all}
 
 -- the text is cut up to i, and these are the words so far
@@ -41,3 +44,37 @@ pub words_all : (start : ℕ) (text : List ℕ) (words longer : List (Bor (List 
     → Some n ≡ outside → p.now ≡ drop start text → longer ≡ with_word words p → AreWords text longer
 words_all start text words longer n p c e now long =
     (c.pieces ++ p ∷ [], cut_all 32 start text c.pieces (c.pieces ++ p ∷ []) n p c.cut e now refl, word_more words longer c.pieces p c.words_are long)
+
+-- a letter or a digit changes nothing but behind a backslash
+plain_within : (n : Nesting) (b : ℕ) → is_ascii_alphanumeric b ≡ true → n.quotes ≢ Escaped → behind (Some n) b ≡ Some n
+unfolding behind
+plain_within n b plain free = grind (arith, nat_tests)
+
+-- letters and digits more, so many
+pub words_plain : (start i to : ℕ) (text : List ℕ) (words : List (Bor (List ℕ))) (n : Nesting) (count : ℕ) → i + count ≡ to → IsCutToWords start i text words n → (i < to → n.quotes ≢ Escaped)
+    → to ≤ length text → ArePlain i to text → IsCutToWords start to text words n
+words_plain start i to text words n zero e c free h plain = subst (λ j. IsCutToWords start j text words n) (omega arith) c
+words_plain start i to text words n (suc count) e c free h plain =
+    let letter = plain i (omega arith) (omega arith) in
+    let no_blank : get_or text i 0 ≡ 32 → Some n ≢ outside = λ s. absurd (cc (ap is_ascii_alphanumeric (sym s) ∙ letter)) in
+    words_plain start (i + 1) to text words n count (omega arith)
+    (words_within start i text words n n c (omega arith) no_blank (plain_within n _ letter (free (omega arith))))
+    (λ less. free (omega arith)) h (λ k more. plain k (omega arith))
+
+-- the text is ASCII up to i
+abbrev pub IsAsciiTo : ℕ → List ℕ → Type 0
+IsAsciiTo i text = (k : ℕ) → k < i → get_or text k 0 < 128
+
+-- a byte more, and letters and digits behind it
+pub ascii_more : (i to : ℕ) (text : List ℕ) → IsAsciiTo i text → get_or text i 0 < 128 → ArePlain (i + 1) to text → IsAsciiTo to text
+ascii_more i to text before here plain k less = go (nat_lt k i) refl (nat_eq k i) refl
+  where
+    go : (a : Bool) → nat_lt k i ≡ a → (b : Bool) → nat_eq k i ≡ b → get_or text k 0 < 128
+    go true e b f = before k (grind (arith, nat_tests))
+    go false e true f =
+        let same : k ≡ i = grind (arith, nat_tests) in
+        rw same here
+    go false e false f =
+        let past : i + 1 ≤ k = grind (arith, nat_tests) in
+        let letter = plain k past less in
+        grind (arith, nat_tests)

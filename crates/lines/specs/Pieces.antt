@@ -1,6 +1,7 @@
 -- A text cut into pieces at a separator, and its words.
-use Rattle.std.specs.Prelude.{◌≡◌, ◌≢◌, ◌+◌, ◌-◌, ◌<◌, ◌==◌, ◌||◌, ℕ, Bool, not, if◌then◌else◌, List, [], ◌∷◌, ◌++◌, length, take, Option, Some, None, All, filter, map, flat_map, fold, slice_index}
+use Rattle.std.specs.Prelude.{◌≡◌, ◌≢◌, ◌+◌, ◌-◌, ◌<◌, ◌≤◌, ◌==◌, ◌||◌, ℕ, Bool, true, not, if◌then◌else◌, List, [], ◌∷◌, ◌++◌, length, take, Option, Some, None, All, filter, map, flat_map, fold, slice_index}
 use Rattle.std.specs.Borrow.{Bor}
+use Rattle.std.specs.Char.{is_ascii_alphanumeric}
 use Rattle.lines.specs.declared.pieces.Nesting.{Nesting}
 use Rattle.lines.specs.declared.pieces.Quotes.{Quotes}
 use Rattle.lines.specs.declared.pieces.Quotes.TheVariants.{Outside, Inside, Escaped}
@@ -46,6 +47,10 @@ place text = fold behind outside text
 -- each separator in the text stands in brackets or in quotes
 abbrev pub IsUncut : ℕ → List ℕ → Type 0
 IsUncut separator text = (k : ℕ) → k < length text → slice_index text k ≡ separator → place (take k text) ≢ outside
+
+-- letters and digits stand in the text between two places
+abbrev pub ArePlain : ℕ → ℕ → List ℕ → Type 0
+ArePlain from to text = (k : ℕ) → from ≤ k → k < to → is_ascii_alphanumeric (slice_index text k) ≡ true
 
 -- the text closes its brackets and quotes, and each separator in it stands in these
 abbrev pub IsPiece : ℕ → List ℕ → Type 0

@@ -1,5 +1,6 @@
 //! Numbers and bytes as they are written on a line.
-ghost use Rattle.std.specs.Prelude.{◌≡◌, ◌<◌, length, Some, None, IfSome, IfNone, IfOk, IfErr, IsTrue, MatchOption};
+ghost use Rattle.std.specs.Prelude.{◌≡◌, ◌<◌, length, Some, None, if◌then◌else◌, IfSome, IfNone, IfOk, IfErr, IsTrue, MatchOption};
+ghost use Rattle.std.specs.Char.{digit_value, is_digit};
 ghost use Rattle.std.specs.Str.Parse.{digits_value};
 ghost use Rattle.lines.specs.Atoms.{IsNumber, IsAtom, Spells, escaped, first_char, first_hex, hex_byte};
 ghost use Rattle.lines.specs.Readings.{Blames};
@@ -15,8 +16,28 @@ pub fn number_of(text: &[u8]) -> Option<u64>
     ensures value { IfSome result (λ number. number ≡ digits_value 10 text.now) }
     ensures none { IfNone result (IsNumber text.now → ⊥) }
 {
-    match text {
-        [b'0'..=b'9', ..] => std::str::from_utf8(text).ok()?.parse().ok(),
+    if text.is_empty() {
+        return None;
+    }
+    let mut number = 0u64;
+    for &byte in text {
+        let digit = char::from(byte).to_digit(10)?;
+        number = number.checked_mul(10)?.checked_add(u64::from(digit))?;
+    }
+    Some(number)
+}
+
+/// The value of a hex digit, in either case. Most are below ten, which one comparison tells.
+fn hex_value(digit: u8) -> Option<u8>
+    ensures { result ≡ (if is_digit digit 16 then Some (digit_value digit) else None) }
+{
+    let number = digit.wrapping_sub(b'0');
+    if number < 10 {
+        return Some(number);
+    }
+    match digit {
+        b'a'..=b'f' => Some(digit - b'a' + 10),
+        b'A'..=b'F' => Some(digit - b'A' + 10),
         _ => None,
     }
 }
@@ -26,9 +47,7 @@ pub fn number_of(text: &[u8]) -> Option<u64>
 fn hex_byte(high: u8, low: u8) -> Option<u8>
     ensures { result ≡ hex_byte high low }
 {
-    let high = char::from(high).to_digit(16)?;
-    let low = char::from(low).to_digit(16)?;
-    Some((high * 16 + low) as u8)
+    Some(hex_value(high)? * 16 + hex_value(low)?)
 }
 
 /// The byte of the first two hex digits, and what follows.

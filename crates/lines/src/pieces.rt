@@ -1,8 +1,10 @@
 //! A text cut into pieces, none of them within quotes or brackets.
-ghost use Rattle.std.specs.Prelude.{◌≡◌, ◌≢◌, ◌++◌, ◌<◌, ◌-◌, ◌^◌, IfOk, IfErr, OnOk, IfSome, IfNone, IsTrue, ◌↔◌, Some, None};
+ghost use Rattle.std.specs.Prelude.{◌≡◌, ◌≢◌, ◌++◌, ◌<◌, ◌≤◌, ◌-◌, ◌^◌, ℕ, IfOk, IfErr, OnOk, IfSome, IfNone, IsAscii, IsTrue, ◌↔◌, Some, None, length};
+ghost use Rattle.lines.specs.declared.pieces.Charset.TheVariants.{Ascii};
+ghost use Rattle.lines.specs.declared.pieces.Quotes.TheVariants.{Escaped};
 ghost use Rattle.wire.specs.declared.fault.Fault.TheVariants.{Malformed};
 ghost use Rattle.lines.specs.Readings.{Blames};
-ghost use Rattle.lines.specs.Pieces.{ArePieces, AreWords, AreWordsWithin, IsWithin, behind, outside, place, with_word};
+ghost use Rattle.lines.specs.Pieces.{ArePieces, AreWords, AreWordsWithin, ArePlain, IsWithin, behind, outside, place, with_word};
 
 use std::alloc::{AllocError, Global};
 use wire::Fault;
@@ -57,6 +59,46 @@ impl Nesting {
             _ => {}
         }
         Some(Nesting { brackets, quotes })
+    }
+
+    /// The end of the letters and digits that stand from a place on. They change nothing, but behind a backslash one does,
+    /// so there it is the place itself.
+    fn plain_end(self, text: &[u8], from: usize) -> usize
+        requires { from ≤ length text.now }
+        ensures within { (from ≤ result) × (result ≤ length text.now) }
+        ensures plain { ArePlain from result text.now }
+        ensures free { from < result → self.quotes ≢ Escaped }
+    {
+        if self.quotes == Quotes::Escaped {
+            return from;
+        }
+        for i in from..text.len() {
+            if !text[i].is_ascii_alphanumeric() {
+                return i;
+            }
+        }
+        text.len()
+    }
+}
+
+/// Which bytes a text has.
+#[derive(Clone, Copy, Debug, PartialEq, Eq)]
+pub enum Charset {
+    Ascii,
+    /// Some byte isn't ASCII.
+    Other,
+}
+
+impl Charset {
+    /// The text with one byte more.
+    fn with(self, byte: u8) -> Charset
+        ensures { result ≡ Ascii → (self ≡ Ascii) × (byte < 128) }
+    {
+        if byte.is_ascii() {
+            self
+        } else {
+            Charset::Other
+        }
     }
 }
 
@@ -118,28 +160,34 @@ fn add_word<'a>(words: &mut Vec<&'a [u8]>, piece: &'a [u8]) -> Result<(), AllocE
     Ok(())
 }
 
-/// As `words`, in the memory of others, which are dropped.
+/// As `words`, in the memory of others, which are dropped. It also says which bytes it has seen in the text.
 #[tactic(auto, using(crate::proofs::Wording::words_none, crate::proofs::Wording::words_within, crate::proofs::Wording::words_here, crate::proofs::Wording::words_all))]
-pub fn words_in<'a>(words: &mut Vec<&'a [u8]>, text: &'a [u8]) -> Result<(), Fault>
+pub fn words_in<'a>(words: &mut Vec<&'a [u8]>, text: &'a [u8]) -> Result<Charset, Fault>
     ensures words { IfOk result (λ _. AreWords text.now words.new.items) }
+    ensures ascii { IfOk result (λ charset. charset ≡ Ascii → IsAscii text.now) }
     ensures unclosed { IfErr result (λ fault. fault ≡ Malformed → place text.now ≢ outside) }
 {
     words.clear();
+    let mut charset = Charset::Ascii;
     let mut start = 0;
     let mut nesting = Nesting::NONE;
-    for i in 0..text.len() {
+    let mut i = 0;
+    while i < text.len() {
         if text[i] == b' ' && nesting.is_none() {
             add_word(words, &text[start..i])?;
-            start = i + 1;
+            i += 1;
+            start = i;
         } else {
             nesting = nesting.behind(text[i]).ok_or(Fault::Malformed)?;
+            charset = charset.with(text[i]);
+            i = nesting.plain_end(text, i + 1);
         }
     }
     if !nesting.is_none() {
         return Err(Fault::Malformed);
     }
     add_word(words, &text[start..])?;
-    Ok(())
+    Ok(charset)
 }
 
 /// The pieces between blanks, without those that are empty.

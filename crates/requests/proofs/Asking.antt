@@ -1,14 +1,16 @@
 -- Words that ask for no call.
-use Rattle.std.proofs.Common.{◌≡◌, ◌≢◌, ◌<◌, inl, inr, ℕ, List, [], ◌∷◌, length, get_or, arith, Some, None, refl, subst, sym, ◌∙◌}
+use Rattle.std.proofs.Common.{◌≡◌, ◌<◌, inl, inr, ℕ, List, [], ◌∷◌, length, get_or, arith, Some, None, refl, subst, sym, ◌∙◌}
 use Rattle.std.specs.Borrow.{Bor}
+use Rattle.std.specs.Prelude.{IsAscii}
+use Rattle.std.proofs.lemmas.Str.{IsUtf8-from_ascii}
 use Rattle.wire.specs.declared.fault.Fault.{Fault}
 use Rattle.wire.specs.declared.fault.Fault.TheVariants.{Malformed}
-use Rattle.lines.specs.Pieces.{AreWords, outside, place}
+use Rattle.lines.specs.Pieces.{AreWords}
 use Rattle.lines.specs.Readings.{Blames}
 use Rattle.requests.specs.declared.verb.Verb.{Verb}
 use Rattle.line_parts.specs.Trees.{SpellsFuture}
 use Rattle.line_parts.proofs.Places.{word_at}
-use Rattle.requests.specs.Lines.{AskNothing, AsksNothing}
+use Rattle.requests.specs.Lines.{AskNothing, AsksNothing, HasNoWords, HasWords}
 use Rattle.requests.specs.Verbs.{IsAwaited, IsLine, verb_name, verb_named}
 use Rattle.line_parts.specs.Words.{behind, text_at}
 
@@ -34,11 +36,15 @@ blamed_ask words named fault e blames bad = record {
   nothing = λ call asked. blames.nothing bad call (subst (λ v. IsLine v (behind words) call) (sym (some_once named asked.named (sym e ∙ asked.names))) asked.line);
 }
 
--- a line that has no words, and one whose words ask for nothing
-pub unclosed_asks : (text : List ℕ) → place text ≢ outside → AsksNothing text
-unclosed_asks text unclosed = inl unclosed
+-- a line of ASCII is UTF-8
+pub ascii_has_words : (text : List ℕ) (words : List (Bor (List ℕ))) → IsAscii text → AreWords text words → HasWords text words
+ascii_has_words text words ascii are = (IsUtf8-from_ascii text ascii, are)
 
-pub words_ask : (text : List ℕ) (words : List (Bor (List ℕ))) → AreWords text words → AskNothing words → AsksNothing text
+-- a line that has no words, and one whose words ask for nothing
+pub wordless_asks : (text : List ℕ) → HasNoWords text → AsksNothing text
+wordless_asks text none = inl none
+
+pub words_ask : (text : List ℕ) (words : List (Bor (List ℕ))) → HasWords text words → AskNothing words → AsksNothing text
 words_ask text words are nothing = inr (words, are, nothing)
 
 -- the only word is no tree

@@ -4,11 +4,10 @@ use Rattle.std.specs.Borrow.{Bor}
 use Rattle.wire.specs.declared.fault.Fault.{Fault}
 use Rattle.wire.specs.declared.fault.Fault.TheVariants.{Malformed}
 use Rattle.lines.specs.Atoms.{IsText}
-use Rattle.lines.specs.Pieces.{AreWords, outside, place}
 use Rattle.lines.specs.Readings.{Blames}
 use Rattle.requests.specs.declared.content_type.ContentType.{ContentType}
 use Rattle.requests.specs.declared.content_type.ContentType.TheVariants.{Absent, Unreadable, Named}
-use Rattle.requests.specs.Lines.{IsContentType, IsMade, MakesNothing}
+use Rattle.requests.specs.Lines.{HasNoWords, HasWords, IsContentType, IsMade, MakesNothing}
 use Rattle.line_parts.specs.VmOptions.{AreOptions}
 use Rattle.line_parts.proofs.Missing.{no_text_at, none_at}
 use Rattle.line_parts.proofs.Places.{word_at}
@@ -42,8 +41,8 @@ options_blamed words fault blames = record { nothing = λ bad made is. blames.no
 pub content_type_blamed : (words : List (Bor (List ℕ))) (d : Bor (List ℕ)) (fault : Fault) → 1 < length words → Blames (IsContentType (get_or words 1 d).now) fault → Blames (IsMade words) fault
 content_type_blamed words d fault h blames = record { nothing = λ bad made is. blames.nothing bad made.0 (subst (λ t. IsContentType t made.0) (sym (word_at words 1 d h)) is.content_type) }
 
-pub unclosed_makes : (text : List ℕ) → place text ≢ outside → MakesNothing text
-unclosed_makes text unclosed = inl unclosed
+pub wordless_makes : (text : List ℕ) → HasNoWords text → MakesNothing text
+wordless_makes text none = inl none
 
-pub words_make : (text : List ℕ) (words : List (Bor (List ℕ))) (fault : Fault) → AreWords text words → Blames (IsMade words) fault → fault ≡ Malformed → MakesNothing text
+pub words_make : (text : List ℕ) (words : List (Bor (List ℕ))) (fault : Fault) → HasWords text words → Blames (IsMade words) fault → fault ≡ Malformed → MakesNothing text
 words_make text words fault are blames bad = inr (words, are, record { nothing = λ made is. blames.nothing bad made is })

@@ -36,36 +36,44 @@ pub record IsMade (words : List (Bor (List ℕ))) (made : ContentType × VMOptio
   pub content_type : IsContentType (text_at 1 words) made.0
   pub options : AreOptions (drop 2 words) made.1
 
+-- the line is UTF-8, and these are its words
+abbrev pub HasWords : List ℕ → List (Bor (List ℕ)) → Type 0
+HasWords text words = IsUtf8 text × AreWords text words
+
+-- why a line has no words: it isn't UTF-8, or its quotes or brackets aren't closed
+abbrev pub HasNoWords : List ℕ → Type 0
+HasNoWords text = (IsUtf8 text → ⊥) ⊎ (place text ≢ outside)
+
 -- the words of the line make a VM of this content type and these options
 abbrev pub MakesWith : List ℕ → ContentType → VMOptions → Type 0
-MakesWith text content_type options = (words : List (Bor (List ℕ))) × AreWords text words × IsMade words (content_type, options)
+MakesWith text content_type options = (words : List (Bor (List ℕ))) × HasWords text words × IsMade words (content_type, options)
 
 -- these words make no VM
 pub record MakeNothing (words : List (Bor (List ℕ))) : Type 0 where
   pub nothing : (made : ContentType × VMOptions) → IsMade words made → ⊥
 
--- why a line has no words that make a VM: its quotes or brackets aren't closed, or its words make none
+-- why a line makes no VM: it has no words, or its words make none
 abbrev pub MakesNothing : List ℕ → Type 0
-MakesNothing text = (place text ≢ outside) ⊎ ((words : List (Bor (List ℕ))) × AreWords text words × MakeNothing words)
+MakesNothing text = HasNoWords text ⊎ ((words : List (Bor (List ℕ))) × HasWords text words × MakeNothing words)
 
 -- the words of the line ask for this call
 abbrev pub AsksCall : List ℕ → Call → Type 0
-AsksCall text call = (words : List (Bor (List ℕ))) × AreWords text words × IsAsked words call
+AsksCall text call = (words : List (Bor (List ℕ))) × HasWords text words × IsAsked words call
 
 -- these words ask for no call
 pub record AskNothing (words : List (Bor (List ℕ))) : Type 0 where
   pub nothing : (call : Call) → IsAsked words call → ⊥
 
--- why a line has no words that ask for a call: its quotes or brackets aren't closed, or its words ask for nothing
+-- why a line asks for no call: it has no words, or its words ask for nothing
 abbrev pub AsksNothing : List ℕ → Type 0
-AsksNothing text = (place text ≢ outside) ⊎ ((words : List (Bor (List ℕ))) × AreWords text words × AskNothing words)
+AsksNothing text = HasNoWords text ⊎ ((words : List (Bor (List ℕ))) × HasWords text words × AskNothing words)
 
 -- What a line without blanks at its ends asks for. One that begins with `vm` makes a VM, and any other is a call. It is bad where
--- it isn't UTF-8, and where its words make or ask for nothing.
+-- it has no words, and where its words make or ask for nothing.
 abbrev pub Asks : List ℕ → Request → Type 0
 Asks text request.Nothing = says_nothing text ≡ true
-Asks text request.Bad = (says_nothing text ≡ false) × (begins_with_vm text ≡ false) × ((IsUtf8 text → ⊥) ⊎ AsksNothing text)
-Asks text request.BadMake = (says_nothing text ≡ false) × (begins_with_vm text ≡ true) × ((IsUtf8 text → ⊥) ⊎ MakesNothing text)
+Asks text request.Bad = (says_nothing text ≡ false) × (begins_with_vm text ≡ false) × AsksNothing text
+Asks text request.BadMake = (says_nothing text ≡ false) × (begins_with_vm text ≡ true) × MakesNothing text
 Asks text (request.Make content_type options) = (says_nothing text ≡ false) × (begins_with_vm text ≡ true) × MakesWith text content_type options
 Asks text (request.Call call) = (says_nothing text ≡ false) × (begins_with_vm text ≡ false) × AsksCall text call
 

@@ -2,7 +2,7 @@
 ghost use Rattle.std.specs.Prelude.{◌≡◌, IfErr, IfOk, Ok, true, false, length};
 ghost use Rattle.requests.specs.declared.request.Call.{Call};
 ghost use Rattle.requests.specs.declared.verb.Verb.TheVariants as verb;
-ghost use Rattle.requests.specs.Lines.{Asks, AsksCall, AskNothing, AsksNothing, IsContentType, IsMade, MakesNothing, MakesWith, Reads, begins_with_vm, says_nothing};
+ghost use Rattle.requests.specs.Lines.{Asks, AsksCall, AskNothing, AsksNothing, HasNoWords, HasWords, IsContentType, IsMade, MakesNothing, MakesWith, Reads, begins_with_vm, says_nothing};
 ghost use Rattle.lines.specs.Readings.{Blames};
 ghost use Rattle.wire.specs.declared.fault.Fault.TheVariants.{Malformed};
 ghost use Rattle.requests.specs.Verbs.{IsAsked, IsAwaited, IsBare, IsLine};
@@ -23,7 +23,7 @@ use line_parts::targets::target_of;
 use line_parts::trees::tree_of_word;
 use line_parts::values::{value_and_payload, value_of};
 use line_parts::words::{behind, bytes_in, text_in, time_in};
-use lines::pieces::words_in;
+use lines::pieces::{Charset, words_in};
 use std::alloc::{AllocError, Global};
 use vm_parts::{Boxed, Step, UnresolvedFuture, VMOptions};
 use wire::{Fault, Text};
@@ -414,8 +414,22 @@ fn make_of_words(alloc: Global, words: &[&[u8]]) -> Result<(ContentType, VMOptio
     Ok((content_type, options))
 }
 
+/// The words of a line, which is UTF-8.
+fn words_of_line<'a>(words: &mut Vec<&'a [u8]>, line: &'a [u8]) -> Result<(), Fault>
+    ensures words { IfOk result (λ _. HasWords line.now words.new.items) }
+    ensures none { IfErr result (λ fault. fault ≡ Malformed → HasNoWords line.now) }
+{
+    match words_in(words, line)? {
+        Charset::Ascii => Ok(()),
+        Charset::Other => match std::str::from_utf8(line) {
+            Ok(_) => Ok(()),
+            Err(_) => Err(Fault::Malformed),
+        },
+    }
+}
+
 /// The row `vm`.
-#[tactic(auto, using(crate::proofs::Making::unclosed_makes, crate::proofs::Making::words_make))]
+#[tactic(auto, using(crate::proofs::Making::wordless_makes, crate::proofs::Making::words_make))]
 fn make_of<'a>(
     alloc: Global,
     words: &mut Vec<&'a [u8]>,
@@ -424,17 +438,17 @@ fn make_of<'a>(
     ensures value { IfOk result (λ made. MakesWith line.now made.0 made.1) }
     ensures none { IfErr result (λ fault. fault ≡ Malformed → MakesNothing line.now) }
 {
-    words_in(words, line)?;
+    words_of_line(words, line)?;
     make_of_words(alloc, words.as_slice())
 }
 
 /// Any other row that isn't empty.
-#[tactic(auto, using(crate::proofs::Asking::unclosed_asks, crate::proofs::Asking::words_ask))]
+#[tactic(auto, using(crate::proofs::Asking::wordless_asks, crate::proofs::Asking::words_ask))]
 fn row_of<'a>(alloc: Global, words: &mut Vec<&'a [u8]>, line: &'a [u8]) -> Result<Call, Fault>
     ensures value { IfOk result (AsksCall line.now) }
     ensures none { IfErr result (λ fault. fault ≡ Malformed → AsksNothing line.now) }
 {
-    words_in(words, line)?;
+    words_of_line(words, line)?;
     call_of(alloc, words.as_slice())
 }
 
@@ -464,9 +478,6 @@ fn parse_make<'a>(
     requires makes { begins_with_vm line.now ≡ true }
     ensures value { IfOk result (Asks line.now) }
 {
-    if std::str::from_utf8(line).is_err() {
-        return Ok(Request::BadMake);
-    }
     match make_of(alloc, words, line) {
         Ok((content_type, options)) => Ok(Request::Make(content_type, options)),
         Err(Fault::Malformed) => Ok(Request::BadMake),
@@ -484,9 +495,6 @@ fn parse_call<'a>(
     requires makes { begins_with_vm line.now ≡ false }
     ensures value { IfOk result (Asks line.now) }
 {
-    if std::str::from_utf8(line).is_err() {
-        return Ok(Request::Bad);
-    }
     match row_of(alloc, words, line) {
         Ok(call) => Ok(Request::Call(call)),
         Err(Fault::Malformed) => Ok(Request::Bad),
