@@ -1,7 +1,7 @@
 -- Where a frame is whole, and where it isn't.
 use Rattle.std.proofs.Common.{◌≡◌, ℕ, ◌<◌, ◌≤◌, ◌+◌, ◌^◌, List, ◌++◌, length, take, drop, Option, Some, None, refl, sym, ap, ◌∙◌, append_assoc, arith}
 use Rattle.std.specs.Int.{w16, w64, from_be_bytes}
-use Rattle.std.proofs.lemmas.List.{length-append, length-take, take-append-drop, drop_at}
+use Rattle.std.proofs.lemmas.List.{length-append, length-take, take-append-drop, drop-take, drop_at}
 use Rattle.std.proofs.lemmas.Nat.{from_be_bytes-to_be_bytes_2, from_be_bytes-to_be_bytes_8}
 use Rattle.std.proofs.lemmas.Bool.Decides.{nat_tests}
 use Rattle.std.proofs.Math.Seq.{take-append_seam}
@@ -10,8 +10,7 @@ use Rattle.wire.specs.Forms.{u16_format, u64_format}
 use Rattle.wire.proofs.Read.{one_form}
 use Rattle.journal_errors.specs.Types.{type_number, type_at}
 use Rattle.journal_errors.specs.declared.types.MessageType.{MessageType}
-use Rattle.journal_messages.specs.Message.{frame}
-use Rattle.journal_streams.specs.Stream.{IsPart, IsMalformed}
+use Rattle.journal_streams.specs.Stream.{IsPart, IsMalformed, IsFront}
 use Rattle.journal_streams.specs.Frames.{Whole, Partial, Malformed, number_in, size_in, framed, typed, next_of}
 use Rattle.journal_streams.proofs.Numbers.{small_number}
 
@@ -133,16 +132,18 @@ no_body bs rest after n ty len l k e l' e2 s = (
   next_framed bs rest after n ty len l k e l' e2 ∙ framed_short ty len after s,
 )
 
-pub whole_frame : (bs rest after b : List ℕ) (n : ℕ) (ty : MessageType) (len : ℕ) → n < 2 ^ 16 → Some ty ≡ type_at n → type_number ty ≡ n → bs ≡ u16s n ++ rest → len < 2 ^ 64 → rest ≡ u64s len ++ after → len ≤ length after → b ≡ take len after
-    → (10 + len ≤ length bs) × (length b < 2 ^ 64) × (bs ≡ frame ty b ++ drop (10 + len) bs) × (next_of bs ≡ Whole (record { ty = ty; body = b }) (drop (10 + len) bs))
-whole_frame bs rest after b n ty len l k r e l' e2 s t =
+pub whole_frame : (bs rest after : List ℕ) (n : ℕ) (ty : MessageType) (len : ℕ) → n < 2 ^ 16 → Some ty ≡ type_at n → type_number ty ≡ n → bs ≡ u16s n ++ rest → len < 2 ^ 64 → rest ≡ u64s len ++ after → len ≤ length after → IsFront ty (10 + len) bs
+whole_frame bs rest after n ty len l k r e l' e2 s =
+    let b = drop 10 (take (10 + len) bs) in
+    let t : b ≡ take len after = drop-take 10 len bs ∙ ap (take len) (body_read bs rest after n len e e2) in
     let lb : length b ≡ len = ap length t ∙ (omega (arith, length-take len after)) in
     let parts : bs ≡ (u16s n ++ bytes b) ++ drop len after = e ∙ ap (λ r. u16s n ++ r) (e2 ∙ ap (λ n. u64s n ++ after) (sym lb) ∙ ap (λ r. u64s (length b) ++ r) (sym (take-append-drop len after) ∙ ap (λ r. r ++ drop len after) (sym t))) ∙ sym (frame_parts n b (drop len after)) in
     let flen : length (u16s n ++ bytes b) ≡ 10 + len = omega (arith, length-append (u16s n) (bytes b), two n, ap length (bytes_is b), length-append (u64s (length b)) b, eight (length b), lb) in
     let rest_is : drop (10 + len) bs ≡ drop len after = ap (λ x. drop (10 + len) x) parts ∙ drop_at (u16s n ++ bytes b) (drop len after) (10 + len) flen in
-    let spelled : bs ≡ (u16s n ++ bytes b) ++ drop (10 + len) bs = parts ∙ ap (λ r. (u16s n ++ bytes b) ++ r) (sym rest_is) in (
-      omega (arith, ap length parts, length-append (u16s n ++ bytes b) (drop len after), flen),
-      omega (arith, lb),
-      spelled ∙ ap (λ m. (u16s m ++ bytes b) ++ drop (10 + len) bs) (sym r),
-      next_framed bs rest after n ty len l k e l' e2 ∙ framed_long ty len after s ∙ ap (λ x. Whole (record { ty = ty; body = x }) (drop len after)) (sym t) ∙ ap (Whole (record { ty = ty; body = b })) (sym rest_is),
-    )
+    let spelled : bs ≡ (u16s n ++ bytes b) ++ drop (10 + len) bs = parts ∙ ap (λ r. (u16s n ++ bytes b) ++ r) (sym rest_is) in record {
+      head = omega arith;
+      fits = omega (arith, ap length parts, length-append (u16s n ++ bytes b) (drop len after), flen);
+      small = omega (arith, lb, l');
+      spelled = spelled ∙ ap (λ m. (u16s m ++ bytes b) ++ drop (10 + len) bs) (sym r);
+      first = next_framed bs rest after n ty len l k e l' e2 ∙ framed_long ty len after s ∙ ap (λ x. Whole (record { ty = ty; body = x }) (drop len after)) (sym t) ∙ ap (Whole (record { ty = ty; body = b })) (sym rest_is);
+    }

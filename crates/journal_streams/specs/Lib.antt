@@ -1,3 +1,4 @@
 pub mod Frames
 pub mod Stream
 pub mod Runs
+pub mod Waiting

@@ -1,5 +1,5 @@
 -- Frames on a stream.
-use Rattle.std.specs.Prelude.{◌≡◌, ℕ, ◌<◌, ◌≤◌, ◌^◌, List, ◌++◌, length, drop, Option, Some, None, Result, Ok, Err}
+use Rattle.std.specs.Prelude.{◌≡◌, ℕ, ◌<◌, ◌≤◌, ◌^◌, List, ◌++◌, length, take, drop, Option, Some, None, Result, Ok, Err}
 use Rattle.wire.specs.Format.{u16s}
 use Rattle.wire.specs.declared.fault.Fault.{Fault}
 use Rattle.wire.specs.declared.fault.Fault.TheVariants as fault
@@ -48,9 +48,17 @@ abbrev pub Gives : List ℕ → Result (Option RawMessage) Error → List ℕ �
 Gives old (Ok raw) new = NextIs old (Ok raw) new
 Gives old (Err e) new = NextIsError old e new
 
--- the frame at the front, and how many bytes it takes
-abbrev pub FrameAt : List ℕ → Result (Option (RawMessage × ℕ)) Fault → Type 0
-FrameAt bs (Ok (Some x)) = (x.1 ≤ length bs) × (length x.0.body < 2 ^ 64) × (bs ≡ frame x.0.ty x.0.body ++ drop x.1 bs) × (next_of bs ≡ Whole x.0 (drop x.1 bs))
+-- the first n bytes are a frame of this type: its head, and its body
+pub record IsFront (ty : MessageType) (n : ℕ) (bs : List ℕ) : Type 0 where
+  pub head : 10 ≤ n
+  pub fits : n ≤ length bs
+  pub small : length (drop 10 (take n bs)) < 2 ^ 64
+  pub spelled : bs ≡ frame ty (drop 10 (take n bs)) ++ drop n bs
+  pub first : next_of bs ≡ Whole (record { ty = ty; body = drop 10 (take n bs) }) (drop n bs)
+
+-- the type of the frame at the front, and how many bytes the frame takes
+abbrev pub FrameAt : List ℕ → Result (Option (MessageType × ℕ)) Fault → Type 0
+FrameAt bs (Ok (Some x)) = IsFront x.0 x.1 bs
 FrameAt bs (Ok None) = IsPart bs × (next_of bs ≡ Partial)
-FrameAt bs (Err fault.Memory) = Unit {0}
+FrameAt bs (Err fault.Memory) = ⊥
 FrameAt bs (Err fault.Malformed) = IsMalformed bs × (next_of bs ≡ Malformed)

@@ -3,6 +3,7 @@ ghost use Rattle.std.specs.Prelude.{◌≡◌, ◌<◌, ◌^◌, ◌++◌, [], l
 ghost use Rattle.wire.specs.Format.{u16s, u64s};
 ghost use Rattle.journal_streams.specs.Stream.{Next, NextIs, Gives, FrameAt};
 
+use crate::waiting::Waiting;
 use bytes::Bytes;
 use journal_errors::{Error, MessageType};
 use journal_messages::RawMessage;
@@ -10,22 +11,23 @@ use std::alloc::{AllocError, Global};
 use std::marker::Model;
 use wire::Fault;
 
+/// How many bytes a type's number and a length take.
+const HEAD: usize = 10;
+
 /// Frames out of the pieces of a stream. Contracts see the bytes that wait.
 #[derive(Debug, Drop)]
 pub struct Decoder {
     alloc: Global,
-    waiting: Vec<u8>,
-    at: usize,
+    waiting: Waiting,
 }
 
 impl Model for Decoder {
-    ghost use Rattle.std.specs.Prelude.{ℕ, List, ◌≤◌, length, drop};
+    ghost use Rattle.std.specs.Prelude.{ℕ, List};
+    ghost use Rattle.journal_streams.specs.Waiting.{waiting_bytes};
 
     ghost Value = { List ℕ };
 
-    ghost view = { λ d. drop d.at d.waiting.items };
-
-    ghost invariant = { λ d. d.at ≤ length d.waiting.items };
+    ghost view = { λ d. waiting_bytes d.waiting };
 }
 
 impl Decoder {
@@ -34,44 +36,30 @@ impl Decoder {
     {
         Decoder {
             alloc,
-            waiting: Vec::new(alloc),
-            at: 0,
+            waiting: Waiting::nothing(),
         }
     }
 
-    /// Takes the next piece of the stream. An `Err` changes nothing. Bytes of frames that were taken are let go of
-    /// here, once they are more than half of what is kept.
+    /// Takes the next piece of the stream. An `Err` changes nothing. The piece is kept as it is where nothing waits;
+    /// else it is put together with what waits.
     pub fn push(&mut self, piece: Bytes) -> Result<(), AllocError>
         ensures ok { OnOk result (self.new ≡ self.old ++ piece) }
         ensures err { OnErr result (self.new ≡ self.old) }
     {
-        if self.at > self.waiting.len() / 2 {
-            self.let_go();
-        }
-        self.waiting.extend_from_slice(piece.as_slice())
+        self.waiting.add(self.alloc, piece)
     }
 
-    fn let_go(&mut self)
-        ensures { self.new ≡ self.old }
-    {
-        let kept = self.waiting.len() - self.at;
-        self.waiting.rotate_left(self.at);
-        self.waiting.truncate(kept);
-        self.at = 0;
-    }
-
-    /// The next frame, if it is whole. An `Err` changes nothing.
+    /// The next frame, if it is whole. Its body shares the memory in which it waits. An `Err` changes nothing.
     pub fn next_frame(&mut self) -> Result<Option<RawMessage>, Fault>
         ensures spelled { Next self.old result self.new }
         ensures next { NextIs self.old result self.new }
     {
-        match frame_at(self.alloc, &self.waiting[self.at..])? {
-            None => Ok(None),
-            Some((frame, len)) => {
-                self.at += len;
-                Ok(Some(frame))
-            }
-        }
+        let Some((ty, len)) = frame_at(self.waiting.as_slice())? else {
+            return Ok(None);
+        };
+        let mut body = self.waiting.take(len)?;
+        body.advance(HEAD);
+        Ok(Some(RawMessage { ty, body }))
     }
 
     /// As `next_frame`, the fault as the error that it is for the one who sent the bytes.
@@ -88,15 +76,14 @@ impl Decoder {
     pub fn waiting(&self) -> &[u8]
         ensures { result.now ≡ self.now }
     {
-        &self.waiting[self.at..]
+        self.waiting.as_slice()
     }
 
     /// Drops the bytes that wait. It takes no memory.
     pub fn clear(&mut self)
         ensures { self.new ≡ [] }
     {
-        self.waiting.clear();
-        self.at = 0;
+        self.waiting = Waiting::nothing();
     }
 }
 
@@ -127,8 +114,8 @@ fn length_at(bytes: &[u8]) -> Option<(u64, &[u8])>
     Some((len, rest))
 }
 
-/// The frame at the front, and how many bytes it takes.
-fn frame_at(alloc: Global, bytes: &[u8]) -> Result<Option<(RawMessage, usize)>, Fault>
+/// The type of the frame at the front, and how many bytes the frame takes.
+fn frame_at(bytes: &[u8]) -> Result<Option<(MessageType, usize)>, Fault>
     ensures { FrameAt bytes.now result }
 {
     let Some((number, rest)) = number_at(bytes) else {
@@ -143,7 +130,5 @@ fn frame_at(alloc: Global, bytes: &[u8]) -> Result<Option<(RawMessage, usize)>, 
     if (rest.len() as u64) < len {
         return Ok(None);
     }
-    let len = len as usize;
-    let body = Bytes::copy_from_slice(alloc, &rest[..len])?;
-    Ok(Some((RawMessage { ty, body }, 10 + len)))
+    Ok(Some((ty, HEAD + len as usize)))
 }

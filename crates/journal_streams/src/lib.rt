@@ -4,6 +4,7 @@
 mod decoder;
 mod law;
 mod stream;
+mod waiting;
 
 pub use decoder::Decoder;
 pub use law::encodings_stand_alone;

@@ -19,5 +19,5 @@ returns-then-rest-len c =
 
 pub returns : goal.returns
 returns c =
-    whole_frame _ c.in-Some.rest.now c.in-Some-length_at.rest.now c.in_ok-body.body c.in-Some.number c.in-Some-from_number.ty c.in-Some-length_at.len c.in-Some.ensures.0 c.in-Some-from_number.ensures.found c.in-Some-from_number.ensures.numbered c.in-Some.ensures.1
-    c.in-Some-length_at.ensures.0 c.in-Some-length_at.ensures.1 c.if-rest-len.false c.in_ok-body.ensures
+    whole_frame _ c.in-Some.rest.now c.in-Some-length_at.rest.now c.in-Some.number c.in-Some-from_number.ty c.in-Some-length_at.len c.in-Some.ensures.0 c.in-Some-from_number.ensures.found c.in-Some-from_number.ensures.numbered c.in-Some.ensures.1
+    c.in-Some-length_at.ensures.0 c.in-Some-length_at.ensures.1 c.if-rest-len.false
