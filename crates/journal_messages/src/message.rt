@@ -169,15 +169,27 @@ impl Encoder {
         Encoder { alloc }
     }
 
+    /// Writes the message's frame into a buffer that is used again and again, in place of what it held.
+    /// After an error the buffer may hold a part of the frame.
+    pub fn encode_in(&self, message: &Message, frame: &mut Vec<u8>) -> Result<(), AllocError>
+        ensures written { OnOk result (frame.new.items ≡ encoding message.now) }
+        ensures valid { OnOk result (IsWhole message.now) }
+    {
+        frame.clear();
+        frame.reserve(ROOM)?;
+        message.ty().number().put(frame)?;
+        0u64.put(frame)?;
+        message.put_body(frame)?;
+        set_length(frame);
+        Ok(())
+    }
+
     pub fn encode(&self, message: &Message) -> Result<Bytes, AllocError>
         ensures written { IfOk result (λ b. b ≡ encoding message.now) }
         ensures valid { OnOk result (IsWhole message.now) }
     {
-        let mut frame = Vec::with_capacity(self.alloc, ROOM)?;
-        message.ty().number().put(&mut frame)?;
-        0u64.put(&mut frame)?;
-        message.put_body(&mut frame)?;
-        set_length(&mut frame);
+        let mut frame = Vec::new(self.alloc);
+        self.encode_in(message, &mut frame)?;
         Ok(Bytes::from_vec(frame)?)
     }
 }

@@ -1,13 +1,18 @@
--- An outbox keeps whole frames, when one more is put behind the others.
-use Rattle.std.proofs.Common.{◌≡◌, ℕ, ◌+◌, ◌-◌, ◌<◌, ◌^◌, List, [], ◌∷◌, ◌++◌, length, map, min, take, get_or, Result, Ok, Err, refl, sym, ap, subst, ◌∙◌, append_assoc, length-append, arith}
-use Rattle.std.proofs.lemmas.List.{take_more, append-nil}
-use Rattle.std.specs.Prelude.{IfOk}
-use Rattle.std.specs.List.{concat, flat_map, AllByRecursion}
+-- The bytes of an outbox are cut into its frames by the lengths in them; one more frame is put behind the others.
+use Rattle.std.proofs.Common.{◌≡◌, ℕ, zero, suc, ◌+◌, ◌<◌, ◌≤◌, ◌^◌, List, [], ◌∷◌, ◌++◌, length, map, take, drop, refl, sym, ap, subst, ◌∙◌, append_assoc, length-append, arith, Result, Ok, Err}
+use Rattle.std.proofs.lemmas.List.{append-nil, drop_at}
+use Rattle.std.proofs.lemmas.Nat.{from_be_bytes-to_be_bytes_8}
+use Rattle.std.proofs.Math.Seq.{take-append_seam}
+use Rattle.std.specs.Int.{w64, from_be_bytes}
+use Rattle.std.specs.Prelude.{if◌then◌else◌, is_ok, IfOk, OnOk}
 use Rattle.std.specs.declared.alloc.AllocError.{AllocError}
+use Rattle.std.specs.List.{concat, flat_map, AllByRecursion}
+use Rattle.wire.specs.Format.{u16s, u64s, bytes}
+use Rattle.journal_errors.specs.Types.{type_number}
 use Rattle.journal_messages.specs.declared.message.Message.{Message}
-use Rattle.journal_messages.specs.Message.{encoding}
+use Rattle.journal_messages.specs.Message.{encoding, body, type_of}
 use Rattle.journal_messages.specs.Message.{IsWhole}
-use Rattle.vm_parts.specs.Outboxes.{WholeFrames, WholeStream, Keeps, len_of}
+use Rattle.vm_parts.specs.Outboxes.{WholeFrames, WholeStream, len_of, front_len, first_frames, frames_in}
 
 pub all_whole : (ms ns : List Message) → AllByRecursion IsWhole ms → AllByRecursion IsWhole ns → AllByRecursion IsWhole (ms ++ ns)
 all_whole [] ns a b = b
@@ -17,43 +22,96 @@ frames_of_both : (ms ns : List Message) → map encoding (ms ++ ns) ≡ map enco
 frames_of_both [] ns = refl
 frames_of_both (m ∷ ms) ns = ap (λ t. encoding m ∷ t) (frames_of_both ms ns)
 
-concat_push : (xs : List (List ℕ)) (x : List ℕ) → concat (xs ++ x ∷ []) ≡ concat xs ++ x
-concat_push [] x = append-nil x
-concat_push (y ∷ ys) x = rw (concat_push ys x) (sym (append_assoc y (concat ys) x))
-
--- one frame more is joined
-pub concat_more : (xs : List (List ℕ)) (i : ℕ) (x : List ℕ) → i < length xs → x ≡ get_or xs i x → concat (take (i + 1) xs) ≡ concat (take i xs) ++ x
-concat_more xs i x h e = ap concat (take_more xs i x h) ∙ concat_push (take i xs) (get_or xs i x) ∙ ap (λ y. concat (take i xs) ++ y) (sym e)
-
--- a sum that stays at a limit
-saturates : (limit a b len : ℕ) → len ≡ min a limit → min (len + b) limit ≡ min (a + b) limit
-saturates limit a b len e = omega arith
-
-counted_more : (xs : List (List ℕ)) (x : List ℕ) (len : ℕ) → len ≡ len_of xs → min (len + length x) (2 ^ 64 - 1) ≡ len_of (xs ++ x ∷ [])
-counted_more xs x len e =
-    saturates (2 ^ 64 - 1) (length (concat xs)) (length x) len e
-    ∙ ap (λ n. min n (2 ^ 64 - 1)) (sym (ap length (concat_push xs x) ∙ length-append (concat xs) x))
-
--- one frame more
-pub keeps_more : (frames : List (List ℕ)) (len : ℕ) (m : Message) (frame : List ℕ) → frame ≡ encoding m → IsWhole m → Keeps frames len → Keeps (frames ++ frame ∷ []) (min (len + length frame) (2 ^ 64 - 1))
-keeps_more frames len m frame is whole k = record {
-  whole = record {
-    messages = k.whole.messages ++ m ∷ [];
-    are = ap (λ l. frames ++ l ∷ []) is ∙ ap (λ l. l ++ encoding m ∷ []) k.whole.are ∙ sym (frames_of_both k.whole.messages (m ∷ []));
-    each = all_whole k.whole.messages (m ∷ []) k.whole.each (whole, tt);
-  };
-  counted = counted_more frames frame len k.counted;
-}
+bytes_of_both : (ms : List Message) (m : Message) → flat_map encoding (ms ++ m ∷ []) ≡ flat_map encoding ms ++ encoding m
+bytes_of_both [] m = append-nil (encoding m)
+bytes_of_both (x ∷ xs) m = rw (bytes_of_both xs m) (sym (append_assoc (encoding x) (flat_map encoding xs) (encoding m)))
 
 -- frames, one after another
 pub bytes_of : (ms : List Message) → concat (map encoding ms) ≡ flat_map encoding ms
 bytes_of [] = refl
 bytes_of (m ∷ ms) = ap (λ t. encoding m ++ t) (bytes_of ms)
 
-streams : (frames : List (List ℕ)) → WholeFrames frames → WholeStream (concat frames)
-streams frames w = record { messages = w.messages; are = ap concat w.are ∙ bytes_of w.messages; each = w.each }
+-- ---- where a frame ends
 
--- all frames, joined
-pub joined_streams : (frames : List (List ℕ)) (r : Result (List ℕ) AllocError) → WholeFrames frames → IfOk r (λ bytes. bytes ≡ concat frames) → IfOk r WholeStream
-joined_streams frames (Ok bytes) w is = subst WholeStream (sym is) (streams frames w)
-joined_streams frames (Err e) w is = tt
+-- a number in two bytes, a length in eight, and what follows
+front_len_of : (n len : ℕ) (rest : List ℕ) → len < 2 ^ 64 → front_len (u16s n ++ (u64s len ++ rest)) ≡ 10 + len
+unfolding u16s u64s
+front_len_of n len rest l = ap (λ k. 10 + k) (ap (from_be_bytes w64) (take-append_seam (u64s len) rest) ∙ from_be_bytes-to_be_bytes_8 len l)
+
+parts : (n : ℕ) (b rest : List ℕ) → (u16s n ++ bytes b) ++ rest ≡ u16s n ++ (u64s (length b) ++ (b ++ rest))
+unfolding bytes
+parts n b rest = append_assoc (u16s n) (u64s (length b) ++ b) rest ∙ ap (λ t. u16s n ++ t) (append_assoc (u64s (length b)) b rest)
+
+encoding_len : (m : Message) → length (encoding m) ≡ 10 + length (body m)
+unfolding u16s u64s bytes
+encoding_len m = omega (arith, length-append (u64s (length (body m))) (body m))
+
+front_is : (m : Message) (rest : List ℕ) → IsWhole m → front_len (encoding m ++ rest) ≡ length (encoding m)
+front_is m rest w =
+    ap front_len (parts (type_number (type_of m)) (body m) rest)
+    ∙ front_len_of (type_number (type_of m)) (length (body m)) (body m ++ rest) w.1
+    ∙ sym (encoding_len m)
+
+one_apart : (n : ℕ) (bytes front rest : List ℕ) → bytes ≡ front ++ rest → 0 < length front → front_len bytes ≡ length front → first_frames (suc n) bytes ≡ front ∷ first_frames n rest
+one_apart n [] front rest e p l = absurd (omega (arith, ap length e, length-append front rest))
+one_apart n (b ∷ bs) front rest e p l =
+    rw (l) (
+    ap (λ t. t ∷ first_frames n (drop (length front) (b ∷ bs))) (ap (take (length front)) e ∙ take-append_seam front rest)
+    ∙ ap (λ t. front ∷ first_frames n t) (ap (drop (length front)) e ∙ drop_at front rest (length front) refl))
+
+apart : (n : ℕ) (ms : List Message) → AllByRecursion IsWhole ms → length (flat_map encoding ms) ≤ n → first_frames n (flat_map encoding ms) ≡ map encoding ms
+apart zero [] w l = refl
+apart (suc n) [] w l = refl
+apart zero (m ∷ ms) w l = absurd (omega (arith, length-append (encoding m) (flat_map encoding ms), encoding_len m))
+apart (suc n) (m ∷ ms) w l =
+    one_apart n (encoding m ++ flat_map encoding ms) (encoding m) (flat_map encoding ms) refl (omega (arith, encoding_len m)) (front_is m (flat_map encoding ms) w.0)
+    ∙ ap (λ t. encoding m ∷ t) (apart n ms w.1 (omega (arith, length-append (encoding m) (flat_map encoding ms), encoding_len m)))
+
+-- ---- the frames of a stream
+
+frames_are : (stream : List ℕ) (w : WholeStream stream) → frames_in stream ≡ map encoding w.messages
+unfolding frames_in
+frames_are stream w = ap (λ s. first_frames (length s) s) w.are ∙ apart (length (flat_map encoding w.messages)) w.messages w.each (omega arith)
+
+pub whole_frames : (stream : List ℕ) → WholeStream stream → WholeFrames (frames_in stream)
+whole_frames stream w = record { messages = w.messages; are = frames_are stream w; each = w.each }
+
+joined : (stream : List ℕ) → WholeStream stream → stream ≡ concat (frames_in stream)
+joined stream w = w.are ∙ sym (bytes_of w.messages) ∙ sym (ap concat (frames_are stream w))
+
+-- their length, which a usize holds
+pub len_is : (stream : List ℕ) → WholeStream stream → length stream < 2 ^ 64 → length stream ≡ len_of (frames_in stream)
+len_is stream w l = omega (arith, ap length (joined stream w))
+
+-- no bytes are no frames
+pub no_frames : (stream : List ℕ) → stream ≡ [] → frames_in stream ≡ []
+unfolding frames_in
+no_frames stream e = ap frames_in e
+
+-- the frames' bytes, where these were copied
+pub copied : (stream : List ℕ) (r : Result (List ℕ) AllocError) → WholeStream stream → IfOk r (λ b. b ≡ stream) → IfOk r (λ b. b ≡ concat (frames_in stream))
+copied stream (Ok b) w is = is ∙ joined stream w
+copied stream (Err e) w is = tt
+
+stream_more : (stream : List ℕ) (m : Message) → WholeStream stream → IsWhole m → WholeStream (stream ++ encoding m)
+stream_more stream m w whole = record {
+  messages = w.messages ++ m ∷ [];
+  are = ap (λ t. t ++ encoding m) w.are ∙ sym (bytes_of_both w.messages m);
+  each = all_whole w.messages (m ∷ []) w.each (whole, tt);
+}
+
+frames_more : (stream : List ℕ) (m : Message) → WholeStream stream → IsWhole m → frames_in (stream ++ encoding m) ≡ frames_in stream ++ encoding m ∷ []
+unfolding stream_more
+frames_more stream m w whole =
+    frames_are (stream ++ encoding m) (stream_more stream m w whole)
+    ∙ frames_of_both w.messages (m ∷ [])
+    ∙ ap (λ t. t ++ encoding m ∷ []) (sym (frames_are stream w))
+
+-- one frame more, or none after an error
+pub stays_whole : (old new frame : List ℕ) (r : Result Unit AllocError) (m : Message) → WholeStream old → IsWhole m → frame ≡ encoding m → new ≡ (if is_ok r then old ++ frame else old) → WholeStream new
+stays_whole old new frame (Ok u) m w whole is e = subst WholeStream (sym (e ∙ ap (λ t. old ++ t) is)) (stream_more old m w whole)
+stays_whole old new frame (Err x) m w whole is e = subst WholeStream (sym e) w
+
+pub one_more : (old new frame : List ℕ) (r : Result Unit AllocError) (m : Message) → WholeStream old → IsWhole m → frame ≡ encoding m → new ≡ (if is_ok r then old ++ frame else old) → OnOk r (frames_in new ≡ frames_in old ++ encoding m ∷ [])
+one_more old new frame (Ok u) m w whole is e = ap frames_in (e ∙ ap (λ t. old ++ t) is) ∙ frames_more old m w whole
+one_more old new frame (Err x) m w whole is e = tt

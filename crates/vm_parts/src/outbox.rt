@@ -8,46 +8,36 @@ ghost use Rattle.vm_parts.specs.Outboxes.{WholeFrames, WholeStream, len_of};
 use bytes::Bytes;
 use journal_messages::{Encoder, Message};
 use std::alloc::{AllocError, Global};
-use std::collections::VecDeque;
 use std::marker::Model;
 
-/// Frames in the order in which they were written.
+/// Frames in the order in which they were written, in one buffer.
 #[derive(Drop)]
 pub struct Outbox {
-    frames: VecDeque<Bytes>,
-    len: usize,
+    /// The bytes of all frames.
+    stream: Vec<u8>,
+    /// Where a frame is made before it is put behind the others.
+    frame: Vec<u8>,
 }
 
 impl Model for Outbox {
     ghost use Rattle.std.specs.Prelude.{List, ℕ};
-    ghost use Rattle.vm_parts.specs.Outboxes.{Keeps};
+    ghost use Rattle.vm_parts.specs.Outboxes.{WholeStream, frames_in};
 
     ghost Value = { List (List ℕ) };
 
-    ghost view = { λ o. o.frames.items };
+    ghost view = { λ o. frames_in o.stream.items };
 
-    ghost invariant = { λ o. Keeps o.frames.items o.len };
+    ghost invariant = { λ o. WholeStream o.stream.items };
 }
 
-/// The bytes of the frames, in order.
-fn joined(alloc: Global, frames: &VecDeque<Bytes>) -> Result<Bytes, AllocError>
-    ensures { IfOk result (λ bytes. bytes ≡ concat frames.now.items) }
-{
-    let mut out = Vec::new(alloc);
-    for i in 0..frames.len() {
-        let frame = &frames[i];
-        out.extend_from_slice(frame.as_slice())?;
-    }
-    Ok(Bytes::from_vec(out)?)
-}
-
+#[tactic(auto, using(crate::proofs::Outboxes::no_frames, crate::proofs::Outboxes::len_is))]
 impl Outbox {
     pub fn new(alloc: Global) -> Outbox
         ensures { result ≡ [] }
     {
         Outbox {
-            frames: VecDeque::new(alloc),
-            len: 0,
+            stream: Vec::new(alloc),
+            frame: Vec::new(alloc),
         }
     }
 
@@ -57,11 +47,8 @@ impl Outbox {
         ensures whole { OnOk result (IsWhole message.now) }
         ensures err { OnErr result (self.new ≡ self.old) }
     {
-        let frame = Encoder::new(alloc).encode(message)?;
-        let len = self.len.saturating_add(frame.len());
-        self.frames.push_back(frame)?;
-        self.len = len;
-        Ok(())
+        Encoder::new(alloc).encode_in(message, &mut self.frame)?;
+        self.stream.extend_from_slice(self.frame.as_slice())
     }
 
     /// The bytes of all frames, which stay there.
@@ -70,7 +57,7 @@ impl Outbox {
         ensures whole { IfOk result WholeStream }
         ensures frames { WholeFrames self.now }
     {
-        joined(alloc, &self.frames)
+        Bytes::copy_from_slice(alloc, self.stream.as_slice())
     }
 
     /// How many bytes the frames have, as far as a `usize` goes.
@@ -78,14 +65,13 @@ impl Outbox {
         ensures len { result ≡ len_of self.now }
         ensures whole { WholeFrames self.now }
     {
-        self.len
+        self.stream.len()
     }
 
-    /// Drops all frames.
+    /// Drops all frames. The memory stays for the next ones.
     pub fn clear(&mut self)
         ensures { self.new ≡ [] }
     {
-        self.frames.clear();
-        self.len = 0;
+        self.stream.clear();
     }
 }
