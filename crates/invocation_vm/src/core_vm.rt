@@ -28,8 +28,8 @@ use vm_machine::awaited::flatten;
 use vm_machine::{Ask, Awaited, Command, Machine, StateRead, asks};
 use vm_parts::{
     AttachInvocationTarget, AwaitResponse, AwakeableHandle, CallHandle, CommandRelationship, Input,
-    NonEmptyValue, NotificationHandle, PayloadOptions, ResponseHead, SendHandle, State, Step,
-    Target, TrackedCall, UnresolvedFuture, VMOptions, VMResult, Value,
+    NonEmptyValue, NotificationHandle, PayloadOptions, ResponseHead, SendHandle, State, StateKey,
+    Step, Target, TrackedCall, UnresolvedFuture, VMOptions, VMResult, Value,
 };
 use wire::Text;
 
@@ -369,7 +369,7 @@ impl VM for CoreVM {
         _: PayloadOptions,
     ) -> VMResult<NotificationHandle> {
         let name = name_text(self.machine.alloc, name);
-        let key = Text::from_string(key);
+        let key = StateKey::new(Text::from_string(key));
         self.read(StateRead::Value { key, name })
     }
 

@@ -2,7 +2,7 @@
 use bytes::Bytes;
 use std::alloc::{AllocError, Global};
 use std::test::Fail;
-use vm_parts::{Known, StateCoverage, StateMap};
+use vm_parts::{Known, StateCoverage, StateKey, StateMap};
 use wire::Text;
 
 /// A state to which each key was set, in this order.
@@ -20,7 +20,7 @@ fn state_of(
 
 /// What is known of a key, as a line.
 fn shown(alloc: Global, state: &StateMap, key: &str) -> Result<String, AllocError> {
-    match state.get(&Text::from_str(alloc, key)?)? {
+    match state.get(&StateKey::new(Text::from_str(alloc, key)?))? {
         Known::Unknown => format!(in alloc; "unknown"),
         Known::Empty => format!(in alloc; "empty"),
         Known::Value(value) => format!(in alloc; "value of {} bytes", value.len()),

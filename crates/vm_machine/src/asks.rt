@@ -23,7 +23,7 @@ use std::time::Duration;
 use vm_parts::values::write_value;
 use vm_parts::{
     Answer, AttachInvocationTarget, CallHandle, NonEmptyValue, NotificationHandle, PayloadOptions,
-    SendHandle, Step, Target, UnresolvedFuture,
+    SendHandle, StateKey, Step, Target, UnresolvedFuture,
 };
 use wire::Text;
 
@@ -427,7 +427,7 @@ pub fn ask_of(alloc: Global, version: Version, step: Step) -> Ask
         Step::StateClear { key, name } => Ask::Command(clear_state(key, name_in(alloc, name))),
         Step::StateClearAll { name } => Ask::Command(clear_all_state(name_in(alloc, name))),
         Step::StateGet { key, name, .. } => {
-            let name = name_in(alloc, name);
+            let (key, name) = (StateKey::new(key), name_in(alloc, name));
             Ask::Read(StateRead::Value { key, name })
         }
         Step::StateGetKeys { name } => {

@@ -19,14 +19,14 @@ use journal_state::{
 };
 use journal_values::NotificationResult;
 use std::alloc::{AllocError, Global};
-use vm_parts::{Known, NotificationHandle, StateMap};
+use vm_parts::{Known, NotificationHandle, StateKey, StateMap};
 use wire::{Items, Text, copy_of};
 
 /// What a handler reads of its state, and the name of the command.
 #[derive(Drop)]
 pub enum StateRead {
     /// The value of a key.
-    Value { key: Text, name: Text },
+    Value { key: StateKey, name: Text },
     /// The keys that have a value.
     Keys { name: Text },
 }
@@ -163,7 +163,9 @@ impl StateRead {
         ensures { IfOk result (λ form. form ≡ lazy_form self.now id) }
     {
         match self {
-            StateRead::Value { key, name } => value_form(key, name, id, Known::Unknown),
+            StateRead::Value { key, name } => {
+                value_form(key.as_text(), name, id, Known::Unknown)
+            }
             StateRead::Keys { name } => keys_form(name, id, None),
         }
     }
@@ -175,7 +177,7 @@ impl StateRead {
         match self {
             StateRead::Value { key, name } => Ok(Message::GetEagerState(GetEagerStateCommand {
                 name: copy_of(name)?,
-                key: copy_of(key)?,
+                key: copy_of(key.as_text())?,
                 result: None,
             })),
             StateRead::Keys { name } => {
@@ -192,7 +194,9 @@ impl StateRead {
         ensures { IfOk result (λ form. form ≡ own_form self.now id state.now) }
     {
         match self {
-            StateRead::Value { key, name } => value_form(key, name, id, state.get(key)?),
+            StateRead::Value { key, name } => {
+                value_form(key.as_text(), name, id, state.get(key)?)
+            }
             StateRead::Keys { name } => keys_form(name, id, state.keys(alloc)?),
         }
     }

@@ -15,7 +15,7 @@ use journal_messages::RawMessage;
 use journal_values::{Notification, NotificationId};
 use runs::completion_result;
 use std::alloc::{AllocError, Global};
-use vm_parts::{Entries, StartInfo, StateCoverage, StateMap};
+use vm_parts::{Entries, StartInfo, StateCoverage, StateKey, StateMap};
 use wire::{Items, Text};
 
 fn coverage_of(partial: bool) -> StateCoverage
@@ -39,7 +39,7 @@ fn read_state(alloc: Global, pairs: &Items<(Bytes, Bytes)>) -> Result<Option<Ent
         };
         let key = Text::from_str(alloc, key)?;
         let value = pair.1.clone()?;
-        entries.put(key, Some(value))?;
+        entries.put(StateKey::new(key), Some(value))?;
     }
     Ok(Some(entries))
 }

@@ -4,5 +4,6 @@ pub mod Mapped
 pub mod Outboxes
 pub mod Places
 pub mod Results
+pub mod StateKeys
 pub mod Texts
 pub mod Tracking

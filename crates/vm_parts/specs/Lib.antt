@@ -7,5 +7,6 @@ pub mod Mappings
 pub mod Options
 pub mod Outboxes
 pub mod Values
+pub mod StateKeys
 pub mod States
 pub mod Tracked

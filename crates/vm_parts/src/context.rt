@@ -9,6 +9,7 @@ ghost use Rattle.vm_parts.specs.States.{state_set, state_cleared, all_cleared, k
 ghost use Rattle.vm_parts.specs.Counting.{fresh_counters, next_index, missing, missing_signals};
 
 use crate::entries::Entries;
+use crate::state_key::StateKey;
 use bytes::Bytes;
 use journal_errors::{MessageType, NamedFault};
 use std::alloc::{AllocError, Global};
@@ -149,7 +150,7 @@ impl StateMap {
         ensures ok { OnOk result (self.new ≡ state_set key.now value.now self.old) }
         ensures err { OnErr result (self.new ≡ self.old) }
     {
-        let (key, value) = (copy_of(key)?, value.clone()?);
+        let (key, value) = (StateKey::new(copy_of(key)?), value.clone()?);
         self.entries.put(key, Some(value))
     }
 
@@ -158,7 +159,7 @@ impl StateMap {
         ensures ok { OnOk result (self.new ≡ state_cleared key.now self.old) }
         ensures err { OnErr result (self.new ≡ self.old) }
     {
-        self.entries.put(copy_of(key)?, None)
+        self.entries.put(StateKey::new(copy_of(key)?), None)
     }
 
     /// Each key loses its value.
@@ -170,7 +171,7 @@ impl StateMap {
     }
 
     /// What is known of a key.
-    pub fn get(&self, key: &Text) -> Result<Known, AllocError>
+    pub fn get(&self, key: &StateKey) -> Result<Known, AllocError>
         ensures { IfOk result (λ found. found ≡ known key.now self.now) }
     {
         match self.entries.get(key) {

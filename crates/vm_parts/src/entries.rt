@@ -3,16 +3,17 @@ ghost use Rattle.std.specs.Prelude.{◌≡◌, [], IfOk, OnOk, OnErr};
 ghost use Rattle.std.specs.Option.{option_copied};
 ghost use Rattle.vm_parts.specs.Entries.{IsInOrder, entry_of, with_entry, keys_with_value};
 
+use crate::state_key::StateKey;
 use bytes::Bytes;
 use std::alloc::{AllocError, Global};
 use std::collections::BTreeMap;
 use std::marker::Model;
-use wire::{Items, Text, copy_of};
+use wire::Items;
 
 /// Entries of keys, each with a value or none, that contracts see as a list which is sorted by key.
 #[derive(Drop)]
 pub struct Entries {
-    map: BTreeMap<Text, Option<Bytes>>,
+    map: BTreeMap<StateKey, Option<Bytes>>,
 }
 
 impl Model for Entries {
@@ -34,14 +35,14 @@ impl Entries {
     }
 
     /// The key's entry; none where no entry speaks of it.
-    pub fn get(&self, key: &Text) -> Option<&Option<Bytes>>
+    pub fn get(&self, key: &StateKey) -> Option<&Option<Bytes>>
         ensures { option_copied result ≡ entry_of key.now self.now }
     {
         self.map.get(key)
     }
 
     /// A key gets this entry, in the place of the one that it had.
-    pub fn put(&mut self, key: Text, value: Option<Bytes>) -> Result<(), AllocError>
+    pub fn put(&mut self, key: StateKey, value: Option<Bytes>) -> Result<(), AllocError>
         ensures ok { OnOk result (self.new ≡ with_entry key value self.old) }
         ensures err { OnErr result (self.new ≡ self.old) }
     {
@@ -64,7 +65,7 @@ impl Entries {
         let mut keys = Items::new(alloc);
         for (key, value) in self.map.iter() {
             if value.is_some() {
-                keys.push(Bytes::copy_from_slice(alloc, key.as_str().as_bytes())?)?;
+                keys.push(Bytes::copy_from_slice(alloc, key.as_text().as_str().as_bytes())?)?;
             }
         }
         Ok(keys)

@@ -13,6 +13,7 @@ pub mod options;
 pub mod outbox;
 pub mod queue;
 pub mod run_state;
+pub mod state_key;
 pub mod steps;
 pub mod tracked;
 pub mod types;
@@ -33,6 +34,7 @@ pub use options::{
 pub use outbox::Outbox;
 pub use queue::Queue;
 pub use run_state::{KeptProposal, PendingRun, RunExecution, TrackedCall};
+pub use state_key::StateKey;
 pub use steps::{Answer, Step};
 pub use tracked::TrackedCalls;
 pub use types::{

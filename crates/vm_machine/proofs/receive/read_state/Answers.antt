@@ -15,6 +15,6 @@ loop-pair-preserved c =
     let is = rw c.as_slice-pair-items.ensures at c.pair-item.is in
     let below : c.loop-pair.pair-index < length pairs = omega (arith, c.loop-pair-test.true, ap length c.as_slice-pair-items.ensures) in
     record {
-      read = rw (c.in_ok-put.ensures.ok, c.loop-pair.invariant.read, c.in_ok-key.ensures, c.in-Ok.ensures.cases.0, c.as_slice.ensures, c.in_ok-value.ensures.cases) (sym (entry_more pairs c.loop-pair.pair-index c.pair-item.result below is));
+      read = rw (c.in_ok-put.ensures.ok, c.loop-pair.invariant.read, c.new.ensures, c.in_ok-key.ensures, c.in-Ok.ensures.cases.0, c.as_slice.ensures, c.in_ok-value.ensures.cases) (sym (entry_more pairs c.loop-pair.pair-index c.pair-item.result below is));
       rest = key_text_more pairs c.loop-pair.pair-index c.pair-item.result below is (rw c.as_slice.ensures at c.in-Ok.ensures.cases.1) c.loop-pair.invariant.rest;
     }

@@ -1,0 +1,12 @@
+-- Keys of the state, and the number that stands beside each.
+use Rattle.std.specs.Prelude.{◌≡◌, ℕ, zero, suc, ◌+◌, ◌*◌, ◌<◌, List, slice_index}
+
+-- the first n bytes of a text as a number, the first of them the greatest; zeros stand behind a shorter text
+abbrev pub front : ℕ → List ℕ → ℕ
+front zero text = 0
+front (suc n) text = front n text * 256 + slice_index text n
+
+-- a key's number is that of its first eight bytes
+pub record IsFront (number : ℕ) (text : List ℕ) : Type 0 where
+  pub is : number ≡ front 8 text
+  pub bytes : (k : ℕ) → slice_index text k < 256
