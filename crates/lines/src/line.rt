@@ -2,10 +2,14 @@
 ghost use Rattle.std.specs.Prelude.{◌≡◌, ◌++◌, ◌<◌, [], ◌∷◌, if◌then◌else◌, IfOk, OnOk};
 ghost use Rattle.std.specs.Char.{digit_char};
 ghost use Rattle.std.specs.Fmt.{decimal};
+ghost use Rattle.std.specs.List.{flat_map};
 ghost use Rattle.lines.specs.Atoms.{in_hex, shown, quoted, hexed};
 
 use std::alloc::{AllocError, Global};
 use std::marker::Model;
+
+/// How many bytes become hex digits at a time.
+const HEX_PIECE: usize = 512;
 
 /// A line that is being written: a word, and fields behind it. Contracts see its bytes.
 #[derive(Debug, Drop)]
@@ -137,13 +141,26 @@ impl Line {
         self.ascii(b'"')
     }
 
+    /// Writes the hex digits of bytes.
+    fn digits(&mut self, bytes: &[u8]) -> Result<(), AllocError>
+        ensures { OnOk result (self.new ≡ self.old ++ flat_map in_hex bytes.now) }
+    {
+        let digits = hex::encode(*self.text.allocator(), bytes)?;
+        self.text.push_str(digits.as_str())?;
+        Ok(())
+    }
+
     /// Writes bytes as hex digits.
     pub fn hex(&mut self, bytes: &[u8]) -> Result<(), AllocError>
         ensures { OnOk result (self.new ≡ self.old ++ hexed bytes.now) }
     {
         self.word("0x")?;
-        let digits = hex::encode(*self.text.allocator(), bytes)?;
-        self.text.push_str(digits.as_str())?;
+        let mut rest = bytes;
+        while !rest.is_empty() {
+            let (piece, behind) = rest.split_at(rest.len().min(HEX_PIECE));
+            self.digits(piece)?;
+            rest = behind;
+        }
         Ok(())
     }
 
