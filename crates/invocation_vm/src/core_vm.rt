@@ -34,10 +34,19 @@ use vm_parts::{
 use wire::Text;
 
 /// The invocation VM.
-#[derive(Drop)]
 pub struct CoreVM {
     pub(crate) decoder: Decoder,
     pub(crate) machine: Machine,
+}
+
+/// Written out, so that who lets a VM go calls this: a derived drop is proved once more in each crate above.
+impl Drop for CoreVM {
+    fn drop(self) {
+        let Self {
+            decoder: _,
+            machine: _,
+        } = self;
+    }
 }
 
 impl fmt::Debug for CoreVM {
@@ -95,9 +104,7 @@ impl CoreVM {
     pub fn command(&mut self, mut command: Command) -> VMResult<NotificationHandle>
         ensures { CallsCommand command result (seen self.old) (seen self.new) }
     {
-        let given = self.call(&mut command);
-        drop(command);
-        given
+        self.call(&mut command)
     }
 
     /// A state read.

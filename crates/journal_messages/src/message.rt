@@ -26,7 +26,7 @@ use std::alloc::{AllocError, Global};
 use wire::{Fault, Wire, whole};
 
 /// What the runtime and the attempt tell each other.
-#[derive(Debug, Drop)]
+#[derive(Debug)]
 pub enum Message {
     Start(Start),
     Suspension(Suspension),
@@ -58,6 +58,44 @@ pub enum Message {
     GetInvocationOutput(InvocationCommand),
     Output(OutputCommand),
     Notification(Notification),
+}
+
+/// Written out, so that who lets a message go calls this: a derived drop is proved once more in each crate above.
+impl Drop for Message {
+    fn drop(self) {
+        match self {
+            Message::Start(m) => drop(m),
+            Message::Suspension(m) => drop(m),
+            Message::Error(m) => drop(m),
+            Message::End => {}
+            Message::ProposeRunCompletion(m) => drop(m),
+            Message::ProposeRunCompletionAck(m) => drop(m),
+            Message::AwaitingOn(m) => drop(m),
+            Message::GetStateEphemeralCommand(m) => drop(m),
+            Message::GetStateEphemeralNotification(m) => drop(m),
+            Message::Input(m) => drop(m),
+            Message::GetEagerState(m) => drop(m),
+            Message::GetLazyState(m) => drop(m),
+            Message::GetEagerStateKeys(m) => drop(m),
+            Message::GetLazyStateKeys(m) => drop(m),
+            Message::SetState(m) => drop(m),
+            Message::ClearState(m) => drop(m),
+            Message::ClearAllState(m) => drop(m),
+            Message::Sleep(m) => drop(m),
+            Message::Call(m) => drop(m),
+            Message::OneWayCall(m) => drop(m),
+            Message::CompleteAwakeable(m) => drop(m),
+            Message::SendSignal(m) => drop(m),
+            Message::GetPromise(m) => drop(m),
+            Message::PeekPromise(m) => drop(m),
+            Message::CompletePromise(m) => drop(m),
+            Message::Run(m) => drop(m),
+            Message::AttachInvocation(m) => drop(m),
+            Message::GetInvocationOutput(m) => drop(m),
+            Message::Output(m) => drop(m),
+            Message::Notification(m) => drop(m),
+        }
+    }
 }
 
 /// A frame whose body isn't decoded yet.

@@ -22,15 +22,6 @@ pub struct Extras {
     pub payload: PayloadOptions,
 }
 
-impl Extras {
-    const NONE: Extras = Extras {
-        name: None,
-        payload: PayloadOptions {
-            unstable_serialization: false,
-        },
-    };
-}
-
 /// Whether a word stands there, which may stand once.
 #[tactic(auto, using(crate::proofs::Missing::twice_blamed))]
 fn stands_once(words: &[&[u8]], flag: &str) -> Result<bool, Fault>
@@ -122,7 +113,10 @@ pub fn extras_of(alloc: Global, words: &[&[u8]]) -> Result<Extras, Fault>
     ensures none { IfErr result (Blames (HasExtras words.now)) }
 {
     if words.is_empty() {
-        return Ok(Extras::NONE);
+        return Ok(Extras {
+            name: None,
+            payload: PayloadOptions::stable_serialization(),
+        });
     }
     let (others, payload) = without_unstable(alloc, words)?;
     let name = name_of(alloc, others.as_slice())?;

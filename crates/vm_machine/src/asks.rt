@@ -28,7 +28,6 @@ use vm_parts::{
 use wire::Text;
 
 /// A command that a call asks for.
-#[derive(Drop)]
 pub struct Command {
     /// Why its arguments refuse the call, if they do.
     pub refusal: Option<NamedFault>,
@@ -36,6 +35,18 @@ pub struct Command {
     pub message: Message,
     /// Whether its payload may differ from one attempt to the next.
     pub unstable: bool,
+}
+
+/// Written out, so that who lets a command go calls this: a derived drop is proved once more in each crate above.
+impl Drop for Command {
+    fn drop(self) {
+        let Self {
+            refusal: _,
+            message,
+            unstable: _,
+        } = self;
+        drop(message);
+    }
 }
 
 /// What a step asks for.
