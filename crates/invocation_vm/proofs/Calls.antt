@@ -12,7 +12,7 @@ use Rattle.vm_machine.specs.declared.machine.Machine.{Machine}
 use Rattle.journal_messages.specs.declared.message.Message.{Message}
 use Rattle.vm_machine.specs.declared.phase.Phase.TheVariants.{Closed}
 use Rattle.vm_machine.specs.Phases.{is_closed}
-use Rattle.vm_machine.specs.Requests.{ids_of}
+use Rattle.vm_asks.specs.Requests.{ids_of}
 use Rattle.vm_machine.specs.Commands.{CanBeRead, Fits, answered_by}
 use Rattle.invocation_vm.specs.Calls.{CallsAwait, CallsFlatAwait, CallsTry, result_by}
 use Rattle.invocation_vm.specs.Views.{View}

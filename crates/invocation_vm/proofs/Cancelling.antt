@@ -7,7 +7,7 @@ use Rattle.vm_parts.specs.declared.types.AwaitResponse.{AwaitResponse}
 use Rattle.vm_parts.specs.declared.types.AwaitResponse.TheVariants.{CancelSignalReceived}
 use Rattle.vm_parts.specs.Tracked.{if_known, invocation_ids}
 use Rattle.vm_machine.specs.declared.machine.Machine.{Machine}
-use Rattle.vm_machine.specs.Asks.{cancel_invocation_command}
+use Rattle.vm_asks.specs.Asks.{cancel_invocation_command}
 use Rattle.vm_machine.specs.Cancels.{Cancels, SendsCancel, cancel_taken}
 use Rattle.invocation_vm.specs.Calls.{CallsCommand}
 use Rattle.invocation_vm.specs.Views.{View}

@@ -22,8 +22,8 @@ use Rattle.await_trees.specs.Tree.{Tree, tree_of}
 use Rattle.vm_parts.specs.declared.values.Input.{Input}
 use Rattle.vm_parts.specs.declared.values.Value.{Value}
 use Rattle.vm_machine.specs.declared.machine.Machine.{Machine}
-use Rattle.vm_machine.specs.declared.asks.Command.{Command}
-use Rattle.vm_machine.specs.Asks.{cancel_invocation_command}
+use Rattle.vm_asks.specs.declared.asks.Command.{Command}
+use Rattle.vm_asks.specs.Asks.{cancel_invocation_command}
 use Rattle.vm_machine.specs.Awaits.{Awaits}
 use Rattle.vm_machine.specs.Cancels.{AwaitsWhole, Cancels, FinishesIf, Onward, SendsCancel, cancel_taken, sends_cancels}
 use Rattle.vm_parts.specs.Tracked.{invocation_ids}
@@ -35,7 +35,7 @@ use Rattle.vm_machine.specs.Signals.{awakeable_step, signal_step}
 use Rattle.vm_machine.specs.Outcomes.{CalledBy, Does, DoesBy, Done, Failed, IsStarved, Outcome, called, refused}
 use Rattle.vm_machine.specs.Reports.{report_step}
 use Rattle.vm_machine.proofs.Endings.{answered, awaited_writes, awakeable_writes, signal_writes, read_writes, called_writes, close_writes, end_writes, input_writes, commanded_event, malformed_writes, message_writes, nothing_behind, proposed_write, report_writes, same, take_writes, writes_nothing}
-use Rattle.vm_machine.specs.declared.reads.StateRead.{StateRead}
+use Rattle.vm_asks.specs.declared.state_read.StateRead.{StateRead}
 use Rattle.vm_machine.specs.Reads.{read_step}
 use Rattle.retries.specs.declared.policy.RetryPolicy.{RetryPolicy}
 use Rattle.runs.specs.declared.types.RunExitResult.{RunExitResult}

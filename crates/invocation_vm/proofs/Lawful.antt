@@ -26,9 +26,9 @@ use Rattle.vm_machine.specs.declared.phase.Phase.TheVariants.{Processing}
 use Rattle.vm_machine.specs.Commands.{carried_out, commanded, commanded_unless, counted, entered, ignores_payloads, issued, prepared, replayed, written}
 use Rattle.vm_machine.specs.Outcomes.{Outcome, Done, Failed, ◌>>=◌, CalledAt, CalledBy, Does, DoesBy, IsStarved, about_last, called, called_at, flattened}
 use Rattle.vm_machine.specs.Phases.{is_processing, is_running, state_fault}
-use Rattle.vm_machine.specs.Requests.{shown_type, with_ids}
+use Rattle.vm_asks.specs.Requests.{shown_type, with_ids}
 use Rattle.vm_machine.proofs.Replaying.{answers_first}
-use Rattle.vm_machine.specs.Asks.{sleep_command}
+use Rattle.vm_asks.specs.Asks.{sleep_command}
 use Rattle.invocation_vm.specs.Calls.{CallsCommand, CallsFlatAwait, CallsProposal}
 use Rattle.invocation_vm.specs.Sleeps.{MaySleep, sleeping}
 use Rattle.invocation_vm.specs.Views.{View, AnswersFirst, Calls, Leaves}

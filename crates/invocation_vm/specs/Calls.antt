@@ -13,15 +13,15 @@ use Rattle.retries.specs.declared.policy.RetryPolicy.{RetryPolicy}
 use Rattle.runs.specs.declared.types.RunExitResult.{RunExitResult}
 use Rattle.runs.specs.declared.types.RunHandle.{RunHandle}
 use Rattle.await_trees.specs.declared.tree.UnresolvedFuture.{UnresolvedFuture}
-use Rattle.vm_machine.specs.declared.asks.Command.{Command}
+use Rattle.vm_asks.specs.declared.asks.Command.{Command}
 use Rattle.vm_machine.specs.declared.machine.Machine.{Machine}
 use Rattle.vm_machine.specs.Awaits.{Awaits}
 use Rattle.vm_machine.specs.Cancels.{AwaitsWhole}
-use Rattle.vm_machine.specs.Asks.{run_command}
+use Rattle.vm_asks.specs.Asks.{run_command}
 use Rattle.vm_machine.specs.Commands.{CanBeRead, Fits, answered_by, commanded, knows_next}
 use Rattle.vm_machine.specs.Outcomes.{Outcome, flattened, refused}
 use Rattle.vm_machine.specs.Proposals.{Proposes}
-use Rattle.vm_machine.specs.declared.reads.StateRead.{StateRead}
+use Rattle.vm_asks.specs.declared.state_read.StateRead.{StateRead}
 use Rattle.vm_machine.specs.Reads.{ReadCanBeRead, read_step}
 use Rattle.vm_machine.specs.Signals.{awakeable_step}
 use Rattle.await_trees.specs.Tree.{tree_of}

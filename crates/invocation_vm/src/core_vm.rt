@@ -2,8 +2,8 @@
 ghost use Rattle.std.specs.Prelude.{◌≡◌, [], IfOk, is_some};
 ghost use Rattle.std.specs.List.{concat};
 ghost use Rattle.vm_parts.specs.Outboxes.{WholeFrames, WholeStream, len_of};
-ghost use Rattle.vm_machine.specs.Asks.{ask_of, call_handles, send_handle};
-ghost use Rattle.vm_machine.specs.Requests.{ids_of};
+ghost use Rattle.vm_asks.specs.Asks.{ask_of, call_handles, send_handle};
+ghost use Rattle.vm_asks.specs.Requests.{ids_of};
 ghost use Rattle.vm_machine.specs.Cancels.{Cancels};
 ghost use Rattle.vm_machine.specs.Outcomes.{Lives};
 ghost use Rattle.vm_parts.specs.Tracked.{invocation_ids};
@@ -24,8 +24,9 @@ use runs::{RunExitResult, RunHandle};
 use std::alloc::{AllocError, Global};
 use std::fmt;
 use std::time::Duration;
+use vm_asks::{Ask, Command, StateRead, asks};
 use vm_machine::awaited::flatten;
-use vm_machine::{Ask, Awaited, Command, Machine, StateRead, asks};
+use vm_machine::{Awaited, Machine};
 use vm_parts::{
     AttachInvocationTarget, AwaitResponse, AwakeableHandle, CallHandle, CommandRelationship, Input,
     NonEmptyValue, NotificationHandle, PayloadOptions, ResponseHead, SendHandle, State, StateKey,

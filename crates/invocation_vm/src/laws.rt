@@ -19,14 +19,14 @@ ghost use Rattle.await_trees.specs.declared.tree.UnresolvedFuture.{UnresolvedFut
 ghost use Rattle.vm_parts.specs.declared.values.Input.{Input};
 ghost use Rattle.vm_parts.specs.declared.values.Value.{Value};
 ghost use Rattle.vm_machine.specs.declared.machine.Machine.{Machine};
-ghost use Rattle.vm_machine.specs.declared.asks.Command.{Command};
-ghost use Rattle.vm_machine.specs.Asks.{call_handles, send_handle, sleep_command};
+ghost use Rattle.vm_asks.specs.declared.asks.Command.{Command};
+ghost use Rattle.vm_asks.specs.Asks.{call_handles, send_handle, sleep_command};
 ghost use Rattle.vm_machine.specs.Takes.{take_step};
 ghost use Rattle.vm_machine.specs.Endings.{is_terminal};
 ghost use Rattle.vm_machine.specs.Inputs.{end_step, input_step};
 ghost use Rattle.vm_machine.specs.Outcomes.{IsStarved, Outcome};
 ghost use Rattle.vm_machine.specs.Signals.{signal_step};
-ghost use Rattle.vm_machine.specs.declared.reads.StateRead.{StateRead};
+ghost use Rattle.vm_asks.specs.declared.state_read.StateRead.{StateRead};
 ghost use Rattle.invocation_vm.specs.Calls.{CallsCommand, CallsFlatAwait, CallsFor, CallsProposal, CallsRead, CallsRun, CallsUnit, new_awakeable_step};
 ghost use Rattle.invocation_vm.specs.Endings.{EndsOnceAfter, StaysSo};
 ghost use Rattle.invocation_vm.specs.Making.{made};

@@ -1,14 +1,14 @@
 //! The calls of a VM, each with what it does to the view of it.
 ghost use Rattle.std.specs.Prelude.{◌≡◌, ◌/◌, [], IfOk, OnErr, None, Ok, true, string_bytes, codes};
 ghost use Rattle.std.specs.Duration.{as_nanos};
-ghost use Rattle.vm_machine.specs.Asks.{attach_invocation_command, call_command, call_handles, cancel_invocation_command, clear_all_state_command, clear_state_command, complete_awakeable_command, complete_promise_command, complete_signal_command, get_invocation_output_command, get_promise_command, millis_of, output_command, peek_promise_command, send_command, send_handle, set_state_command, sleep_command};
+ghost use Rattle.vm_asks.specs.Asks.{attach_invocation_command, call_command, call_handles, cancel_invocation_command, clear_all_state_command, clear_state_command, complete_awakeable_command, complete_promise_command, complete_signal_command, get_invocation_output_command, get_promise_command, millis_of, output_command, peek_promise_command, send_command, send_handle, set_state_command, sleep_command};
 ghost use Rattle.vm_machine.specs.Takes.{is_completed, take_step};
 ghost use Rattle.vm_machine.specs.Queries.{IsReadyAt, last_index, state_of};
 ghost use Rattle.vm_machine.specs.Inputs.{end_step, input_step};
 ghost use Rattle.vm_machine.specs.declared.phase.Phase.TheVariants.{Closed};
 ghost use Rattle.vm_machine.specs.Phases.{is_waiting};
 ghost use Rattle.vm_machine.specs.Signals.{signal_step};
-ghost use Rattle.vm_machine.specs.declared.reads.StateRead.TheVariants as reads;
+ghost use Rattle.vm_asks.specs.declared.state_read.StateRead.TheVariants as reads;
 ghost use Rattle.invocation_vm.specs.Calls.{CallsCommand, CallsFlatAwait, CallsFor, CallsProposal, CallsRead, CallsRun, CallsUnit, name_or_empty, new_awakeable_step};
 ghost use Rattle.invocation_vm.specs.Making.{Makes, response_head, version_in};
 ghost use Rattle.invocation_vm.specs.Views.{View, Calls, Leaves, TakesOutput, after_closing, after_error, after_input, brought};

@@ -8,10 +8,10 @@ use Rattle.journal_errors.specs.Errors.{no_memory}
 use Rattle.vm_parts.specs.declared.steps.Answer.TheVariants as answer
 use Rattle.vm_parts.specs.declared.steps.Step.{Step}
 use Rattle.vm_parts.specs.declared.values.ResponseHead.{ResponseHead}
-use Rattle.vm_machine.specs.declared.asks.Ask.{Ask}
-use Rattle.vm_machine.specs.declared.asks.Ask.TheVariants as ask
+use Rattle.vm_asks.specs.declared.asks.Ask.{Ask}
+use Rattle.vm_asks.specs.declared.asks.Ask.TheVariants as ask
 use Rattle.vm_machine.specs.declared.machine.Machine.{Machine}
-use Rattle.vm_machine.specs.Asks.{ask_of, command_answer}
+use Rattle.vm_asks.specs.Asks.{ask_of, command_answer}
 use Rattle.vm_machine.specs.Takes.{is_completed, take_step}
 use Rattle.vm_machine.specs.Queries.{IsReadyAt, last_index, state_of}
 use Rattle.vm_machine.specs.Commands.{commanded}

@@ -1,6 +1,6 @@
 //! What a line asks for, done.
 ghost use Rattle.std.specs.Prelude.{◌≡◌, None, codes};
-ghost use Rattle.vm_machine.specs.Asks.{command_answer};
+ghost use Rattle.vm_asks.specs.Asks.{command_answer};
 ghost use Rattle.vm_machine.specs.Commands.{commanded};
 ghost use Rattle.vm_parts.specs.declared.steps.Answer.TheVariants as answer;
 ghost use Rattle.invocation_vm.specs.Making.{version_in};
@@ -19,8 +19,8 @@ use replies::Reply;
 use requests::content_type::ContentType;
 use requests::request::{Call, Request};
 use std::alloc::{AllocError, Global};
-use vm_machine::asks::command_answer;
-use vm_machine::{Ask, Command};
+use vm_asks::asks::command_answer;
+use vm_asks::{Ask, Command};
 use vm_parts::{Answer, Step};
 
 /// The answer of a call that answers nothing but want of memory.

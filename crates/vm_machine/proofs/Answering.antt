@@ -3,11 +3,11 @@ use Rattle.std.proofs.Common.{◌≡◌, ℕ, ◌+◌, ◌<◌, ◌^◌, refl, a
 use Rattle.journal_messages.specs.declared.message.Message.{Message}
 use Rattle.journal_messages.specs.declared.message.Message.TheVariants as message
 use Rattle.await_trees.specs.declared.handle.NotificationHandle.{NotificationHandle}
-use Rattle.vm_machine.specs.declared.asks.AnswerKind.{AnswerKind}
-use Rattle.vm_machine.specs.declared.asks.AnswerKind.TheVariants as kind
-use Rattle.vm_machine.specs.Asks.{HandlesFit, answer_kind}
+use Rattle.vm_asks.specs.declared.asks.AnswerKind.{AnswerKind}
+use Rattle.vm_asks.specs.declared.asks.AnswerKind.TheVariants as kind
+use Rattle.vm_asks.specs.Asks.{HandlesFit, answer_kind}
 use Rattle.vm_machine.specs.Commands.{Fits}
-use Rattle.vm_machine.specs.Requests.{ids_of}
+use Rattle.vm_asks.specs.Requests.{ids_of}
 
 -- only a call is answered by two handles, and it takes two
 call_takes_two : (m : Message) → answer_kind m ≡ kind.Call → ids_of m ≡ 2

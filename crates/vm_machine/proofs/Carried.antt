@@ -18,13 +18,14 @@ use Rattle.vm_machine.specs.declared.machine.Machine.{Machine}
 use Rattle.vm_machine.specs.Commands.{written, ignores_payloads, phase_after, popped, popped_from, compared, replayed, carried_out, prepared, counted, issued}
 use Rattle.vm_machine.specs.Outcomes.{Outcome, Done, Failed, ◌>>=◌, about_last}
 use Rattle.vm_machine.specs.Phases.{is_running, is_processing}
-use Rattle.vm_machine.specs.Requests.{changed, ids_of, with_ids}
+use Rattle.vm_asks.specs.Requests.{changed, ids_of, with_ids}
 use Rattle.journal_values.specs.declared.notification.NotificationResult.{NotificationResult}
 use Rattle.std.specs.Prelude.{Result, Ok, Err}
-use Rattle.vm_machine.specs.declared.reads.StateRead.{StateRead}
+use Rattle.vm_asks.specs.declared.state_read.StateRead.{StateRead}
 use Rattle.vm_parts.specs.declared.context.Counters.{Counters}
 use Rattle.vm_machine.specs.Commands.{entered, given_on, handed_out}
-use Rattle.vm_machine.specs.Reads.{eager_type, name_read, own_form, own_result, read_back, read_counted, read_popped, read_step, read_written, recorded_as, recorded_type, result_in, with_result}
+use Rattle.vm_machine.specs.Reads.{own_result, read_back, read_counted, read_popped, read_step, read_written, with_result}
+use Rattle.vm_asks.specs.StateReads.{eager_type, name_read, own_form, recorded_as, recorded_type, result_in}
 use Rattle.vm_machine.specs.Signals.{awakeable_step, awakeable_counted, signal_counted, signal_step}
 use Rattle.vm_machine.specs.Numbers.{Counted}
 

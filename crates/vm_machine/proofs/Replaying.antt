@@ -21,7 +21,7 @@ use Rattle.vm_machine.specs.Endings.{EndsOnce, Writes, is_over}
 use Rattle.vm_machine.specs.Outcomes.{Outcome, Done, Failed, ◌>>=◌, about_last, called, called_at}
 use Rattle.vm_machine.specs.Phases.{is_running, is_processing, state_fault}
 use Rattle.vm_machine.specs.Replays.{MayReplay, Pops, Refuses, command_at, ignores, is_header_equal, is_of_its_type}
-use Rattle.vm_machine.specs.Requests.{ids_of, name_of, shown_type}
+use Rattle.vm_asks.specs.Requests.{ids_of, name_of, shown_type}
 use Rattle.vm_machine.proofs.Carried.{IsDone, answered, no_answer, same_machine}
 
 -- ---- the next recorded command

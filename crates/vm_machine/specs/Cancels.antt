@@ -8,7 +8,7 @@ use Rattle.vm_parts.specs.declared.types.AwaitResponse.TheVariants.{AnyCompleted
 use Rattle.vm_parts.specs.Deliveries.{id_at, taken_by}
 use Rattle.vm_parts.specs.Tracked.{invocation_ids}
 use Rattle.vm_machine.specs.declared.machine.Machine.{Machine}
-use Rattle.vm_machine.specs.Asks.{cancel_invocation_command}
+use Rattle.vm_asks.specs.Asks.{cancel_invocation_command}
 use Rattle.vm_machine.specs.Awaits.{Awaits, result_at}
 use Rattle.vm_machine.specs.Commands.{CanBeRead, commanded}
 use Rattle.vm_machine.specs.Outcomes.{CalledBy, Does, DoesBy, called}

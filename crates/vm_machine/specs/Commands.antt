@@ -20,14 +20,14 @@ use Rattle.vm_parts.specs.declared.options.NonDeterministicChecksOption.TheVaria
 use Rattle.await_trees.specs.declared.handle.NotificationHandle.{NotificationHandle}
 use Rattle.vm_parts.specs.Counting.{next_index, missing}
 use Rattle.vm_parts.specs.Deliveries.{is_known}
-use Rattle.vm_machine.specs.declared.asks.Command.{Command}
+use Rattle.vm_asks.specs.declared.asks.Command.{Command}
 use Rattle.vm_machine.specs.declared.fault.Fault.{Fault}
 use Rattle.vm_machine.specs.declared.machine.Machine.{Machine}
 use Rattle.vm_machine.specs.declared.phase.Phase.{Phase}
 use Rattle.vm_machine.specs.declared.phase.Phase.TheVariants.{Replaying, Processing}
 use Rattle.vm_machine.specs.Outcomes.{Outcome, Done, Failed, ◌>>=◌, Gives, about_last, refused}
 use Rattle.vm_machine.specs.Phases.{is_running, is_processing, state_fault}
-use Rattle.vm_machine.specs.Requests.{changed, ids_of, name_of, runs_after, shown_type, tracked_after, with_ids}
+use Rattle.vm_asks.specs.Requests.{changed, ids_of, name_of, runs_after, shown_type, tracked_after, with_ids}
 
 -- a command is counted, and its type and name are kept
 abbrev pub entered : MessageType → List ℕ → Machine → Machine

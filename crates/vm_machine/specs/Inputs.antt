@@ -34,7 +34,8 @@ use Rattle.vm_machine.specs.declared.phase.Phase.{Phase}
 use Rattle.vm_machine.specs.declared.phase.Phase.TheVariants.{WaitingStart, WaitingReplayEntries, Replaying, Processing, Closed}
 use Rattle.vm_machine.specs.Outcomes.{Outcome, Done, Failed, ◌>>=◌, refused, about_last, ruled, failed, starved}
 use Rattle.vm_machine.specs.Commands.{entered, about_next, popped}
-use Rattle.vm_machine.specs.Phases.{is_from_v6, is_from_v7, state_fault}
+use Rattle.vm_machine.specs.Phases.{state_fault}
+use Rattle.vm_asks.specs.Versions.{is_from_v6, is_from_v7}
 
 -- ---- Start
 

@@ -1,4 +1,3 @@
-pub mod Asks
 pub mod Answered
 pub mod Awaits
 pub mod Cancels
@@ -14,6 +13,5 @@ pub mod Queries
 pub mod Reads
 pub mod Replays
 pub mod Reports
-pub mod Requests
 pub mod Signals
 pub mod Takes

@@ -2,8 +2,6 @@
 use Rattle.std.specs.Prelude.{Bool, true, false}
 use Rattle.journal_errors.specs.declared.faults.NamedFault.{NamedFault}
 use Rattle.journal_errors.specs.declared.faults.NamedFault.TheVariants as fault
-use Rattle.journal_errors.specs.declared.version.Version.{Version}
-use Rattle.journal_errors.specs.declared.version.Version.TheVariants.{V6, V7, V8}
 use Rattle.vm_parts.specs.declared.types.State.{State}
 use Rattle.vm_parts.specs.declared.types.State.TheVariants as state
 use Rattle.vm_machine.specs.declared.phase.Phase.{Phase}
@@ -64,16 +62,3 @@ shown WaitingReplayEntries = state.WaitingPreFlight
 shown Replaying = state.Replaying
 shown Processing = state.Processing
 shown Closed = state.Closed
-
--- the version is V6 or later
-abbrev pub is_from_v6 : Version → Bool
-is_from_v6 V6 = true
-is_from_v6 V7 = true
-is_from_v6 V8 = true
-is_from_v6 earlier = false
-
--- the version is V7 or later
-abbrev pub is_from_v7 : Version → Bool
-is_from_v7 V7 = true
-is_from_v7 V8 = true
-is_from_v7 earlier = false

@@ -12,7 +12,7 @@ use Rattle.vm_machine.specs.declared.machine.Machine.{Machine}
 use Rattle.vm_machine.specs.declared.phase.Phase.TheVariants.{Replaying}
 use Rattle.vm_machine.specs.Commands.{about_next, ignores_payloads, issued}
 use Rattle.vm_machine.specs.Outcomes.{Failed}
-use Rattle.vm_machine.specs.Requests.{ids_of, name_of, shown_type, with_ids}
+use Rattle.vm_asks.specs.Requests.{ids_of, name_of, shown_type, with_ids}
 
 -- the machine replays, and has the numbers that the call needs
 pub record MayReplay (m : Message) (v : Machine) : Type 0 where

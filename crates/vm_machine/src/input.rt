@@ -6,12 +6,13 @@ ghost use Rattle.vm_machine.specs.Phases.{is_closed};
 ghost use Rattle.vm_machine.specs.Inputs.{input_of, input_counted, input_step, end_step};
 
 use crate::fault::{Fault, refuse};
-use crate::machine::{Machine, empty_text};
+use crate::machine::Machine;
 use crate::phase::Phase;
 use journal_attempt::InputCommand;
 use journal_errors::{Error, MessageType, NamedFault, RelatedCommand};
 use journal_messages::Message;
 use std::alloc::AllocError;
+use vm_asks::request::empty_text;
 use vm_parts::{Input, StartInfo};
 use wire::{Text, copy_of};
 

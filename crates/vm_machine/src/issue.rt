@@ -5,18 +5,18 @@ ghost use Rattle.journal_messages.specs.Message.{IsWhole};
 ghost use Rattle.vm_machine.specs.Outcomes.{Gives, about_last, last_related, lasting};
 ghost use Rattle.vm_machine.specs.Commands.{entered, phase_after, written, popped, replayed, carried_out, handed_out, checks_are_off, knows_next, Carries, Issues};
 ghost use Rattle.vm_machine.specs.Phases.{is_processing};
-ghost use Rattle.vm_machine.specs.Requests.{changed, ids_of, runs_after, tracked_after};
+ghost use Rattle.vm_asks.specs.Requests.{changed, ids_of, runs_after, tracked_after};
 
-use crate::asks::Command;
 use crate::fault::{Fault, refuse};
 use crate::machine::Machine;
 use crate::phase::Phase;
-use crate::request::{give_ids, ids_of, is_cancelled_with, name_of, shown_type};
 use journal_equality::header_eq;
 use journal_errors::{Error, MessageType, NamedFault, RelatedCommand};
 use journal_messages::{Message, RawMessage};
 use journal_values::NotificationId;
 use std::alloc::AllocError;
+use vm_asks::Command;
+use vm_asks::request::{give_ids, ids_of, is_cancelled_with, name_of, shown_type};
 use vm_parts::{LastCommand, NonDeterministicChecksOption, NotificationHandle};
 use wire::{Text, copy_of};
 

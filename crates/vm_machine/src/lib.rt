@@ -1,7 +1,6 @@
 //! The machine of the VM: one function for each event, each with the outcome that its contract names.
 #![tactic(auto)]
 
-pub mod asks;
 pub mod awaited;
 pub mod awaits;
 pub mod fault;
@@ -15,14 +14,11 @@ pub mod queries;
 pub mod reads;
 pub mod receive;
 pub mod report;
-pub mod request;
 pub mod settle;
 pub mod signals;
 pub mod takes;
 
-pub use asks::{Ask, Command};
 pub use awaited::Awaited;
 pub use fault::Fault;
 pub use machine::Machine;
 pub use phase::Phase;
-pub use reads::StateRead;

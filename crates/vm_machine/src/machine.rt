@@ -8,11 +8,12 @@ use journal_errors::{Error, MessageType, Version};
 use journal_messages::RawMessage;
 use runs::{KeptProposals, RunState};
 use std::alloc::{AllocError, Global};
+use vm_asks::request::empty_text;
 use vm_parts::{
     AsyncResults, Counters, EphemeralCommand, LastCommand, Outbox, Queue, StartInfo, StateCoverage,
     StateMap, TrackedCalls, VMOptions,
 };
-use wire::{Items, Text};
+use wire::Items;
 
 /// All that a machine is.
 #[derive(Drop)]
@@ -46,13 +47,6 @@ pub struct Machine {
     pub output: Outbox,
     /// Whether a terminal frame was written, or the machine has failed: no frame comes any more.
     pub output_ended: bool,
-}
-
-/// No text; it takes no memory.
-pub fn empty_text(alloc: Global) -> Text
-    ensures { result ≡ [] }
-{
-    Text::from_string(String::new(alloc))
 }
 
 /// What is known of an invocation before its Start.

@@ -4,9 +4,10 @@ ghost use Rattle.vm_machine.specs.Outcomes.{Gives};
 ghost use Rattle.vm_machine.specs.Reports.{related_by, related_to, is_retry, report_step};
 
 use crate::fault::{Fault, refuse};
-use crate::machine::{Machine, empty_text};
+use crate::machine::Machine;
 use journal_errors::{Error, ErrorBehavior, NamedFault, RelatedCommand, Version};
 use std::alloc::{AllocError, Global};
+use vm_asks::request::empty_text;
 use vm_parts::CommandRelationship;
 use wire::Text;
 

@@ -24,7 +24,7 @@ use Rattle.vm_parts.specs.Counting.{missing}
 use Rattle.vm_parts.specs.Deliveries.{id_at, is_listed, present_among, present_for, same_id, with_delivered}
 use Rattle.vm_parts.specs.Options.{ends_awaits}
 use Rattle.vm_parts.specs.Tracked.{id_of_result, invocation_ids, unresolved, with_next_id, without_first_call}
-use Rattle.vm_machine.specs.Asks.{cancel_invocation_command}
+use Rattle.vm_asks.specs.Asks.{cancel_invocation_command}
 use Rattle.vm_machine.specs.Commands.{ignores_payloads}
 use Rattle.vm_model.specs.Calls.{Setup, Meaning, Derived, Demand, awaited, call_of, counted, cancel_sent, cancel_taken, cancelled, cancelling, id_awaited, id_read, is_cancelled_in, ready_in}
 use Rattle.vm_model.specs.Calls.Demand.{Exactly}

@@ -13,7 +13,7 @@ use Rattle.vm_parts.specs.declared.steps.Answer.TheVariants as answer
 use Rattle.await_trees.specs.declared.tree.UnresolvedFuture.{UnresolvedFuture}
 use Rattle.vm_parts.specs.Deliveries.{id_at, present_for}
 use Rattle.vm_parts.specs.Tracked.{id_of_result, invocation_ids, unresolved, with_next_id, without_first_call}
-use Rattle.vm_machine.specs.Asks.{cancel_invocation_command}
+use Rattle.vm_asks.specs.Asks.{cancel_invocation_command}
 use Rattle.vm_model.specs.Calls.{Derived, Meaning, Setup, cancel_taken, is_cancelled_in, ready_after}
 use Rattle.vm_model.specs.Calls.Usage.{Used, Taken}
 use Rattle.vm_model.specs.Cancels.{AreInvocations, AreInvocationsIn, CancelledAwait, IsInvocation, all_present, cancel_commands, id_in, present_in}

@@ -14,8 +14,8 @@ use Rattle.journal_messages.specs.Message.{type_of}
 use Rattle.journal_messages.specs.Reading.{message_in}
 use Rattle.vm_parts.specs.declared.context.Known.TheVariants.{Unknown}
 use Rattle.vm_parts.specs.States.{known, known_keys}
-use Rattle.vm_machine.specs.declared.reads.StateRead.TheVariants as reads
-use Rattle.vm_machine.specs.Reads.{own_form}
+use Rattle.vm_asks.specs.declared.state_read.StateRead.TheVariants as reads
+use Rattle.vm_asks.specs.StateReads.{own_form}
 use Rattle.vm_parts.specs.declared.context.StateMap.{StateMap}
 use Rattle.vm_parts.specs.declared.steps.Step.{Step}
 use Rattle.vm_parts.specs.declared.steps.Step.TheVariants as step
@@ -27,12 +27,12 @@ use Rattle.vm_parts.specs.Counting.{missing, missing_signals}
 use Rattle.vm_parts.specs.Deliveries.{id_at, present_for}
 use Rattle.vm_parts.specs.Tracked.{id_of_result, id_of_value, invocation_ids, noted, unresolved}
 use Rattle.vm_parts.specs.Values.{value_of}
-use Rattle.vm_machine.specs.declared.asks.Ask.{Ask}
-use Rattle.vm_machine.specs.declared.asks.Ask.TheVariants as ask
-use Rattle.vm_machine.specs.declared.asks.Command.{Command}
-use Rattle.vm_machine.specs.declared.reads.StateRead.{StateRead}
-use Rattle.vm_machine.specs.Asks.{ask_of}
-use Rattle.vm_machine.specs.Requests.{ids_of}
+use Rattle.vm_asks.specs.declared.asks.Ask.{Ask}
+use Rattle.vm_asks.specs.declared.asks.Ask.TheVariants as ask
+use Rattle.vm_asks.specs.declared.asks.Command.{Command}
+use Rattle.vm_asks.specs.declared.state_read.StateRead.{StateRead}
+use Rattle.vm_asks.specs.Asks.{ask_of}
+use Rattle.vm_asks.specs.Requests.{ids_of}
 use Rattle.vm_machine.proofs.Endings.{same_type}
 use Rattle.invocation_vm.specs.Calls.{skips_replay}
 use Rattle.vm_model.specs.Calls.{Setup, Meaning, Derived, Move, asked, awaited, awakeable_made, awaiting, cancel_sent, cancelled, cancelling, commanding, id_awaited, id_read, is_awake, is_cancelled_in, making_awakeable, numbered, reading, ready_in, result_taken, signal_made, value_noted, value_taken}

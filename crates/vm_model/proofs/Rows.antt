@@ -32,7 +32,7 @@ use Rattle.vm_parts.specs.declared.values.NonEmptyValue.TheVariants.{Success, Fa
 use Rattle.vm_parts.specs.declared.values.Value.TheVariants as value
 use Rattle.vm_parts.specs.Options.{default_options}
 use Rattle.vm_parts.specs.Tracked.{unresolved_call}
-use Rattle.vm_machine.specs.Asks.{cancel_invocation_command}
+use Rattle.vm_asks.specs.Asks.{cancel_invocation_command}
 use Rattle.vm_parts.specs.CommandTypes.{message_type}
 use Rattle.wire.specs.Format.{bytes, list, option, read_byte, read_bytes, read_flag, read_items, read_list, read_option, read_pair, read_text, read_u16, read_u32, read_u64, u16s, u32s, u64s}
 use Rattle.await_trees.specs.Outcomes.{awake, is_done}

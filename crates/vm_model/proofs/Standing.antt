@@ -16,9 +16,10 @@ use Rattle.vm_parts.specs.declared.context.Known.{Known}
 use Rattle.vm_parts.specs.declared.context.Known.TheVariants.{Unknown, Empty, Value}
 use Rattle.vm_parts.specs.declared.context.StateMap.{StateMap}
 use Rattle.vm_parts.specs.States.{known, known_keys}
-use Rattle.vm_machine.specs.declared.reads.StateRead.{StateRead}
-use Rattle.vm_machine.specs.declared.reads.StateRead.TheVariants as reads
-use Rattle.vm_machine.specs.Reads.{eager_form, keys_form, own_form, own_result, read_by, result_in, value_form}
+use Rattle.vm_asks.specs.declared.state_read.StateRead.{StateRead}
+use Rattle.vm_asks.specs.declared.state_read.StateRead.TheVariants as reads
+use Rattle.vm_machine.specs.Reads.{own_result}
+use Rattle.vm_asks.specs.StateReads.{eager_form, keys_form, own_form, read_by, result_in, value_form}
 use Rattle.vm_model.specs.Calls.Demand.{Exactly, Reads}
 use Rattle.vm_model.specs.Journal.{stored_form}
 use Rattle.vm_model.specs.Moves.{found, reads_as}

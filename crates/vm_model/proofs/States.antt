@@ -17,7 +17,7 @@ use Rattle.vm_parts.specs.Entries.{IsInOrder, by_bytes, entry_of, is_among, keys
 use Rattle.vm_parts.specs.States.{has_value, keys_by, known, known_by, known_keys}
 use Rattle.vm_parts.proofs.Changes.{key_at, known_besides_cleared, known_besides_set, known_cleared, known_set, stays_in_order}
 use Rattle.vm_parts.proofs.Keys.{key_listed, keys_in_order}
-use Rattle.vm_machine.specs.Requests.{changed}
+use Rattle.vm_asks.specs.Requests.{changed}
 use Rattle.vm_model.specs.Histories.{IsAllOf, IsTrueOf}
 use Rattle.vm_model.specs.Moves.{changed_by}
 

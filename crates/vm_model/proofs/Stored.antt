@@ -29,10 +29,10 @@ use Rattle.vm_parts.specs.declared.context.Known.{Known}
 use Rattle.vm_parts.specs.declared.context.Known.TheVariants.{Unknown, Empty, Value}
 use Rattle.vm_parts.specs.declared.context.StateMap.{StateMap}
 use Rattle.vm_parts.specs.States.{known, known_keys, state_set}
-use Rattle.vm_machine.specs.declared.reads.StateRead.{StateRead}
-use Rattle.vm_machine.specs.declared.reads.StateRead.TheVariants as reads
-use Rattle.vm_machine.specs.Reads.{eager_form, keys_form, own_form, read_by, result_in, value_form}
-use Rattle.vm_machine.specs.Requests.{changed}
+use Rattle.vm_asks.specs.declared.state_read.StateRead.{StateRead}
+use Rattle.vm_asks.specs.declared.state_read.StateRead.TheVariants as reads
+use Rattle.vm_asks.specs.StateReads.{eager_form, keys_form, own_form, read_by, result_in, value_form}
+use Rattle.vm_asks.specs.Requests.{changed}
 use Rattle.vm_model.specs.Calls.{Demand}
 use Rattle.vm_model.specs.Calls.Demand.{Exactly, Reads}
 use Rattle.vm_model.specs.Histories.{Fits, IsTrueOf, recorded_value}

@@ -30,13 +30,13 @@ use Rattle.vm_parts.specs.declared.run_state.TrackedCall.{TrackedCall}
 use Rattle.vm_parts.specs.Options.{ends_awaits}
 use Rattle.vm_parts.specs.Tracked.{id_of_result, id_of_value, invocation_ids, noted, unresolved, with_next_id, without_first_call}
 use Rattle.vm_parts.specs.Values.{value_of}
-use Rattle.vm_machine.specs.declared.asks.Ask.{Ask}
-use Rattle.vm_machine.specs.declared.asks.Ask.TheVariants as ask
-use Rattle.vm_machine.specs.declared.asks.Command.{Command}
-use Rattle.vm_machine.specs.declared.reads.StateRead.{StateRead}
-use Rattle.vm_machine.specs.Asks.{ask_of, cancel_invocation_command, command_answer}
+use Rattle.vm_asks.specs.declared.asks.Ask.{Ask}
+use Rattle.vm_asks.specs.declared.asks.Ask.TheVariants as ask
+use Rattle.vm_asks.specs.declared.asks.Command.{Command}
+use Rattle.vm_asks.specs.declared.state_read.StateRead.{StateRead}
+use Rattle.vm_asks.specs.Asks.{ask_of, cancel_invocation_command, command_answer}
 use Rattle.vm_machine.specs.Commands.{given_on, ignores_payloads, mapped_from}
-use Rattle.vm_machine.specs.Requests.{ids_of, tracked_after, with_ids}
+use Rattle.vm_asks.specs.Requests.{ids_of, tracked_after, with_ids}
 use Rattle.vm_machine.specs.Signals.{awakeable_id}
 use Rattle.invocation_vm.specs.Calls.{skips_replay}
 

@@ -15,8 +15,8 @@ use Rattle.vm_parts.specs.declared.steps.Step.TheVariants as step
 use Rattle.await_trees.specs.declared.tree.UnresolvedFuture.{UnresolvedFuture}
 use Rattle.vm_parts.specs.Entries.{IsInOrder}
 use Rattle.vm_parts.specs.States.{known, known_keys}
-use Rattle.vm_machine.specs.declared.reads.StateRead.TheVariants as reads
-use Rattle.vm_machine.specs.Reads.{own_form}
+use Rattle.vm_asks.specs.declared.state_read.StateRead.TheVariants as reads
+use Rattle.vm_asks.specs.StateReads.{own_form}
 use Rattle.vm_model.specs.Calls.{Setup, Meaning, Derived, is_awake, is_cancelled_in}
 use Rattle.vm_model.specs.Journal.{Entry, commands_in, notifications_in, input_read_from, messages_in, stored_form}
 use Rattle.vm_model.specs.Moves.{Point, after, next, start, supplied, longer, arrival_used, changed_by}

@@ -18,8 +18,8 @@ use Rattle.vm_parts.specs.declared.steps.Answer.TheVariants as answer
 use Rattle.vm_parts.specs.declared.values.Input.{Input}
 use Rattle.vm_parts.specs.Counting.{fresh_counters}
 use Rattle.vm_parts.specs.Deliveries.{no_results}
-use Rattle.vm_machine.specs.Reads.{lazy_form, own_form, recorded_as}
-use Rattle.vm_machine.specs.Requests.{changed}
+use Rattle.vm_asks.specs.StateReads.{lazy_form, own_form, recorded_as}
+use Rattle.vm_asks.specs.Requests.{changed}
 use Rattle.vm_model.specs.Calls.{Setup, Identity, Meaning, Derived, Demand, Move, call_of}
 use Rattle.vm_model.specs.Calls.Demand.{Exactly, Reads}
 use Rattle.vm_model.specs.Calls.Usage.{Used, Read}

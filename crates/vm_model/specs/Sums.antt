@@ -2,10 +2,10 @@
 use Rattle.std.specs.Prelude.{ℕ, ◌+◌, List, [], ◌∷◌, ◌++◌}
 use Rattle.vm_parts.specs.declared.steps.Answer.{Answer}
 use Rattle.vm_parts.specs.declared.steps.Step.{Step}
-use Rattle.vm_machine.specs.declared.asks.Ask.{Ask}
-use Rattle.vm_machine.specs.declared.asks.Ask.TheVariants as ask
-use Rattle.vm_machine.specs.Asks.{ask_of}
-use Rattle.vm_machine.specs.Requests.{ids_of}
+use Rattle.vm_asks.specs.declared.asks.Ask.{Ask}
+use Rattle.vm_asks.specs.declared.asks.Ask.TheVariants as ask
+use Rattle.vm_asks.specs.Asks.{ask_of}
+use Rattle.vm_asks.specs.Requests.{ids_of}
 use Rattle.journal_errors.specs.declared.version.Version.{Version}
 use Rattle.vm_model.specs.Calls.{Meaning}
 

@@ -16,12 +16,12 @@ use Rattle.vm_parts.specs.declared.steps.Answer.TheVariants as answer
 use Rattle.vm_parts.specs.declared.steps.Step.{Step}
 use Rattle.vm_parts.specs.declared.steps.Step.TheVariants as step
 use Rattle.vm_parts.specs.declared.values.Value.{Value}
-use Rattle.vm_machine.specs.declared.asks.Ask.{Ask}
-use Rattle.vm_machine.specs.declared.asks.Ask.TheVariants as ask
-use Rattle.vm_machine.specs.Asks.{ask_of, cancel_invocation_command}
+use Rattle.vm_asks.specs.declared.asks.Ask.{Ask}
+use Rattle.vm_asks.specs.declared.asks.Ask.TheVariants as ask
+use Rattle.vm_asks.specs.Asks.{ask_of, cancel_invocation_command}
 use Rattle.vm_machine.specs.Commands.{ignores_payloads}
-use Rattle.vm_machine.specs.Reads.{recorded_as}
-use Rattle.vm_machine.specs.Requests.{ids_of, with_ids}
+use Rattle.vm_asks.specs.StateReads.{recorded_as}
+use Rattle.vm_asks.specs.Requests.{ids_of, with_ids}
 use Rattle.vm_model.specs.Calls.{Demand, Meaning, Setup, Usage}
 use Rattle.vm_model.specs.Calls.Demand.{Exactly, Reads}
 use Rattle.vm_model.specs.Calls.Usage.{Used, Read, Taken}

@@ -24,9 +24,9 @@ use Rattle.vm_parts.specs.declared.types.AwaitResponse.TheVariants.{AnyCompleted
 use Rattle.vm_parts.specs.Deliveries.{id_at, present_for, taken_by}
 use Rattle.vm_parts.specs.Options.{ends_awaits}
 use Rattle.vm_parts.specs.Tracked.{invocation_ids, unresolved, without_first_call}
-use Rattle.vm_machine.specs.declared.asks.Command.{Command}
+use Rattle.vm_asks.specs.declared.asks.Command.{Command}
 use Rattle.vm_machine.specs.declared.machine.Machine.{Machine}
-use Rattle.vm_machine.specs.Asks.{cancel_invocation_command, command_answer}
+use Rattle.vm_asks.specs.Asks.{cancel_invocation_command, command_answer}
 use Rattle.vm_machine.specs.Awaits.{Awaits, AwaitsAt}
 use Rattle.vm_machine.specs.Cancels.{AwaitsWhole, Cancels, Onward, SendsCancel, cancel_taken}
 use Rattle.vm_machine.specs.Commands.{CanBeRead, commanded}

@@ -22,9 +22,9 @@ use Rattle.vm_parts.specs.declared.run_state.TrackedCall.{TrackedCall}
 use Rattle.vm_machine.specs.declared.machine.Machine.{Machine}
 use Rattle.journal_errors.specs.declared.version.Version.{Version}
 use Rattle.await_trees.specs.declared.tree.UnresolvedFuture.{UnresolvedFuture}
-use Rattle.vm_machine.specs.declared.asks.Ask.{Ask}
-use Rattle.vm_machine.specs.declared.asks.Ask.TheVariants as ask
-use Rattle.vm_machine.specs.Asks.{ask_of, command_answer}
+use Rattle.vm_asks.specs.declared.asks.Ask.{Ask}
+use Rattle.vm_asks.specs.declared.asks.Ask.TheVariants as ask
+use Rattle.vm_asks.specs.Asks.{ask_of, command_answer}
 use Rattle.vm_machine.specs.Takes.{take_step}
 use Rattle.vm_machine.specs.Takes as takes
 use Rattle.vm_machine.specs.Commands.{phase_after}

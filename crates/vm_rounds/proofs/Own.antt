@@ -9,11 +9,11 @@ use Rattle.journal_messages.specs.declared.message.Message.{Message}
 use Rattle.journal_errors.specs.declared.version.Version.{Version}
 use Rattle.vm_parts.specs.declared.steps.Step.{Step}
 use Rattle.vm_parts.specs.declared.steps.Step.TheVariants as step
-use Rattle.vm_machine.specs.declared.asks.Ask.{Ask}
-use Rattle.vm_machine.specs.declared.asks.Ask.TheVariants as ask
-use Rattle.vm_machine.specs.declared.asks.Command.{Command}
-use Rattle.vm_machine.specs.Asks.{ask_of}
-use Rattle.vm_machine.specs.Requests.{with_ids}
+use Rattle.vm_asks.specs.declared.asks.Ask.{Ask}
+use Rattle.vm_asks.specs.declared.asks.Ask.TheVariants as ask
+use Rattle.vm_asks.specs.declared.asks.Command.{Command}
+use Rattle.vm_asks.specs.Asks.{ask_of}
+use Rattle.vm_asks.specs.Requests.{with_ids}
 use Rattle.vm_machine.proofs.Endings.{same_type}
 use Rattle.vm_model.specs.Calls.{Setup, Derived, demand_of}
 use Rattle.vm_model.specs.Journal.{stored_form}
@@ -21,9 +21,9 @@ use Rattle.vm_model.specs.Moves.{found}
 use Rattle.vm_model.proofs.Standing.{command_stands}
 use Rattle.std.specs.Prelude.{List, Option, Some, None, Ok}
 use Rattle.vm_machine.specs.Commands.{ignores_payloads}
-use Rattle.vm_machine.specs.declared.reads.StateRead.{StateRead}
-use Rattle.vm_machine.specs.declared.reads.StateRead.TheVariants as reads
-use Rattle.vm_machine.specs.Reads.{keys_form, own_form, value_form}
+use Rattle.vm_asks.specs.declared.state_read.StateRead.{StateRead}
+use Rattle.vm_asks.specs.declared.state_read.StateRead.TheVariants as reads
+use Rattle.vm_asks.specs.StateReads.{keys_form, own_form, value_form}
 use Rattle.vm_parts.specs.declared.context.Known.{Known}
 use Rattle.vm_parts.specs.declared.context.Known.TheVariants.{Unknown, Empty, Value}
 use Rattle.vm_parts.specs.declared.context.StateMap.{StateMap}

@@ -12,13 +12,14 @@ use Rattle.vm_parts.specs.declared.steps.Answer.TheVariants as answer
 use Rattle.await_trees.specs.declared.handle.NotificationHandle.{NotificationHandle}
 use Rattle.vm_parts.specs.Counting.{missing}
 use Rattle.vm_machine.specs.declared.machine.Machine.{Machine}
-use Rattle.vm_machine.specs.declared.reads.StateRead.{StateRead}
-use Rattle.vm_machine.specs.declared.reads.StateRead.TheVariants as reads
+use Rattle.vm_asks.specs.declared.state_read.StateRead.{StateRead}
+use Rattle.vm_asks.specs.declared.state_read.StateRead.TheVariants as reads
 use Rattle.vm_machine.specs.Commands.{about_next, entered, handed_out, phase_after, written as wrote}
 use Rattle.vm_machine.specs.Outcomes.{Done, Failed, last_related}
 use Rattle.vm_machine.specs.Phases.{is_processing, state_fault}
-use Rattle.vm_machine.specs.Reads.{ReadCanBeRead, eager_type, lazy_form, lazy_type, name_read, own_form, own_result, read_back, read_counted, read_numbered, read_popped, read_step, read_written, recorded_as, recorded_type, result_in, with_result}
-use Rattle.vm_machine.specs.Requests.{changed}
+use Rattle.vm_machine.specs.Reads.{ReadCanBeRead, own_result, read_back, read_counted, read_numbered, read_popped, read_step, read_written, with_result}
+use Rattle.vm_asks.specs.StateReads.{eager_type, lazy_form, lazy_type, name_read, own_form, recorded_as, recorded_type, result_in}
+use Rattle.vm_asks.specs.Requests.{changed}
 use Rattle.vm_model.specs.Calls.{Setup, Demand, Move, counted, reading}
 use Rattle.vm_model.specs.Calls.Demand.{Reads}
 use Rattle.vm_model.specs.Calls.Move.{Needs}

@@ -5,7 +5,7 @@ use Rattle.journal_errors.specs.declared.error.Error.{Error}
 use Rattle.vm_machine.specs.declared.machine.Machine.{Machine}
 use Rattle.journal_messages.specs.declared.message.Message.{Message}
 use Rattle.vm_machine.specs.Commands.{CanBeRead}
-use Rattle.vm_machine.specs.declared.reads.StateRead.{StateRead}
+use Rattle.vm_asks.specs.declared.state_read.StateRead.{StateRead}
 use Rattle.vm_machine.specs.Reads.{ReadCanBeRead}
 use Rattle.vm_machine.specs.Cancels.{AwaitsWhole}
 use Rattle.vm_machine.specs.Outcomes.{Does, DoesBy, Failed, IsStarved, Outcome, called}

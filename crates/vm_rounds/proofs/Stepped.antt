@@ -1,7 +1,7 @@
 -- A step keeps what is kept of an attempt.
 use Rattle.runs.specs.Pending.{is_executing}
 use Rattle.std.specs.List.{list_any}
-use Rattle.vm_machine.specs.declared.reads.StateRead.{StateRead}
+use Rattle.vm_asks.specs.declared.state_read.StateRead.{StateRead}
 use Rattle.vm_parts.specs.declared.context.StateMap.{StateMap}
 use Rattle.std.proofs.Common.{◌≡◌, ◌⊎◌, ℕ, zero, suc, ◌+◌, Bool, true, false, cond, List, [], ◌∷◌, ◌++◌, map, Option, Some, None, Result, Ok, Err, refl, sym, ap, ◌∙◌, subst, inl, inr, ⊎_elim, append-nil}
 use Rattle.std.specs.Prelude.{if◌then◌else◌, OnOk}
@@ -31,17 +31,17 @@ use Rattle.vm_parts.specs.Values.{value_of}
 use Rattle.vm_parts.specs.declared.run_state.TrackedCall.{TrackedCall}
 use Rattle.vm_machine.specs.declared.machine.Machine.{Machine}
 use Rattle.vm_machine.specs.declared.phase.Phase.TheVariants.{Closed, Processing, Replaying}
-use Rattle.vm_machine.specs.declared.asks.Ask.{Ask}
-use Rattle.vm_machine.specs.declared.asks.Ask.TheVariants as ask
-use Rattle.vm_machine.specs.declared.asks.Command.{Command}
-use Rattle.vm_machine.specs.Asks.{ask_of, cancel_invocation_command}
+use Rattle.vm_asks.specs.declared.asks.Ask.{Ask}
+use Rattle.vm_asks.specs.declared.asks.Ask.TheVariants as ask
+use Rattle.vm_asks.specs.declared.asks.Command.{Command}
+use Rattle.vm_asks.specs.Asks.{ask_of, cancel_invocation_command}
 use Rattle.journal_messages.specs.Commands.{IsCommand}
 use Rattle.vm_rounds.proofs.Own.{AsksCommand, asks_command, numbered_is, own_is}
 use Rattle.vm_machine.specs.Awaits.{says_so}
 use Rattle.vm_machine.specs.Commands.{phase_after}
 use Rattle.vm_machine.specs.Outcomes.{DoesBy, IsStarved, Outcome, Done, Failed}
 use Rattle.vm_machine.specs.Phases.{is_running}
-use Rattle.vm_machine.specs.Requests.{ids_of}
+use Rattle.vm_asks.specs.Requests.{ids_of}
 use Rattle.invocation_vm.specs.Calls.{skips_replay}
 use Rattle.invocation_vm.specs.Frames.{Rest}
 use Rattle.invocation_vm.specs.Views.{View}

@@ -7,8 +7,8 @@ ghost use Rattle.vm_rounds.specs.Steps.{Asked, Awaited, ComesTo, StepMade, await
 
 use crate::progress::Reply;
 use invocation_vm::{AwaitResponse, CoreVM, NotificationHandle, UnresolvedFuture, VM, VMResult};
-use vm_machine::asks::command_answer;
-use vm_machine::{Ask, Command, StateRead};
+use vm_asks::asks::command_answer;
+use vm_asks::{Ask, Command, StateRead};
 use vm_parts::{Answer, Step};
 use wire::Text;
 

@@ -19,7 +19,7 @@ use Rattle.vm_parts.specs.Entries.{IsInOrder, by_bytes, entries_of as state_entr
 use Rattle.vm_parts.specs.States.{known, known_by}
 use Rattle.vm_parts.proofs.Changes.{key_at, known_besides_set, known_set, pairs_in_order}
 use Rattle.vm_machine.specs.Inputs.{coverage_of, entries_in}
-use Rattle.vm_machine.specs.Requests.{changed}
+use Rattle.vm_asks.specs.Requests.{changed}
 use Rattle.vm_model.specs.Histories.{IsAllOf, IsTrueOf}
 use Rattle.vm_model.specs.Moves.{changed_by}
 use Rattle.vm_model.proofs.States.{many_in_order, one_key_list}

@@ -2,7 +2,7 @@
 ghost use Rattle.std.specs.Prelude.{◌≡◌, ◌⊎◌, true, false, [], ◌∷◌, ◌++◌, take, None, Some, IfOk, IfErr, OnOk, if◌then◌else◌};
 ghost use Rattle.journal_messages.specs.Message.{encoding, IsWhole};
 ghost use Rattle.journal_messages.specs.declared.message.Message.TheVariants as message;
-ghost use Rattle.vm_machine.specs.Phases.{is_from_v7};
+ghost use Rattle.vm_asks.specs.Versions.{is_from_v7};
 ghost use Rattle.vm_rounds.specs.Heard.{is_proposal};
 ghost use Rattle.vm_world.specs.Arrivals.{room_fault};
 ghost use Rattle.vm_world.specs.Entries.{frame_of};

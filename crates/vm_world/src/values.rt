@@ -2,7 +2,7 @@
 ghost use Rattle.std.specs.Prelude.{◌≡◌, [], IfOk, OnOk};
 ghost use Rattle.vm_parts.specs.declared.context.StateCoverage.TheVariants.{Complete};
 ghost use Rattle.vm_parts.specs.States.{state_set, state_cleared, all_cleared};
-ghost use Rattle.vm_machine.specs.Requests.{changed};
+ghost use Rattle.vm_asks.specs.Requests.{changed};
 ghost use Rattle.vm_world.specs.States.{is_asked, is_listed, pairs_in};
 
 use bytes::Bytes;

@@ -1,13 +1,19 @@
 //! What a message asks for as a command: how errors show it, and its numbers. One table over messages for all calls.
-ghost use Rattle.std.specs.Prelude.{◌≡◌, ◌<◌, ◌+◌, ◌^◌, IfOk};
-ghost use Rattle.vm_machine.specs.Requests.{ids_of, is_cancelled_with, name_of, shown_type, with_ids};
+ghost use Rattle.std.specs.Prelude.{◌≡◌, ◌<◌, ◌+◌, ◌^◌, [], IfOk};
+ghost use Rattle.vm_asks.specs.Requests.{ids_of, is_cancelled_with, name_of, shown_type, with_ids};
 
-use crate::machine::empty_text;
 use journal_errors::MessageType;
 use journal_messages::Message;
 use std::alloc::{AllocError, Global};
 use vm_parts::ImplicitCancellationOption;
 use wire::{Text, copy_of};
+
+/// No text; it takes no memory.
+pub fn empty_text(alloc: Global) -> Text
+    ensures { result ≡ [] }
+{
+    Text::from_string(String::new(alloc))
+}
 
 /// The type that errors show: a state read is shown as its lazy form.
 pub fn shown_type(message: &Message) -> MessageType

@@ -28,14 +28,14 @@ use Rattle.vm_parts.specs.declared.values.NonEmptyValue.{NonEmptyValue}
 use Rattle.vm_parts.specs.declared.values.NonEmptyValue.TheVariants.{Success, Failure}
 use Rattle.vm_parts.specs.declared.values.Target.{Target}
 use Rattle.vm_parts.specs.Values.{value_message}
-use Rattle.vm_machine.specs.declared.asks.AnswerKind.{AnswerKind}
-use Rattle.vm_machine.specs.declared.asks.AnswerKind.TheVariants as kind
-use Rattle.vm_machine.specs.declared.asks.Ask.{Ask}
-use Rattle.vm_machine.specs.declared.asks.Ask.TheVariants as ask
-use Rattle.vm_machine.specs.declared.asks.Command.{Command}
-use Rattle.vm_machine.specs.declared.reads.StateRead.TheVariants as reads
-use Rattle.vm_machine.specs.Phases.{is_from_v6, is_from_v7}
-use Rattle.vm_machine.specs.Requests.{ids_of}
+use Rattle.vm_asks.specs.declared.asks.AnswerKind.{AnswerKind}
+use Rattle.vm_asks.specs.declared.asks.AnswerKind.TheVariants as kind
+use Rattle.vm_asks.specs.declared.asks.Ask.{Ask}
+use Rattle.vm_asks.specs.declared.asks.Ask.TheVariants as ask
+use Rattle.vm_asks.specs.declared.asks.Command.{Command}
+use Rattle.vm_asks.specs.declared.state_read.StateRead.TheVariants as reads
+use Rattle.vm_asks.specs.Versions.{is_from_v6, is_from_v7}
+use Rattle.vm_asks.specs.Requests.{ids_of}
 
 -- ---- checks
 

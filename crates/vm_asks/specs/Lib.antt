@@ -1,0 +1,4 @@
+pub mod Asks
+pub mod Requests
+pub mod StateReads
+pub mod Versions
