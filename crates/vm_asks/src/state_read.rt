@@ -1,5 +1,6 @@
 //! A state read's command: eager where the state is known, lazy where it isn't; in replay the recorded form decides.
-ghost use Rattle.std.specs.Prelude.{◌≡◌, true, Some, IfOk};
+ghost use Rattle.std.specs.Prelude.{◌≡◌, ◌==◌, true, Some, IfOk};
+ghost use Rattle.journal_errors.specs.Types.{type_number};
 ghost use Rattle.journal_messages.specs.Reading.{message_in};
 ghost use Rattle.vm_asks.specs.StateReads.{eager_form, eager_type, form_of, keys_form, lazy_form, lazy_type, name_read, own_form, read_by, recorded_as, recorded_type, result_in, value_form, value_result};
 
@@ -124,6 +125,13 @@ fn read_by(
     }
 }
 
+/// Whether a recorded command has this type.
+fn is_of(ty: MessageType, raw: &RawMessage) -> bool
+    ensures { result ≡ (type_number raw.now.ty == type_number ty) }
+{
+    raw.ty.number() == ty.number()
+}
+
 impl StateRead {
     pub fn lazy_type(&self) -> MessageType
         ensures { result ≡ lazy_type self.now }
@@ -199,9 +207,9 @@ impl StateRead {
     fn form_of(&self, id: u32, raw: &RawMessage) -> Result<Option<Message>, AllocError>
         ensures { IfOk result (λ form. form ≡ form_of self.now id raw.now) }
     {
-        if raw.ty.number() == self.lazy_type().number() {
+        if is_of(self.lazy_type(), raw) {
             Ok(Some(self.lazy_form(id)?))
-        } else if raw.ty.number() == self.eager_type().number() {
+        } else if is_of(self.eager_type(), raw) {
             Ok(Some(self.eager_form()?))
         } else {
             Ok(None)
@@ -229,7 +237,7 @@ impl StateRead {
     pub fn recorded_type(&self, raw: &RawMessage) -> MessageType
         ensures { result ≡ recorded_type self.now raw.now }
     {
-        if raw.ty.number() == self.lazy_type().number() {
+        if is_of(self.lazy_type(), raw) {
             self.lazy_type()
         } else {
             self.eager_type()
