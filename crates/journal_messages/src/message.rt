@@ -1,6 +1,5 @@
 //! Messages as frames: writing one, and reading the body of one.
-ghost use Rattle.std.specs.Prelude.{◌≡◌, ◌≤◌, ◌-◌, ◌++◌, take, drop, length, IfOk, OnOk};
-ghost use Rattle.wire.specs.Format.{u64s};
+ghost use Rattle.std.specs.Prelude.{◌≡◌, ◌++◌, IfOk, OnOk};
 ghost use Rattle.wire.specs.Reads.{Read};
 ghost use Rattle.journal_messages.specs.Reading.{acknowledgement_in, body_as, start_in, input_in, notification_in, message_in};
 ghost use Rattle.journal_messages.specs.Message.{IsWhole};
@@ -23,7 +22,7 @@ use journal_state::{
 };
 use journal_values::Notification;
 use std::alloc::{AllocError, Global};
-use wire::{Fault, Wire, whole};
+use wire::{Fault, Wire, set_length, whole};
 
 /// What the runtime and the attempt tell each other.
 #[derive(Debug)]
@@ -190,16 +189,6 @@ pub struct Encoder {
 
 /// The bytes that a frame has at first: enough for most commands.
 const ROOM: usize = 64;
-
-/// Writes the length of a frame's body to its place, behind the type's number.
-#[tactic(auto, unfolding(wire::specs::Format::u64s))]
-fn set_length(frame: &mut Vec<u8>)
-    requires { 10 ≤ length frame.old.items }
-    ensures { frame.new.items ≡ take 2 frame.old.items ++ (u64s (length frame.old.items - 10) ++ drop 10 frame.old.items) }
-{
-    let len = (frame.len() - 10) as u64;
-    frame[2..10].copy_from_slice(&len.to_be_bytes());
-}
 
 #[tactic(auto, unfolding(wire::specs::Format::bytes), using(crate::proofs::Framing::has_head, crate::proofs::Framing::framed))]
 impl Encoder {

@@ -3,12 +3,14 @@
 #![tactic(auto)]
 
 mod fault;
+mod frames;
 mod items;
 mod plain;
 mod text;
 mod wire;
 
 pub use fault::Fault;
+pub use frames::set_length;
 pub use items::Items;
 pub use plain::{Plain, copy_of, is_same};
 pub use text::Text;
