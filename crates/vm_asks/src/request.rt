@@ -1,9 +1,10 @@
 //! What a message asks for as a command: how errors show it, and its numbers. One table over messages for all calls.
-ghost use Rattle.std.specs.Prelude.{◌≡◌, ◌<◌, ◌+◌, ◌^◌, [], IfOk};
+ghost use Rattle.std.specs.Prelude.{◌≡◌, ◌==◌, ◌<◌, ◌+◌, ◌^◌, [], IfOk};
+ghost use Rattle.journal_errors.specs.Types.{type_number};
 ghost use Rattle.vm_asks.specs.Requests.{ids_of, is_cancelled_with, name_of, shown_type, with_ids};
 
 use journal_errors::MessageType;
-use journal_messages::Message;
+use journal_messages::{Message, RawMessage};
 use std::alloc::{AllocError, Global};
 use vm_parts::ImplicitCancellationOption;
 use wire::{Text, copy_of};
@@ -13,6 +14,13 @@ pub fn empty_text(alloc: Global) -> Text
     ensures { result ≡ [] }
 {
     Text::from_string(String::new(alloc))
+}
+
+/// Whether a recorded command has this type.
+pub fn is_of(ty: MessageType, raw: &RawMessage) -> bool
+    ensures { result ≡ (type_number raw.now.ty == type_number ty) }
+{
+    raw.ty.number() == ty.number()
 }
 
 /// The type that errors show: a state read is shown as its lazy form.

@@ -1,9 +1,9 @@
 //! A state read's command: eager where the state is known, lazy where it isn't; in replay the recorded form decides.
-ghost use Rattle.std.specs.Prelude.{◌≡◌, ◌==◌, true, Some, IfOk};
-ghost use Rattle.journal_errors.specs.Types.{type_number};
+ghost use Rattle.std.specs.Prelude.{◌≡◌, true, Some, IfOk};
 ghost use Rattle.journal_messages.specs.Reading.{message_in};
 ghost use Rattle.vm_asks.specs.StateReads.{eager_form, eager_type, form_of, keys_form, lazy_form, lazy_type, name_read, own_form, read_by, recorded_as, recorded_type, result_in, value_form, value_result};
 
+use crate::request::is_of;
 use bytes::Bytes;
 use journal_equality::header_eq;
 use journal_errors::{MessageType, NamedFault};
@@ -123,13 +123,6 @@ fn read_by(
         Err(wire::Fault::Memory) => Err(AllocError),
         Err(wire::Fault::Malformed) => Ok(Err(NamedFault::BadMessage)),
     }
-}
-
-/// Whether a recorded command has this type.
-fn is_of(ty: MessageType, raw: &RawMessage) -> bool
-    ensures { result ≡ (type_number raw.now.ty == type_number ty) }
-{
-    raw.ty.number() == ty.number()
 }
 
 impl StateRead {
