@@ -43,10 +43,18 @@ pub struct CoreVM {
 /// Written out, so that who lets a VM go calls this: a derived drop is proved once more in each crate above.
 impl Drop for CoreVM {
     fn drop(self) {
-        let Self {
-            decoder: _,
-            machine: _,
-        } = self;
+        let Self { decoder, machine } = self;
+        drop(decoder);
+        // Its larger parts one by one: a machine that is taken apart at once is dear to prove.
+        let Machine {
+            start,
+            failure,
+            results,
+            ..
+        } = machine;
+        drop(start);
+        drop(failure);
+        drop(results);
     }
 }
 
