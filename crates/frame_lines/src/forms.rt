@@ -53,7 +53,7 @@ impl Visitor for Fields<'_> {
 }
 
 /// As many as the bytes of any blank form, or more.
-static ZEROS: [u8; 64] = [0; 64];
+pub static ZEROS: [u8; 64] = [0; 64];
 
 /// A value whose fields are at their defaults, as far as they have one: its bytes are all 0.
 pub fn blank<T: Wire>(alloc: Global) -> Result<T, Fault> {

@@ -2,10 +2,11 @@
 ghost use Rattle.std.specs.Prelude.{◌≡◌, IfOk};
 ghost use Rattle.journal_messages.specs.Message.{type_of};
 
-use crate::forms::{Form, Visitor, blank};
+use crate::forms::{Form, Visitor, ZEROS};
 use crate::type_names::name_of;
+use bytes::Bytes;
 use journal_errors::MessageType;
-use journal_messages::Message;
+use journal_messages::{Message, RawMessage};
 use lines::fields::Fields;
 use lines::line::Line;
 use std::alloc::{AllocError, Global};
@@ -56,46 +57,18 @@ pub fn print_message(message: &mut Message, line: &mut Line) -> Result<(), Alloc
     message.fields(line)
 }
 
-/// The message of this type that holds nothing yet.
+/// The message of this type that holds nothing yet: that of the one body of zeros that spells one.
 fn blank_message(alloc: Global, ty: MessageType) -> Result<Message, Fault>
     ensures { IfOk result (λ message. type_of message ≡ ty) }
 {
-    match ty {
-        MessageType::Start => blank(alloc).map(Message::Start),
-        MessageType::Suspension => blank(alloc).map(Message::Suspension),
-        MessageType::Error => blank(alloc).map(Message::Error),
-        MessageType::End => Ok(Message::End),
-        MessageType::ProposeRunCompletion => blank(alloc).map(Message::ProposeRunCompletion),
-        MessageType::ProposeRunCompletionAck => blank(alloc).map(Message::ProposeRunCompletionAck),
-        MessageType::AwaitingOn => blank(alloc).map(Message::AwaitingOn),
-        MessageType::GetStateEphemeralCommand => blank(alloc).map(
-            Message::GetStateEphemeralCommand,
-        ),
-        MessageType::GetStateEphemeralNotification => blank(alloc).map(
-            Message::GetStateEphemeralNotification,
-        ),
-        MessageType::InputCommand => blank(alloc).map(Message::Input),
-        MessageType::GetEagerStateCommand => blank(alloc).map(Message::GetEagerState),
-        MessageType::GetLazyStateCommand => blank(alloc).map(Message::GetLazyState),
-        MessageType::GetEagerStateKeysCommand => blank(alloc).map(Message::GetEagerStateKeys),
-        MessageType::GetLazyStateKeysCommand => blank(alloc).map(Message::GetLazyStateKeys),
-        MessageType::SetStateCommand => blank(alloc).map(Message::SetState),
-        MessageType::ClearStateCommand => blank(alloc).map(Message::ClearState),
-        MessageType::ClearAllStateCommand => blank(alloc).map(Message::ClearAllState),
-        MessageType::SleepCommand => blank(alloc).map(Message::Sleep),
-        MessageType::CallCommand => blank(alloc).map(Message::Call),
-        MessageType::OneWayCallCommand => blank(alloc).map(Message::OneWayCall),
-        MessageType::CompleteAwakeableCommand => blank(alloc).map(Message::CompleteAwakeable),
-        MessageType::SendSignalCommand => blank(alloc).map(Message::SendSignal),
-        MessageType::GetPromiseCommand => blank(alloc).map(Message::GetPromise),
-        MessageType::PeekPromiseCommand => blank(alloc).map(Message::PeekPromise),
-        MessageType::CompletePromiseCommand => blank(alloc).map(Message::CompletePromise),
-        MessageType::RunCommand => blank(alloc).map(Message::Run),
-        MessageType::AttachInvocationCommand => blank(alloc).map(Message::AttachInvocation),
-        MessageType::GetInvocationOutputCommand => blank(alloc).map(Message::GetInvocationOutput),
-        MessageType::OutputCommand => blank(alloc).map(Message::Output),
-        MessageType::Notification => blank(alloc).map(Message::Notification),
+    for len in 0..=ZEROS.len() {
+        let body = Bytes::from_static(&ZEROS[..len]);
+        match (RawMessage { ty, body }).read(alloc) {
+            Err(Fault::Malformed) => {}
+            read => return read,
+        }
     }
+    Err(Fault::Malformed)
 }
 
 /// Takes the fields of a blank message, which are all that there are.
