@@ -7,10 +7,10 @@ use Rattle.journal_errors.specs.declared.version.Version.{Version}
 use Rattle.vm_parts.specs.Options.{default_options}
 use Rattle.vm_parts.specs.declared.options.VMOptions.{VMOptions}
 use Rattle.invocation_vm.specs.Making.{made}
-use Rattle.vm_rounds.specs.Record.{AttemptView, Record}
-use Rattle.vm_rounds.specs.Stepping.{Meaning, MakesAttempt, StepDoes, fresh_record}
-use Rattle.vm_rounds.specs.declared.progress.Progress.{Progress}
-use Rattle.vm_rounds.specs.declared.progress.Progress.TheVariants as progress
+use Rattle.vm_steps.specs.Record.{AttemptView, Record}
+use Rattle.vm_steps.specs.Stepping.{Meaning, MakesAttempt, StepDoes, fresh_record}
+use Rattle.vm_steps.specs.declared.progress.Progress.{Progress}
+use Rattle.vm_steps.specs.declared.progress.Progress.TheVariants as progress
 use Rattle.vm_rounds.specs.Told.{IsKeptUnder}
 use Rattle.vm_rounds.proofs.Advanced.{kept_told, made_kept}
 use Rattle.vm_rounds.proofs.Under.{close_under, feed_under, step_under}

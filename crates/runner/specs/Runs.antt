@@ -10,11 +10,11 @@ use Rattle.journal_errors.specs.declared.version.Version.{Version}
 use Rattle.vm_parts.specs.Options.{default_options}
 use Rattle.vm_parts.specs.Outboxes.{WholeFrames}
 use Rattle.invocation_vm.specs.Making.{made}
-use Rattle.vm_rounds.specs.Record.{Record, heard}
-use Rattle.vm_rounds.specs.Stepping.{Meaning, fresh_record, FeedDoes, CloseDoes, StepDoes}
+use Rattle.vm_steps.specs.Record.{Record, heard}
+use Rattle.vm_steps.specs.Stepping.{Meaning, fresh_record, FeedDoes, CloseDoes, StepDoes}
 use Rattle.vm_rounds.specs.Told.{AnswersAreTold, NoneHasTwo}
-use Rattle.vm_rounds.specs.declared.progress.Progress.{Progress}
-use Rattle.vm_rounds.specs.declared.progress.Progress.TheVariants as progress
+use Rattle.vm_steps.specs.declared.progress.Progress.{Progress}
+use Rattle.vm_steps.specs.declared.progress.Progress.TheVariants as progress
 use Rattle.streams.specs.Streams.{AppendsSome}
 use Rattle.runner.specs.declared.run_end.AttemptEnd.{AttemptEnd}
 use Rattle.runner.specs.declared.run_end.AttemptEnd.TheVariants as attempt_end

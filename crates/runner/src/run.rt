@@ -3,8 +3,8 @@ ghost use Rattle.std.specs.Prelude.{◌≡◌, ◌↔◌, ◌≢◌, IfErr, IfOk
 ghost use Rattle.std.specs.Io.KnownBytes.{IsAtEnd};
 ghost use Rattle.journal_errors.specs.declared.error.Error.{Error};
 ghost use Rattle.invocation_vm.specs.Making.{version_in};
-ghost use Rattle.vm_rounds.specs.Stepping.{StepDoes};
-ghost use Rattle.vm_rounds.specs.declared.progress.Progress.{Progress};
+ghost use Rattle.vm_steps.specs.Stepping.{StepDoes};
+ghost use Rattle.vm_steps.specs.declared.progress.Progress.{Progress};
 ghost use Rattle.runner.specs.Runs.{SendsWhole, end_after, IsFed, Drives, Runs, ServesAnew, Tells};
 ghost use Rattle.handlers.specs.Named.{step_named};
 ghost use Rattle.runner.specs.declared.run_end.RunEnd.TheVariants as run_end;

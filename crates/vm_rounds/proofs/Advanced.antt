@@ -40,16 +40,16 @@ use Rattle.std.specs.List.{AllByRecursion}
 use Rattle.vm_parts.specs.declared.run_state.KeptProposal.{KeptProposal}
 use Rattle.vm_asks.specs.Versions.{is_from_v7}
 use Rattle.vm_rounds.specs.Arrivals.{arriving, kept_after}
-use Rattle.vm_rounds.specs.Heard.{acknowledged_from}
+use Rattle.vm_steps.specs.Heard.{acknowledged_from}
 use Rattle.vm_rounds.proofs.Arriving.{arriving_alone, kept_none}
 use Rattle.vm_rounds.proofs.Proposed.{none_found, none_front}
-use Rattle.vm_rounds.specs.Heard.{Heard}
-use Rattle.vm_rounds.specs.declared.progress.Progress.{Progress}
-use Rattle.vm_rounds.specs.declared.progress.Progress.TheVariants as progress
+use Rattle.vm_steps.specs.Heard.{Heard}
+use Rattle.vm_steps.specs.declared.progress.Progress.{Progress}
+use Rattle.vm_steps.specs.declared.progress.Progress.TheVariants as progress
 use Rattle.vm_rounds.specs.Agreement.{Agrees, Aside}
 use Rattle.vm_rounds.specs.Journals.{BeginsOrFails, HasAll, StillWaits, commands_among, machine_fed, missing, notifications_among, setup_for, AcknowledgesNothing}
-use Rattle.vm_rounds.specs.Record.{Record, heard}
-use Rattle.vm_rounds.specs.Stepping.{Advances, Asks, IfWaits, IsReplaying, LacksMemory, Reads, StepAt, StepDoes, StepFrom, StepUnless, fresh_record}
+use Rattle.vm_steps.specs.Record.{Record, heard}
+use Rattle.vm_steps.specs.Stepping.{Advances, Asks, IfWaits, IsReplaying, LacksMemory, Reads, StepAt, StepDoes, StepFrom, StepUnless, fresh_record}
 use Rattle.vm_parts.specs.Outboxes.{WholeFrames}
 use Rattle.vm_rounds.specs.Told.{AnswersAreTold, BeforeInput, Begun, Comes, IsAsleep, IsKept, IsLive, NothingWakes, Premises, Quiet, Replays, Runs, Sleeps, StillAwaits, ToldBy, Wrote, arrivals, bytes_fed, frames_fed, handed_out}
 use Rattle.vm_rounds.proofs.Beginning.{input_begins}

@@ -42,8 +42,8 @@ use Rattle.vm_model.specs.Refusals.{IsRefusedFor}
 use Rattle.vm_model.proofs.Cancelling.{Sent, cancelled_same, sends_unless}
 use Rattle.vm_model.proofs.Runs.{made_add}
 use Rattle.vm_rounds.specs.Agreement.{Answered, Aside, Follows, IsCutShort, IsRefused, MovesOn, command_frames, machine_at}
-use Rattle.vm_rounds.specs.declared.progress.Reply.{Reply}
-use Rattle.vm_rounds.specs.Steps.{Awaited, IfDone, await_reply}
+use Rattle.vm_steps.specs.declared.progress.Reply.{Reply}
+use Rattle.vm_steps.specs.Steps.{Awaited, IfDone, await_reply}
 use Rattle.vm_rounds.proofs.Awaiting.{IsGathered, PartTo, part_to}
 use Rattle.vm_rounds.proofs.Commanding.{LeadsOn, commands_follow}
 use Rattle.vm_rounds.proofs.Leading.{Leads, error_written, made_or_spent, no_move, one_move, same_rule, state_at, with_beside, with_frames}

@@ -12,12 +12,12 @@ use Rattle.invocation_vm.specs.Frames.{Rest}
 use Rattle.invocation_vm.specs.Making.{made}
 use Rattle.invocation_vm.specs.Views.{View}
 use Rattle.vm_model.specs.Calls.{Meaning}
-use Rattle.vm_rounds.specs.Heard.{Heard}
-use Rattle.vm_rounds.specs.declared.progress.Progress.{Progress}
-use Rattle.vm_rounds.specs.declared.progress.Reply.{Reply}
-use Rattle.vm_rounds.specs.declared.progress.Reply.TheVariants as reply
-use Rattle.vm_rounds.specs.Record.{Record, heard}
-use Rattle.vm_rounds.specs.Stepping.{Asks, CloseDoes, FeedDoes, StepDoes, Takes, step_asked, fresh_record, future_in, replied}
+use Rattle.vm_steps.specs.Heard.{Heard}
+use Rattle.vm_steps.specs.declared.progress.Progress.{Progress}
+use Rattle.vm_steps.specs.declared.progress.Reply.{Reply}
+use Rattle.vm_steps.specs.declared.progress.Reply.TheVariants as reply
+use Rattle.vm_steps.specs.Record.{Record, heard}
+use Rattle.vm_steps.specs.Stepping.{Asks, CloseDoes, FeedDoes, StepDoes, Takes, step_asked, fresh_record, future_in, replied}
 use Rattle.vm_rounds.specs.Told.{HasCome, IsLive, commands_of}
 use Rattle.vm_rounds.proofs.Advanced.{Begins, made_new, runs_answered, steps_keep}
 use Rattle.vm_rounds.proofs.Kept.{KeptBy, close_keeps, feed_keeps, take_keeps}

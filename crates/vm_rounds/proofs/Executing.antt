@@ -25,12 +25,12 @@ use Rattle.vm_rounds.specs.Blames.{fault_among}
 use Rattle.vm_rounds.specs.Courses.{Called, Leads}
 use Rattle.vm_rounds.specs.Courses.Called.{Closing, Feeding, Stepping, Taking, Telling}
 use Rattle.vm_rounds.specs.Journals.{is_acknowledgement, is_command, is_notification}
-use Rattle.vm_rounds.specs.declared.progress.Progress.{Progress}
-use Rattle.vm_rounds.specs.declared.progress.Progress.TheVariants as progress
-use Rattle.vm_rounds.specs.declared.progress.Reply.{Reply}
-use Rattle.vm_rounds.specs.declared.progress.Reply.TheVariants as reply
-use Rattle.vm_rounds.specs.Record.{Record}
-use Rattle.vm_rounds.specs.Stepping.{Advances, Asks, CloseDoes, Closes, FeedDoes, Feeds, LacksMemory, Reads, StepAt, StepDoes, StepFrom, StepUnless, Takes, fresh_record, future_in, kept, progress_of, replied, step_asked, taken_from, with_vm}
+use Rattle.vm_steps.specs.declared.progress.Progress.{Progress}
+use Rattle.vm_steps.specs.declared.progress.Progress.TheVariants as progress
+use Rattle.vm_steps.specs.declared.progress.Reply.{Reply}
+use Rattle.vm_steps.specs.declared.progress.Reply.TheVariants as reply
+use Rattle.vm_steps.specs.Record.{Record}
+use Rattle.vm_steps.specs.Stepping.{Advances, Asks, CloseDoes, Closes, FeedDoes, Feeds, LacksMemory, Reads, StepAt, StepDoes, StepFrom, StepUnless, Takes, fresh_record, future_in, kept, progress_of, replied, step_asked, taken_from, with_vm}
 use Rattle.vm_rounds.specs.Told.{IsLive}
 use Rattle.vm_rounds.proofs.Advanced.{done_of}
 use Rattle.vm_rounds.proofs.Ahead.{HandsOut, LivesOn, ahead, fewer_equal, fewer_same, fewer_then}

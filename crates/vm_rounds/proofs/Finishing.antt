@@ -43,14 +43,14 @@ use Rattle.vm_model.specs.Calls.{Meaning, Setup}
 use Rattle.vm_model.specs.Histories.{Handed, IsPrefix, Made}
 use Rattle.vm_model.specs.Moves.{Point, start}
 use Rattle.vm_model.specs.Journal.{stored_form}
-use Rattle.vm_rounds.specs.declared.progress.Progress.{Progress}
+use Rattle.vm_steps.specs.declared.progress.Progress.{Progress}
 use Rattle.vm_rounds.specs.Arrivals.{AllFound, arriving}
 use Rattle.vm_rounds.specs.Blames.{Blame, BlamedAt, IsBlamed, IsHonest, IsLate, IsOwnError, LateBy}
 use Rattle.vm_rounds.specs.Blames.Blame.{Memory, RunResult}
-use Rattle.vm_rounds.specs.Heard.{Heard, acknowledged_from, proposals_among, proposals_in, with_pieces}
+use Rattle.vm_steps.specs.Heard.{Heard, acknowledged_from, proposals_among, proposals_in, with_pieces}
 use Rattle.vm_rounds.specs.Journals.{HasAll, StillWaits, setup_for}
-use Rattle.vm_rounds.specs.Record.{Record, Said, all_heard, all_said, heard}
-use Rattle.vm_rounds.specs.Stepping.{FinishDoes, Finishes, Tells, TellsUnless, newly_proposed, noted, noted_at, with_vm}
+use Rattle.vm_steps.specs.Record.{Record, Said, all_heard, all_said, heard}
+use Rattle.vm_steps.specs.Stepping.{FinishDoes, Finishes, Tells, TellsUnless, newly_proposed, noted, noted_at, with_vm}
 use Rattle.vm_rounds.specs.Told.{BeforeInput, Begun, Came, Comes, HasCome, IsKept, IsKeptUnder, IsLive, Journal, Premises, Quiet, Runs, StillSleeps, Wrote, arrivals, frames_fed, handed_out}
 use Rattle.vm_rounds.proofs.Advanced.{done_of}
 use Rattle.vm_rounds.proofs.Ahead.{Fewer, LivesOn, ended_fewer, fewer_same}

@@ -41,10 +41,10 @@ use Rattle.vm_model.specs.Deliveries.{HasNoTwo}
 use Rattle.vm_parts.specs.declared.options.SignalDelivery.TheVariants.{Queued}
 use Rattle.vm_model.specs.Histories.{IsAwaiting}
 use Rattle.vm_model.specs.Moves.{Point, move_at}
-use Rattle.vm_rounds.specs.declared.progress.Reply.{Reply}
-use Rattle.vm_rounds.specs.declared.progress.Reply.TheVariants as reply
+use Rattle.vm_steps.specs.declared.progress.Reply.{Reply}
+use Rattle.vm_steps.specs.declared.progress.Reply.TheVariants as reply
 use Rattle.vm_rounds.specs.Agreement.{Agrees, Aside, Follows, machine_at}
-use Rattle.vm_rounds.specs.Steps.{IfDone, IsReadable, Performs, PerformsBy, ReadsBack, awakeable_made as made_awakeable, carried, completed, ended, mapped, read_made, signalled, taken}
+use Rattle.vm_steps.specs.Steps.{IfDone, IsReadable, Performs, PerformsBy, ReadsBack, awakeable_made as made_awakeable, carried, completed, ended, mapped, read_made, signalled, taken}
 use Rattle.vm_rounds.proofs.Leading.{error_written, follows_from, no_move, open_after}
 use Rattle.vm_rounds.proofs.Own.{AsksCommand, asks_command}
 use Rattle.vm_rounds.proofs.Reading.{reads_follow}

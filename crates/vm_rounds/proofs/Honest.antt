@@ -29,7 +29,7 @@ use Rattle.vm_model.specs.Moves.{later, start as first_point}
 use Rattle.vm_model.proofs.Runs.{made_later}
 use Rattle.journal_attempt.specs.declared.commands.InputCommand.{InputCommand}
 use Rattle.vm_model.specs.Journal.{Entry, Recorded, Notified, commands_in, input_read_from, notifications_in, stored_form}
-use Rattle.vm_rounds.specs.Heard.{Heard}
+use Rattle.vm_steps.specs.Heard.{Heard}
 use Rattle.vm_rounds.specs.Blames.{Began, IsHonest, Place, fault_by, frame_fault, notification_fault, refused_start, start_fault}
 use Rattle.vm_rounds.specs.Honest.{FeedsHonestly, IsEntry, entry_frame, frame_bytes, notification_frame}
 use Rattle.vm_rounds.specs.Journals.{AcknowledgesNothing, is_acknowledgement, as_entries, is_notification, recorded_by, setup_for, told_by}

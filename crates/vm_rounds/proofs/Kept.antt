@@ -23,12 +23,12 @@ use Rattle.invocation_vm.specs.Frames.{Tail, Rest, Garbage, frames_of}
 use Rattle.invocation_vm.specs.Views.{StarvesAmong, brought, View, after_closing, after_input, all_received, consumed, has_failed, left_by, left_over, received, spoiled}
 use Rattle.invocation_vm.proofs.Feeds.{among_failed, among_output}
 use Rattle.invocation_vm.proofs.Cuts.{frames_of-append}
-use Rattle.vm_rounds.specs.Heard.{Heard, and_piece, with_pieces}
-use Rattle.vm_rounds.specs.declared.progress.Fed.{Fed}
+use Rattle.vm_steps.specs.Heard.{Heard, and_piece, with_pieces}
+use Rattle.vm_steps.specs.declared.progress.Fed.{Fed}
 use Rattle.vm_rounds.specs.Agreement.{Aside}
 use Rattle.vm_rounds.specs.Journals.{HasAll, StillWaits, is_command, is_notification, setup_for, is_acknowledgement}
-use Rattle.vm_rounds.specs.Record.{Record, heard}
-use Rattle.vm_rounds.specs.Stepping.{CloseDoes, Closes, FeedDoes, Feeds, Takes, emptied, kept, kept_at, with_vm}
+use Rattle.vm_steps.specs.Record.{Record, heard}
+use Rattle.vm_steps.specs.Stepping.{CloseDoes, Closes, FeedDoes, Feeds, Takes, emptied, kept, kept_at, with_vm}
 use Rattle.vm_parts.specs.Outboxes.{WholeFrames}
 use Rattle.vm_rounds.specs.Told.{BeforeInput, Begun, Comes, IsLive, Quiet, bytes_fed, frames_fed}
 use Rattle.vm_rounds.proofs.Arriving.{failed_receives}

@@ -22,16 +22,16 @@ use Rattle.vm_machine.specs.Phases.{is_running}
 use Rattle.invocation_vm.specs.Frames.{Tail, Rest, Garbage, frames_of}
 use Rattle.invocation_vm.specs.Views.{StarvesAmong, View, after_closing, after_input, all_received, brought, consumed, left_over}
 use Rattle.vm_model.specs.Calls.{Meaning}
-use Rattle.vm_rounds.specs.Heard.{Heard, and_piece, with_pieces}
-use Rattle.vm_rounds.specs.declared.progress.Fed.{Fed}
-use Rattle.vm_rounds.specs.declared.progress.Progress.{Progress}
-use Rattle.vm_rounds.specs.declared.progress.Reply.{Reply}
-use Rattle.vm_rounds.specs.declared.progress.Reply.TheVariants as reply
+use Rattle.vm_steps.specs.Heard.{Heard, and_piece, with_pieces}
+use Rattle.vm_steps.specs.declared.progress.Fed.{Fed}
+use Rattle.vm_steps.specs.declared.progress.Progress.{Progress}
+use Rattle.vm_steps.specs.declared.progress.Reply.{Reply}
+use Rattle.vm_steps.specs.declared.progress.Reply.TheVariants as reply
 use Rattle.vm_rounds.specs.Blames.{BadFrame, Began, BehindEnd, Blame, FailsAt, IfError, IsBlamed, IsLate, LateBy, fault_by, fault_among}
 use Rattle.vm_rounds.specs.Blames.Blame.{Memory, Frame, NoFrame}
 use Rattle.vm_rounds.specs.Journals.{is_command, is_notification, is_acknowledgement}
-use Rattle.vm_rounds.specs.Record.{Record, Said, heard, all_heard, all_said}
-use Rattle.vm_rounds.specs.Stepping.{Advances, Asks, CloseDoes, Closes, FeedDoes, Feeds, LacksMemory, Reads, StepAt, StepDoes, StepFrom, StepUnless, Takes, fed_now, future_in, kept, kept_at, replied, step_asked, taken_from, with_vm}
+use Rattle.vm_steps.specs.Record.{Record, Said, heard, all_heard, all_said}
+use Rattle.vm_steps.specs.Stepping.{Advances, Asks, CloseDoes, Closes, FeedDoes, Feeds, LacksMemory, Reads, StepAt, StepDoes, StepFrom, StepUnless, Takes, fed_now, future_in, kept, kept_at, replied, step_asked, taken_from, with_vm}
 use Rattle.vm_rounds.specs.Told.{BeforeInput, Came, HasCome, IsKeptUnder, IsLive, bytes_fed, frames_fed}
 use Rattle.vm_rounds.proofs.Blamed.{closed_blame, closed_now, closing_at, closing_not, none_some, spoils, spoils_not}
 use Rattle.vm_rounds.proofs.Blaming.{frames_fit}

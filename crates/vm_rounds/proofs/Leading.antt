@@ -20,9 +20,9 @@ use Rattle.vm_model.specs.Moves.{Point, longer, move_at, moved, next, supplied, 
 use Rattle.vm_model.specs.Histories.{Made, Handed, Knowledge}
 use Rattle.vm_model.proofs.Runs.{made_spent, next_spent}
 use Rattle.vm_model.specs.Refusals.{IsRefusedFor}
-use Rattle.vm_rounds.specs.declared.progress.Reply.TheVariants as reply
+use Rattle.vm_steps.specs.declared.progress.Reply.TheVariants as reply
 use Rattle.vm_rounds.specs.Agreement.{Aside, Beside, Follows, MovesOn, command_frames, machine_at}
-use Rattle.vm_rounds.specs.Steps.{mapped}
+use Rattle.vm_steps.specs.Steps.{mapped}
 
 -- what stands aside, with these frames written
 abbrev pub with_frames : List RawMessage → Aside → Aside

@@ -1,6 +1,3 @@
-pub mod Asking
-pub mod Feeding
-pub mod Replies
 pub mod Leading
 pub mod Own
 pub mod Requesting
@@ -15,7 +12,6 @@ pub mod Beginning
 pub mod Entries
 pub mod Proposed
 pub mod Quiet
-pub mod Lengths
 pub mod Written
 pub mod Ahead
 pub mod Sending

@@ -21,10 +21,10 @@ use Rattle.std.proofs.Common.{Global}
 use Rattle.vm_model.specs.Histories.{Made, Knowledge, Handed}
 use Rattle.vm_model.specs.Moves.{Point, later, start}
 use Rattle.vm_model.proofs.Runs.{made_later}
-use Rattle.vm_rounds.specs.Heard.{Heard, and_piece, with_pieces}
+use Rattle.vm_steps.specs.Heard.{Heard, and_piece, with_pieces}
 use Rattle.vm_parts.specs.declared.run_state.KeptProposal.{KeptProposal}
 use Rattle.std.specs.List.{AllByRecursion}
-use Rattle.vm_rounds.specs.declared.progress.Fed.{Fed}
+use Rattle.vm_steps.specs.declared.progress.Fed.{Fed}
 use Rattle.vm_rounds.specs.Agreement.{Agrees, Aside}
 use Rattle.vm_rounds.specs.Arrivals.{AllFound, arriving, kept_after}
 use Rattle.vm_rounds.specs.Journals.{AcknowledgesNothing, HasAll, StartedWith, StillWaits, aside_for, commands_among, notifications_among, setup_for, waiting}

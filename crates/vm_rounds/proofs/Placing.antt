@@ -25,10 +25,10 @@ use Rattle.vm_machine.specs.Making.{fresh}
 use Rattle.vm_machine.specs.Outcomes.{Done, refused, ruled, settled}
 use Rattle.vm_machine.specs.Phases.{is_running}
 use Rattle.invocation_vm.specs.Views.{all_received, left_by, received}
-use Rattle.vm_rounds.specs.Heard.{Heard, with_pieces}
+use Rattle.vm_steps.specs.Heard.{Heard, with_pieces}
 use Rattle.vm_rounds.specs.Journals.{HasAll, StillWaits, is_command, is_notification, setup_for, is_acknowledgement}
-use Rattle.vm_rounds.specs.Record.{Record, heard}
-use Rattle.vm_rounds.specs.declared.progress.Fed.{Fed}
+use Rattle.vm_steps.specs.Record.{Record, heard}
+use Rattle.vm_steps.specs.declared.progress.Fed.{Fed}
 use Rattle.vm_model.specs.Histories.{behind}
 use Rattle.vm_rounds.specs.Arrivals.{kept_after}
 use Rattle.vm_rounds.specs.Told.{BeforeInput, Begun, Came, Comes, HasCome, IsLive, ProposesLate, frames_fed}

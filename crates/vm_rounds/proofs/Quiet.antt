@@ -27,7 +27,7 @@ use Rattle.invocation_vm.specs.Views.{View, after_closing, after_input, all_rece
 use Rattle.std.proofs.lemmas.Bool.{eqb-true}
 use Rattle.journal_attempt.specs.declared.runs.ProposeRunCompletion.{ProposeRunCompletion}
 use Rattle.vm_model.specs.Journal.{stored_form}
-use Rattle.vm_rounds.specs.Heard.{is_proposal, proposal_in, proposals_among, proposed_by}
+use Rattle.vm_steps.specs.Heard.{is_proposal, proposal_in, proposals_among, proposed_by}
 use Rattle.vm_rounds.specs.Journals.{is_command}
 use Rattle.vm_rounds.specs.Told.{Quiet, Wrote, commands_of}
 

@@ -20,9 +20,9 @@ use Rattle.vm_model.proofs.Compared.{none_refused}
 use Rattle.vm_model.proofs.Refusals.{own_reason, refused_stuck}
 use Rattle.vm_model.specs.Refusals.{IsRefusedFor}
 use Rattle.std.specs.Prelude.{Result, Ok, Err}
-use Rattle.vm_rounds.specs.Heard.{Heard}
-use Rattle.vm_rounds.specs.Record.{Said}
-use Rattle.vm_rounds.specs.declared.progress.Progress.{Progress}
+use Rattle.vm_steps.specs.Heard.{Heard}
+use Rattle.vm_steps.specs.Record.{Said}
+use Rattle.vm_steps.specs.declared.progress.Progress.{Progress}
 use Rattle.vm_rounds.specs.Blames.{RefusedCall, Blame, IfError, IsHonest, IsOwnError, first_input}
 use Rattle.vm_rounds.specs.Blames.Blame.{Memory, Frame, NoFrame, ClosedEarly, NoInput, Call, RunResult}
 use Rattle.vm_rounds.specs.Journals.{as_entries, commands_among, is_command, is_notification, notifications_among, notified_by, recorded_by, setup_for, told_by}

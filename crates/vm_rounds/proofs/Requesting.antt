@@ -30,7 +30,7 @@ use Rattle.vm_model.specs.Journal.{stored_form}
 use Rattle.vm_model.specs.Moves.{Point, changed_by, command_used, found, longer, moved, reads_as, supply, uses_command}
 use Rattle.vm_model.proofs.Runs.{longer_nothing}
 use Rattle.vm_rounds.specs.Agreement.{Aside, Beside, is_some_command, machine_at}
-use Rattle.vm_rounds.specs.Steps.{IfDone}
+use Rattle.vm_steps.specs.Steps.{IfDone}
 use Rattle.vm_rounds.proofs.Leading.{Leads, Refusing, open_after, state_at, with_beside, with_frames}
 
 -- ---- the event, by what is left

@@ -36,7 +36,7 @@ use Rattle.vm_model.specs.Journal.{Entry, Recorded, Notified, input_read_from, s
 use Rattle.vm_model.specs.Moves.{Point, after, start as began}
 use Rattle.vm_rounds.specs.Blames.{IsHonest}
 use Rattle.vm_rounds.proofs.Honest.{honestly_fed}
-use Rattle.vm_rounds.specs.Heard.{Heard}
+use Rattle.vm_steps.specs.Heard.{Heard}
 use Rattle.vm_rounds.specs.Honest.{FeedsHonestly, frame_bytes, honest_frames}
 use Rattle.vm_rounds.specs.Journals.{setup_for}
 

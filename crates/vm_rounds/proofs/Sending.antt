@@ -51,7 +51,7 @@ use Rattle.journal_messages.specs.Commands.{IsCommand}
 use Rattle.journal_values.specs.declared.notification.NotificationId.{NotificationId}
 use Rattle.vm_parts.specs.declared.options.AwaitingOnPolicy.{AwaitingOnPolicy}
 use Rattle.vm_model.specs.Journal.{stored_form}
-use Rattle.vm_rounds.specs.Heard.{proposals_among}
+use Rattle.vm_steps.specs.Heard.{proposals_among}
 use Rattle.vm_rounds.proofs.Own.{AsksCommand, asks_command, numbered_is, own_is}
 use Rattle.vm_rounds.proofs.Quiet.{forms_append, map_append, proposals_append, proposes_nothing}
 use Rattle.vm_machine.specs.Takes.{result_taken, take_step, taken_at, value_noted, value_taken}
@@ -63,9 +63,9 @@ use Rattle.vm_machine.specs.Phases.{is_closed, is_processing, is_replaying, is_r
 use Rattle.vm_asks.specs.Requests.{ids_of, name_of, shown_type, with_ids}
 use Rattle.vm_machine.specs.Signals.{awakeable_counted, awakeable_step, name_handed_out, signal_counted, signal_handed_out, signal_step}
 use Rattle.invocation_vm.specs.Calls.{new_awakeable_step, skips_replay}
-use Rattle.vm_rounds.specs.declared.progress.Reply.{Reply}
-use Rattle.vm_rounds.specs.declared.progress.Reply.TheVariants as reply
-use Rattle.vm_rounds.specs.Steps.{Awaited, Performs, PerformsBy, await_reply, mapped}
+use Rattle.vm_steps.specs.declared.progress.Reply.{Reply}
+use Rattle.vm_steps.specs.declared.progress.Reply.TheVariants as reply
+use Rattle.vm_steps.specs.Steps.{Awaited, Performs, PerformsBy, await_reply, mapped}
 use Rattle.vm_rounds.specs.Told.{IsLive}
 use Rattle.vm_rounds.proofs.Ahead.{Fewer, HandsOut, executed_fewer, executed_once, fewer_same, fewer_then, given_fewer, handed_since, prepared_fewer}
 

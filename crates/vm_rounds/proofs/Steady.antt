@@ -25,12 +25,12 @@ use Rattle.invocation_vm.specs.Views.{StarvesAmong, View, after_closing, after_i
 use Rattle.invocation_vm.proofs.Feeds.{among_output}
 use Rattle.vm_model.specs.Calls.{Meaning}
 use Rattle.vm_model.specs.Journal.{stored_form}
-use Rattle.vm_rounds.specs.declared.progress.Progress.{Progress}
-use Rattle.vm_rounds.specs.declared.progress.Reply.{Reply}
-use Rattle.vm_rounds.specs.declared.progress.Reply.TheVariants as reply
-use Rattle.vm_rounds.specs.Heard.{proposals_among, proposals_in}
-use Rattle.vm_rounds.specs.Record.{Record, bytes_written, heard}
-use Rattle.vm_rounds.specs.Stepping.{Advances, Asks, CloseDoes, Closes, FeedDoes, Feeds, LacksMemory, MakesAttempt, Reads, StepAt, StepDoes, StepFrom, StepUnless, Takes, fresh_record, future_in, kept, kept_at, replied, step_asked, taken_from, with_vm}
+use Rattle.vm_steps.specs.declared.progress.Progress.{Progress}
+use Rattle.vm_steps.specs.declared.progress.Reply.{Reply}
+use Rattle.vm_steps.specs.declared.progress.Reply.TheVariants as reply
+use Rattle.vm_steps.specs.Heard.{proposals_among, proposals_in}
+use Rattle.vm_steps.specs.Record.{Record, bytes_written, heard}
+use Rattle.vm_steps.specs.Stepping.{Advances, Asks, CloseDoes, Closes, FeedDoes, Feeds, LacksMemory, MakesAttempt, Reads, StepAt, StepDoes, StepFrom, StepUnless, Takes, fresh_record, future_in, kept, kept_at, replied, step_asked, taken_from, with_vm}
 use Rattle.vm_rounds.specs.Told.{BeforeInput, Came, HasCome, IsLive, Quiet, Wrote}
 use Rattle.vm_rounds.proofs.Advanced.{done_of, failed_quiet, input_silent}
 use Rattle.vm_rounds.proofs.Quiet.{Silent, closing_quiet, input_quiet}

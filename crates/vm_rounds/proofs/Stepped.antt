@@ -53,15 +53,15 @@ use Rattle.vm_model.specs.Histories.{IsPrefix, Made, Handed, Knowledge}
 use Rattle.vm_model.proofs.Compared.{after_answers, attempt_is_told}
 use Rattle.std.proofs.lemmas.Option.{same_Some}
 use Rattle.vm_model.proofs.Runs.{and_then_some, made_add, none_some}
-use Rattle.vm_rounds.specs.Heard.{Heard}
-use Rattle.vm_rounds.specs.declared.progress.Progress.{Progress}
-use Rattle.vm_rounds.specs.declared.progress.Reply.{Reply}
-use Rattle.vm_rounds.specs.declared.progress.Reply.TheVariants as reply
+use Rattle.vm_steps.specs.Heard.{Heard}
+use Rattle.vm_steps.specs.declared.progress.Progress.{Progress}
+use Rattle.vm_steps.specs.declared.progress.Reply.{Reply}
+use Rattle.vm_steps.specs.declared.progress.Reply.TheVariants as reply
 use Rattle.vm_rounds.specs.Agreement.{Agrees, Answered, Follows, HasEnded, IsCutShort, IsRefused, IsSuspended, MovesOn, StillAgrees, Waits, command_frames, suspended_on, waiting_on}
 use Rattle.vm_rounds.specs.Journals.{is_command, setup_for}
-use Rattle.vm_rounds.specs.Record.{Record, heard}
-use Rattle.vm_rounds.specs.Stepping.{Asks, IfWaits, step_asked, asked_from, future_in, progress_of, replied, with_vm}
-use Rattle.vm_rounds.specs.Steps.{IfDone, Performs, ReadsBack, StepMade}
+use Rattle.vm_steps.specs.Record.{Record, heard}
+use Rattle.vm_steps.specs.Stepping.{Asks, IfWaits, step_asked, asked_from, future_in, progress_of, replied, with_vm}
+use Rattle.vm_steps.specs.Steps.{IfDone, Performs, ReadsBack, StepMade}
 use Rattle.vm_rounds.specs.Told.{IsKept, IsLive, Premises, RefusesReplay, Replays, Runs, Sleeps, StarvesReplay, StillAwaits, Wrote, arrivals, commands_of, handed_out}
 use Rattle.vm_rounds.proofs.Following.{agreeing_follows}
 use Rattle.vm_rounds.proofs.Kept.{dead_same, not_live}

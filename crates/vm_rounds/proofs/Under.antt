@@ -17,15 +17,15 @@ use Rattle.vm_model.specs.Calls.{Meaning}
 use Rattle.vm_model.specs.Deliveries.{HasNoTwo, deliveries}
 use Rattle.vm_model.specs.Histories.{Handed}
 use Rattle.vm_model.specs.Moves.{Point, later}
-use Rattle.vm_rounds.specs.Heard.{Heard, and_piece}
-use Rattle.vm_rounds.specs.declared.progress.Fed.{Fed}
-use Rattle.vm_rounds.specs.declared.progress.Progress.{Progress}
+use Rattle.vm_steps.specs.Heard.{Heard, and_piece}
+use Rattle.vm_steps.specs.declared.progress.Fed.{Fed}
+use Rattle.vm_steps.specs.declared.progress.Progress.{Progress}
 use Rattle.vm_rounds.specs.Journals.{setup_for}
-use Rattle.vm_rounds.specs.Record.{Record, heard}
-use Rattle.vm_rounds.specs.Stepping.{Advances, Asks, CloseDoes, Closes, FeedDoes, Feeds, LacksMemory, Reads, StepAt, StepDoes, StepFrom, StepUnless, Takes, kept, kept_at, step_asked, future_in, replied, with_vm}
+use Rattle.vm_steps.specs.Record.{Record, heard}
+use Rattle.vm_steps.specs.Stepping.{Advances, Asks, CloseDoes, Closes, FeedDoes, Feeds, LacksMemory, Reads, StepAt, StepDoes, StepFrom, StepUnless, Takes, kept, kept_at, step_asked, future_in, replied, with_vm}
 use Rattle.vm_rounds.specs.Told.{IsKeptUnder, Premises, Runs, bytes_fed, frames_fed, handed_out}
-use Rattle.vm_rounds.specs.declared.progress.Reply.{Reply}
-use Rattle.vm_rounds.specs.declared.progress.Reply.TheVariants as reply
+use Rattle.vm_steps.specs.declared.progress.Reply.{Reply}
+use Rattle.vm_steps.specs.declared.progress.Reply.TheVariants as reply
 use Rattle.await_trees.specs.declared.tree.UnresolvedFuture.{UnresolvedFuture}
 use Rattle.invocation_vm.specs.Views.{StarvesAmong, View, brought}
 use Rattle.vm_rounds.proofs.Advanced.{step_keeps}

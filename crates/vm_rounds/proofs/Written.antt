@@ -21,14 +21,14 @@ use Rattle.invocation_vm.proofs.Cuts.{frames_of-next}
 use Rattle.vm_model.specs.Journal.{stored_form}
 use Rattle.vm_rounds.specs.Honest.{frame_bytes}
 use Rattle.vm_rounds.specs.Journals.{commands_among, is_command}
-use Rattle.vm_rounds.specs.Record.{Record, bytes_written, heard}
+use Rattle.vm_steps.specs.Record.{Record, bytes_written, heard}
 use Rattle.vm_rounds.specs.Told.{BeforeInput, Came, HasCome, Wrote, commands_of, written_by}
 use Rattle.journal_attempt.specs.Bodies.{propose_run_completion_format}
 use Rattle.journal_attempt.specs.declared.runs.ProposeRunCompletion.{ProposeRunCompletion}
 use Rattle.journal_messages.specs.declared.message.Message.TheVariants as message
 use Rattle.journal_messages.specs.Reading.{body_as}
 use Rattle.wire.proofs.Read.{all_read}
-use Rattle.vm_rounds.specs.Heard.{proposal_in, proposals_among, proposals_in, proposed_by}
+use Rattle.vm_steps.specs.Heard.{proposal_in, proposals_among, proposals_in, proposed_by}
 use Rattle.vm_rounds.proofs.Quiet.{commands_append, forms_append, map_append, proposals_append}
 
 -- ---- frames of bytes

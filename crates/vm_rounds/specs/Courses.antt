@@ -5,9 +5,9 @@ use Rattle.await_trees.specs.declared.handle.NotificationHandle.{NotificationHan
 use Rattle.journal_errors.specs.declared.error.Error.{Error}
 use Rattle.retries.specs.declared.policy.RetryPolicy.{RetryPolicy}
 use Rattle.runs.specs.declared.types.RunExitResult.{RunExitResult}
-use Rattle.vm_rounds.specs.declared.progress.Progress.{Progress}
-use Rattle.vm_rounds.specs.Record.{Record}
-use Rattle.vm_rounds.specs.Stepping.{CloseDoes, FeedDoes, FinishDoes, Meaning, StepDoes, Takes}
+use Rattle.vm_steps.specs.declared.progress.Progress.{Progress}
+use Rattle.vm_steps.specs.Record.{Record}
+use Rattle.vm_steps.specs.Stepping.{CloseDoes, FeedDoes, FinishDoes, Meaning, StepDoes, Takes}
 
 -- One call of an attempt did this to its record, whichever call it was and whatever it answered.
 pub data Called (m : Meaning) (old new : Record) : Type 0 where

@@ -21,7 +21,7 @@ use Rattle.vm_model.specs.Journal.{Entry, Recorded, Notified, notifications_in, 
 use Rattle.journal_attempt.specs.declared.runs.ProposeRunCompletionAck.{ProposeRunCompletionAck}
 use Rattle.journal_messages.specs.declared.message.Message.{Message}
 use Rattle.vm_rounds.specs.Arrivals.{AllFound, arriving}
-use Rattle.vm_rounds.specs.Heard.{Heard}
+use Rattle.vm_steps.specs.Heard.{Heard}
 use Rattle.vm_rounds.specs.Journals.{is_command, setup_for}
 use Rattle.vm_rounds.specs.Told.{bytes_fed}
 

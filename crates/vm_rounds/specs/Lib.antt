@@ -1,12 +1,7 @@
 pub mod Agreement
 pub mod Arrivals
-pub mod Inside
 pub mod Journals
-pub mod Record
-pub mod Stepping
-pub mod Steps
 pub mod Told
 pub mod Blames
 pub mod Courses
-pub mod Heard
 pub mod Honest

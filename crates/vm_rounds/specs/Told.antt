@@ -37,17 +37,17 @@ use Rattle.vm_model.specs.Moves.{Point, move_at, start}
 use Rattle.vm_model.specs.Histories.{Handed, IsPrefix, Made, Told, behind}
 use Rattle.vm_model.specs.Refusals.{IsRefusedFor}
 use Rattle.vm_machine.specs.Outcomes.{IsStarved, ruled}
-use Rattle.vm_rounds.specs.declared.progress.Fed.{Fed}
-use Rattle.vm_rounds.specs.declared.progress.Progress.{Progress}
-use Rattle.vm_rounds.specs.declared.progress.Progress.TheVariants as progress
+use Rattle.vm_steps.specs.declared.progress.Fed.{Fed}
+use Rattle.vm_steps.specs.declared.progress.Progress.{Progress}
+use Rattle.vm_steps.specs.declared.progress.Progress.TheVariants as progress
 use Rattle.vm_rounds.specs.Agreement.{Agrees, Aside, command_frames}
 use Rattle.vm_rounds.specs.Journals.{AcknowledgesNothing, HasAll, StillWaits, commands_among, is_command, setup_for}
 use Rattle.vm_parts.specs.declared.steps.Answer.{Answer}
 use Rattle.invocation_vm.specs.Views.{View}
 use Rattle.vm_rounds.specs.Arrivals.{AllFound, arriving, kept_after}
-use Rattle.vm_rounds.specs.Heard.{Heard, proposals_among}
-use Rattle.vm_rounds.specs.Record.{Record, bytes_written, heard}
-use Rattle.vm_rounds.specs.Stepping.{IfWaits}
+use Rattle.vm_steps.specs.Heard.{Heard, proposals_among}
+use Rattle.vm_steps.specs.Record.{Record, bytes_written, heard}
+use Rattle.vm_steps.specs.Stepping.{IfWaits}
 
 -- ---- what is read from the record
 

@@ -1,9 +1,6 @@
 //! One attempt of a handler: bytes in, steps, bytes out. Its answers are told by its journal at all times.
 ghost use Rattle.std.specs.Prelude.{codes};
 
-use crate::handler::Handler;
-use crate::inner::Inner;
-use crate::progress::Progress;
 use bytes::Bytes;
 use invocation_vm::{CoreVM, HeaderMap, NotificationHandle, VM, VMOptions, VMResult, Version};
 use retries::RetryPolicy;
@@ -11,6 +8,7 @@ use runs::RunExitResult;
 use std::alloc::{AllocError, Global};
 use std::marker::Model;
 use vm_parts::Answer;
+use vm_steps::{Handler, Inner, Progress};
 
 /// An attempt of a handler over the VM. It keeps a record: each piece of input until the VM failed or closed, those that
 /// came to a closed VM behind them, whether the input was closed, whose run's result was told last, the answers, and all output, from
@@ -23,8 +21,8 @@ pub struct Attempt<H: Handler> {
 }
 
 impl<H: Handler> Model for Attempt<H> {
-    ghost use Rattle.vm_rounds.specs.Record.{AttemptView};
-    ghost use Rattle.vm_rounds.specs.Inside.{the_record};
+    ghost use Rattle.vm_steps.specs.Record.{AttemptView};
+    ghost use Rattle.vm_steps.specs.Inside.{the_record};
     ghost use Rattle.vm_rounds.specs.Blames.{IsBlamed, IsLate};
     ghost use Rattle.vm_rounds.specs.Told.{HasCome, IsKeptUnder, StillSleeps};
     ghost use Rattle.vm_parts.specs.Outboxes.{WholeFrames};
@@ -44,10 +42,10 @@ impl<H: Handler> Attempt<H> {
     ghost use Rattle.std.specs.Prelude.{◌≡◌, ◌⊎◌, [], IfErr, None};
     ghost use Rattle.invocation_vm.specs.Making.{version_in};
     ghost use Rattle.vm_parts.specs.Outboxes.{WholeStream};
-    ghost use Rattle.vm_rounds.specs.Stepping.{MakesAttempt, StepDoes, FeedDoes, FinishDoes, CloseDoes, IfWaits, IsReplaying, Takes, output_len};
+    ghost use Rattle.vm_steps.specs.Stepping.{MakesAttempt, StepDoes, FeedDoes, FinishDoes, CloseDoes, IfWaits, IsReplaying, Takes, output_len};
     ghost use Rattle.vm_rounds.specs.Blames.{Blame, IfError, IsHonest, IsOwnError};
-    ghost use Rattle.vm_rounds.specs.Heard.{proposals_in};
-    ghost use Rattle.vm_rounds.specs.Record.{all_heard, all_said, bytes_written, heard};
+    ghost use Rattle.vm_steps.specs.Heard.{proposals_in};
+    ghost use Rattle.vm_steps.specs.Record.{all_heard, all_said, bytes_written, heard};
     ghost use Rattle.vm_rounds.specs.Told.{AnswersAreTold, HasCome, NothingWakes, Premises, Replays, written_by};
 
     /// An attempt for the version that the header `content-type` names; the VM's refusals are its own.

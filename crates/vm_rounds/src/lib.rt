@@ -2,19 +2,13 @@
 #![tactic(auto)]
 
 mod attempt;
-mod handler;
-mod inner;
 mod laws;
-mod perform;
-mod progress;
-mod taken;
 
 pub use attempt::Attempt;
-pub use handler::Handler;
 pub use laws::{
     answers_are_told, attempts_begin, attempts_keep, attempts_write, calls_follow, frames_arrive,
     histories_are_replayed, honest_attempts_fail_by_themselves, honest_bytes_are_honest,
     journals_come, runs_are_executed_once,
 };
-pub use progress::{Fed, Progress};
 pub use vm_parts::{Answer, Step};
+pub use vm_steps::{Fed, Handler, Progress};

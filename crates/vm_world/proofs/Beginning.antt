@@ -8,8 +8,8 @@ use Rattle.journal_messages.specs.Message.{IsWhole}
 use Rattle.invocation_vm.specs.Making.{made}
 use Rattle.vm_parts.specs.declared.options.VMOptions.{VMOptions}
 use Rattle.vm_model.specs.Calls.{Meaning}
-use Rattle.vm_rounds.specs.Record.{Record}
-use Rattle.vm_rounds.specs.Stepping.{fresh_record}
+use Rattle.vm_steps.specs.Record.{Record}
+use Rattle.vm_steps.specs.Stepping.{fresh_record}
 use Rattle.vm_world.specs.declared.types.Round.{Round}
 use Rattle.vm_world.specs.declared.types.RoundFault.{RoundFault}
 use Rattle.vm_world.specs.declared.types.RoundFault.TheVariants as round_fault

@@ -16,10 +16,10 @@ use Rattle.vm_model.proofs.Lasting.{commands-append, notifications-append}
 use Rattle.journal_errors.specs.declared.version.Version.{Version}
 use Rattle.vm_parts.specs.declared.run_state.KeptProposal.{KeptProposal}
 use Rattle.vm_rounds.specs.Arrivals.{AllFound, arriving, kept_after, kept_behind}
-use Rattle.vm_rounds.specs.Heard.{acknowledged_from, proposals_among}
+use Rattle.vm_steps.specs.Heard.{acknowledged_from, proposals_among}
 use Rattle.vm_rounds.specs.Journals.{commands_among}
-use Rattle.vm_rounds.specs.Record.{Record, bytes_written, heard}
-use Rattle.vm_rounds.specs.Stepping.{taken_from}
+use Rattle.vm_steps.specs.Record.{Record, bytes_written, heard}
+use Rattle.vm_steps.specs.Stepping.{taken_from}
 use Rattle.vm_rounds.specs.Told.{arrivals_of, bytes_in, frames_fed, written_by}
 use Rattle.vm_rounds.proofs.Finishing.{acknowledged_more}
 use Rattle.vm_rounds.proofs.Pieces.{commands_append, more_frames}

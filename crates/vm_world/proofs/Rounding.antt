@@ -21,10 +21,10 @@ use Rattle.vm_model.specs.HonestRounds.{Attempted, HonestRound, IsHanded, IsOneR
 use Rattle.vm_model.proofs.Honesty.{honest_round, honest_rounds, run_is_history, whole_round, whole_rounds}
 use Rattle.journal_errors.specs.declared.version.Version.{Version}
 use Rattle.vm_rounds.specs.Arrivals.{arriving}
-use Rattle.vm_rounds.specs.Heard.{acknowledged_from}
+use Rattle.vm_steps.specs.Heard.{acknowledged_from}
 use Rattle.vm_rounds.specs.Journals.{commands_among}
-use Rattle.vm_rounds.specs.Record.{Record}
-use Rattle.vm_rounds.specs.Stepping.{fresh_record}
+use Rattle.vm_steps.specs.Record.{Record}
+use Rattle.vm_steps.specs.Stepping.{fresh_record}
 use Rattle.vm_rounds.specs.Told.{bytes_in}
 use Rattle.vm_rounds.proofs.Advanced.{made_new}
 use Rattle.vm_rounds.proofs.Coming.{made_comes}

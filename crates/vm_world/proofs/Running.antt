@@ -27,8 +27,8 @@ use Rattle.vm_model.proofs.Runs.{after_later, made_after, made_spent}
 use Rattle.vm_rounds.specs.Journals.{commands_among, setup_for}
 use Rattle.vm_rounds.specs.Told.{BeforeInput, HasCome, IsKept, Journal, NoneHasTwo, Runs, Wrote, arrivals, begun, handed_out}
 use Rattle.vm_rounds.specs.Arrivals.{arriving}
-use Rattle.vm_rounds.specs.Heard.{acknowledged_from}
-use Rattle.vm_rounds.specs.Record.{heard}
+use Rattle.vm_steps.specs.Heard.{acknowledged_from}
+use Rattle.vm_steps.specs.Record.{heard}
 use Rattle.vm_rounds.proofs.Advanced.{step_keeps}
 use Rattle.vm_rounds.proofs.Coming.{close_comes, feed_comes, step_comes, take_comes}
 use Rattle.vm_rounds.proofs.Finishing.{finish_comes, finish_keeps}

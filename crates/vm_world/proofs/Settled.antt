@@ -23,7 +23,7 @@ use Rattle.vm_model.specs.Carried.{AreCarried, is_carried}
 use Rattle.vm_model.specs.Journal.{stored_form}
 use Rattle.vm_model.proofs.Once.{still_carried}
 use Rattle.vm_rounds.specs.Arrivals.{AllFound, FindsProposal, IsFound, arriving, kept_after, stands_for, unacknowledged}
-use Rattle.vm_rounds.specs.Heard.{acknowledged_from, is_proposal, proposal_in, proposals_among, proposed_by}
+use Rattle.vm_steps.specs.Heard.{acknowledged_from, is_proposal, proposal_in, proposals_among, proposed_by}
 use Rattle.vm_rounds.specs.Journals.{commands_among, is_command, is_notification, notifications_among, notified_by}
 use Rattle.vm_rounds.proofs.Advanced.{nothing_acknowledged}
 use Rattle.vm_rounds.proofs.Arriving.{arriving_alone, kept_none}

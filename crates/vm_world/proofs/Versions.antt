@@ -7,8 +7,8 @@ use Rattle.journal_errors.specs.declared.version.Version.TheVariants.{V1, V2, V3
 use Rattle.journal_errors.specs.Versions.{content_type, version_of}
 use Rattle.vm_parts.specs.declared.options.VMOptions.{VMOptions}
 use Rattle.invocation_vm.specs.Making.{made, supported, version_in}
-use Rattle.vm_rounds.specs.Record.{AttemptView}
-use Rattle.vm_rounds.specs.Stepping.{MakesAttempt, fresh_record}
+use Rattle.vm_steps.specs.Record.{AttemptView}
+use Rattle.vm_steps.specs.Stepping.{MakesAttempt, fresh_record}
 use Rattle.vm_world.specs.ContentTypes.{found}
 use Rattle.vm_world.specs.Rounds.{IsRefusal}
 

@@ -11,7 +11,7 @@ use Rattle.vm_model.specs.Histories.{Knowledge}
 use Rattle.vm_model.specs.HonestRounds.{Attempted, HonestRounds}
 use Rattle.vm_model.specs.Journal.{Entry, Recorded, Notified}
 use Rattle.journal_errors.specs.declared.version.Version.{Version}
-use Rattle.vm_rounds.specs.Record.{Record, heard}
+use Rattle.vm_steps.specs.Record.{Record, heard}
 use Rattle.vm_rounds.specs.Told.{arrivals_of, written_by}
 use Rattle.vm_world.specs.declared.types.Event.{Event}
 use Rattle.vm_world.specs.declared.types.Round.{Round}

@@ -21,11 +21,11 @@ use Rattle.vm_model.specs.Moves.{Point}
 use Rattle.vm_model.specs.Deliveries.{HasNoTwo}
 use Rattle.journal_attempt.specs.declared.commands.InputCommand.{InputCommand}
 use Rattle.journal_messages.specs.declared.message.RawMessage.{RawMessage}
-use Rattle.vm_rounds.specs.declared.progress.Progress.{Progress}
-use Rattle.vm_rounds.specs.Heard.{proposals_in}
-use Rattle.vm_rounds.specs.Record.{Record, bytes_written, heard}
+use Rattle.vm_steps.specs.declared.progress.Progress.{Progress}
+use Rattle.vm_steps.specs.Heard.{proposals_in}
+use Rattle.vm_steps.specs.Record.{Record, bytes_written, heard}
 use Rattle.vm_rounds.specs.Told.{AnswersAreTold, Premises, written_by}
-use Rattle.vm_rounds.specs.Stepping.{CloseDoes, FeedDoes, FinishDoes, StepDoes, fresh_record, taken_from}
+use Rattle.vm_steps.specs.Stepping.{CloseDoes, FeedDoes, FinishDoes, StepDoes, fresh_record, taken_from}
 use Rattle.vm_world.specs.declared.types.Event.{Event}
 use Rattle.vm_world.specs.declared.types.Event.TheVariants as event
 use Rattle.vm_world.specs.declared.types.Round.{Round}

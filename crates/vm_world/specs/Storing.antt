@@ -12,7 +12,7 @@ use Rattle.invocation_vm.specs.Frames.{frames_of}
 use Rattle.vm_parts.specs.declared.run_state.KeptProposal.{KeptProposal}
 use Rattle.vm_machine.specs.Inputs.{completion_of}
 use Rattle.vm_asks.specs.Versions.{is_from_v7}
-use Rattle.vm_rounds.specs.Heard.{is_proposal, proposal_in}
+use Rattle.vm_steps.specs.Heard.{is_proposal, proposal_in}
 use Rattle.vm_rounds.specs.Journals.{is_command}
 use Rattle.vm_world.specs.declared.storing.Written.{Written}
 use Rattle.vm_world.specs.declared.storing.Written.TheVariants.{Command, Proposal}

@@ -4,7 +4,7 @@ ghost use Rattle.std.specs.List.{concat};
 ghost use Rattle.journal_messages.specs.Message.{encoding};
 ghost use Rattle.journal_messages.specs.Message.{IsWhole};
 ghost use Rattle.invocation_vm.specs.Making.{made, supported};
-ghost use Rattle.vm_rounds.specs.Stepping.{fresh_record};
+ghost use Rattle.vm_steps.specs.Stepping.{fresh_record};
 ghost use Rattle.vm_world.specs.Arrivals.{most};
 ghost use Rattle.vm_world.specs.Inside.{the_now, report_view};
 ghost use Rattle.vm_world.specs.Rounds.{new_now, report_of, ArrivalsDo, ArrivalsFault, EndsTold, Happen, HappenFaults, IsRefusal, IsShort, Ran, RefusedDoes, RefusedFaults, RoundDoes, RoundFaults};

@@ -3,7 +3,7 @@ ghost use Rattle.std.specs.Prelude.{◌≡◌, ◌⊎◌, true, false, [], ◌�
 ghost use Rattle.journal_messages.specs.Message.{encoding, IsWhole};
 ghost use Rattle.journal_messages.specs.declared.message.Message.TheVariants as message;
 ghost use Rattle.vm_asks.specs.Versions.{is_from_v7};
-ghost use Rattle.vm_rounds.specs.Heard.{is_proposal};
+ghost use Rattle.vm_steps.specs.Heard.{is_proposal};
 ghost use Rattle.vm_world.specs.Arrivals.{room_fault};
 ghost use Rattle.vm_world.specs.Entries.{frame_of};
 ghost use Rattle.vm_world.specs.NextFrames.{HasFault, NextFaults, NextWritten, StoresItem, StoresOne, StoresRaw};
@@ -42,7 +42,7 @@ fn is_proposal(raw: &RawMessage) -> bool
 }
 
 /// The proposal that a frame is, if it is one and can be read.
-#[tactic(auto, unfolding(vm_rounds::specs::Heard::proposal_in))]
+#[tactic(auto, unfolding(vm_steps::specs::Heard::proposal_in))]
 fn proposal_of(alloc: Global, raw: &RawMessage) -> Result<Option<KeptProposal>, AllocError>
     ensures { IfOk result (λ proposal. proposal ≡ proposal_of raw.now) }
 {

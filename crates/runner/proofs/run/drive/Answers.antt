@@ -1,5 +1,5 @@
 use Rattle.std.proofs.Common.{sym, ◌∙◌, subst, arith}
-use Rattle.vm_rounds.specs.Stepping.{StepDoes}
+use Rattle.vm_steps.specs.Stepping.{StepDoes}
 use Rattle.runner.proofs.Driving.{stepped_more, drives_to, drives_out}
 use Rattle.runner.proofs.run.drive.Goals as goal
 

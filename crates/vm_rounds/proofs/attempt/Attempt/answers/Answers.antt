@@ -1,4 +1,4 @@
-use Rattle.vm_rounds.specs.Inside.{the_record}
+use Rattle.vm_steps.specs.Inside.{the_record}
 use Rattle.vm_rounds.proofs.Advanced.{kept_told}
 use Rattle.vm_rounds.proofs.Written.{none_before_input}
 use Rattle.vm_rounds.proofs.attempt.Attempt.answers.Goals as goal

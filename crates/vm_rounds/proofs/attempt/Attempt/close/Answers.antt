@@ -1,4 +1,4 @@
-use Rattle.vm_rounds.specs.Inside.{the_fields, the_record}
+use Rattle.vm_steps.specs.Inside.{the_fields, the_record}
 use Rattle.vm_rounds.proofs.Blamed.{close_blames}
 use Rattle.vm_rounds.proofs.Coming.{close_comes}
 use Rattle.vm_rounds.proofs.Late.{close_late}

@@ -1,4 +1,4 @@
-use Rattle.vm_rounds.specs.Inside.{the_fields, the_record}
+use Rattle.vm_steps.specs.Inside.{the_fields, the_record}
 use Rattle.vm_rounds.proofs.Blamed.{feed_blames}
 use Rattle.vm_rounds.proofs.Coming.{feed_comes}
 use Rattle.vm_rounds.proofs.Late.{feed_late}

@@ -2,8 +2,8 @@ use Rattle.std.proofs.Common.{◌≡◌, None, Some, inl, refl, subst, sym}
 use Rattle.invocation_vm.specs.Seen.{seen}
 use Rattle.vm_parts.specs.Outboxes.{WholeFrames}
 use Rattle.vm_rounds.specs.Blames.{IsBlamed, IsLate}
-use Rattle.vm_rounds.specs.Inside.{the_fields}
-use Rattle.vm_rounds.specs.Record.{Record}
+use Rattle.vm_steps.specs.Inside.{the_fields}
+use Rattle.vm_steps.specs.Record.{Record}
 use Rattle.vm_rounds.specs.Told.{HasCome, IsKeptUnder, StillSleeps}
 use Rattle.vm_rounds.proofs.Advanced.{new_is_new, new_whole}
 use Rattle.vm_rounds.proofs.Blamed.{new_blamed}

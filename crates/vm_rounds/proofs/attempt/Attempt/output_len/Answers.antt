@@ -1,4 +1,4 @@
-use Rattle.vm_rounds.specs.Inside.{the_record}
+use Rattle.vm_steps.specs.Inside.{the_record}
 use Rattle.vm_rounds.proofs.Written.{writes_whole}
 use Rattle.vm_rounds.proofs.attempt.Attempt.output_len.Goals as goal
 

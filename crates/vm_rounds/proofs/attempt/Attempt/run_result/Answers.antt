@@ -1,5 +1,5 @@
-use Rattle.vm_rounds.specs.Inside.{the_fields, the_record}
-use Rattle.vm_rounds.specs.Record.{all_heard, all_said}
+use Rattle.vm_steps.specs.Inside.{the_fields, the_record}
+use Rattle.vm_steps.specs.Record.{all_heard, all_said}
 use Rattle.vm_rounds.proofs.Finishing.{finish_blame, finish_blames, finish_comes, finish_honest, finish_late, finish_sleeps, finish_told, finish_under}
 use Rattle.vm_rounds.proofs.attempt.Attempt.run_result.Goals as goal
 

@@ -1,5 +1,5 @@
-use Rattle.vm_rounds.specs.Inside.{the_fields, the_record}
-use Rattle.vm_rounds.specs.Record.{all_heard, all_said}
+use Rattle.vm_steps.specs.Inside.{the_fields, the_record}
+use Rattle.vm_steps.specs.Record.{all_heard, all_said}
 use Rattle.vm_rounds.proofs.Advanced.{step_replays}
 use Rattle.vm_rounds.proofs.Coming.{step_comes}
 use Rattle.vm_rounds.proofs.Erring.{step_blames}

@@ -3,7 +3,7 @@ ghost use Rattle.std.specs.Prelude.{◌≡◌, OnOk};
 ghost use Rattle.vm_machine.specs.Commands.{CanBeRead};
 ghost use Rattle.vm_machine.specs.Reads.{ReadCanBeRead};
 ghost use Rattle.invocation_vm.specs.Seen.{seen};
-ghost use Rattle.vm_rounds.specs.Steps.{Asked, Awaited, ComesTo, StepMade, await_reply, awakeable_made, carried, ended, read_made, signalled, taken};
+ghost use Rattle.vm_steps.specs.Steps.{Asked, Awaited, ComesTo, StepMade, await_reply, awakeable_made, carried, ended, read_made, signalled, taken};
 
 use crate::progress::Reply;
 use invocation_vm::{AwaitResponse, CoreVM, NotificationHandle, UnresolvedFuture, VM, VMResult};

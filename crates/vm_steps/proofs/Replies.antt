@@ -12,8 +12,8 @@ use Rattle.vm_machine.specs.Outcomes.{Does, DoesBy, Failed, IsStarved, Outcome, 
 use Rattle.vm_parts.specs.declared.types.AwaitResponse.{AwaitResponse}
 use Rattle.await_trees.specs.declared.tree.UnresolvedFuture.{UnresolvedFuture}
 use Rattle.await_trees.specs.Tree.{tree_of}
-use Rattle.vm_rounds.specs.declared.progress.Reply.{Reply}
-use Rattle.vm_rounds.specs.Steps.{Awaited, ComesTo, await_reply, mapped, result_mapped}
+use Rattle.vm_steps.specs.declared.progress.Reply.{Reply}
+use Rattle.vm_steps.specs.Steps.{Awaited, ComesTo, await_reply, mapped, result_mapped}
 
 pub replies : {A : Type 0} (f : A → Reply) (step : Machine → Outcome A) (r : Result A Error) (old new : Machine) → Does (called (step old) old) r old new → DoesBy (ComesTo (λ v. mapped f (called (step v) v)) old) (result_mapped f r) old new
 replies f step (Ok a) old new h = ap (mapped f) (sym h)

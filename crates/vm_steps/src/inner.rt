@@ -3,7 +3,7 @@ ghost use Rattle.std.specs.Prelude.{◌≡◌, ◌≤◌, ◌+◌, IfOk, OnOk, O
 ghost use Rattle.journal_errors.specs.Errors.{no_memory};
 ghost use Rattle.vm_parts.specs.Outboxes.{WholeFrames};
 ghost use Rattle.invocation_vm.specs.Seen.{seen};
-ghost use Rattle.vm_rounds.specs.Stepping.{fresh_record, replied, future_in, progress_of, asked_from, Advances, StepDoes, FeedDoes, CloseDoes, TellsUnless, Takes, output_len, kept, noted};
+ghost use Rattle.vm_steps.specs.Stepping.{fresh_record, replied, future_in, progress_of, asked_from, Advances, StepDoes, FeedDoes, CloseDoes, TellsUnless, Takes, output_len, kept, noted};
 
 use crate::handler::Handler;
 use crate::perform::perform;
@@ -65,7 +65,7 @@ fn next_step<H: Handler>(
 }
 
 impl<H: Handler> Inner<H> {
-    ghost use Rattle.vm_rounds.specs.Inside.{the_fields};
+    ghost use Rattle.vm_steps.specs.Inside.{the_fields};
 
     pub fn new(alloc: Global, vm: CoreVM, handler: H) -> Inner<H>
         ensures record { the_fields result ≡ fresh_record (seen vm) }

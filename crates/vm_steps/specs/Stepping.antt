@@ -17,23 +17,23 @@ use Rattle.runs.specs.declared.types.RunExitResult.{RunExitResult}
 use Rattle.vm_parts.specs.declared.run_state.KeptProposal.{KeptProposal}
 use Rattle.vm_machine.specs.declared.machine.Machine.{Machine}
 use Rattle.invocation_vm.specs.Calls.{CallsProposal}
-use Rattle.vm_rounds.specs.Heard.{proposals_in}
+use Rattle.vm_steps.specs.Heard.{proposals_in}
 use Rattle.vm_parts.specs.declared.values.Input.{Input}
 use Rattle.vm_parts.specs.Outboxes.{WholeFrames}
 use Rattle.vm_machine.specs.declared.phase.Phase.{Phase}
 use Rattle.vm_machine.specs.declared.phase.Phase.TheVariants.{WaitingStart, WaitingReplayEntries, Replaying, Processing, Closed}
 use Rattle.vm_machine.specs.Inputs.{input_step}
 use Rattle.invocation_vm.specs.Views.{StarvesAmong, brought, View, Calls, after_input, after_closing}
-use Rattle.vm_rounds.specs.declared.progress.Fed.{Fed}
-use Rattle.vm_rounds.specs.declared.progress.Progress.{Progress}
-use Rattle.vm_rounds.specs.declared.progress.Progress.TheVariants as progress
-use Rattle.vm_rounds.specs.declared.progress.Reply.{Reply}
-use Rattle.vm_rounds.specs.declared.progress.Reply.TheVariants as reply
+use Rattle.vm_steps.specs.declared.progress.Fed.{Fed}
+use Rattle.vm_steps.specs.declared.progress.Progress.{Progress}
+use Rattle.vm_steps.specs.declared.progress.Progress.TheVariants as progress
+use Rattle.vm_steps.specs.declared.progress.Reply.{Reply}
+use Rattle.vm_steps.specs.declared.progress.Reply.TheVariants as reply
 use Rattle.journal_errors.specs.declared.version.Version.{Version}
 use Rattle.vm_parts.specs.declared.options.VMOptions.{VMOptions}
 use Rattle.invocation_vm.specs.Making.{made}
-use Rattle.vm_rounds.specs.Record.{AttemptView, Record, bytes_written}
-use Rattle.vm_rounds.specs.Steps.{StepMade}
+use Rattle.vm_steps.specs.Record.{AttemptView, Record, bytes_written}
+use Rattle.vm_steps.specs.Steps.{StepMade}
 
 -- a handler's step after these answers
 abbrev pub Meaning : Type 0

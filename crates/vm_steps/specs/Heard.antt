@@ -9,7 +9,7 @@ use Rattle.journal_messages.specs.Reading.{body_as}
 use Rattle.vm_parts.specs.declared.run_state.KeptProposal.{KeptProposal}
 use Rattle.vm_asks.specs.Versions.{is_from_v7}
 use Rattle.invocation_vm.specs.Frames.{frames_of}
-use Rattle.vm_rounds.specs.declared.progress.Fed.{Fed}
+use Rattle.vm_steps.specs.declared.progress.Fed.{Fed}
 
 -- ---- proposals
 

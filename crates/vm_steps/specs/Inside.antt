@@ -3,9 +3,9 @@ use Rattle.std.specs.Prelude.{List, [], ◌++◌}
 use Rattle.std.specs.List.{concat}
 use Rattle.vm_parts.specs.declared.run_state.KeptProposal.{KeptProposal}
 use Rattle.invocation_vm.specs.Seen.{seen}
-use Rattle.vm_rounds.specs.declared.inner.Inner.{Inner}
-use Rattle.vm_rounds.specs.Heard.{proposals_in}
-use Rattle.vm_rounds.specs.Record.{Record}
+use Rattle.vm_steps.specs.declared.inner.Inner.{Inner}
+use Rattle.vm_steps.specs.Heard.{proposals_in}
+use Rattle.vm_steps.specs.Record.{Record}
 
 -- the fields as a record, with these proposals
 abbrev pub record_with : {H : Type 0} → List KeptProposal → Inner H → Record

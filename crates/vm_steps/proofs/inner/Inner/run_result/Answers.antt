@@ -1,9 +1,9 @@
 use Rattle.std.proofs.Common.{subst, sym}
 use Rattle.invocation_vm.specs.Seen.{seen}
-use Rattle.vm_rounds.specs.Inside.{the_fields}
-use Rattle.vm_rounds.specs.Stepping.{TellsUnless, with_vm}
-use Rattle.vm_rounds.proofs.Feeding.{tells_noted}
-use Rattle.vm_rounds.proofs.inner.Inner.run_result.Goals as goal
+use Rattle.vm_steps.specs.Inside.{the_fields}
+use Rattle.vm_steps.specs.Stepping.{TellsUnless, with_vm}
+use Rattle.vm_steps.proofs.Feeding.{tells_noted}
+use Rattle.vm_steps.proofs.inner.Inner.run_result.Goals as goal
 
 pub returns-clause-does : goal.returns-clause-does
 returns-clause-does g c =

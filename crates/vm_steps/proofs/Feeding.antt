@@ -7,8 +7,8 @@ use Rattle.retries.specs.declared.policy.RetryPolicy.{RetryPolicy}
 use Rattle.runs.specs.declared.types.RunExitResult.{RunExitResult}
 use Rattle.invocation_vm.specs.Calls.{CallsProposal}
 use Rattle.invocation_vm.specs.Views.{View, Leaves, after_input, brought}
-use Rattle.vm_rounds.specs.Record.{Record}
-use Rattle.vm_rounds.specs.Stepping.{kept, noted, with_vm, Feeds, Tells}
+use Rattle.vm_steps.specs.Record.{Record}
+use Rattle.vm_steps.specs.Stepping.{kept, noted, with_vm, Feeds, Tells}
 
 -- a piece
 pub feeds_kept : (piece : List ℕ) (old r : Record) (before w : View) (result : Result Unit AllocError) → r ≡ kept piece old → before ≡ old.vm

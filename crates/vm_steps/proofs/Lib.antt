@@ -1,0 +1,4 @@
+pub mod Asking
+pub mod Feeding
+pub mod Replies
+pub mod Lengths
