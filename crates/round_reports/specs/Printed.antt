@@ -9,9 +9,9 @@ use Rattle.vm_parts.specs.declared.steps.Answer.TheVariants as answer
 use Rattle.replies.specs.Answers.{answer_text}
 use Rattle.vm_world.specs.Inside.{report_view}
 use Rattle.vm_world.specs.Rounds.{ReportView}
-use Rattle.vm_world.specs.declared.types.Report.{Report}
-use Rattle.vm_world.specs.declared.types.RoundFault.{RoundFault}
-use Rattle.vm_world.specs.declared.types.RoundFault.TheVariants as round_fault
+use Rattle.vm_store.specs.declared.types.Report.{Report}
+use Rattle.vm_store.specs.declared.types.RoundFault.{RoundFault}
+use Rattle.vm_store.specs.declared.types.RoundFault.TheVariants as round_fault
 
 -- ---- texts one behind the other
 

@@ -8,11 +8,11 @@ use Rattle.journal_errors.specs.declared.version.Version.{Version}
 use Rattle.vm_model.specs.Calls.{Meaning}
 use Rattle.vm_world.specs.Inside.{report_view}
 use Rattle.vm_world.specs.Rounds.{RoundsDo, RoundsFault}
-use Rattle.vm_world.specs.Worlds.{pairs_given}
-use Rattle.vm_world.specs.declared.types.Report.{Report}
-use Rattle.vm_world.specs.declared.types.Round.{Round}
-use Rattle.vm_world.specs.declared.types.RoundFault.{RoundFault}
-use Rattle.vm_world.specs.declared.types.Setting.{Setting}
+use Rattle.vm_store.specs.Worlds.{pairs_given}
+use Rattle.vm_store.specs.declared.types.Report.{Report}
+use Rattle.vm_store.specs.declared.types.Round.{Round}
+use Rattle.vm_store.specs.declared.types.RoundFault.{RoundFault}
+use Rattle.vm_store.specs.declared.types.Setting.{Setting}
 use Rattle.streams.specs.Streams.{AppendsSome}
 use Rattle.round_scripts.specs.Scripts.{IsRead, StopsAt, nothing}
 use Rattle.round_scripts.specs.declared.given.Given.{Given}

@@ -9,8 +9,8 @@ use Rattle.lines.specs.Readings.{Blames}
 use Rattle.line_parts.specs.Results.{IsProposal}
 use Rattle.line_parts.specs.Words.{IsNumberOf, behind, text_at}
 use Rattle.line_parts.proofs.Places.{word_at}
-use Rattle.vm_world.specs.declared.types.Event.{Event}
-use Rattle.vm_world.specs.declared.types.Event.TheVariants as event
+use Rattle.vm_store.specs.declared.types.Event.{Event}
+use Rattle.vm_store.specs.declared.types.Event.TheVariants as event
 use Rattle.round_scripts.specs.Rounds.{SaysRound}
 use Rattle.round_scripts.specs.Said.{AreSteps, Arrives, IsCount, IsOneCount, SayNothing, SaysBehind, SaysEvent, SaysNothing, SaysWords, are_bytes, are_rest, is_frame}
 use Rattle.round_scripts.specs.Worlds.{SaysWorld}

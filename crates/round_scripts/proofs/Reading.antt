@@ -1,7 +1,7 @@
 -- A text that is read line by line.
 use Rattle.std.proofs.Common.{◌≡◌, ◌≢◌, ◌++◌, ℕ, zero, suc, ◌+◌, List, [], ◌∷◌, length, replicate, refl, ap, subst, arith}
 use Rattle.scripts.specs.Transcripts.{IsFirstLine}
-use Rattle.vm_world.specs.declared.types.Event.{Event}
+use Rattle.vm_store.specs.declared.types.Event.{Event}
 use Rattle.round_scripts.specs.Scripts.{AddsLine, AreLinesAdded, Parts}
 
 -- What the rest adds to what was said so far, the whole text adds.

@@ -8,7 +8,7 @@ use Rattle.lines.specs.Atoms.{IsText}
 use Rattle.line_parts.specs.Fields.{IsSet, are_named, texts}
 use Rattle.line_parts.specs.Values.{HasFlag, IsTime, without}
 use Rattle.line_parts.specs.Words.{IsNumberOf}
-use Rattle.vm_world.specs.declared.types.Round.{Round}
+use Rattle.vm_store.specs.declared.types.Round.{Round}
 
 -- texts that are these keys
 abbrev pub AreKeys : List (List ℕ) → List (List ℕ) → Type 0

@@ -1,9 +1,9 @@
 -- What a whole script says: its lines, read one after another, make a world and rounds.
 use Rattle.std.specs.Prelude.{◌≡◌, ◌⊎◌, ◌+◌, ℕ, List, [], ◌∷◌, ◌++◌, Option, Some, None, length, replicate}
 use Rattle.scripts.specs.Transcripts.{AreFirstLines, IsFirstLine}
-use Rattle.vm_world.specs.declared.types.Event.{Event}
-use Rattle.vm_world.specs.declared.types.Event.TheVariants as event
-use Rattle.vm_world.specs.declared.types.Round.{Round}
+use Rattle.vm_store.specs.declared.types.Event.{Event}
+use Rattle.vm_store.specs.declared.types.Event.TheVariants as event
+use Rattle.vm_store.specs.declared.types.Round.{Round}
 use Rattle.round_scripts.specs.declared.given.Given.{Given}
 use Rattle.round_scripts.specs.declared.script.Script.{Script}
 use Rattle.round_scripts.specs.declared.script.Unread.{Unread}

@@ -1,7 +1,7 @@
 //! A whole script: the world that it makes, and its rounds with what happens in them.
 ghost use Rattle.std.specs.Prelude.{◌≡◌, [], ◌∷◌, IfErr, IfOk, OnOk, None, Some, replicate};
 ghost use Rattle.wire.specs.declared.fault.Fault.TheVariants.{Malformed};
-ghost use Rattle.vm_world.specs.declared.types.Event.TheVariants as event;
+ghost use Rattle.vm_store.specs.declared.types.Event.TheVariants as event;
 ghost use Rattle.round_scripts.specs.Scripts.{Adds, AddsLine, AddsNothing, AreLinesAdded, Happens, Has, HasNoPlace, IsRead, IsUnreadFor, nothing, parts_of, then_happen, with_last};
 ghost use Rattle.round_scripts.specs.declared.script_line.ScriptLine.TheVariants as line;
 

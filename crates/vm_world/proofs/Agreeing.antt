@@ -13,12 +13,12 @@ use Rattle.vm_model.specs.HonestRounds.{Attempted, IsOneRun, IsToldOn}
 use Rattle.vm_model.proofs.Lasting.{commands-append}
 use Rattle.vm_model.proofs.Honesty.{attempts_agree}
 use Rattle.vm_rounds.proofs.Replayed.{head_same}
-use Rattle.vm_world.specs.declared.types.Round.{Round}
-use Rattle.vm_world.specs.declared.types.Setting.{Setting}
+use Rattle.vm_store.specs.declared.types.Round.{Round}
+use Rattle.vm_store.specs.declared.types.Setting.{Setting}
 use Rattle.vm_world.specs.Courses.{attempt_of}
-use Rattle.vm_world.specs.Entries.{entries_of}
+use Rattle.vm_store.specs.Entries.{entries_of}
 use Rattle.vm_world.specs.Rounds.{Agree, Replays, ReportView, RoundDoes, RoundsDo, TellsAlong}
-use Rattle.vm_world.specs.Worlds.{IsJournal, setup_of}
+use Rattle.vm_store.specs.Worlds.{IsJournal, setup_of}
 use Rattle.vm_world.proofs.Rounding.{HandsOut, Lasts, entries_grow, round_gives, round_grows, round_honest, round_lasts, rounds_grow}
 
 -- an attempt over a journal that has grown, and what the journal told before

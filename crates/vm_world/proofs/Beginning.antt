@@ -10,12 +10,12 @@ use Rattle.vm_parts.specs.declared.options.VMOptions.{VMOptions}
 use Rattle.vm_model.specs.Calls.{Meaning}
 use Rattle.vm_steps.specs.Record.{Record}
 use Rattle.vm_steps.specs.Stepping.{fresh_record}
-use Rattle.vm_world.specs.declared.types.Round.{Round}
-use Rattle.vm_world.specs.declared.types.RoundFault.{RoundFault}
-use Rattle.vm_world.specs.declared.types.RoundFault.TheVariants as round_fault
-use Rattle.vm_world.specs.declared.types.Setting.{Setting}
+use Rattle.vm_store.specs.declared.types.Round.{Round}
+use Rattle.vm_store.specs.declared.types.RoundFault.{RoundFault}
+use Rattle.vm_store.specs.declared.types.RoundFault.TheVariants as round_fault
+use Rattle.vm_store.specs.declared.types.Setting.{Setting}
 use Rattle.vm_world.specs.Rounds.{HappenFaults, IsShort, Ran, ReportView, RoundDoes, RoundFaults, begin, new_now}
-use Rattle.vm_world.specs.Worlds.{IsJournal, start_message}
+use Rattle.vm_store.specs.Worlds.{IsJournal, start_message}
 use Rattle.vm_world.proofs.Rounding.{short_all}
 
 begun_is : (w : Setting) (round : Round) (old : List (List ℕ)) (alloc : Global) (waiting : List ℕ) (r : Record) → waiting ≡ encoding (start_message w round old) ++ concat old → r ≡ fresh_record (made alloc w.options w.version) → new_now w.version old waiting r ≡ begin alloc w round old

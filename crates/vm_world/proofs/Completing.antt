@@ -15,10 +15,10 @@ use Rattle.vm_model.specs.Journal.{input_read_from, notifications_in}
 use Rattle.vm_model.specs.Histories.{History, Told}
 use Rattle.vm_model.proofs.Carried.{completions_once, input_carries, typed}
 use Rattle.vm_rounds.proofs.Replayed.{commands_same, head_same, notes_same, tail_same}
-use Rattle.vm_world.specs.Entries.{entries_of, frames_in, notes_in}
+use Rattle.vm_store.specs.Entries.{entries_of, frames_in, notes_in}
 use Rattle.vm_world.specs.Rounds.{CompletesOnce}
-use Rattle.vm_world.specs.Worlds.{IsJournal}
-use Rattle.vm_world.proofs.Framing.{notes_are}
+use Rattle.vm_store.specs.Worlds.{IsJournal}
+use Rattle.vm_store.proofs.Framing.{notes_are}
 use Rattle.vm_world.proofs.Inputs.{input_type}
 use Rattle.vm_world.proofs.Once.{come_once}
 

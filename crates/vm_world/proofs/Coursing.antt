@@ -25,13 +25,13 @@ use Rattle.vm_rounds.proofs.Finishing.{acknowledged_more}
 use Rattle.vm_rounds.proofs.Pieces.{commands_append, more_frames}
 use Rattle.vm_rounds.proofs.Proposed.{arriving_append, arriving_more, arriving_notified, found_append, kept_all, none_found}
 use Rattle.vm_rounds.proofs.Replayed.{commands_same, notes_same}
-use Rattle.vm_world.specs.declared.types.Event.{Event}
-use Rattle.vm_world.specs.declared.types.Event.TheVariants as event
+use Rattle.vm_store.specs.declared.types.Event.{Event}
+use Rattle.vm_store.specs.declared.types.Event.TheVariants as event
 use Rattle.vm_world.specs.Courses.{brought_by, course_of, delivered, new_in}
-use Rattle.vm_world.specs.Entries.{entries_of, frames_in, notes_in}
+use Rattle.vm_store.specs.Entries.{entries_of, frames_in, notes_in}
 use Rattle.vm_world.specs.Rounds.{Happen, Happens, Now, Pieces}
-use Rattle.vm_world.specs.Worlds.{IsJournal}
-use Rattle.vm_world.proofs.Framing.{AreFrames, entries_append, join, journal_acknowledges, journal_framed, notes_are}
+use Rattle.vm_store.specs.Worlds.{IsJournal}
+use Rattle.vm_store.proofs.Framing.{AreFrames, entries_append, join, journal_acknowledges, journal_framed, notes_are}
 use Rattle.vm_world.proofs.Going.{IsOpen, Stepped, Takes, closes, fed, finishes, prefix_then, same_prefix, stepped}
 use Rattle.vm_world.proofs.Keeping.{Going, event_keeps, one_note}
 use Rattle.vm_world.proofs.Once.{is_new}

@@ -16,10 +16,10 @@ use Rattle.vm_model.specs.Moves.{start}
 use Rattle.vm_model.specs.Histories.{Knowledge}
 use Rattle.vm_model.specs.HonestRounds.{IsOneRun}
 use Rattle.vm_rounds.specs.Journals.{as_entries, notified_by}
-use Rattle.vm_world.specs.Completions.{CompleteOnce}
-use Rattle.vm_world.specs.Entries.{entries_of, frame_in, framed_by, may_stand, note_of, read_from}
-use Rattle.vm_world.specs.Worlds.{IsJournal}
-use Rattle.vm_world.proofs.Framing.{frame_back}
+use Rattle.vm_store.specs.Completions.{CompleteOnce}
+use Rattle.vm_store.specs.Entries.{entries_of, frame_in, framed_by, may_stand, note_of, read_from}
+use Rattle.vm_store.specs.Worlds.{IsJournal}
+use Rattle.vm_store.proofs.Framing.{frame_back}
 
 first_frame : (i : InputCommand) → IsWhole (message.Input i) → frame_in (encoding (message.Input i)) ≡ Some (stored_form (message.Input i))
 first_frame i whole = frame_back (stored_form (message.Input i)) whole.1

@@ -12,13 +12,13 @@ use Rattle.vm_model.specs.Histories.{Handed, IsPrefix, Knowledge, Made}
 use Rattle.vm_model.specs.HonestRounds.{Attempted, HonestRound, IsOneRun, IsToldOn}
 use Rattle.vm_rounds.specs.Journals.{commands_among, setup_for}
 use Rattle.vm_rounds.specs.Told.{AnswersAreTold, IsKept, written_by}
-use Rattle.vm_world.specs.declared.types.Setting.{Setting}
+use Rattle.vm_store.specs.declared.types.Setting.{Setting}
 use Rattle.vm_world.specs.Courses.{delivered, given_by}
-use Rattle.vm_world.specs.Entries.{entries_of}
+use Rattle.vm_store.specs.Entries.{entries_of}
 use Rattle.vm_world.specs.Rounds.{EndsTold, Now, Replays}
-use Rattle.vm_world.specs.Worlds.{IsJournal}
+use Rattle.vm_store.specs.Worlds.{IsJournal}
 use Rattle.vm_world.proofs.Coursing.{Along, behind_commands, behind_first, delivered_arrived, stored_among}
-use Rattle.vm_world.proofs.Framing.{AreFrames, entries_append}
+use Rattle.vm_store.proofs.Framing.{AreFrames, entries_append}
 use Rattle.vm_world.proofs.Keeping.{Going}
 use Rattle.vm_world.proofs.Running.{none_two, there}
 

@@ -20,14 +20,14 @@ use Rattle.vm_steps.specs.Stepping.{taken_from}
 use Rattle.vm_rounds.specs.Told.{bytes_in}
 use Rattle.vm_rounds.proofs.Pieces.{commands_append}
 use Rattle.vm_rounds.proofs.Quiet.{proposals_append}
-use Rattle.vm_world.specs.declared.types.Event.{Event}
-use Rattle.vm_world.specs.declared.types.Event.TheVariants as event
-use Rattle.vm_world.specs.Arrivals.{arrival_fault}
-use Rattle.vm_world.specs.Entries.{AreEntries, frame_in, framed_by, frames_in, may_stand, note_in, note_of, notes_in, read_from}
+use Rattle.vm_store.specs.declared.types.Event.{Event}
+use Rattle.vm_store.specs.declared.types.Event.TheVariants as event
+use Rattle.vm_store.specs.Arrivals.{arrival_fault}
+use Rattle.vm_store.specs.Entries.{AreEntries, frame_in, framed_by, frames_in, may_stand, note_in, note_of, notes_in, read_from}
 use Rattle.vm_world.specs.Rounds.{ArrivalsDo, Happen, Happens, Now, Pieces}
-use Rattle.vm_world.specs.Storing.{Stores, stored_as, waits_behind, written_among}
-use Rattle.vm_world.specs.Worlds.{IsJournal}
-use Rattle.vm_world.proofs.Framing.{AreFrames, entry_framed, frames_append, front_grows, in_front, join, note_no_command, notes_append}
+use Rattle.vm_store.specs.Storing.{Stores, stored_as, waits_behind, written_among}
+use Rattle.vm_store.specs.Worlds.{IsJournal}
+use Rattle.vm_store.proofs.Framing.{AreFrames, entry_framed, frames_append, front_grows, in_front, join, note_no_command, notes_append}
 use Rattle.vm_world.proofs.Going.{IsOpen, Stepped, Takes, closes, fed, finishes, prefix_then, stepped}
 use Rattle.vm_world.proofs.Once.{has_room, is_new}
 use Rattle.vm_world.proofs.Settled.{Brings, answers, are_items, brings_answers, brings_note, commands_are, completion, items_enter, items_keep, note_keeps, proposal_in_item, proposals_answered, proposals_are, waits_framed}

@@ -1,5 +1,3 @@
-pub mod Framing
-pub mod Scanned
 pub mod Once
 pub mod Settled
 pub mod Going

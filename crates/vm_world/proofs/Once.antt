@@ -16,14 +16,14 @@ use Rattle.vm_model.specs.Carried.{AreCarried, ComeOnce, carried, is_among, is_c
 use Rattle.vm_model.specs.Journal.{messages_in, read_before}
 use Rattle.vm_model.proofs.Results.{results_behind, same_is}
 use Rattle.vm_rounds.specs.Journals.{commands_among}
-use Rattle.vm_world.specs.Completions.{CompleteOnce, HasNoOther, IsAbsent}
-use Rattle.vm_world.specs.declared.completions.Completes.{Completes}
-use Rattle.vm_world.specs.declared.completions.Completes.TheVariants as completes
-use Rattle.vm_world.specs.declared.types.RoundFault.{RoundFault}
-use Rattle.vm_world.specs.declared.types.RoundFault.TheVariants as round_fault
-use Rattle.vm_world.specs.Arrivals.{arrival_fault, completes_among, completes_by, completion_fault, if_same, is_completed, is_invocation_id, is_of, most, note_fault, read_fault, room_fault}
-use Rattle.vm_world.specs.Entries.{frames_in, note_in, notes_in, said_in}
-use Rattle.vm_world.proofs.Framing.{said_are}
+use Rattle.vm_store.specs.Completions.{CompleteOnce, HasNoOther, IsAbsent}
+use Rattle.vm_store.specs.declared.completions.Completes.{Completes}
+use Rattle.vm_store.specs.declared.completions.Completes.TheVariants as completes
+use Rattle.vm_store.specs.declared.types.RoundFault.{RoundFault}
+use Rattle.vm_store.specs.declared.types.RoundFault.TheVariants as round_fault
+use Rattle.vm_store.specs.Arrivals.{arrival_fault, completes_among, completes_by, completion_fault, if_same, is_completed, is_invocation_id, is_of, most, note_fault, read_fault, room_fault}
+use Rattle.vm_store.specs.Entries.{frames_in, note_in, notes_in, said_in}
+use Rattle.vm_store.proofs.Framing.{said_are}
 
 -- ---- one notification more
 

@@ -29,17 +29,17 @@ use Rattle.vm_rounds.specs.Told.{bytes_in}
 use Rattle.vm_rounds.proofs.Advanced.{made_new}
 use Rattle.vm_rounds.proofs.Coming.{made_comes}
 use Rattle.vm_rounds.proofs.Replayed.{commands_same}
-use Rattle.vm_world.specs.declared.types.Event.{Event}
-use Rattle.vm_world.specs.declared.types.Round.{Round}
-use Rattle.vm_world.specs.declared.types.RoundFault.{RoundFault}
-use Rattle.vm_world.specs.declared.types.Setting.{Setting}
+use Rattle.vm_store.specs.declared.types.Event.{Event}
+use Rattle.vm_store.specs.declared.types.Round.{Round}
+use Rattle.vm_store.specs.declared.types.RoundFault.{RoundFault}
+use Rattle.vm_store.specs.declared.types.Setting.{Setting}
 use Rattle.vm_world.specs.Courses.{AreHonest, attempt_of, attempts_of, course_of, given_by}
-use Rattle.vm_world.specs.Entries.{entries_of, frames_in, notes_in}
+use Rattle.vm_store.specs.Entries.{entries_of, frames_in, notes_in}
 use Rattle.vm_world.specs.Rounds.{AreWhole, AttemptDoes, IsShort, RefusedDoes, Replays, ReportView, RoundDoes, RoundFaults, RoundsDo, RoundsFault, begin, new_now}
-use Rattle.vm_world.specs.States.{base_of, state_of}
-use Rattle.vm_world.specs.Worlds.{IsJournal, setup_of, start_for, start_message}
+use Rattle.vm_store.specs.States.{base_of, state_of}
+use Rattle.vm_store.specs.Worlds.{IsJournal, setup_of, start_for, start_message}
 use Rattle.vm_world.proofs.Coursing.{Along, events_go_along}
-use Rattle.vm_world.proofs.Framing.{AreFrames, entries_append, one_framed, said_are, none_framed}
+use Rattle.vm_store.proofs.Framing.{AreFrames, entries_append, one_framed, said_are, none_framed}
 use Rattle.vm_world.proofs.Handing.{base_in_order, round_all, round_true}
 use Rattle.vm_world.proofs.Headline.{IsHonest, is_honest}
 use Rattle.vm_world.proofs.Inputs.{Begins, input_says, run_begins}

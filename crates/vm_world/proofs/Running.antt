@@ -38,16 +38,16 @@ use Rattle.vm_rounds.proofs.Pieces.{commands_append}
 use Rattle.vm_rounds.proofs.Proposed.{arriving_append, arriving_notified, kept_all}
 use Rattle.vm_rounds.proofs.Replayed.{commands_same, head_same, notes_same, tail_same}
 use Rattle.vm_rounds.proofs.Written.{taken_first}
-use Rattle.vm_world.specs.declared.types.Event.{Event}
-use Rattle.vm_world.specs.declared.types.Event.TheVariants as event
-use Rattle.vm_world.specs.declared.types.Setting.{Setting}
+use Rattle.vm_store.specs.declared.types.Event.{Event}
+use Rattle.vm_store.specs.declared.types.Event.TheVariants as event
+use Rattle.vm_store.specs.declared.types.Setting.{Setting}
 use Rattle.vm_world.specs.Courses.{delivered, given_by}
-use Rattle.vm_world.specs.Entries.{entries_of, frames_in, notes_in}
+use Rattle.vm_store.specs.Entries.{entries_of, frames_in, notes_in}
 use Rattle.vm_world.specs.Rounds.{Happen, Happens, Now, Pieces, Replays}
-use Rattle.vm_world.specs.Worlds.{IsJournal}
+use Rattle.vm_store.specs.Worlds.{IsJournal}
 use Rattle.vm_world.proofs.Completing.{carried_behind}
 use Rattle.vm_world.proofs.Coursing.{delivered_arrived, fed_frames, new_behind}
-use Rattle.vm_world.proofs.Framing.{AreFrames, frames_append, journal_acknowledges, journal_length, notes_append, notes_are, same_front}
+use Rattle.vm_store.proofs.Framing.{AreFrames, frames_append, journal_acknowledges, journal_length, notes_append, notes_are, same_front}
 use Rattle.vm_world.proofs.Handing.{entries_found}
 use Rattle.vm_world.proofs.Keeping.{Going, event_keeps}
 use Rattle.vm_world.proofs.Once.{come_once}

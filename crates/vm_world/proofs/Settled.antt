@@ -30,16 +30,16 @@ use Rattle.vm_rounds.proofs.Arriving.{arriving_alone, kept_none}
 use Rattle.vm_rounds.proofs.Finishing.{acknowledged_more}
 use Rattle.vm_rounds.proofs.Pieces.{commands_append}
 use Rattle.vm_rounds.proofs.Proposed.{arriving_append, arriving_more, found_append, found_more, kept_append, kept_more}
-use Rattle.vm_world.specs.declared.completions.Completes.{Completes}
-use Rattle.vm_world.specs.declared.storing.Written.{Written}
-use Rattle.vm_world.specs.declared.storing.Written.TheVariants.{Command, Proposal}
-use Rattle.vm_world.specs.declared.types.RoundFault.{RoundFault}
-use Rattle.vm_world.specs.Arrivals.{completes_among, is_completed, most, proposal_fault, proposed_fault, room_fault}
-use Rattle.vm_world.specs.Completions.{CompleteOnce}
-use Rattle.vm_world.specs.Entries.{AreEntries, frame_in, frame_of, framed_by, frames_in, may_stand, note_in, note_of, notes_in, read_from, said_in}
-use Rattle.vm_world.specs.Storing.{CanBeRead, NoneFaults, acknowledgement, answered_by, completed_by, kept_of, proposal_of, stored_as, storing_fault, waits_behind, written_among, written_before}
-use Rattle.vm_world.specs.Worlds.{IsJournal}
-use Rattle.vm_world.proofs.Framing.{AreFrames, command_no_note, entries_join, frame_back, frames_append, join, none_framed, note_acknowledges_nothing, notes_append, notes_are, one_framed}
+use Rattle.vm_store.specs.declared.completions.Completes.{Completes}
+use Rattle.vm_store.specs.declared.storing.Written.{Written}
+use Rattle.vm_store.specs.declared.storing.Written.TheVariants.{Command, Proposal}
+use Rattle.vm_store.specs.declared.types.RoundFault.{RoundFault}
+use Rattle.vm_store.specs.Arrivals.{completes_among, is_completed, most, proposal_fault, proposed_fault, room_fault}
+use Rattle.vm_store.specs.Completions.{CompleteOnce}
+use Rattle.vm_store.specs.Entries.{AreEntries, frame_in, frame_of, framed_by, frames_in, may_stand, note_in, note_of, notes_in, read_from, said_in}
+use Rattle.vm_store.specs.Storing.{CanBeRead, NoneFaults, acknowledgement, answered_by, completed_by, kept_of, proposal_of, stored_as, storing_fault, waits_behind, written_among, written_before}
+use Rattle.vm_store.specs.Worlds.{IsJournal}
+use Rattle.vm_store.proofs.Framing.{AreFrames, command_no_note, entries_join, frame_back, frames_append, join, none_framed, note_acknowledges_nothing, notes_append, notes_are, one_framed}
 use Rattle.vm_world.proofs.Once.{IsNew, absent, carried_more, completed_carried, not_most, once_more}
 
 -- ---- the commands and proposals that were stored

@@ -13,12 +13,12 @@ use Rattle.vm_model.specs.Journal.{Entry, Recorded, Notified}
 use Rattle.journal_errors.specs.declared.version.Version.{Version}
 use Rattle.vm_steps.specs.Record.{Record, heard}
 use Rattle.vm_rounds.specs.Told.{arrivals_of, written_by}
-use Rattle.vm_world.specs.declared.types.Event.{Event}
-use Rattle.vm_world.specs.declared.types.Round.{Round}
-use Rattle.vm_world.specs.declared.types.Setting.{Setting}
-use Rattle.vm_world.specs.Entries.{entries_of, notes_in}
+use Rattle.vm_store.specs.declared.types.Event.{Event}
+use Rattle.vm_store.specs.declared.types.Round.{Round}
+use Rattle.vm_store.specs.declared.types.Setting.{Setting}
+use Rattle.vm_store.specs.Entries.{entries_of, notes_in}
 use Rattle.vm_world.specs.Rounds.{Happen, Now, ReportView, RoundDoes, RoundsDo, begin}
-use Rattle.vm_world.specs.Worlds.{setup_of, start_for}
+use Rattle.vm_store.specs.Worlds.{setup_of, start_for}
 
 -- The notifications that an attempt was fed behind those of its journal; an acknowledgement stands as the completion of its run.
 abbrev pub delivered : Version → List (List ℕ) → Record → List Notification

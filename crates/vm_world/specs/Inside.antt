@@ -1,7 +1,7 @@
 -- What the fields of a round on its way say.
 use Rattle.vm_steps.specs.Record.{Record}
 use Rattle.vm_world.specs.declared.desk.Desk.{Desk}
-use Rattle.vm_world.specs.declared.types.Report.{Report}
+use Rattle.vm_store.specs.declared.types.Report.{Report}
 use Rattle.vm_world.specs.Rounds.{Now, ReportView}
 
 -- a round on its way

@@ -1,10 +1,3 @@
-pub mod Entries
-pub mod States
-pub mod Arrivals
-pub mod Completions
-pub mod Storing
-pub mod NextFrames
-pub mod Worlds
 pub mod Rounds
 pub mod Courses
 pub mod Inside

@@ -26,16 +26,16 @@ use Rattle.vm_steps.specs.Heard.{proposals_in}
 use Rattle.vm_steps.specs.Record.{Record, bytes_written, heard}
 use Rattle.vm_rounds.specs.Told.{AnswersAreTold, Premises, written_by}
 use Rattle.vm_steps.specs.Stepping.{CloseDoes, FeedDoes, FinishDoes, StepDoes, fresh_record, taken_from}
-use Rattle.vm_world.specs.declared.types.Event.{Event}
-use Rattle.vm_world.specs.declared.types.Event.TheVariants as event
-use Rattle.vm_world.specs.declared.types.Round.{Round}
-use Rattle.vm_world.specs.declared.types.RoundFault.{RoundFault}
-use Rattle.vm_world.specs.declared.types.RoundFault.TheVariants as round_fault
-use Rattle.vm_world.specs.declared.types.Setting.{Setting}
-use Rattle.vm_world.specs.Arrivals.{arrival_fault, most}
-use Rattle.vm_world.specs.Entries.{entries_of}
-use Rattle.vm_world.specs.Storing.{FirstFault, Stores, written_from}
-use Rattle.vm_world.specs.Worlds.{start_message}
+use Rattle.vm_store.specs.declared.types.Event.{Event}
+use Rattle.vm_store.specs.declared.types.Event.TheVariants as event
+use Rattle.vm_store.specs.declared.types.Round.{Round}
+use Rattle.vm_store.specs.declared.types.RoundFault.{RoundFault}
+use Rattle.vm_store.specs.declared.types.RoundFault.TheVariants as round_fault
+use Rattle.vm_store.specs.declared.types.Setting.{Setting}
+use Rattle.vm_store.specs.Arrivals.{arrival_fault, most}
+use Rattle.vm_store.specs.Entries.{entries_of}
+use Rattle.vm_store.specs.Storing.{FirstFault, Stores, written_from}
+use Rattle.vm_store.specs.Worlds.{start_message}
 
 -- ---- a round on its way
 

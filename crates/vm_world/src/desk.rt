@@ -1,14 +1,11 @@
 //! A round on its way, and its events one by one.
 ghost use Rattle.std.specs.Prelude.{◌≡◌, ◌⊎◌, [], ◌∷◌, ◌++◌, drop, take, Some, None, IfOk, IfErr, OnOk};
-ghost use Rattle.vm_world.specs.Arrivals.{arrival_fault};
+ghost use Rattle.vm_store.specs.Arrivals.{arrival_fault};
 ghost use Rattle.vm_world.specs.Rounds.{first_error, memory_of, Happens, Outcome};
-ghost use Rattle.vm_world.specs.declared.types.Event.TheVariants as event;
-ghost use Rattle.vm_world.specs.declared.types.RoundFault.TheVariants as round_fault;
+ghost use Rattle.vm_store.specs.declared.types.Event.TheVariants as event;
+ghost use Rattle.vm_store.specs.declared.types.RoundFault.TheVariants as round_fault;
 ghost use Rattle.vm_world.specs.Inside.{the_now};
 
-use crate::arrival_faults::arrival_fault;
-use crate::storing::store_from;
-use crate::types::{Event, RoundFault};
 use bytes::{Bytes, BytesMut};
 use journal_errors::{Error, NamedFault, Version};
 use journal_streams::Decoder;
@@ -17,6 +14,9 @@ use runs::RunExitResult;
 use std::alloc::{AllocError, Global};
 use vm_parts::NotificationHandle;
 use vm_rounds::{Attempt, Handler};
+use vm_store::arrival_faults::arrival_fault;
+use vm_store::storing::store_from;
+use vm_store::types::{Event, RoundFault};
 
 /// A round on its way, but for its attempt.
 #[derive(Drop)]

@@ -3,19 +3,12 @@
 #![tactic(auto)]
 
 mod answers;
-mod arrival_faults;
-mod completions;
 mod content_type;
 mod desk;
-mod entry;
-mod handed;
 mod round;
 mod rounds;
-mod storing;
-mod types;
-mod values;
 mod world;
 
 pub use rounds::run_rounds;
-pub use types::{Event, Identity, Report, Round, RoundFault, Setting};
+pub use vm_store::types::{Event, Identity, Report, Round, RoundFault, Setting};
 pub use world::World;

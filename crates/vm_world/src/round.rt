@@ -5,23 +5,23 @@ ghost use Rattle.journal_messages.specs.Message.{encoding};
 ghost use Rattle.journal_messages.specs.Message.{IsWhole};
 ghost use Rattle.invocation_vm.specs.Making.{made, supported};
 ghost use Rattle.vm_steps.specs.Stepping.{fresh_record};
-ghost use Rattle.vm_world.specs.Arrivals.{most};
+ghost use Rattle.vm_store.specs.Arrivals.{most};
 ghost use Rattle.vm_world.specs.Inside.{the_now, report_view};
 ghost use Rattle.vm_world.specs.Rounds.{new_now, report_of, ArrivalsDo, ArrivalsFault, EndsTold, Happen, HappenFaults, IsRefusal, IsShort, Ran, RefusedDoes, RefusedFaults, RoundDoes, RoundFaults};
-ghost use Rattle.vm_world.specs.Worlds.{IsJournal, start_message};
-ghost use Rattle.vm_world.specs.declared.types.RoundFault.TheVariants as round_fault;
+ghost use Rattle.vm_store.specs.Worlds.{IsJournal, start_message};
+ghost use Rattle.vm_store.specs.declared.types.RoundFault.TheVariants as round_fault;
 
 use crate::answers::copy_answers;
 use crate::content_type::ContentType;
 use crate::desk::{Desk, arrive_in, happen};
-use crate::handed::start_bytes;
-use crate::types::{Event, Report, Round, RoundFault, Setting};
 use bytes::{Bytes, BytesMut};
 use invocation_vm::VMResult;
 use journal_errors::{Error, Version};
 use journal_streams::Decoder;
 use std::alloc::{AllocError, Global};
 use vm_rounds::{Attempt, Handler};
+use vm_store::handed::start_bytes;
+use vm_store::types::{Event, Report, Round, RoundFault, Setting};
 
 /// All of the journal waits.
 fn wait_all(waiting: &mut BytesMut, journal: &[Bytes]) -> Result<(), AllocError>

@@ -3,16 +3,16 @@ ghost use Rattle.std.specs.Prelude.{◌≡◌, ◌∷◌, [], ◌++◌, map, IfO
 ghost use Rattle.vm_model.specs.Histories.{History, Honest, IsPrefix, Whole};
 ghost use Rattle.vm_model.specs.HonestRounds.{IsOneRun};
 ghost use Rattle.vm_world.specs.Courses.{AreHonest};
-ghost use Rattle.vm_world.specs.Entries.{entries_of};
+ghost use Rattle.vm_store.specs.Entries.{entries_of};
 ghost use Rattle.vm_world.specs.Inside.{report_view};
 ghost use Rattle.vm_world.specs.Rounds.{Agree, AreWhole, CompletesOnce, Replays, RoundsDo, RoundsFault};
-ghost use Rattle.vm_world.specs.States.{base_of};
-ghost use Rattle.vm_world.specs.Worlds.{setup_of};
+ghost use Rattle.vm_store.specs.States.{base_of};
+ghost use Rattle.vm_store.specs.Worlds.{setup_of};
 
 use crate::round::run_round;
-use crate::types::{Report, Round, RoundFault};
 use crate::world::World;
 use vm_rounds::Handler;
+use vm_store::types::{Report, Round, RoundFault};
 
 /// Keeps a report, if there is memory.
 fn keep_report(reports: &mut Vec<Report>, report: Report) -> bool

@@ -3,9 +3,8 @@ ghost use Rattle.std.specs.Prelude.{◌≡◌, [], ◌∷◌, IfOk, OnOk};
 ghost use Rattle.journal_messages.specs.Message.{encoding};
 ghost use Rattle.journal_messages.specs.Message.{IsWhole};
 ghost use Rattle.journal_messages.specs.declared.message.Message.TheVariants as message;
-ghost use Rattle.vm_world.specs.Worlds.{pairs_given};
+ghost use Rattle.vm_store.specs.Worlds.{pairs_given};
 
-use crate::types::{Identity, RoundFault, Setting};
 use bytes::Bytes;
 use journal_attempt::InputCommand;
 use journal_errors::Version;
@@ -13,6 +12,7 @@ use journal_messages::{Encoder, Message};
 use std::alloc::{AllocError, Global};
 use std::marker::Model;
 use vm_parts::VMOptions;
+use vm_store::types::{Identity, RoundFault, Setting};
 use wire::{Items, Text};
 
 /// An invocation: what all its attempts are made with, and the journal, one frame an entry.
@@ -24,7 +24,7 @@ pub struct World {
 }
 
 impl Model for World {
-    ghost use Rattle.vm_world.specs.Worlds.{IsJournal, WorldView};
+    ghost use Rattle.vm_store.specs.Worlds.{IsJournal, WorldView};
 
     ghost Value = { WorldView };
 
@@ -86,10 +86,10 @@ impl World {
     ghost use Rattle.vm_model.specs.Calls.{Meaning};
     ghost use Rattle.vm_model.specs.Histories.{Honest, Whole};
     ghost use Rattle.vm_model.specs.HonestRounds.{IsOneRun};
-    ghost use Rattle.vm_world.specs.Entries.{entries_of};
-    ghost use Rattle.vm_world.specs.States.{base_of};
-    ghost use Rattle.vm_world.specs.Worlds.{setup_of};
-    ghost use Rattle.vm_world.specs.declared.types.RoundFault.TheVariants as round_fault;
+    ghost use Rattle.vm_store.specs.Entries.{entries_of};
+    ghost use Rattle.vm_store.specs.States.{base_of};
+    ghost use Rattle.vm_store.specs.Worlds.{setup_of};
+    ghost use Rattle.vm_store.specs.declared.types.RoundFault.TheVariants as round_fault;
 
     /// A world whose journal is one Input command, with this state before any command; of several pairs of one key the last
     /// counts.

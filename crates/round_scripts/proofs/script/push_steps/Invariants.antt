@@ -1,5 +1,5 @@
 use Rattle.std.proofs.Common.{◌≡◌, replicate}
-use Rattle.vm_world.specs.declared.types.Event.TheVariants as event
+use Rattle.vm_store.specs.declared.types.Event.TheVariants as event
 use Rattle.round_scripts.specs.Scripts.{then_happen}
 use Rattle.round_scripts.proofs.script.push_steps.Given as goal
 

@@ -1,6 +1,6 @@
 use Rattle.std.proofs.Common.{ℕ, List, drop}
 use Rattle.vm_world.specs.Rounds.{ArrivalsDo, ArrivalsFault}
-use Rattle.vm_world.specs.declared.types.RoundFault.{RoundFault}
+use Rattle.vm_store.specs.declared.types.RoundFault.{RoundFault}
 use Rattle.vm_world.proofs.round.arrive_all.Given as goal
 
 abbrev pub invariant-loop-event : goal.invariant-loop-event

@@ -1,6 +1,6 @@
 use Rattle.std.proofs.Common.{◌≡◌, drop}
 use Rattle.vm_world.specs.Rounds.{Now, Happen, HappenFaults}
-use Rattle.vm_world.specs.declared.types.RoundFault.{RoundFault}
+use Rattle.vm_store.specs.declared.types.RoundFault.{RoundFault}
 use Rattle.vm_world.specs.Inside.{the_now}
 use Rattle.vm_world.proofs.round.happen_all.Given as goal
 

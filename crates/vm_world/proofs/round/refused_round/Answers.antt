@@ -1,5 +1,5 @@
 use Rattle.std.proofs.Common.{◌≤◌, length, arith}
-use Rattle.vm_world.specs.Arrivals.{most}
+use Rattle.vm_store.specs.Arrivals.{most}
 use Rattle.vm_world.proofs.Keeping.{arrivals_keep}
 use Rattle.vm_world.proofs.round.refused_round.Goals as goal
 

@@ -1,8 +1,8 @@
 use Rattle.std.proofs.Common.{◌≡◌, ◌⊎◌, inr, subst}
 use Rattle.vm_world.specs.Inside.{report_view}
 use Rattle.vm_world.specs.Rounds.{HappenFaults, Ran, RefusedDoes, RoundDoes, RoundFaults, new_now}
-use Rattle.vm_world.specs.declared.types.RoundFault.TheVariants as round_fault
-use Rattle.vm_world.specs.Worlds.{IsJournal}
+use Rattle.vm_store.specs.declared.types.RoundFault.TheVariants as round_fault
+use Rattle.vm_store.specs.Worlds.{IsJournal}
 use Rattle.vm_world.proofs.Beginning.{if_err_then, if_ok_then, round_does, round_faults, round_short}
 use Rattle.vm_world.proofs.Rounding.{round_grows}
 use Rattle.vm_world.proofs.round.run_round.Goals as goal

@@ -2,7 +2,7 @@ use Rattle.std.proofs.Common.{◌+◌, arith, map, take, drop, ap, subst, inl, r
 use Rattle.std.proofs.lemmas.List.{take_all}
 use Rattle.vm_world.specs.Rounds.{RoundDoes, RoundFaults, RoundsDo}
 use Rattle.vm_world.specs.Inside.{report_view}
-use Rattle.vm_world.specs.Worlds.{IsJournal, WorldView}
+use Rattle.vm_store.specs.Worlds.{IsJournal, WorldView}
 use Rattle.vm_world.proofs.Agreeing.{rounds_agree}
 use Rattle.vm_world.proofs.Completing.{completes_once}
 use Rattle.vm_world.proofs.Lists.{split_at, whole_at}

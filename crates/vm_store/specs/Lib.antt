@@ -1,0 +1,7 @@
+pub mod Entries
+pub mod States
+pub mod Arrivals
+pub mod Completions
+pub mod Storing
+pub mod NextFrames
+pub mod Worlds

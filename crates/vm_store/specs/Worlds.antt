@@ -1,0 +1,63 @@
+-- A world: whose invocation it is, and its journal; and the Start of each round.
+use Rattle.std.specs.Prelude.{◌≤◌, ℕ, List, [], length, map, false, string_bytes}
+use Rattle.std.proofs.Common.{Global}
+use Rattle.std.specs.declared.string.String.{String}
+use Rattle.journal_messages.specs.declared.message.Message.{Message}
+use Rattle.journal_messages.specs.declared.message.Message.TheVariants as message
+use Rattle.journal_attempt.specs.declared.start.Start.{Start}
+use Rattle.vm_model.specs.Calls.{Setup}
+use Rattle.vm_model.specs.Carried.{AreCarried}
+use Rattle.vm_rounds.specs.Journals.{commands_among, setup_for}
+use Rattle.vm_store.specs.Completions.{CompleteOnce}
+use Rattle.vm_store.specs.declared.types.Identity.{Identity}
+use Rattle.vm_store.specs.declared.types.Round.{Round}
+use Rattle.vm_store.specs.declared.types.Setting.{Setting}
+use Rattle.vm_store.specs.Arrivals.{most}
+use Rattle.vm_store.specs.Entries.{AreEntries, frames_in, notes_in}
+use Rattle.vm_store.specs.States.{pairs_for}
+
+-- a world: what all its attempts are made with, and the journal, one frame an entry
+pub record WorldView : Type 0 where
+  pub setting : Setting
+  pub journal : List (List ℕ)
+
+-- Each of the bytes is an entry, they are no more than may be, no completion has two results, and each is of an id that a command
+-- carries.
+pub record IsJournal (journal : List (List ℕ)) : Type 0 where
+  pub entries : AreEntries journal
+  pub short : length journal ≤ most
+  pub once : CompleteOnce (notes_in journal)
+  pub carried : AreCarried (notes_in journal) (commands_among (frames_in journal))
+
+-- keys and values, the keys as their bytes
+abbrev pub pairs_given : List (String Global × List ℕ) → List (List ℕ × List ℕ)
+pairs_given state = map (λ p. (string_bytes p.0, p.1)) state
+
+-- the Start of an attempt
+abbrev pub start_of : Identity → List (List ℕ × List ℕ) → Round → ℕ → Start
+start_of i state round known = record {
+  id = i.id;
+  debug_id = i.debug_id;
+  key = i.key;
+  known_entries = known;
+  state = state;
+  partial = round.partial;
+  retry_count = round.retry_count;
+  duration = round.duration;
+  random_seed = i.random_seed;
+  scope = i.scope;
+  limit_key = i.limit_key;
+  idempotency_key = i.idempotency_key;
+}
+
+-- the Start of a round over a journal
+abbrev pub start_for : Setting → Round → List (List ℕ) → Start
+start_for w round journal = start_of w.identity (pairs_for w round journal) round (length journal)
+
+-- the same as a message
+abbrev pub start_message : Setting → Round → List (List ℕ) → Message
+start_message w round journal = message.Start (start_for w round journal)
+
+-- what all attempts of a world are made with, as a run is told it
+abbrev pub setup_of : Setting → Setup
+setup_of w = setup_for w.version w.options (start_of w.identity [] (record { partial = false; keys = []; retry_count = 0; duration = 0; events = [] }) 0)

@@ -1,0 +1,107 @@
+//! The entries of a journal, which are stored as frames.
+ghost use Rattle.std.specs.Prelude.{◌≡◌, IfOk};
+ghost use Rattle.vm_rounds.specs.Journals.{is_command, is_notification};
+ghost use Rattle.vm_store.specs.Entries.{frame_in, frame_of, note_in, note_of, said_at, said_by};
+
+use bytes::Bytes;
+use journal_messages::{Message, RawMessage};
+use journal_streams::Decoder;
+use journal_values::Notification;
+use std::alloc::{AllocError, Global};
+use wire::{Fault, Wire};
+
+/// Whether the frame is one of a command.
+pub fn is_command(raw: &RawMessage) -> bool
+    ensures { result ≡ is_command raw.now }
+{
+    let number = raw.ty.number();
+    10 <= number && number < 30
+}
+
+/// Whether the frame is one of a notification.
+fn is_notification(raw: &RawMessage) -> bool
+    ensures { result ≡ is_notification raw.now }
+{
+    raw.ty.number() == 30
+}
+
+/// The frame's bytes.
+#[tactic(auto, unfolding(wire::specs::Format::bytes))]
+pub fn frame_bytes(alloc: Global, raw: &RawMessage) -> Result<Bytes, AllocError>
+    ensures { IfOk result (λ b. b ≡ frame_of raw.now) }
+{
+    let mut frame = Vec::new(alloc);
+    raw.ty.number().put(&mut frame)?;
+    raw.body.put(&mut frame)?;
+    Ok(Bytes::from_vec(frame)?)
+}
+
+/// The frame that some bytes are, if they are one whole frame and nothing more.
+fn frame_in(alloc: Global, bytes: &Bytes) -> Result<Option<RawMessage>, AllocError>
+    ensures { IfOk result (λ raw. raw ≡ frame_in bytes.now) }
+{
+    let mut decoder = Decoder::new(alloc);
+    decoder.push(bytes.clone()?)?;
+    match decoder.next_frame() {
+        Err(Fault::Memory) => Err(AllocError),
+        Err(Fault::Malformed) => Ok(None),
+        Ok(None) => Ok(None),
+        Ok(Some(raw)) => {
+            if decoder.waiting().is_empty() {
+                Ok(Some(raw))
+            } else {
+                Ok(None)
+            }
+        }
+    }
+}
+
+/// The notification that a frame is, if it is one and can be read.
+fn note_of(alloc: Global, raw: &RawMessage) -> Result<Option<Notification>, AllocError>
+    ensures { IfOk result (λ note. note ≡ note_of raw.now) }
+{
+    if !is_notification(raw) {
+        return Ok(None);
+    }
+    match raw.read_notification(alloc) {
+        Ok(note) => Ok(Some(note)),
+        Err(Fault::Memory) => Err(AllocError),
+        Err(Fault::Malformed) => Ok(None),
+    }
+}
+
+/// What a frame says, if it is one of a command and can be read.
+fn said_by(alloc: Global, raw: &RawMessage) -> Result<Option<Message>, AllocError>
+    ensures { IfOk result (λ message. message ≡ said_by raw.now) }
+{
+    if !is_command(raw) {
+        return Ok(None);
+    }
+    match raw.read(alloc) {
+        Ok(message) => Ok(Some(message)),
+        Err(Fault::Memory) => Err(AllocError),
+        Err(Fault::Malformed) => Ok(None),
+    }
+}
+
+/// The notification that an entry is, if it is one.
+pub fn note_in(alloc: Global, entry: &Bytes) -> Result<Option<Notification>, AllocError>
+    ensures { IfOk result (λ note. note ≡ note_in entry.now) }
+{
+    match frame_in(alloc, entry) {
+        Err(error) => Err(error),
+        Ok(None) => Ok(None),
+        Ok(Some(raw)) => note_of(alloc, &raw),
+    }
+}
+
+/// What an entry says, if it is a command.
+pub fn said_at(alloc: Global, entry: &Bytes) -> Result<Option<Message>, AllocError>
+    ensures { IfOk result (λ message. message ≡ said_at entry.now) }
+{
+    match frame_in(alloc, entry) {
+        Err(error) => Err(error),
+        Ok(None) => Ok(None),
+        Ok(Some(raw)) => said_by(alloc, &raw),
+    }
+}

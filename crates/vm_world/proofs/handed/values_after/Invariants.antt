@@ -1,8 +1,0 @@
-use Rattle.std.proofs.Common.{◌≡◌, drop}
-use Rattle.vm_model.specs.Moves.{changed_by}
-use Rattle.vm_world.specs.Entries.{said_in}
-use Rattle.vm_world.specs.States.{state_of}
-use Rattle.vm_world.proofs.handed.values_after.Given as goal
-
-abbrev pub invariant-loop-entry : goal.invariant-loop-entry
-invariant-loop-entry l = record { left : changed_by (said_in (drop l.entry-index l.journal)) l.values ≡ state_of l.setting l.journal }
