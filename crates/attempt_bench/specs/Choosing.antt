@@ -1,14 +1,14 @@
 -- A handler that completes an awakeable of another, waits for one of its own, and goes on by what it takes.
 use Rattle.std.specs.Prelude.{◌==◌, ℕ, false, if◌then◌else◌, List, [], length, slice_get, codes, Option, Some, None}
-use Rattle.vm_parts.specs.declared.steps.Answer.{Answer}
-use Rattle.vm_parts.specs.declared.steps.Answer.TheVariants as answer
-use Rattle.vm_parts.specs.declared.steps.Step.{Step}
-use Rattle.vm_parts.specs.declared.steps.Step.TheVariants as step
+use Rattle.vm_types.specs.declared.steps.Answer.{Answer}
+use Rattle.vm_types.specs.declared.steps.Answer.TheVariants as answer
+use Rattle.vm_types.specs.declared.steps.Step.{Step}
+use Rattle.vm_types.specs.declared.steps.Step.TheVariants as step
 use Rattle.await_trees.specs.declared.handle.NotificationHandle.{NotificationHandle}
 use Rattle.await_trees.specs.declared.tree.UnresolvedFuture.TheVariants.{Single}
-use Rattle.vm_parts.specs.declared.values.NonEmptyValue.TheVariants.{Success}
-use Rattle.vm_parts.specs.declared.values.Value.{Value}
-use Rattle.vm_parts.specs.declared.values.Value.TheVariants as value
+use Rattle.vm_types.specs.declared.values.NonEmptyValue.TheVariants.{Success}
+use Rattle.vm_types.specs.declared.values.Value.{Value}
+use Rattle.vm_types.specs.declared.values.Value.TheVariants as value
 use Rattle.attempt_bench.specs.Steps.{first_handle, sleep_step, output_step}
 
 -- the second handle that an attempt hands out

@@ -1,8 +1,8 @@
 -- A handler that changes its state before it sleeps.
 use Rattle.std.specs.Prelude.{◌==◌, false, if◌then◌else◌, List, [], length, codes, None}
-use Rattle.vm_parts.specs.declared.steps.Answer.{Answer}
-use Rattle.vm_parts.specs.declared.steps.Step.{Step}
-use Rattle.vm_parts.specs.declared.steps.Step.TheVariants as step
+use Rattle.vm_types.specs.declared.steps.Answer.{Answer}
+use Rattle.vm_types.specs.declared.steps.Step.{Step}
+use Rattle.vm_types.specs.declared.steps.Step.TheVariants as step
 use Rattle.await_trees.specs.declared.tree.UnresolvedFuture.TheVariants.{Single}
 use Rattle.attempt_bench.specs.Steps.{first_handle, sleep_step, output_step}
 

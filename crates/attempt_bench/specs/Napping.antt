@@ -1,8 +1,8 @@
 -- A handler that sleeps once, and asks whether its sleep is over before it takes the result.
 use Rattle.std.specs.Prelude.{◌==◌, if◌then◌else◌, List, [], length}
-use Rattle.vm_parts.specs.declared.steps.Answer.{Answer}
-use Rattle.vm_parts.specs.declared.steps.Step.{Step}
-use Rattle.vm_parts.specs.declared.steps.Step.TheVariants as step
+use Rattle.vm_types.specs.declared.steps.Answer.{Answer}
+use Rattle.vm_types.specs.declared.steps.Step.{Step}
+use Rattle.vm_types.specs.declared.steps.Step.TheVariants as step
 use Rattle.await_trees.specs.declared.tree.UnresolvedFuture.TheVariants.{Single}
 use Rattle.attempt_bench.specs.Steps.{first_handle, sleep_step, output_step}
 

@@ -1,9 +1,9 @@
 -- Steps that several handlers make.
 use Rattle.std.specs.Prelude.{ℕ, false, List, [], None}
-use Rattle.vm_parts.specs.declared.steps.Step.{Step}
-use Rattle.vm_parts.specs.declared.steps.Step.TheVariants as step
+use Rattle.vm_types.specs.declared.steps.Step.{Step}
+use Rattle.vm_types.specs.declared.steps.Step.TheVariants as step
 use Rattle.await_trees.specs.declared.handle.NotificationHandle.{NotificationHandle}
-use Rattle.vm_parts.specs.declared.values.NonEmptyValue.TheVariants.{Success}
+use Rattle.vm_types.specs.declared.values.NonEmptyValue.TheVariants.{Success}
 
 -- the first handle that an attempt hands out
 abbrev pub first_handle : NotificationHandle

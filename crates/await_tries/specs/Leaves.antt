@@ -2,7 +2,7 @@
 use Rattle.std.specs.Prelude.{ℕ, Option, Some, None}
 use Rattle.journal_values.specs.declared.notification.NotificationResult.{NotificationResult}
 use Rattle.journal_values.specs.declared.notification.NotificationResult.TheVariants.{Void, Value, Failure, StateKeys, InvocationId}
-use Rattle.vm_parts.specs.declared.options.SignalDelivery.{SignalDelivery}
+use Rattle.vm_types.specs.declared.options.SignalDelivery.{SignalDelivery}
 use Rattle.vm_parts.specs.Arrived.{Arrived}
 use Rattle.vm_parts.specs.Deliveries.{id_at, present_for}
 use Rattle.await_trees.specs.declared.outcome.Outcome.{Outcome}

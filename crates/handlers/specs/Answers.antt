@@ -1,15 +1,15 @@
 -- What handlers read from their answers, and what they do when they are cancelled.
 use Rattle.std.specs.Prelude.{ℕ, Bool, true, false, List, [], codes, Option, Some, None}
-use Rattle.vm_parts.specs.declared.options.PayloadOptions.{PayloadOptions}
-use Rattle.vm_parts.specs.declared.steps.Answer.{Answer}
-use Rattle.vm_parts.specs.declared.steps.Answer.TheVariants as answer
-use Rattle.vm_parts.specs.declared.steps.Step.{Step}
-use Rattle.vm_parts.specs.declared.steps.Step.TheVariants as step
+use Rattle.vm_types.specs.declared.options.PayloadOptions.{PayloadOptions}
+use Rattle.vm_types.specs.declared.steps.Answer.{Answer}
+use Rattle.vm_types.specs.declared.steps.Answer.TheVariants as answer
+use Rattle.vm_types.specs.declared.steps.Step.{Step}
+use Rattle.vm_types.specs.declared.steps.Step.TheVariants as step
 use Rattle.await_trees.specs.declared.handle.NotificationHandle.{NotificationHandle}
-use Rattle.vm_parts.specs.declared.values.NonEmptyValue.{NonEmptyValue}
-use Rattle.vm_parts.specs.declared.values.NonEmptyValue.TheVariants as non_empty
-use Rattle.vm_parts.specs.declared.values.Value.{Value}
-use Rattle.vm_parts.specs.declared.values.Value.TheVariants as value
+use Rattle.vm_types.specs.declared.values.NonEmptyValue.{NonEmptyValue}
+use Rattle.vm_types.specs.declared.values.NonEmptyValue.TheVariants as non_empty
+use Rattle.vm_types.specs.declared.values.Value.{Value}
+use Rattle.vm_types.specs.declared.values.Value.TheVariants as value
 
 -- payloads that each attempt writes the same
 abbrev pub stable : PayloadOptions

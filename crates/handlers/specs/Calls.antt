@@ -1,11 +1,11 @@
 -- Calls of other handlers, and what a handler awaits two results by.
 use Rattle.std.specs.Prelude.{ℕ, List, [], ◌∷◌, None}
-use Rattle.vm_parts.specs.declared.steps.Step.{Step}
-use Rattle.vm_parts.specs.declared.steps.Step.TheVariants as step
+use Rattle.vm_types.specs.declared.steps.Step.{Step}
+use Rattle.vm_types.specs.declared.steps.Step.TheVariants as step
 use Rattle.await_trees.specs.declared.handle.NotificationHandle.{NotificationHandle}
 use Rattle.await_trees.specs.declared.tree.UnresolvedFuture.{UnresolvedFuture}
 use Rattle.await_trees.specs.declared.tree.UnresolvedFuture.TheVariants.{Single}
-use Rattle.vm_parts.specs.declared.values.Target.{Target}
+use Rattle.vm_types.specs.declared.values.Target.{Target}
 use Rattle.handlers.specs.Answers.{stable}
 
 -- a service's handler, without a key

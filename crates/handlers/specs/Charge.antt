@@ -1,9 +1,9 @@
 -- The handler `charge`: run "charge", await it, take it, write what was taken as the output, end. When it is cancelled it
 -- writes a failure and ends.
 use Rattle.std.specs.Prelude.{◌==◌, if◌then◌else◌, List, codes, length, slice_get}
-use Rattle.vm_parts.specs.declared.steps.Answer.{Answer}
-use Rattle.vm_parts.specs.declared.steps.Step.{Step}
-use Rattle.vm_parts.specs.declared.steps.Step.TheVariants as step
+use Rattle.vm_types.specs.declared.steps.Answer.{Answer}
+use Rattle.vm_types.specs.declared.steps.Step.{Step}
+use Rattle.vm_types.specs.declared.steps.Step.TheVariants as step
 use Rattle.await_trees.specs.declared.tree.UnresolvedFuture.TheVariants.{Single}
 use Rattle.handlers.specs.Answers.{handle_of, is_cancelled, cancelled_output, output_of, stable}
 

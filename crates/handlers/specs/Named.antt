@@ -1,8 +1,8 @@
 -- The handlers that programs know by their names.
 use Rattle.std.specs.Prelude.{ℕ, if◌then◌else◌, List, nat_eq, codes, Option, Some, None}
 use Rattle.std.specs.Cmp.Lexicographic.{pointwise}
-use Rattle.vm_parts.specs.declared.steps.Answer.{Answer}
-use Rattle.vm_parts.specs.declared.steps.Step.{Step}
+use Rattle.vm_types.specs.declared.steps.Answer.{Answer}
+use Rattle.vm_types.specs.declared.steps.Step.{Step}
 use Rattle.handlers.specs.declared.named.Named.{Named}
 use Rattle.handlers.specs.declared.named.Named.TheVariants as named
 use Rattle.handlers.specs.Charge.{charge_step}

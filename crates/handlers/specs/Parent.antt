@@ -1,11 +1,11 @@
 -- The handler `parent`: call "a" and "b" of "Child" with empty inputs, await both results, take the first and the second,
 -- write the output "done", end. When it is cancelled it writes a failure and ends.
 use Rattle.std.specs.Prelude.{◌==◌, if◌then◌else◌, List, [], length, slice_get, codes}
-use Rattle.vm_parts.specs.declared.steps.Answer.{Answer}
-use Rattle.vm_parts.specs.declared.steps.Step.{Step}
-use Rattle.vm_parts.specs.declared.steps.Step.TheVariants as step
+use Rattle.vm_types.specs.declared.steps.Answer.{Answer}
+use Rattle.vm_types.specs.declared.steps.Step.{Step}
+use Rattle.vm_types.specs.declared.steps.Step.TheVariants as step
 use Rattle.await_trees.specs.declared.tree.UnresolvedFuture.TheVariants.{AllCompleted}
-use Rattle.vm_parts.specs.declared.values.NonEmptyValue.TheVariants.{Success}
+use Rattle.vm_types.specs.declared.values.NonEmptyValue.TheVariants.{Success}
 use Rattle.handlers.specs.Answers.{call_handle_of, cancelled_output, is_cancelled, stable}
 use Rattle.handlers.specs.Calls.{both, call_of}
 

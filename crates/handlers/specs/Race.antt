@@ -2,13 +2,13 @@
 -- result is there. If so take it and write it as the output; else take the sleep and write "timeout". Then end. When it
 -- is cancelled it writes a failure and ends.
 use Rattle.std.specs.Prelude.{◌==◌, if◌then◌else◌, List, [], length, slice_get, codes, None}
-use Rattle.vm_parts.specs.declared.steps.Answer.{Answer}
-use Rattle.vm_parts.specs.declared.steps.Step.{Step}
-use Rattle.vm_parts.specs.declared.steps.Step.TheVariants as step
+use Rattle.vm_types.specs.declared.steps.Answer.{Answer}
+use Rattle.vm_types.specs.declared.steps.Step.{Step}
+use Rattle.vm_types.specs.declared.steps.Step.TheVariants as step
 use Rattle.await_trees.specs.declared.handle.NotificationHandle.{NotificationHandle}
 use Rattle.await_trees.specs.declared.tree.UnresolvedFuture.TheVariants.{FirstCompleted}
-use Rattle.vm_parts.specs.declared.values.NonEmptyValue.{NonEmptyValue}
-use Rattle.vm_parts.specs.declared.values.NonEmptyValue.TheVariants.{Success}
+use Rattle.vm_types.specs.declared.values.NonEmptyValue.{NonEmptyValue}
+use Rattle.vm_types.specs.declared.values.NonEmptyValue.TheVariants.{Success}
 use Rattle.handlers.specs.Answers.{call_handle_of, cancelled_output, handle_of, input_of, is_cancelled, is_completed, output_of, stable}
 use Rattle.handlers.specs.Calls.{both, call_of}
 

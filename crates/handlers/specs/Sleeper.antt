@@ -1,11 +1,11 @@
 -- The handler `sleeper`: sleep, await it, take it, write an empty output, end. When it is cancelled it writes a failure
 -- and ends.
 use Rattle.std.specs.Prelude.{◌==◌, if◌then◌else◌, List, [], length, slice_get, None}
-use Rattle.vm_parts.specs.declared.steps.Answer.{Answer}
-use Rattle.vm_parts.specs.declared.steps.Step.{Step}
-use Rattle.vm_parts.specs.declared.steps.Step.TheVariants as step
+use Rattle.vm_types.specs.declared.steps.Answer.{Answer}
+use Rattle.vm_types.specs.declared.steps.Step.{Step}
+use Rattle.vm_types.specs.declared.steps.Step.TheVariants as step
 use Rattle.await_trees.specs.declared.tree.UnresolvedFuture.TheVariants.{Single}
-use Rattle.vm_parts.specs.declared.values.NonEmptyValue.TheVariants.{Success}
+use Rattle.vm_types.specs.declared.values.NonEmptyValue.TheVariants.{Success}
 use Rattle.handlers.specs.Answers.{handle_of, is_cancelled, cancelled_output, stable}
 
 -- the step after so many answers

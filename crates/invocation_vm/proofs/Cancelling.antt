@@ -3,8 +3,8 @@ use Rattle.std.proofs.Common.{◌≡◌, ℕ, List, [], ◌∷◌, Option, Some,
 use Rattle.await_trees.specs.declared.handle.NotificationHandle.{NotificationHandle}
 use Rattle.journal_errors.specs.declared.error.Error.{Error}
 use Rattle.vm_parts.specs.declared.run_state.TrackedCall.{TrackedCall}
-use Rattle.vm_parts.specs.declared.types.AwaitResponse.{AwaitResponse}
-use Rattle.vm_parts.specs.declared.types.AwaitResponse.TheVariants.{CancelSignalReceived}
+use Rattle.vm_types.specs.declared.types.AwaitResponse.{AwaitResponse}
+use Rattle.vm_types.specs.declared.types.AwaitResponse.TheVariants.{CancelSignalReceived}
 use Rattle.vm_parts.specs.Tracked.{if_known, invocation_ids}
 use Rattle.vm_machine.specs.declared.machine.Machine.{Machine}
 use Rattle.vm_asks.specs.Asks.{cancel_invocation_command}

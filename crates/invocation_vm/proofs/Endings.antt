@@ -12,15 +12,15 @@ use Rattle.journal_messages.specs.declared.message.Message.{Message}
 use Rattle.journal_messages.specs.declared.message.RawMessage.{RawMessage}
 use Rattle.journal_errors.specs.declared.version.Version.{Version}
 use Rattle.journal_messages.specs.Message.{encoding}
-use Rattle.vm_parts.specs.declared.command_type.CommandRelationship.{CommandRelationship}
-use Rattle.vm_parts.specs.declared.options.VMOptions.{VMOptions}
-use Rattle.vm_parts.specs.declared.types.AwaitResponse.{AwaitResponse}
-use Rattle.vm_parts.specs.declared.types.AwakeableHandle.{AwakeableHandle}
+use Rattle.vm_types.specs.declared.command_type.CommandRelationship.{CommandRelationship}
+use Rattle.vm_types.specs.declared.options.VMOptions.{VMOptions}
+use Rattle.vm_types.specs.declared.types.AwaitResponse.{AwaitResponse}
+use Rattle.vm_types.specs.declared.types.AwakeableHandle.{AwakeableHandle}
 use Rattle.await_trees.specs.declared.handle.NotificationHandle.{NotificationHandle}
 use Rattle.await_trees.specs.declared.tree.UnresolvedFuture.{UnresolvedFuture}
 use Rattle.await_trees.specs.Tree.{Tree, tree_of}
-use Rattle.vm_parts.specs.declared.values.Input.{Input}
-use Rattle.vm_parts.specs.declared.values.Value.{Value}
+use Rattle.vm_types.specs.declared.values.Input.{Input}
+use Rattle.vm_types.specs.declared.values.Value.{Value}
 use Rattle.vm_machine.specs.declared.machine.Machine.{Machine}
 use Rattle.vm_asks.specs.declared.asks.Command.{Command}
 use Rattle.vm_asks.specs.Asks.{cancel_invocation_command}

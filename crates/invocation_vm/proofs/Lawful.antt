@@ -16,7 +16,7 @@ use Rattle.await_trees.specs.Tree.{tree_of}
 use Rattle.vm_machine.specs.Awaits.{Awaits}
 use Rattle.vm_machine.specs.Cancels.{Finishes}
 use Rattle.journal_errors.specs.Errors.{no_memory}
-use Rattle.vm_parts.specs.declared.types.AwaitResponse.{AwaitResponse}
+use Rattle.vm_types.specs.declared.types.AwaitResponse.{AwaitResponse}
 use Rattle.journal_messages.specs.declared.message.Message.{Message}
 use Rattle.journal_messages.specs.declared.message.Message.TheVariants as message
 use Rattle.vm_parts.specs.Counting.{missing}

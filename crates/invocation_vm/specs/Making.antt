@@ -7,8 +7,8 @@ use Rattle.journal_errors.specs.declared.version.Version.{Version}
 use Rattle.journal_errors.specs.declared.version.Version.TheVariants.{V1, V2, V3, V4, V5, V6, V7, V8}
 use Rattle.journal_errors.specs.Errors.{named_error, no_memory}
 use Rattle.journal_errors.specs.Versions.{content_type, version_of}
-use Rattle.vm_parts.specs.declared.options.VMOptions.{VMOptions}
-use Rattle.vm_parts.specs.declared.values.ResponseHead.{ResponseHead}
+use Rattle.vm_types.specs.declared.options.VMOptions.{VMOptions}
+use Rattle.vm_types.specs.declared.values.ResponseHead.{ResponseHead}
 use Rattle.vm_machine.specs.Making.{fresh}
 use Rattle.invocation_vm.specs.Views.{View}
 

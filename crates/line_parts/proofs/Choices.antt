@@ -2,18 +2,18 @@
 use Rattle.std.proofs.Common.{◌≡◌, ◌≢◌, ◌⊎◌, inl, inr, ℕ, true, false, List, codes}
 use Rattle.wire.specs.declared.fault.Fault.{Fault}
 use Rattle.lines.specs.Readings.{Blames}
-use Rattle.vm_parts.specs.declared.options.AwaitingOnPolicy.{AwaitingOnPolicy}
-use Rattle.vm_parts.specs.declared.options.AwaitingOnPolicy.TheVariants as awaiting
-use Rattle.vm_parts.specs.declared.options.ImplicitCancellationOption.{ImplicitCancellationOption}
-use Rattle.vm_parts.specs.declared.options.ImplicitCancellationOption.TheVariants as cancellation
-use Rattle.vm_parts.specs.declared.options.JournalMismatchRetryBehavior.{JournalMismatchRetryBehavior}
-use Rattle.vm_parts.specs.declared.options.JournalMismatchRetryBehavior.TheVariants as mismatch
-use Rattle.vm_parts.specs.declared.options.JournalReplay.{JournalReplay}
-use Rattle.vm_parts.specs.declared.options.JournalReplay.TheVariants as replay
-use Rattle.vm_parts.specs.declared.options.NonDeterministicChecksOption.{NonDeterministicChecksOption}
-use Rattle.vm_parts.specs.declared.options.NonDeterministicChecksOption.TheVariants as checks
-use Rattle.vm_parts.specs.declared.options.SignalDelivery.{SignalDelivery}
-use Rattle.vm_parts.specs.declared.options.SignalDelivery.TheVariants as delivery
+use Rattle.vm_types.specs.declared.options.AwaitingOnPolicy.{AwaitingOnPolicy}
+use Rattle.vm_types.specs.declared.options.AwaitingOnPolicy.TheVariants as awaiting
+use Rattle.vm_types.specs.declared.options.ImplicitCancellationOption.{ImplicitCancellationOption}
+use Rattle.vm_types.specs.declared.options.ImplicitCancellationOption.TheVariants as cancellation
+use Rattle.vm_types.specs.declared.options.JournalMismatchRetryBehavior.{JournalMismatchRetryBehavior}
+use Rattle.vm_types.specs.declared.options.JournalMismatchRetryBehavior.TheVariants as mismatch
+use Rattle.vm_types.specs.declared.options.JournalReplay.{JournalReplay}
+use Rattle.vm_types.specs.declared.options.JournalReplay.TheVariants as replay
+use Rattle.vm_types.specs.declared.options.NonDeterministicChecksOption.{NonDeterministicChecksOption}
+use Rattle.vm_types.specs.declared.options.NonDeterministicChecksOption.TheVariants as checks
+use Rattle.vm_types.specs.declared.options.SignalDelivery.{SignalDelivery}
+use Rattle.vm_types.specs.declared.options.SignalDelivery.TheVariants as delivery
 use Rattle.line_parts.specs.VmOptions.{IsAwaiting, IsCancel, IsChecks, IsDelivery, IsMismatch, IsReplay, IsSkip}
 
 pub no_cancel : (text : List ℕ) (fault : Fault) → text ≢ codes "calls" → text ≢ codes "none" → text ≢ codes "sends" → text ≢ codes "both" → text ≢ codes "off" → Blames (IsCancel text) fault

@@ -3,8 +3,8 @@ use Rattle.std.proofs.Common.{◌≡◌, ◌≢◌, ◌<◌, ℕ, List, [], ◌�
 use Rattle.std.specs.Borrow.{Bor}
 use Rattle.std.specs.Cmp.Lexicographic.{pointwise}
 use Rattle.wire.specs.declared.fault.Fault.{Fault}
-use Rattle.vm_parts.specs.declared.command_type.CommandType.{CommandType}
-use Rattle.vm_parts.specs.declared.command_type.CommandType.TheVariants as command
+use Rattle.vm_types.specs.declared.command_type.CommandType.{CommandType}
+use Rattle.vm_types.specs.declared.command_type.CommandType.TheVariants as command
 use Rattle.lines.specs.Pieces.{AreWordsWithin}
 use Rattle.lines.specs.Readings.{Blames}
 use Rattle.line_parts.specs.Reports.{IsCommand, IsCommandAt, IsCommandName, IsType, type_name}

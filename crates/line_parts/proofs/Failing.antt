@@ -5,8 +5,8 @@ use Rattle.wire.specs.declared.fault.Fault.{Fault}
 use Rattle.wire.specs.declared.fault.Fault.TheVariants.{Malformed}
 use Rattle.lines.specs.Atoms.{IsText}
 use Rattle.lines.specs.Readings.{Blames}
-use Rattle.vm_parts.specs.declared.values.NonEmptyValue.{NonEmptyValue}
-use Rattle.vm_parts.specs.declared.values.NonEmptyValue.TheVariants as value
+use Rattle.vm_types.specs.declared.values.NonEmptyValue.{NonEmptyValue}
+use Rattle.vm_types.specs.declared.values.NonEmptyValue.TheVariants as value
 use Rattle.line_parts.specs.Values.{ArePairs, IsFailure, IsValueBehind}
 use Rattle.line_parts.specs.Words.{IsNumberOf, IsOneAtom, text_at}
 

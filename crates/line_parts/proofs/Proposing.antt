@@ -6,7 +6,7 @@ use Rattle.wire.specs.declared.fault.Fault.TheVariants.{Malformed}
 use Rattle.retries.specs.declared.policy.RetryPolicy.TheVariants as policy
 use Rattle.runs.specs.declared.types.RunExitResult.{RunExitResult}
 use Rattle.runs.specs.declared.types.RunExitResult.TheVariants as exit
-use Rattle.vm_parts.specs.declared.values.NonEmptyValue.TheVariants as value
+use Rattle.vm_types.specs.declared.values.NonEmptyValue.TheVariants as value
 use Rattle.await_trees.specs.declared.handle.NotificationHandle.{NotificationHandle}
 use Rattle.lines.specs.Readings.{Blames}
 use Rattle.line_parts.specs.Fields.{IsSet, are_named, texts}

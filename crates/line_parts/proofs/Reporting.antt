@@ -5,8 +5,8 @@ use Rattle.wire.specs.declared.fault.Fault.{Fault}
 use Rattle.wire.specs.declared.fault.Fault.TheVariants.{Malformed}
 use Rattle.journal_errors.specs.declared.error.ErrorBehavior.{ErrorBehavior}
 use Rattle.journal_errors.specs.declared.error.ErrorBehavior.TheVariants as behavior
-use Rattle.vm_parts.specs.declared.command_type.CommandRelationship.{CommandRelationship}
-use Rattle.vm_parts.specs.declared.command_type.CommandRelationship.TheVariants as relationship
+use Rattle.vm_types.specs.declared.command_type.CommandRelationship.{CommandRelationship}
+use Rattle.vm_types.specs.declared.command_type.CommandRelationship.TheVariants as relationship
 use Rattle.lines.specs.Atoms.{IsText}
 use Rattle.lines.specs.Readings.{Blames}
 use Rattle.line_parts.specs.Fields.{IsOptional, are_named, text_behind, texts}

@@ -6,10 +6,10 @@ use Rattle.std.specs.declared.time.Duration.{Duration}
 use Rattle.journal_errors.specs.declared.error.Error.{Error}
 use Rattle.journal_errors.specs.declared.error.ErrorBehavior.{ErrorBehavior}
 use Rattle.journal_errors.specs.declared.error.ErrorBehavior.TheVariants as behavior
-use Rattle.vm_parts.specs.declared.command_type.CommandType.{CommandType}
-use Rattle.vm_parts.specs.declared.command_type.CommandType.TheVariants as command
-use Rattle.vm_parts.specs.declared.command_type.CommandRelationship.{CommandRelationship}
-use Rattle.vm_parts.specs.declared.command_type.CommandRelationship.TheVariants as relationship
+use Rattle.vm_types.specs.declared.command_type.CommandType.{CommandType}
+use Rattle.vm_types.specs.declared.command_type.CommandType.TheVariants as command
+use Rattle.vm_types.specs.declared.command_type.CommandRelationship.{CommandRelationship}
+use Rattle.vm_types.specs.declared.command_type.CommandRelationship.TheVariants as relationship
 use Rattle.std.specs.Borrow.{Bor}
 use Rattle.lines.specs.Atoms.{IsText}
 use Rattle.lines.specs.Pieces.{AreWordsWithin}

@@ -6,8 +6,8 @@ use Rattle.journal_errors.specs.declared.error.Error.{Error}
 use Rattle.retries.specs.declared.policy.RetryPolicy.TheVariants as policy
 use Rattle.runs.specs.declared.types.RunExitResult.{RunExitResult}
 use Rattle.runs.specs.declared.types.RunExitResult.TheVariants as exit
-use Rattle.vm_parts.specs.declared.values.NonEmptyValue.{NonEmptyValue}
-use Rattle.vm_parts.specs.declared.values.NonEmptyValue.TheVariants as value
+use Rattle.vm_types.specs.declared.values.NonEmptyValue.{NonEmptyValue}
+use Rattle.vm_types.specs.declared.values.NonEmptyValue.TheVariants as value
 use Rattle.line_parts.specs.declared.results.Proposal.{Proposal}
 use Rattle.line_parts.specs.Fields.{IsSet, are_named, is_named, texts}
 use Rattle.line_parts.specs.Policies.{IsPolicy}

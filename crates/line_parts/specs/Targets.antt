@@ -9,8 +9,8 @@ use Rattle.journal_calls.specs.declared.invocations.InvocationTarget.{Invocation
 use Rattle.journal_calls.specs.declared.invocations.InvocationTarget.TheVariants as target
 use Rattle.journal_values.specs.declared.parts.Header.{Header}
 use Rattle.lines.specs.Atoms.{IsText}
-use Rattle.vm_parts.specs.declared.options.PayloadOptions.{PayloadOptions}
-use Rattle.vm_parts.specs.declared.values.Target.{Target}
+use Rattle.vm_types.specs.declared.options.PayloadOptions.{PayloadOptions}
+use Rattle.vm_types.specs.declared.values.Target.{Target}
 use Rattle.line_parts.specs.Fields.{IsOptional, are_named, texts}
 use Rattle.line_parts.specs.Values.{HasFlag, IsPair, IsTime, without}
 use Rattle.line_parts.specs.Words.{AreThreeTexts, AreTwoTexts, IsOneText, behind, text_at}

@@ -7,10 +7,10 @@ use Rattle.std.specs.List.{AllZip}
 use Rattle.std.specs.declared.time.Duration.{Duration}
 use Rattle.lines.specs.Atoms.{IsText}
 use Rattle.lines.specs.Pieces.{AreWordsWithin}
-use Rattle.vm_parts.specs.declared.options.PayloadOptions.{PayloadOptions}
-use Rattle.vm_parts.specs.declared.values.NonEmptyValue.{NonEmptyValue}
-use Rattle.vm_parts.specs.declared.values.NonEmptyValue.TheVariants as value
-use Rattle.vm_parts.specs.declared.values.TerminalFailure.{TerminalFailure}
+use Rattle.vm_types.specs.declared.options.PayloadOptions.{PayloadOptions}
+use Rattle.vm_types.specs.declared.values.NonEmptyValue.{NonEmptyValue}
+use Rattle.vm_types.specs.declared.values.NonEmptyValue.TheVariants as value
+use Rattle.vm_types.specs.declared.values.TerminalFailure.{TerminalFailure}
 use Rattle.line_parts.specs.declared.arguments.Extras.{Extras}
 use Rattle.line_parts.specs.Durations.{IsDuration}
 use Rattle.line_parts.specs.Fields.{IsOptional, are_named, texts}

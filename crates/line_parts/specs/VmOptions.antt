@@ -1,20 +1,20 @@
 -- The options of a `vm` line, by their words.
 use Rattle.std.specs.Prelude.{◌≡◌, ◌⊎◌, ℕ, true, false, List, [], ◌∷◌, codes}
 use Rattle.std.specs.Borrow.{Bor}
-use Rattle.vm_parts.specs.Options.{default_options}
-use Rattle.vm_parts.specs.declared.options.VMOptions.{VMOptions}
-use Rattle.vm_parts.specs.declared.options.AwaitingOnPolicy.{AwaitingOnPolicy}
-use Rattle.vm_parts.specs.declared.options.AwaitingOnPolicy.TheVariants as awaiting
-use Rattle.vm_parts.specs.declared.options.ImplicitCancellationOption.{ImplicitCancellationOption}
-use Rattle.vm_parts.specs.declared.options.ImplicitCancellationOption.TheVariants as cancellation
-use Rattle.vm_parts.specs.declared.options.JournalMismatchRetryBehavior.{JournalMismatchRetryBehavior}
-use Rattle.vm_parts.specs.declared.options.JournalMismatchRetryBehavior.TheVariants as mismatch
-use Rattle.vm_parts.specs.declared.options.JournalReplay.{JournalReplay}
-use Rattle.vm_parts.specs.declared.options.JournalReplay.TheVariants as replay
-use Rattle.vm_parts.specs.declared.options.NonDeterministicChecksOption.{NonDeterministicChecksOption}
-use Rattle.vm_parts.specs.declared.options.NonDeterministicChecksOption.TheVariants as checks
-use Rattle.vm_parts.specs.declared.options.SignalDelivery.{SignalDelivery}
-use Rattle.vm_parts.specs.declared.options.SignalDelivery.TheVariants as delivery
+use Rattle.vm_types.specs.Options.{default_options}
+use Rattle.vm_types.specs.declared.options.VMOptions.{VMOptions}
+use Rattle.vm_types.specs.declared.options.AwaitingOnPolicy.{AwaitingOnPolicy}
+use Rattle.vm_types.specs.declared.options.AwaitingOnPolicy.TheVariants as awaiting
+use Rattle.vm_types.specs.declared.options.ImplicitCancellationOption.{ImplicitCancellationOption}
+use Rattle.vm_types.specs.declared.options.ImplicitCancellationOption.TheVariants as cancellation
+use Rattle.vm_types.specs.declared.options.JournalMismatchRetryBehavior.{JournalMismatchRetryBehavior}
+use Rattle.vm_types.specs.declared.options.JournalMismatchRetryBehavior.TheVariants as mismatch
+use Rattle.vm_types.specs.declared.options.JournalReplay.{JournalReplay}
+use Rattle.vm_types.specs.declared.options.JournalReplay.TheVariants as replay
+use Rattle.vm_types.specs.declared.options.NonDeterministicChecksOption.{NonDeterministicChecksOption}
+use Rattle.vm_types.specs.declared.options.NonDeterministicChecksOption.TheVariants as checks
+use Rattle.vm_types.specs.declared.options.SignalDelivery.{SignalDelivery}
+use Rattle.vm_types.specs.declared.options.SignalDelivery.TheVariants as delivery
 use Rattle.line_parts.specs.Fields.{IsSet, are_named, texts}
 use Rattle.line_parts.specs.Words.{IsNumberOf}
 

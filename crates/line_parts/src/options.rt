@@ -1,8 +1,8 @@
 //! The options of a `vm` line.
 ghost use Rattle.std.specs.Prelude.{◌≡◌, IfErr, IfOk, codes};
 ghost use Rattle.lines.specs.Readings.{Blames};
-ghost use Rattle.vm_parts.specs.Options.{default_options};
-ghost use Rattle.vm_parts.specs.declared.options.ImplicitCancellationOption.TheVariants as cancellation;
+ghost use Rattle.vm_types.specs.Options.{default_options};
+ghost use Rattle.vm_types.specs.declared.options.ImplicitCancellationOption.TheVariants as cancellation;
 ghost use Rattle.line_parts.specs.Fields.{IsSet, are_named, texts};
 ghost use Rattle.line_parts.specs.Words.{IsNumberOf};
 ghost use Rattle.line_parts.specs.VmOptions.{AreOptions, ArePolicies, IsAwaiting, IsCancel, IsChecks, IsDelivery, IsMismatch, IsReplay, IsSkip, option_names};

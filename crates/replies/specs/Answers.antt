@@ -3,11 +3,11 @@ use Rattle.std.specs.Prelude.{ℕ, List, [], ◌++◌, Option, Some, None, codes
 use Rattle.std.specs.Fmt.{decimal}
 use Rattle.lines.specs.Atoms.{quoted}
 use Rattle.runs.specs.declared.types.RunHandle.{RunHandle}
-use Rattle.vm_parts.specs.declared.steps.Answer.{Answer}
-use Rattle.vm_parts.specs.declared.steps.Answer.TheVariants as answer
-use Rattle.vm_parts.specs.declared.types.AwakeableHandle.{AwakeableHandle}
-use Rattle.vm_parts.specs.declared.types.CallHandle.{CallHandle}
-use Rattle.vm_parts.specs.declared.values.Value.{Value}
+use Rattle.vm_types.specs.declared.steps.Answer.{Answer}
+use Rattle.vm_types.specs.declared.steps.Answer.TheVariants as answer
+use Rattle.vm_types.specs.declared.types.AwakeableHandle.{AwakeableHandle}
+use Rattle.vm_types.specs.declared.types.CallHandle.{CallHandle}
+use Rattle.vm_types.specs.declared.values.Value.{Value}
 use Rattle.replies.specs.Texts.{flag_text, input_text, value_text}
 
 -- the handles of a call: the invocation's id, and the result

@@ -5,12 +5,12 @@ use Rattle.lines.specs.Atoms.{hexed, quoted}
 use Rattle.journal_errors.specs.declared.error.Error.{Error}
 use Rattle.journal_errors.specs.declared.version.Version.{Version}
 use Rattle.journal_errors.specs.declared.version.Version.TheVariants as version
-use Rattle.vm_parts.specs.declared.steps.Answer.TheVariants as answer
-use Rattle.vm_parts.specs.declared.types.AwaitResponse.{AwaitResponse}
-use Rattle.vm_parts.specs.declared.types.AwaitResponse.TheVariants as response
-use Rattle.vm_parts.specs.declared.types.State.{State}
-use Rattle.vm_parts.specs.declared.types.State.TheVariants as state
-use Rattle.vm_parts.specs.declared.values.ResponseHead.{ResponseHead}
+use Rattle.vm_types.specs.declared.steps.Answer.TheVariants as answer
+use Rattle.vm_types.specs.declared.types.AwaitResponse.{AwaitResponse}
+use Rattle.vm_types.specs.declared.types.AwaitResponse.TheVariants as response
+use Rattle.vm_types.specs.declared.types.State.{State}
+use Rattle.vm_types.specs.declared.types.State.TheVariants as state
+use Rattle.vm_types.specs.declared.values.ResponseHead.{ResponseHead}
 use Rattle.replies.specs.declared.reply.Reply.{Reply}
 use Rattle.replies.specs.declared.reply.Reply.TheVariants as reply
 use Rattle.replies.specs.Answers.{answer_text, run_text}

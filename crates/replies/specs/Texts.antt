@@ -4,10 +4,10 @@ use Rattle.std.specs.Fmt.{decimal}
 use Rattle.std.specs.List.{flat_map}
 use Rattle.lines.specs.Atoms.{quoted}
 use Rattle.journal_values.specs.declared.parts.Header.{Header}
-use Rattle.vm_parts.specs.declared.values.Input.{Input}
-use Rattle.vm_parts.specs.declared.values.TerminalFailure.{TerminalFailure}
-use Rattle.vm_parts.specs.declared.values.Value.{Value}
-use Rattle.vm_parts.specs.declared.values.Value.TheVariants as value
+use Rattle.vm_types.specs.declared.values.Input.{Input}
+use Rattle.vm_types.specs.declared.values.TerminalFailure.{TerminalFailure}
+use Rattle.vm_types.specs.declared.values.Value.{Value}
+use Rattle.vm_types.specs.declared.values.Value.TheVariants as value
 
 -- ---- lists
 

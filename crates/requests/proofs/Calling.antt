@@ -5,9 +5,9 @@ use Rattle.std.specs.declared.time.Duration.{Duration}
 use Rattle.wire.specs.declared.fault.Fault.{Fault}
 use Rattle.lines.specs.Atoms.{IsAtom, IsText}
 use Rattle.lines.specs.Readings.{Blames}
-use Rattle.vm_parts.specs.declared.options.PayloadOptions.{PayloadOptions}
-use Rattle.vm_parts.specs.declared.steps.Step.TheVariants as step
-use Rattle.vm_parts.specs.declared.values.Target.{Target}
+use Rattle.vm_types.specs.declared.options.PayloadOptions.{PayloadOptions}
+use Rattle.vm_types.specs.declared.steps.Step.TheVariants as step
+use Rattle.vm_types.specs.declared.values.Target.{Target}
 use Rattle.requests.specs.declared.request.Call.TheVariants as call
 use Rattle.requests.specs.declared.verb.Verb.TheVariants as verb
 use Rattle.line_parts.specs.Fields.{IsOptional, are_named, texts}

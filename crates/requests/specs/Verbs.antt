@@ -5,9 +5,9 @@ use Rattle.std.specs.Borrow.{Bor}
 use Rattle.std.specs.declared.time.Duration.{Duration}
 use Rattle.lines.specs.Atoms.{IsAtom, IsText}
 use Rattle.lines.specs.Readings.{One, Two, Three}
-use Rattle.vm_parts.specs.declared.options.PayloadOptions.{PayloadOptions}
-use Rattle.vm_parts.specs.declared.values.Target.{Target}
-use Rattle.vm_parts.specs.declared.steps.Step.TheVariants as step
+use Rattle.vm_types.specs.declared.options.PayloadOptions.{PayloadOptions}
+use Rattle.vm_types.specs.declared.values.Target.{Target}
+use Rattle.vm_types.specs.declared.steps.Step.TheVariants as step
 use Rattle.await_trees.specs.declared.tree.UnresolvedFuture.{UnresolvedFuture}
 use Rattle.requests.specs.declared.request.Call.{Call}
 use Rattle.requests.specs.declared.request.Call.TheVariants as call

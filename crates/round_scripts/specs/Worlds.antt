@@ -9,7 +9,7 @@ use Rattle.lines.specs.Pieces.{AreWordsWithin}
 use Rattle.line_parts.specs.Fields.{IsOptional, IsSet, are_named, texts}
 use Rattle.line_parts.specs.VmOptions.{ArePolicies}
 use Rattle.line_parts.specs.Words.{IsNumberOf, text_at}
-use Rattle.vm_parts.specs.Options.{default_options}
+use Rattle.vm_types.specs.Options.{default_options}
 use Rattle.vm_store.specs.declared.types.Identity.{Identity}
 use Rattle.round_scripts.specs.declared.given.Given.{Given}
 

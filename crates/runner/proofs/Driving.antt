@@ -4,8 +4,8 @@ use Rattle.std.specs.Prelude.{Result, Ok, Err, IfOk, IfSome}
 use Rattle.std.specs.declared.alloc.AllocError.{AllocError}
 use Rattle.journal_errors.specs.declared.error.Error.{Error}
 use Rattle.journal_errors.specs.declared.version.Version.{Version}
-use Rattle.vm_parts.specs.Options.{default_options}
-use Rattle.vm_parts.specs.declared.options.VMOptions.{VMOptions}
+use Rattle.vm_types.specs.Options.{default_options}
+use Rattle.vm_types.specs.declared.options.VMOptions.{VMOptions}
 use Rattle.invocation_vm.specs.Making.{made}
 use Rattle.vm_steps.specs.Record.{AttemptView, Record}
 use Rattle.vm_steps.specs.Stepping.{Meaning, MakesAttempt, StepDoes, fresh_record}

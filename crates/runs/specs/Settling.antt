@@ -13,7 +13,7 @@ use Rattle.retries.specs.declared.policy.RetryPolicy.{RetryPolicy}
 use Rattle.retries.specs.Policies.{Verdict, retried, failed, paused, next_retry}
 use Rattle.vm_parts.specs.declared.context.StartInfo.{StartInfo}
 use Rattle.vm_parts.specs.declared.run_state.PendingRun.{PendingRun}
-use Rattle.vm_parts.specs.Values.{failure_message}
+use Rattle.vm_types.specs.Values.{failure_message}
 use Rattle.runs.specs.declared.types.RunExitResult.{RunExitResult}
 use Rattle.runs.specs.declared.types.RunExitResult.TheVariants as exit
 use Rattle.runs.specs.declared.settling.Settlement.{Settlement}

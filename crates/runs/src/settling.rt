@@ -11,8 +11,8 @@ use journal_values::{Failure, ValueOrFailure};
 use retries::{EntryRetryInfo, NextRetry, RetryPolicy};
 use std::alloc::{AllocError, Global};
 use std::time::Duration;
-use vm_parts::values::write_failure;
 use vm_parts::{PendingRun, StartInfo};
+use vm_types::values::write_failure;
 use wire::{Items, Text};
 
 /// What becomes of what a run came to.

@@ -3,9 +3,9 @@ use Rattle.std.proofs.Common.{◌≡◌, inr, List, ℕ, Result, Option, Global}
 use Rattle.std.specs.declared.alloc.AllocError.{AllocError}
 use Rattle.journal_errors.specs.declared.error.Error.{Error}
 use Rattle.journal_messages.specs.declared.message.RawMessage.{RawMessage}
-use Rattle.vm_parts.specs.declared.types.AwaitResponse.{AwaitResponse}
+use Rattle.vm_types.specs.declared.types.AwaitResponse.{AwaitResponse}
 use Rattle.await_trees.specs.declared.tree.UnresolvedFuture.{UnresolvedFuture}
-use Rattle.vm_parts.specs.declared.steps.Answer.TheVariants as answer
+use Rattle.vm_types.specs.declared.steps.Answer.TheVariants as answer
 use Rattle.await_trees.specs.declared.handle.NotificationHandle.{NotificationHandle}
 use Rattle.retries.specs.declared.policy.RetryPolicy.{RetryPolicy}
 use Rattle.runs.specs.declared.types.RunExitResult.{RunExitResult}

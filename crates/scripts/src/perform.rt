@@ -2,7 +2,7 @@
 ghost use Rattle.std.specs.Prelude.{◌≡◌, None, codes};
 ghost use Rattle.vm_asks.specs.Asks.{command_answer};
 ghost use Rattle.vm_machine.specs.Commands.{commanded};
-ghost use Rattle.vm_parts.specs.declared.steps.Answer.TheVariants as answer;
+ghost use Rattle.vm_types.specs.declared.steps.Answer.TheVariants as answer;
 ghost use Rattle.invocation_vm.specs.Making.{version_in};
 ghost use Rattle.invocation_vm.specs.Seen.{seen};
 ghost use Rattle.scripts.specs.Called.{Answers, Called, DoneAsAsked, StepDone, reply_of, reply_or_memory};

@@ -16,18 +16,18 @@ use Rattle.journal_calls.specs.declared.signals.Signal.TheVariants.{Index, Name}
 use Rattle.journal_calls.specs.declared.signals.SignalResult.{SignalResult}
 use Rattle.journal_calls.specs.declared.signals.SignalResult.TheVariants as sent
 use Rattle.journal_errors.specs.declared.version.Version.{Version}
-use Rattle.vm_parts.specs.declared.options.PayloadOptions.{PayloadOptions}
-use Rattle.vm_parts.specs.declared.steps.Answer.{Answer}
-use Rattle.vm_parts.specs.declared.steps.Answer.TheVariants as answer
-use Rattle.vm_parts.specs.declared.steps.Step.{Step}
-use Rattle.vm_parts.specs.declared.steps.Step.TheVariants as step
-use Rattle.vm_parts.specs.declared.types.CallHandle.{CallHandle}
+use Rattle.vm_types.specs.declared.options.PayloadOptions.{PayloadOptions}
+use Rattle.vm_types.specs.declared.steps.Answer.{Answer}
+use Rattle.vm_types.specs.declared.steps.Answer.TheVariants as answer
+use Rattle.vm_types.specs.declared.steps.Step.{Step}
+use Rattle.vm_types.specs.declared.steps.Step.TheVariants as step
+use Rattle.vm_types.specs.declared.types.CallHandle.{CallHandle}
 use Rattle.await_trees.specs.declared.handle.NotificationHandle.{NotificationHandle}
-use Rattle.vm_parts.specs.declared.types.SendHandle.{SendHandle}
-use Rattle.vm_parts.specs.declared.values.NonEmptyValue.{NonEmptyValue}
-use Rattle.vm_parts.specs.declared.values.NonEmptyValue.TheVariants.{Success, Failure}
-use Rattle.vm_parts.specs.declared.values.Target.{Target}
-use Rattle.vm_parts.specs.Values.{value_message}
+use Rattle.vm_types.specs.declared.types.SendHandle.{SendHandle}
+use Rattle.vm_types.specs.declared.values.NonEmptyValue.{NonEmptyValue}
+use Rattle.vm_types.specs.declared.values.NonEmptyValue.TheVariants.{Success, Failure}
+use Rattle.vm_types.specs.declared.values.Target.{Target}
+use Rattle.vm_types.specs.Values.{value_message}
 use Rattle.vm_asks.specs.declared.asks.AnswerKind.{AnswerKind}
 use Rattle.vm_asks.specs.declared.asks.AnswerKind.TheVariants as kind
 use Rattle.vm_asks.specs.declared.asks.Ask.{Ask}

@@ -1,18 +1,15 @@
 -- What a message asks for as a command: how errors show it, its numbers, and what it changes. One table over messages for
 -- all calls; a message that isn't named in one takes no part in it.
-use Rattle.std.specs.Prelude.{ℕ, ◌+◌, Bool, false, if◌then◌else◌, List, [], ◌∷◌, ◌++◌}
+use Rattle.std.specs.Prelude.{ℕ, ◌+◌, Bool, false, if◌then◌else◌, List, []}
 use Rattle.journal_messages.specs.declared.message.Message.{Message}
 use Rattle.journal_messages.specs.declared.message.Message.TheVariants as message
 use Rattle.journal_errors.specs.declared.types.MessageType.{MessageType}
 use Rattle.journal_errors.specs.declared.types.MessageType.TheVariants as type
 use Rattle.journal_messages.specs.Message.{type_of}
-use Rattle.runs.specs.Pending.{to_execute}
 use Rattle.vm_parts.specs.declared.context.StateMap.{StateMap}
-use Rattle.vm_parts.specs.declared.options.ImplicitCancellationOption.{ImplicitCancellationOption}
-use Rattle.vm_parts.specs.declared.run_state.PendingRun.{PendingRun}
+use Rattle.vm_types.specs.declared.options.ImplicitCancellationOption.{ImplicitCancellationOption}
 use Rattle.vm_parts.specs.declared.run_state.TrackedCall.{TrackedCall}
-use Rattle.await_trees.specs.declared.handle.NotificationHandle.{NotificationHandle}
-use Rattle.vm_parts.specs.Options.{cancels_calls, cancels_sends}
+use Rattle.vm_types.specs.Options.{cancels_calls, cancels_sends}
 use Rattle.vm_parts.specs.States.{state_set, state_cleared, all_cleared}
 use Rattle.vm_parts.specs.Tracked.{with_call}
 
@@ -83,8 +80,3 @@ is_cancelled_with option m = false
 -- the tracked calls after it, by its first handle
 abbrev pub tracked_after : ImplicitCancellationOption → Message → ℕ → List TrackedCall → List TrackedCall
 tracked_after option m handle tracked = if is_cancelled_with option m then with_call handle tracked else tracked
-
--- The pending runs after it, by its handle, its completion id and its index: a run is pending unless its result is known.
-abbrev pub runs_after : Message → NotificationHandle → ℕ → ℕ → Bool → List PendingRun → List PendingRun
-runs_after (message.Run c) handle id index known runs = if known then runs else runs ++ to_execute handle id index c.name ∷ []
-runs_after m handle id index known runs = runs

@@ -19,11 +19,11 @@ use journal_state::{ClearAllStateCommand, ClearStateCommand, SetStateCommand};
 use journal_values::ValueOrFailure;
 use std::alloc::Global;
 use std::time::Duration;
-use vm_parts::values::write_value;
 use vm_parts::{
     Answer, AttachInvocationTarget, CallHandle, NonEmptyValue, NotificationHandle, PayloadOptions,
     SendHandle, StateKey, Step, Target, UnresolvedFuture,
 };
+use vm_types::values::write_value;
 use wire::Text;
 
 /// A command that a call asks for.

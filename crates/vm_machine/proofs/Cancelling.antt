@@ -9,8 +9,8 @@ use Rattle.journal_errors.specs.declared.error.Error.{Error}
 use Rattle.journal_errors.specs.declared.faults.NamedFault.TheVariants as fault
 use Rattle.runs.specs.Pending.{is_executing_in, may_execute}
 use Rattle.vm_parts.specs.declared.run_state.PendingRun.{PendingRun}
-use Rattle.vm_parts.specs.declared.types.AwaitResponse.{AwaitResponse}
-use Rattle.vm_parts.specs.declared.types.AwaitResponse.TheVariants.{AnyCompleted, CancelSignalReceived, ExecuteRun, WaitingExternalProgress}
+use Rattle.vm_types.specs.declared.types.AwaitResponse.{AwaitResponse}
+use Rattle.vm_types.specs.declared.types.AwaitResponse.TheVariants.{AnyCompleted, CancelSignalReceived, ExecuteRun, WaitingExternalProgress}
 use Rattle.vm_parts.specs.declared.run_state.TrackedCall.{TrackedCall}
 use Rattle.vm_parts.specs.Tracked.{IsFirst, id_of_result, unresolved, with_next_id}
 use Rattle.vm_parts.proofs.Tracking.{unresolved-with_next_id}

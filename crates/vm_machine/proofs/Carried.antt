@@ -11,7 +11,7 @@ use Rattle.journal_equality.specs.HeaderEqual.{header_equal}
 use Rattle.journal_messages.specs.Message.{type_of}
 use Rattle.journal_messages.specs.Reading.{message_in}
 use Rattle.journal_errors.specs.Types.{type_number}
-use Rattle.vm_parts.specs.declared.types.AwakeableHandle.{AwakeableHandle}
+use Rattle.vm_types.specs.declared.types.AwakeableHandle.{AwakeableHandle}
 use Rattle.await_trees.specs.declared.handle.NotificationHandle.{NotificationHandle}
 use Rattle.vm_parts.specs.Counting.{missing, missing_signals, next_index}
 use Rattle.vm_machine.specs.declared.machine.Machine.{Machine}

@@ -25,8 +25,8 @@ use Rattle.vm_machine.specs.declared.machine.Machine.{Machine}
 use Rattle.await_trees.specs.Handles.{handles_of}
 use Rattle.await_trees.specs.Tree.{Tree}
 use Rattle.journal_errors.specs.declared.error.Error.{Error}
-use Rattle.vm_parts.specs.declared.types.AwaitResponse.{AwaitResponse}
-use Rattle.vm_parts.specs.declared.types.AwaitResponse.TheVariants.{ExecuteRun}
+use Rattle.vm_types.specs.declared.types.AwaitResponse.{AwaitResponse}
+use Rattle.vm_types.specs.declared.types.AwaitResponse.TheVariants.{ExecuteRun}
 use Rattle.vm_machine.specs.Phases.{is_replaying}
 use Rattle.vm_asks.specs.Versions.{is_from_v7}
 use Rattle.vm_machine.specs.Awaits.{executed, last_run, pending_in_replay, pending_on, run_at, waits_by, waits_on}

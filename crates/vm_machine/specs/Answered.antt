@@ -3,7 +3,7 @@ use Rattle.std.specs.Prelude.{Result, Ok, Err, None}
 use Rattle.journal_errors.specs.declared.error.Error.{Error}
 use Rattle.journal_errors.specs.declared.faults.NamedFault.TheVariants.{Suspended}
 use Rattle.journal_errors.specs.Errors.{named_error}
-use Rattle.vm_parts.specs.declared.types.AwaitResponse.{AwaitResponse}
+use Rattle.vm_types.specs.declared.types.AwaitResponse.{AwaitResponse}
 use Rattle.vm_machine.specs.declared.awaited.End.{End}
 use Rattle.vm_machine.specs.declared.awaited.End.TheVariants.{Responds, Suspends}
 

@@ -23,13 +23,13 @@ use Rattle.journal_values.specs.declared.notification.NotificationResult.{Notifi
 use Rattle.runs.specs.Firsts.{with_first}
 use Rattle.runs.specs.Pending.{handle_of, has_handle, is_executing, is_executing_in, may_execute, started}
 use Rattle.runs.specs.Settling.{run_command}
-use Rattle.vm_parts.specs.declared.options.AwaitingOnPolicy.{AwaitingOnPolicy}
-use Rattle.vm_parts.specs.declared.options.AwaitingOnPolicy.TheVariants as policy
+use Rattle.vm_types.specs.declared.options.AwaitingOnPolicy.{AwaitingOnPolicy}
+use Rattle.vm_types.specs.declared.options.AwaitingOnPolicy.TheVariants as policy
 use Rattle.vm_parts.specs.declared.run_state.PendingRun.{PendingRun}
-use Rattle.vm_parts.specs.declared.types.AwaitResponse.{AwaitResponse}
-use Rattle.vm_parts.specs.declared.types.AwaitResponse.TheVariants.{AnyCompleted, CancelSignalReceived, ExecuteRun, WaitingExternalProgress}
+use Rattle.vm_types.specs.declared.types.AwaitResponse.{AwaitResponse}
+use Rattle.vm_types.specs.declared.types.AwaitResponse.TheVariants.{AnyCompleted, CancelSignalReceived, ExecuteRun, WaitingExternalProgress}
 use Rattle.vm_parts.specs.Deliveries.{id_at, present_for}
-use Rattle.vm_parts.specs.Options.{ends_awaits}
+use Rattle.vm_types.specs.Options.{ends_awaits}
 use Rattle.vm_parts.specs.Tracked.{id_of_result, unresolved, with_next_id}
 use Rattle.vm_machine.specs.declared.machine.Machine.{Machine}
 use Rattle.vm_machine.specs.declared.phase.Phase.TheVariants.{Closed}

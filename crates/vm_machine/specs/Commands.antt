@@ -15,8 +15,8 @@ use Rattle.journal_equality.specs.HeaderEqual.{header_equal}
 use Rattle.journal_errors.specs.Types.{type_number}
 use Rattle.vm_parts.specs.declared.async_results.Mapping.{Mapping}
 use Rattle.vm_parts.specs.declared.context.Counters.{Counters}
-use Rattle.vm_parts.specs.declared.options.NonDeterministicChecksOption.{NonDeterministicChecksOption}
-use Rattle.vm_parts.specs.declared.options.NonDeterministicChecksOption.TheVariants as checks
+use Rattle.vm_types.specs.declared.options.NonDeterministicChecksOption.{NonDeterministicChecksOption}
+use Rattle.vm_types.specs.declared.options.NonDeterministicChecksOption.TheVariants as checks
 use Rattle.await_trees.specs.declared.handle.NotificationHandle.{NotificationHandle}
 use Rattle.vm_parts.specs.Counting.{next_index, missing}
 use Rattle.vm_parts.specs.Deliveries.{is_known}
@@ -27,7 +27,10 @@ use Rattle.vm_machine.specs.declared.phase.Phase.{Phase}
 use Rattle.vm_machine.specs.declared.phase.Phase.TheVariants.{Replaying, Processing}
 use Rattle.vm_machine.specs.Outcomes.{Outcome, Done, Failed, ◌>>=◌, Gives, about_last, refused}
 use Rattle.vm_machine.specs.Phases.{is_running, is_processing, state_fault}
-use Rattle.vm_asks.specs.Requests.{changed, ids_of, name_of, runs_after, shown_type, tracked_after, with_ids}
+use Rattle.runs.specs.Pending.{to_execute}
+use Rattle.vm_parts.specs.declared.run_state.PendingRun.{PendingRun}
+use Rattle.journal_messages.specs.declared.message.Message.TheVariants as message
+use Rattle.vm_asks.specs.Requests.{changed, ids_of, name_of, shown_type, tracked_after, with_ids}
 
 -- a command is counted, and its type and name are kept
 abbrev pub entered : MessageType → List ℕ → Machine → Machine
@@ -53,6 +56,11 @@ checks_are_off checks.Enabled = false
 -- payloads aren't compared where the options say so or the call's may differ
 abbrev pub ignores_payloads : NonDeterministicChecksOption → Bool → Bool
 ignores_payloads option unstable = checks_are_off option || unstable
+
+-- The pending runs after a command, by its handle, its completion id and its index: a run is pending unless its result is known.
+abbrev pub runs_after : Message → NotificationHandle → ℕ → ℕ → Bool → List PendingRun → List PendingRun
+runs_after (message.Run c) handle id index known runs = if known then runs else runs ++ to_execute handle id index c.name ∷ []
+runs_after m handle id index known runs = runs
 
 -- the machine is in Processing once the last recorded command is popped
 abbrev pub phase_after : List RawMessage → Phase

@@ -24,7 +24,7 @@ use Rattle.vm_parts.specs.declared.context.Counters.{Counters}
 use Rattle.vm_parts.specs.declared.context.StartInfo.{StartInfo}
 use Rattle.vm_parts.specs.declared.context.StateCoverage.{StateCoverage}
 use Rattle.vm_parts.specs.declared.context.StateCoverage.TheVariants.{Partial, Complete}
-use Rattle.vm_parts.specs.declared.values.Input.{Input}
+use Rattle.vm_types.specs.declared.values.Input.{Input}
 use Rattle.vm_parts.specs.Counting.{missing}
 use Rattle.vm_parts.specs.Entries.{entries_of}
 use Rattle.vm_machine.specs.declared.fault.Fault.{Fault}

@@ -3,8 +3,8 @@ use Rattle.std.specs.Prelude.{◌≡◌, ◌⊎◌, ℕ, ℤ, pos, negsuc, Bool,
 use Rattle.journal_errors.specs.declared.error.Error.{Error}
 use Rattle.journal_errors.specs.declared.faults.NamedFault.TheVariants as fault
 use Rattle.journal_errors.specs.Errors.{named_error, no_memory}
-use Rattle.vm_parts.specs.declared.types.State.{State}
-use Rattle.vm_parts.specs.declared.types.State.TheVariants as state
+use Rattle.vm_types.specs.declared.types.State.{State}
+use Rattle.vm_types.specs.declared.types.State.TheVariants as state
 use Rattle.vm_machine.specs.declared.machine.Machine.{Machine}
 use Rattle.vm_machine.specs.declared.phase.Phase.{Phase}
 use Rattle.vm_machine.specs.declared.phase.Phase.TheVariants.{WaitingStart, WaitingReplayEntries, Replaying, Processing, Closed}

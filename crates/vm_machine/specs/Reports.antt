@@ -5,9 +5,9 @@ use Rattle.journal_errors.specs.declared.error.ErrorBehavior.{ErrorBehavior}
 use Rattle.journal_errors.specs.declared.error.ErrorBehavior.TheVariants.{Retry, Pause, Fail}
 use Rattle.journal_errors.specs.declared.error.RelatedCommand.{RelatedCommand}
 use Rattle.journal_errors.specs.declared.faults.NamedFault.TheVariants as fault
-use Rattle.vm_parts.specs.declared.command_type.CommandRelationship.{CommandRelationship}
-use Rattle.vm_parts.specs.declared.command_type.CommandRelationship.TheVariants.{Last, Next, Specific}
-use Rattle.vm_parts.specs.CommandTypes.{message_type}
+use Rattle.vm_types.specs.declared.command_type.CommandRelationship.{CommandRelationship}
+use Rattle.vm_types.specs.declared.command_type.CommandRelationship.TheVariants.{Last, Next, Specific}
+use Rattle.vm_types.specs.CommandTypes.{message_type}
 use Rattle.vm_parts.specs.Counting.{next_index}
 use Rattle.vm_machine.specs.declared.machine.Machine.{Machine}
 use Rattle.vm_machine.specs.Outcomes.{Outcome, Failed, refused, last_related}

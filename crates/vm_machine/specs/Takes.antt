@@ -4,10 +4,10 @@ use Rattle.journal_errors.specs.declared.faults.NamedFault.TheVariants as fault
 use Rattle.journal_values.specs.declared.notification.NotificationId.{NotificationId}
 use Rattle.journal_values.specs.declared.notification.NotificationResult.{NotificationResult}
 use Rattle.vm_parts.specs.declared.run_state.TrackedCall.{TrackedCall}
-use Rattle.vm_parts.specs.declared.values.Value.{Value}
+use Rattle.vm_types.specs.declared.values.Value.{Value}
 use Rattle.vm_parts.specs.Deliveries.{id_at, has_result_for, present_for, taken_by}
 use Rattle.vm_parts.specs.Tracked.{id_of_value, noted}
-use Rattle.vm_parts.specs.Values.{value_of}
+use Rattle.vm_types.specs.Values.{value_of}
 use Rattle.vm_machine.specs.declared.machine.Machine.{Machine}
 use Rattle.vm_machine.specs.Outcomes.{Outcome, Done, refused}
 use Rattle.vm_machine.specs.Phases.{is_running, state_fault}

@@ -24,7 +24,7 @@ pub struct Awaited {
 impl Model for Awaited {
     ghost use Rattle.std.specs.Prelude.{Result};
     ghost use Rattle.journal_errors.specs.declared.error.Error.{Error};
-    ghost use Rattle.vm_parts.specs.declared.types.AwaitResponse.{AwaitResponse};
+    ghost use Rattle.vm_types.specs.declared.types.AwaitResponse.{AwaitResponse};
     ghost use Rattle.vm_machine.specs.Answered.{answered};
 
     ghost Value = { Result AwaitResponse Error };

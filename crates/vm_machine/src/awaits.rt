@@ -12,7 +12,7 @@ ghost use Rattle.runs.specs.Pending.{handle_of, is_executing, may_execute};
 ghost use Rattle.runs.specs.Settling.{run_command};
 ghost use Rattle.journal_messages.specs.declared.message.Message.TheVariants as message;
 ghost use Rattle.vm_machine.specs.Outcomes.{Gives, GivesBy};
-ghost use Rattle.vm_parts.specs.Options.{ends_awaits};
+ghost use Rattle.vm_types.specs.Options.{ends_awaits};
 ghost use Rattle.vm_parts.specs.Tracked.{id_of_result, unresolved};
 ghost use Rattle.vm_machine.specs.Awaits.{Awaits, Gathers, ReadsId, Tries, TriesOrCancels, allows, executed, has_woken, is_cancelled, is_first_of_none, last_run, or_cancelled, pending_on, result_at, run_at, says_so, waiting, waits_by};
 ghost use Rattle.vm_machine.specs.Cancels.{cancel_taken};

@@ -3,9 +3,9 @@ ghost use Rattle.std.specs.Prelude.{◌≡◌, ◌<◌, ◌+◌, ◌^◌, ◌∷
 ghost use Rattle.journal_errors.specs.Errors.{named_error};
 ghost use Rattle.journal_messages.specs.Message.{IsWhole};
 ghost use Rattle.vm_machine.specs.Outcomes.{Gives, about_last, last_related, lasting};
-ghost use Rattle.vm_machine.specs.Commands.{entered, phase_after, written, popped, replayed, carried_out, handed_out, checks_are_off, knows_next, Carries, Issues};
+ghost use Rattle.vm_machine.specs.Commands.{entered, phase_after, written, popped, replayed, carried_out, handed_out, checks_are_off, knows_next, runs_after, Carries, Issues};
 ghost use Rattle.vm_machine.specs.Phases.{is_processing};
-ghost use Rattle.vm_asks.specs.Requests.{changed, ids_of, runs_after, tracked_after};
+ghost use Rattle.vm_asks.specs.Requests.{changed, ids_of, tracked_after};
 
 use crate::fault::{Fault, refuse};
 use crate::machine::Machine;

@@ -1,6 +1,6 @@
 //! Laws of the calls, in replay as in Processing.
 ghost use Rattle.std.specs.Prelude.{◌≡◌, ℕ, Bool, true, false, find, List, [], ◌∷◌, Option, Some, None, Result};
-ghost use Rattle.vm_parts.specs.declared.types.AwakeableHandle.{AwakeableHandle};
+ghost use Rattle.vm_types.specs.declared.types.AwakeableHandle.{AwakeableHandle};
 ghost use Rattle.await_trees.specs.declared.handle.NotificationHandle.{NotificationHandle};
 ghost use Rattle.vm_machine.specs.declared.machine.Machine.{Machine};
 ghost use Rattle.vm_machine.specs.declared.phase.Phase.TheVariants.{Replaying};
@@ -9,9 +9,9 @@ ghost use Rattle.journal_errors.specs.declared.faults.NamedFault.TheVariants as 
 ghost use Rattle.journal_messages.specs.declared.message.Message.{Message};
 ghost use Rattle.journal_messages.specs.declared.message.RawMessage.{RawMessage};
 ghost use Rattle.journal_messages.specs.Reading.{message_in};
-ghost use Rattle.vm_parts.specs.declared.command_type.CommandRelationship.{CommandRelationship};
+ghost use Rattle.vm_types.specs.declared.command_type.CommandRelationship.{CommandRelationship};
 ghost use Rattle.journal_errors.specs.declared.version.Version.{Version};
-ghost use Rattle.vm_parts.specs.declared.steps.Step.{Step};
+ghost use Rattle.vm_types.specs.declared.steps.Step.{Step};
 ghost use Rattle.vm_asks.specs.declared.asks.Ask.TheVariants as ask;
 ghost use Rattle.vm_asks.specs.declared.asks.Command.{Command};
 ghost use Rattle.vm_asks.specs.Asks.{ask_of};
@@ -37,7 +37,7 @@ ghost use Rattle.runs.specs.declared.types.RunExitResult.{RunExitResult};
 ghost use Rattle.vm_machine.specs.Awaits.{Awaits};
 ghost use Rattle.vm_machine.specs.Proposals.{Acknowledges, Proposes, proposed};
 ghost use Rattle.await_trees.specs.Tree.{Tree};
-ghost use Rattle.vm_parts.specs.declared.types.AwaitResponse.{AwaitResponse};
+ghost use Rattle.vm_types.specs.declared.types.AwaitResponse.{AwaitResponse};
 
 /// The calls that change the state do so, whether their command is written or popped.
 #[tactic(auto, using(crate::proofs::Carried::issued_changes))]

@@ -16,13 +16,13 @@ use Rattle.journal_messages.specs.Reading.{message_in}
 use Rattle.journal_values.specs.declared.notification.Notification.{Notification}
 use Rattle.journal_values.specs.declared.notification.NotificationId.{NotificationId}
 use Rattle.journal_values.specs.declared.notification.NotificationResult.{NotificationResult}
-use Rattle.vm_parts.specs.declared.options.SignalDelivery.{SignalDelivery}
-use Rattle.vm_parts.specs.declared.steps.Answer.TheVariants as answer
+use Rattle.vm_types.specs.declared.options.SignalDelivery.{SignalDelivery}
+use Rattle.vm_types.specs.declared.steps.Answer.TheVariants as answer
 use Rattle.await_trees.specs.declared.tree.UnresolvedFuture.{UnresolvedFuture}
 use Rattle.vm_parts.specs.Arrived.{Ready}
 use Rattle.vm_parts.specs.Counting.{missing}
 use Rattle.vm_parts.specs.Deliveries.{id_at, is_listed, present_among, present_for, same_id, with_delivered}
-use Rattle.vm_parts.specs.Options.{ends_awaits}
+use Rattle.vm_types.specs.Options.{ends_awaits}
 use Rattle.vm_parts.specs.Tracked.{id_of_result, invocation_ids, unresolved, with_next_id, without_first_call}
 use Rattle.vm_asks.specs.Asks.{cancel_invocation_command}
 use Rattle.vm_machine.specs.Commands.{ignores_payloads}

@@ -6,7 +6,7 @@ use Rattle.journal_messages.specs.declared.message.RawMessage.{RawMessage}
 use Rattle.journal_values.specs.declared.notification.Notification.{Notification}
 use Rattle.vm_parts.specs.declared.context.StateMap.{StateMap}
 use Rattle.vm_parts.specs.Entries.{IsInOrder}
-use Rattle.vm_parts.specs.declared.steps.Answer.{Answer}
+use Rattle.vm_types.specs.declared.steps.Answer.{Answer}
 use Rattle.vm_model.specs.Calls.{Setup, Meaning}
 use Rattle.vm_model.specs.Journal.{Entry, commands_in, notifications_in, input_read_from, messages_in}
 use Rattle.vm_model.specs.Moves.{Point, changed_by, later, start}

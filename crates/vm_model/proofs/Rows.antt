@@ -22,18 +22,18 @@ use Rattle.journal_calls.specs.Encoding.{send_signal}
 use Rattle.journal_values.specs.Encoding.{failure}
 use Rattle.journal_attempt.specs.Encoding.{output, sleep}
 use Rattle.journal_values.specs.Parts.{read_value}
-use Rattle.vm_parts.specs.declared.steps.Answer.{Answer}
-use Rattle.vm_parts.specs.declared.steps.Answer.TheVariants as answer
-use Rattle.vm_parts.specs.declared.steps.Step.TheVariants as step
+use Rattle.vm_types.specs.declared.steps.Answer.{Answer}
+use Rattle.vm_types.specs.declared.steps.Answer.TheVariants as answer
+use Rattle.vm_types.specs.declared.steps.Step.TheVariants as step
 use Rattle.await_trees.specs.declared.handle.NotificationHandle.{NotificationHandle}
 use Rattle.await_trees.specs.declared.tree.UnresolvedFuture.TheVariants.{Single}
-use Rattle.vm_parts.specs.declared.types.CallHandle.{CallHandle}
-use Rattle.vm_parts.specs.declared.values.NonEmptyValue.TheVariants.{Success, Failure}
-use Rattle.vm_parts.specs.declared.values.Value.TheVariants as value
-use Rattle.vm_parts.specs.Options.{default_options}
+use Rattle.vm_types.specs.declared.types.CallHandle.{CallHandle}
+use Rattle.vm_types.specs.declared.values.NonEmptyValue.TheVariants.{Success, Failure}
+use Rattle.vm_types.specs.declared.values.Value.TheVariants as value
+use Rattle.vm_types.specs.Options.{default_options}
 use Rattle.vm_parts.specs.Tracked.{unresolved_call}
 use Rattle.vm_asks.specs.Asks.{cancel_invocation_command}
-use Rattle.vm_parts.specs.CommandTypes.{message_type}
+use Rattle.vm_types.specs.CommandTypes.{message_type}
 use Rattle.wire.specs.Format.{bytes, list, option, read_byte, read_bytes, read_flag, read_items, read_list, read_option, read_pair, read_text, read_u16, read_u32, read_u64, u16s, u32s, u64s}
 use Rattle.await_trees.specs.Outcomes.{awake, is_done}
 use Rattle.await_trees.proofs.TreeOf.{tree_of-Single}

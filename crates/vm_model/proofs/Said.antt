@@ -8,7 +8,7 @@ use Rattle.journal_messages.specs.declared.message.RawMessage.{RawMessage}
 use Rattle.journal_values.specs.declared.notification.Notification.{Notification}
 use Rattle.journal_values.specs.declared.notification.NotificationResult.{NotificationResult}
 use Rattle.vm_parts.specs.declared.context.StateMap.{StateMap}
-use Rattle.vm_parts.specs.declared.steps.Answer.{Answer}
+use Rattle.vm_types.specs.declared.steps.Answer.{Answer}
 use Rattle.vm_model.specs.Calls.{Setup, Meaning, Derived, Demand, Move}
 use Rattle.vm_model.specs.Calls.Move.{Answers, Needs, Awaits, Ends, Refuses}
 use Rattle.vm_model.specs.Journal.{stored_form}

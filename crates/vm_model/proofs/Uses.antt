@@ -20,18 +20,18 @@ use Rattle.journal_messages.specs.Message.{type_of}
 use Rattle.journal_messages.specs.Reading.{message_in}
 use Rattle.journal_errors.specs.Types.{type_number}
 use Rattle.vm_parts.specs.declared.async_results.Mapping.{Mapping}
-use Rattle.vm_parts.specs.declared.steps.Answer.{Answer}
-use Rattle.vm_parts.specs.declared.steps.Answer.TheVariants as answer
-use Rattle.vm_parts.specs.declared.steps.Step.{Step}
-use Rattle.vm_parts.specs.declared.steps.Step.TheVariants as step
+use Rattle.vm_types.specs.declared.steps.Answer.{Answer}
+use Rattle.vm_types.specs.declared.steps.Answer.TheVariants as answer
+use Rattle.vm_types.specs.declared.steps.Step.{Step}
+use Rattle.vm_types.specs.declared.steps.Step.TheVariants as step
 use Rattle.await_trees.specs.declared.handle.NotificationHandle.{NotificationHandle}
 use Rattle.await_trees.specs.declared.tree.UnresolvedFuture.{UnresolvedFuture}
 use Rattle.vm_parts.specs.declared.run_state.TrackedCall.{TrackedCall}
-use Rattle.vm_parts.specs.declared.values.Value.{Value}
+use Rattle.vm_types.specs.declared.values.Value.{Value}
 use Rattle.vm_parts.specs.Counting.{missing, missing_signals}
 use Rattle.vm_parts.specs.Deliveries.{id_at, present_for, unmapped}
 use Rattle.vm_parts.specs.Tracked.{id_of_value, noted}
-use Rattle.vm_parts.specs.Values.{value_of}
+use Rattle.vm_types.specs.Values.{value_of}
 use Rattle.vm_asks.specs.declared.asks.Ask.{Ask}
 use Rattle.vm_asks.specs.declared.asks.Ask.TheVariants as ask
 use Rattle.vm_asks.specs.declared.asks.Command.{Command}

@@ -4,10 +4,10 @@ use Rattle.std.specs.Option.{option_or}
 use Rattle.journal_messages.specs.declared.message.Message.{Message}
 use Rattle.journal_values.specs.declared.notification.Notification.{Notification}
 use Rattle.journal_values.specs.declared.notification.NotificationResult.{NotificationResult}
-use Rattle.vm_parts.specs.declared.options.SignalDelivery.TheVariants.{Queued}
+use Rattle.vm_types.specs.declared.options.SignalDelivery.TheVariants.{Queued}
 use Rattle.vm_parts.specs.declared.run_state.TrackedCall.{TrackedCall}
-use Rattle.vm_parts.specs.declared.steps.Answer.{Answer}
-use Rattle.vm_parts.specs.declared.steps.Answer.TheVariants as answer
+use Rattle.vm_types.specs.declared.steps.Answer.{Answer}
+use Rattle.vm_types.specs.declared.steps.Answer.TheVariants as answer
 use Rattle.vm_parts.specs.Deliveries.{id_at, present_for}
 use Rattle.vm_parts.specs.Tracked.{id_of_result, unresolved}
 use Rattle.vm_asks.specs.Asks.{cancel_invocation_command}

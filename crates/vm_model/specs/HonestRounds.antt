@@ -4,7 +4,7 @@ use Rattle.journal_attempt.specs.declared.commands.InputCommand.{InputCommand}
 use Rattle.journal_messages.specs.declared.message.RawMessage.{RawMessage}
 use Rattle.journal_values.specs.declared.notification.Notification.{Notification}
 use Rattle.vm_parts.specs.declared.context.StateMap.{StateMap}
-use Rattle.vm_parts.specs.declared.steps.Answer.{Answer}
+use Rattle.vm_types.specs.declared.steps.Answer.{Answer}
 use Rattle.vm_model.specs.Calls.{Setup, Meaning}
 use Rattle.vm_model.specs.Journal.{Entry, Recorded, Notified, commands_in, notifications_in, input_read_from, messages_in}
 use Rattle.vm_model.specs.Moves.{Point, start}

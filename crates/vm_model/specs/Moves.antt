@@ -13,9 +13,9 @@ use Rattle.journal_messages.specs.Message.{type_of}
 use Rattle.journal_messages.specs.Reading.{message_in}
 use Rattle.journal_errors.specs.Types.{type_number}
 use Rattle.vm_parts.specs.declared.context.StateMap.{StateMap}
-use Rattle.vm_parts.specs.declared.steps.Answer.{Answer}
-use Rattle.vm_parts.specs.declared.steps.Answer.TheVariants as answer
-use Rattle.vm_parts.specs.declared.values.Input.{Input}
+use Rattle.vm_types.specs.declared.steps.Answer.{Answer}
+use Rattle.vm_types.specs.declared.steps.Answer.TheVariants as answer
+use Rattle.vm_types.specs.declared.values.Input.{Input}
 use Rattle.vm_parts.specs.Counting.{fresh_counters}
 use Rattle.vm_parts.specs.Deliveries.{no_results}
 use Rattle.vm_asks.specs.StateReads.{lazy_form, own_form, recorded_as}

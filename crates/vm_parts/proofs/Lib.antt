@@ -2,8 +2,6 @@ pub mod Changes
 pub mod Keys
 pub mod Mapped
 pub mod Outboxes
-pub mod Places
 pub mod Results
 pub mod StateKeys
-pub mod Texts
 pub mod Tracking

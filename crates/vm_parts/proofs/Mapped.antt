@@ -16,7 +16,7 @@ use Rattle.journal_values.specs.declared.notification.NotificationId.{Notificati
 use Rattle.std.proofs.lemmas.Map.Lookups
 use Rattle.vm_parts.specs.Deliveries.{id_at, unmapped}
 use Rattle.vm_parts.specs.Mappings.{live, mapping_if, Ascend, Above, AllUnder, IsAt, Absent}
-use Rattle.vm_parts.proofs.Places.{from_place}
+use Rattle.vm_types.proofs.Places.{from_place}
 
 above_at : (x : ℕ) (xs : List Held) → Above x xs → (i : ℕ) (d : Held) → i < length xs → x < (get_or xs i d).handle
 above_at x [] a i d l = absurd (omega arith)

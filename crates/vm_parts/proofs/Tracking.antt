@@ -16,7 +16,7 @@ use Rattle.std.proofs.Math.Bool.{or-true}
 use Rattle.std.proofs.lemmas.List.Sorted.{searchable_from_sorted}
 use Rattle.vm_parts.specs.declared.run_state.TrackedCall.{TrackedCall}
 use Rattle.vm_parts.specs.Tracked.{Above, Ascend, IsAt, IsBetween, IsNext, IsTracking, by_id, if_known, if_unresolved, invocation_ids, is_tracked, noted, unresolved, unresolved_call, with_call, with_id, with_next_id}
-use Rattle.vm_parts.proofs.Places.{from_place}
+use Rattle.vm_types.proofs.Places.{from_place}
 
 -- ---- found by halving
 

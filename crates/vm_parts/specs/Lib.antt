@@ -1,12 +1,9 @@
 pub mod Arrived
-pub mod CommandTypes
 pub mod Counting
 pub mod Deliveries
 pub mod Entries
 pub mod Mappings
-pub mod Options
 pub mod Outboxes
-pub mod Values
 pub mod StateKeys
 pub mod States
 pub mod Tracked

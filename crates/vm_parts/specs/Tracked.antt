@@ -6,8 +6,8 @@ use Rattle.std.specs.Option.{option_map}
 use Rattle.journal_values.specs.declared.notification.NotificationResult.{NotificationResult}
 use Rattle.journal_values.specs.declared.notification.NotificationResult.TheVariants as result
 use Rattle.vm_parts.specs.declared.run_state.TrackedCall.{TrackedCall}
-use Rattle.vm_parts.specs.declared.values.Value.{Value}
-use Rattle.vm_parts.specs.declared.values.Value.TheVariants as value
+use Rattle.vm_types.specs.declared.values.Value.{Value}
+use Rattle.vm_types.specs.declared.values.Value.TheVariants as value
 
 -- a call whose invocation's id isn't known
 abbrev pub unresolved_call : ℕ → TrackedCall

@@ -6,12 +6,12 @@ ghost use Rattle.arrivals.specs.Came.{is_queued, enough};
 ghost use Rattle.vm_parts.specs.Deliveries.{id_at, is_known, no_results, is_listed, left_among, present_among, present_for, has_result_for, next_used, with_eager, ready_after, first_result_for, Taken};
 
 use crate::handles::Handles;
-use crate::options::SignalDelivery;
 use arrivals::{Arrivals, EagerResults};
 use await_trees::NotificationHandle;
 use journal_values::{Notification, NotificationId, NotificationResult};
 use std::alloc::{AllocError, Global};
 use std::marker::Model;
+use vm_types::options::SignalDelivery;
 use wire::copy_of;
 
 /// The id that a handle stands for.

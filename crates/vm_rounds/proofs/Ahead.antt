@@ -14,9 +14,9 @@ use Rattle.vm_parts.specs.declared.run_state.PendingRun.{PendingRun}
 use Rattle.vm_parts.specs.Counting.{next_index}
 use Rattle.vm_machine.specs.declared.machine.Machine.{Machine}
 use Rattle.vm_machine.specs.Awaits.{executed}
-use Rattle.vm_machine.specs.Commands.{handed_out, knows_next, prepared}
+use Rattle.vm_machine.specs.Commands.{handed_out, knows_next, prepared, runs_after}
 use Rattle.vm_machine.specs.Proposals.{without_run}
-use Rattle.vm_asks.specs.Requests.{ids_of, runs_after}
+use Rattle.vm_asks.specs.Requests.{ids_of}
 
 -- a run of this handle waits to be executed
 abbrev waits_as : NotificationHandle → PendingRun → Bool

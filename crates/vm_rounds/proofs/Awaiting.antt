@@ -19,13 +19,13 @@ use Rattle.journal_values.specs.declared.notification.NotificationId.TheVariants
 use Rattle.journal_values.specs.declared.notification.NotificationResult.{NotificationResult}
 use Rattle.journal_values.specs.declared.notification.NotificationResult.TheVariants as found
 use Rattle.vm_parts.specs.declared.context.StateMap.{StateMap}
-use Rattle.vm_parts.specs.declared.options.SignalDelivery.TheVariants.{Queued}
-use Rattle.vm_parts.specs.declared.steps.Answer.TheVariants as answer
-use Rattle.vm_parts.specs.declared.steps.Step.TheVariants as step
-use Rattle.vm_parts.specs.declared.types.AwaitResponse.{AwaitResponse}
-use Rattle.vm_parts.specs.declared.types.AwaitResponse.TheVariants.{AnyCompleted, CancelSignalReceived, ExecuteRun, WaitingExternalProgress}
+use Rattle.vm_types.specs.declared.options.SignalDelivery.TheVariants.{Queued}
+use Rattle.vm_types.specs.declared.steps.Answer.TheVariants as answer
+use Rattle.vm_types.specs.declared.steps.Step.TheVariants as step
+use Rattle.vm_types.specs.declared.types.AwaitResponse.{AwaitResponse}
+use Rattle.vm_types.specs.declared.types.AwaitResponse.TheVariants.{AnyCompleted, CancelSignalReceived, ExecuteRun, WaitingExternalProgress}
 use Rattle.vm_parts.specs.Deliveries.{same_id}
-use Rattle.vm_parts.specs.Options.{ends_awaits}
+use Rattle.vm_types.specs.Options.{ends_awaits}
 use Rattle.vm_parts.specs.Tracked.{id_of_result, unresolved, with_next_id}
 use Rattle.vm_parts.proofs.Tracking.{unresolved-with_next_id}
 use Rattle.vm_machine.specs.declared.machine.Machine.{Machine}

@@ -18,7 +18,7 @@ use Rattle.vm_machine.specs.Inputs.{acknowledgement_step, counted_entry, coverag
 use Rattle.vm_machine.specs.Making.{fresh}
 use Rattle.journal_attempt.specs.declared.start.Start.{Start}
 use Rattle.journal_errors.specs.declared.version.Version.{Version}
-use Rattle.vm_parts.specs.declared.options.VMOptions.{VMOptions}
+use Rattle.vm_types.specs.declared.options.VMOptions.{VMOptions}
 use Rattle.std.proofs.Common.{Global}
 use Rattle.vm_machine.specs.Outcomes.{Outcome, Done, refused, settled}
 use Rattle.invocation_vm.specs.Views.{all_received, left_by, received}

@@ -8,16 +8,16 @@ use Rattle.journal_values.specs.declared.notification.NotificationId.{Notificati
 use Rattle.journal_values.specs.declared.notification.NotificationResult.{NotificationResult}
 use Rattle.journal_errors.specs.Errors.{named_error}
 use Rattle.vm_parts.specs.declared.context.StateMap.{StateMap}
-use Rattle.vm_parts.specs.declared.steps.Answer.TheVariants as answer
-use Rattle.vm_parts.specs.declared.steps.Step.{Step}
-use Rattle.vm_parts.specs.declared.steps.Step.TheVariants as step
+use Rattle.vm_types.specs.declared.steps.Answer.TheVariants as answer
+use Rattle.vm_types.specs.declared.steps.Step.{Step}
+use Rattle.vm_types.specs.declared.steps.Step.TheVariants as step
 use Rattle.await_trees.specs.declared.handle.NotificationHandle.{NotificationHandle}
-use Rattle.vm_parts.specs.declared.values.Value.{Value}
+use Rattle.vm_types.specs.declared.values.Value.{Value}
 use Rattle.vm_parts.specs.Counting.{missing_signals}
 use Rattle.vm_parts.specs.Deliveries.{id_at, present_for, taken_by, unmapped}
 use Rattle.journal_values.specs.declared.notification.NotificationId.TheVariants.{SignalId, SignalName}
 use Rattle.vm_parts.specs.Tracked.{id_of_value, noted}
-use Rattle.vm_parts.specs.Values.{value_of}
+use Rattle.vm_types.specs.Values.{value_of}
 use Rattle.vm_parts.specs.declared.run_state.TrackedCall.{TrackedCall}
 use Rattle.vm_machine.specs.declared.machine.Machine.{Machine}
 use Rattle.journal_errors.specs.declared.version.Version.{Version}
@@ -38,7 +38,7 @@ use Rattle.vm_model.specs.Calls.Usage.{Taken}
 use Rattle.vm_model.specs.Calls.Move.{Ends}
 use Rattle.vm_model.specs.Refusals.{IsRefusedFor}
 use Rattle.vm_model.specs.Deliveries.{HasNoTwo}
-use Rattle.vm_parts.specs.declared.options.SignalDelivery.TheVariants.{Queued}
+use Rattle.vm_types.specs.declared.options.SignalDelivery.TheVariants.{Queued}
 use Rattle.vm_model.specs.Histories.{IsAwaiting}
 use Rattle.vm_model.specs.Moves.{Point, move_at}
 use Rattle.vm_steps.specs.declared.progress.Reply.{Reply}

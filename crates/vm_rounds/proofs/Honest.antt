@@ -17,7 +17,7 @@ use Rattle.journal_errors.specs.Types.{type_number}
 use Rattle.wire.proofs.Read.{all_read}
 use Rattle.journal_values.specs.Bodies.{notification_format}
 use Rattle.journal_attempt.specs.Bodies.{start_format}
-use Rattle.vm_parts.specs.declared.options.VMOptions.{VMOptions}
+use Rattle.vm_types.specs.declared.options.VMOptions.{VMOptions}
 use Rattle.vm_machine.specs.declared.phase.Phase.{Phase}
 use Rattle.vm_machine.specs.declared.phase.Phase.TheVariants.{WaitingStart, WaitingReplayEntries, Replaying, Processing, Closed}
 use Rattle.invocation_vm.specs.Frames.{Tail, Rest, Garbage, frames_of, joined}

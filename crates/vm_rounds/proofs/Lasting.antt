@@ -5,8 +5,8 @@ use Rattle.std.specs.Prelude.{IsSome}
 use Rattle.std.specs.List.{concat}
 use Rattle.journal_messages.specs.declared.message.RawMessage.{RawMessage}
 use Rattle.journal_errors.specs.declared.version.Version.{Version}
-use Rattle.vm_parts.specs.declared.options.VMOptions.{VMOptions}
-use Rattle.vm_parts.specs.declared.steps.Answer.{Answer}
+use Rattle.vm_types.specs.declared.options.VMOptions.{VMOptions}
+use Rattle.vm_types.specs.declared.steps.Answer.{Answer}
 use Rattle.await_trees.specs.declared.tree.UnresolvedFuture.{UnresolvedFuture}
 use Rattle.vm_machine.specs.declared.machine.Machine.{Machine}
 use Rattle.vm_machine.specs.declared.phase.Phase.TheVariants.{Processing, Closed}

@@ -7,8 +7,8 @@ use Rattle.journal_messages.specs.Message.{IsWhole}
 use Rattle.journal_errors.specs.Types.{type_number}
 use Rattle.journal_messages.specs.declared.message.Message.{Message}
 use Rattle.journal_errors.specs.declared.version.Version.{Version}
-use Rattle.vm_parts.specs.declared.steps.Step.{Step}
-use Rattle.vm_parts.specs.declared.steps.Step.TheVariants as step
+use Rattle.vm_types.specs.declared.steps.Step.{Step}
+use Rattle.vm_types.specs.declared.steps.Step.TheVariants as step
 use Rattle.vm_asks.specs.declared.asks.Ask.{Ask}
 use Rattle.vm_asks.specs.declared.asks.Ask.TheVariants as ask
 use Rattle.vm_asks.specs.declared.asks.Command.{Command}

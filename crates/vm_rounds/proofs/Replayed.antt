@@ -9,8 +9,8 @@ use Rattle.journal_messages.specs.declared.message.RawMessage.{RawMessage}
 use Rattle.journal_values.specs.declared.notification.Notification.{Notification}
 use Rattle.journal_errors.specs.declared.version.Version.{Version}
 use Rattle.journal_messages.specs.Reading.{notification_in}
-use Rattle.vm_parts.specs.declared.options.VMOptions.{VMOptions}
-use Rattle.vm_parts.specs.declared.steps.Answer.{Answer}
+use Rattle.vm_types.specs.declared.options.VMOptions.{VMOptions}
+use Rattle.vm_types.specs.declared.steps.Answer.{Answer}
 use Rattle.vm_machine.specs.declared.machine.Machine.{Machine}
 use Rattle.vm_model.specs.Calls.{Setup, Meaning}
 use Rattle.vm_model.specs.Journal.{Entry, commands_in, input_read_from, notifications_in}

@@ -12,17 +12,17 @@ use Rattle.journal_messages.specs.Reading.{message_in}
 use Rattle.journal_errors.specs.Types.{type_number}
 use Rattle.journal_values.specs.declared.notification.NotificationResult.{NotificationResult}
 use Rattle.vm_parts.specs.declared.context.StateMap.{StateMap}
-use Rattle.vm_parts.specs.declared.steps.Answer.{Answer}
+use Rattle.vm_types.specs.declared.steps.Answer.{Answer}
 use Rattle.await_trees.specs.declared.handle.NotificationHandle.{NotificationHandle}
 use Rattle.vm_parts.specs.Counting.{missing, next_index}
 use Rattle.vm_parts.specs.Deliveries.{is_known}
 use Rattle.vm_machine.specs.declared.machine.Machine.{Machine}
 use Rattle.vm_asks.specs.declared.asks.Command.{Command}
 use Rattle.vm_machine.specs.declared.phase.Phase.TheVariants.{Replaying, Processing}
-use Rattle.vm_machine.specs.Commands.{carried_out, compared, counted as counted_event, entered, ignores_payloads, issued, phase_after, popped, popped_from, prepared, replayed, typed, written as wrote}
+use Rattle.vm_machine.specs.Commands.{carried_out, compared, counted as counted_event, entered, ignores_payloads, issued, phase_after, popped, popped_from, prepared, replayed, runs_after, typed, written as wrote}
 use Rattle.vm_machine.specs.Phases.{is_processing, is_running, state_fault}
 use Rattle.vm_machine.specs.Outcomes.{Outcome, Done, Failed, ◌>>=◌, about_last, last_related}
-use Rattle.vm_asks.specs.Requests.{changed, ids_of, name_of, runs_after, shown_type, tracked_after, with_ids}
+use Rattle.vm_asks.specs.Requests.{changed, ids_of, name_of, shown_type, tracked_after, with_ids}
 use Rattle.vm_model.specs.Calls.{Setup, Demand, Derived, Move, answer_of, counted, demand_of, numbered, requested, ready_in}
 use Rattle.vm_model.specs.Calls.Demand.{Exactly}
 use Rattle.vm_model.specs.Calls.Move.{Needs}

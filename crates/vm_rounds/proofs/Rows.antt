@@ -17,8 +17,8 @@ use Rattle.journal_attempt.specs.Encoding.{input as input_body, sleep, start}
 use Rattle.journal_values.specs.Encoding.{notification}
 use Rattle.journal_messages.specs.Message.{IsWhole}
 use Rattle.wire.specs.Format.{bytes, flag, list, option, read_byte, read_bytes, read_pair, read_text, read_u16, read_u32, read_u64, u16s, u32s, u64s}
-use Rattle.vm_parts.specs.declared.steps.Step.TheVariants as step
-use Rattle.vm_parts.specs.Options.{default_options}
+use Rattle.vm_types.specs.declared.steps.Step.TheVariants as step
+use Rattle.vm_types.specs.Options.{default_options}
 use Rattle.journal_attempt.specs.Bodies.{input_format}
 use Rattle.journal_equality.specs.HeaderEqual.{header_equal}
 use Rattle.journal_values.specs.Parts.{read_value}

@@ -8,7 +8,7 @@ use Rattle.arrivals.proofs.Awaited.{results-append}
 use Rattle.journal_values.specs.declared.notification.NotificationId.TheVariants.{CompletionId}
 use Rattle.journal_values.specs.declared.notification.NotificationResult.{NotificationResult}
 use Rattle.journal_errors.specs.declared.version.Version.{Version}
-use Rattle.vm_parts.specs.declared.options.VMOptions.{VMOptions}
+use Rattle.vm_types.specs.declared.options.VMOptions.{VMOptions}
 use Rattle.vm_machine.specs.declared.phase.Phase.{Phase}
 use Rattle.vm_machine.specs.declared.phase.Phase.TheVariants.{WaitingStart, WaitingReplayEntries, Replaying, Processing, Closed}
 use Rattle.invocation_vm.specs.Frames.{frames_of}

@@ -13,7 +13,7 @@ use Rattle.journal_messages.specs.Message.{body, encoding, frame, type_of}
 use Rattle.journal_messages.specs.Message.{IsWhole}
 use Rattle.journal_errors.specs.Types.{type_number}
 use Rattle.journal_streams.proofs.Cuts.{whole_spelled}
-use Rattle.vm_parts.specs.declared.options.VMOptions.{VMOptions}
+use Rattle.vm_types.specs.declared.options.VMOptions.{VMOptions}
 use Rattle.vm_parts.specs.Outboxes.{WholeFrames, WholeStream}
 use Rattle.vm_parts.proofs.Outboxes.{all_whole, bytes_of}
 use Rattle.invocation_vm.specs.Frames.{Rest, frames_from, frames_of}

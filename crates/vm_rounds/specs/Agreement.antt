@@ -16,8 +16,8 @@ use Rattle.vm_parts.specs.declared.context.StartInfo.{StartInfo}
 use Rattle.vm_parts.specs.declared.context.StateMap.{StateMap}
 use Rattle.vm_parts.specs.declared.run_state.KeptProposal.{KeptProposal}
 use Rattle.vm_parts.specs.declared.run_state.PendingRun.{PendingRun}
-use Rattle.vm_parts.specs.declared.steps.Answer.{Answer}
-use Rattle.vm_parts.specs.declared.steps.Step.TheVariants as step
+use Rattle.vm_types.specs.declared.steps.Answer.{Answer}
+use Rattle.vm_types.specs.declared.steps.Step.TheVariants as step
 use Rattle.await_trees.specs.declared.tree.UnresolvedFuture.{UnresolvedFuture}
 use Rattle.await_trees.specs.Residual.{Residual}
 use Rattle.await_trees.specs.Tree.{Tree, leaf, tree_of}
@@ -25,7 +25,7 @@ use Rattle.await_trees.specs.Wires.{sent}
 use Rattle.await_tries.specs.Await.{AwakeAlike}
 use Rattle.runs.specs.Pending.{is_executing}
 use Rattle.vm_parts.specs.Deliveries.{id_at}
-use Rattle.vm_parts.specs.Options.{ends_awaits}
+use Rattle.vm_types.specs.Options.{ends_awaits}
 use Rattle.vm_parts.specs.Tracked.{unresolved}
 use Rattle.vm_machine.specs.declared.machine.Machine.{Machine}
 use Rattle.vm_machine.specs.declared.phase.Phase.TheVariants.{Closed}

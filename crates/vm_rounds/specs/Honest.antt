@@ -9,9 +9,9 @@ use Rattle.journal_errors.specs.declared.version.Version.{Version}
 use Rattle.journal_messages.specs.Message.{frame}
 use Rattle.journal_messages.specs.Message.{IsWhole}
 use Rattle.vm_parts.specs.declared.context.StateMap.{StateMap}
-use Rattle.vm_parts.specs.declared.options.VMOptions.{VMOptions}
-use Rattle.vm_parts.specs.declared.options.JournalReplay.TheVariants.{Enabled}
-use Rattle.vm_parts.specs.declared.options.SignalDelivery.TheVariants.{Queued}
+use Rattle.vm_types.specs.declared.options.VMOptions.{VMOptions}
+use Rattle.vm_types.specs.declared.options.JournalReplay.TheVariants.{Enabled}
+use Rattle.vm_types.specs.declared.options.SignalDelivery.TheVariants.{Queued}
 use Rattle.vm_machine.specs.Inputs.{coverage_of, entries_in}
 use Rattle.vm_model.specs.Calls.{Meaning}
 use Rattle.vm_model.specs.Deliveries.{HasNoTwo}

@@ -16,10 +16,10 @@ use Rattle.journal_messages.specs.Message.{encoding}
 use Rattle.journal_messages.specs.Reading.{start_in}
 use Rattle.journal_messages.specs.Message.{IsWhole}
 use Rattle.vm_parts.specs.declared.context.StateMap.{StateMap}
-use Rattle.vm_parts.specs.declared.options.JournalReplay.TheVariants.{Enabled}
-use Rattle.vm_parts.specs.declared.options.SignalDelivery.TheVariants.{Queued}
-use Rattle.vm_parts.specs.declared.options.VMOptions.{VMOptions}
-use Rattle.vm_parts.specs.declared.steps.Step.TheVariants as step
+use Rattle.vm_types.specs.declared.options.JournalReplay.TheVariants.{Enabled}
+use Rattle.vm_types.specs.declared.options.SignalDelivery.TheVariants.{Queued}
+use Rattle.vm_types.specs.declared.options.VMOptions.{VMOptions}
+use Rattle.vm_types.specs.declared.steps.Step.TheVariants as step
 use Rattle.await_trees.specs.declared.tree.UnresolvedFuture.{UnresolvedFuture}
 use Rattle.vm_machine.specs.declared.machine.Machine.{Machine}
 use Rattle.std.proofs.Common.{Global}
@@ -42,7 +42,7 @@ use Rattle.vm_steps.specs.declared.progress.Progress.{Progress}
 use Rattle.vm_steps.specs.declared.progress.Progress.TheVariants as progress
 use Rattle.vm_rounds.specs.Agreement.{Agrees, Aside, command_frames}
 use Rattle.vm_rounds.specs.Journals.{AcknowledgesNothing, HasAll, StillWaits, commands_among, is_command, setup_for}
-use Rattle.vm_parts.specs.declared.steps.Answer.{Answer}
+use Rattle.vm_types.specs.declared.steps.Answer.{Answer}
 use Rattle.invocation_vm.specs.Views.{View}
 use Rattle.vm_rounds.specs.Arrivals.{AllFound, arriving, kept_after}
 use Rattle.vm_steps.specs.Heard.{Heard, proposals_among}

@@ -13,11 +13,22 @@ use vm_steps::{Handler, Inner, Progress};
 /// An attempt of a handler over the VM. It keeps a record: each piece of input until the VM failed or closed, those that
 /// came to a closed VM behind them, whether the input was closed, whose run's result was told last, the answers, and all output, from
 /// which what was proposed is read.
-#[derive(Drop)]
 pub struct Attempt<H: Handler> {
     version: Version,
     options: VMOptions,
     inner: Inner<H>,
+}
+
+/// Written out, so that who lets an attempt go calls this: a derived drop is proved once more in each crate above.
+impl<H: Handler + Drop> Drop for Attempt<H> {
+    fn drop(self) {
+        let Self {
+            version: _,
+            options: _,
+            inner,
+        } = self;
+        drop(inner);
+    }
 }
 
 impl<H: Handler> Model for Attempt<H> {

@@ -10,12 +10,12 @@ ghost use Rattle.vm_machine.specs.Outcomes.{Outcome};
 ghost use Rattle.invocation_vm.specs.Making.{made};
 ghost use Rattle.std.proofs.Common.{Global};
 ghost use Rattle.journal_errors.specs.declared.version.Version.{Version};
-ghost use Rattle.vm_parts.specs.declared.options.VMOptions.{VMOptions};
+ghost use Rattle.vm_types.specs.declared.options.VMOptions.{VMOptions};
 ghost use Rattle.invocation_vm.specs.Views.{all_received};
 ghost use Rattle.vm_model.specs.Calls.{Setup, Meaning, identity_of};
 ghost use Rattle.vm_model.specs.Deliveries.{HasNoTwo};
 ghost use Rattle.vm_model.specs.Histories.{History, IsAwaiting};
-ghost use Rattle.vm_parts.specs.declared.options.SignalDelivery.TheVariants.{Queued};
+ghost use Rattle.vm_types.specs.declared.options.SignalDelivery.TheVariants.{Queued};
 ghost use Rattle.vm_model.specs.Journal.{input_read_from};
 ghost use Rattle.vm_model.specs.Moves.{Point, later};
 ghost use Rattle.vm_parts.specs.declared.context.StateMap.{StateMap};
@@ -42,7 +42,7 @@ ghost use Rattle.vm_steps.specs.Heard.{Heard};
 ghost use Rattle.vm_steps.specs.Record.{Record, Said, heard};
 ghost use Rattle.invocation_vm.specs.Views.{View, after_input};
 ghost use Rattle.std.specs.Prelude.{ℕ, Option};
-ghost use Rattle.vm_parts.specs.declared.steps.Answer.{Answer};
+ghost use Rattle.vm_types.specs.declared.steps.Answer.{Answer};
 ghost use Rattle.await_trees.specs.declared.tree.UnresolvedFuture.{UnresolvedFuture};
 
 /// In a machine that agrees with a point of the handler's run, the handler's call does what the moves from there lead to:

@@ -9,7 +9,7 @@ use Rattle.vm_asks.specs.declared.state_read.StateRead.{StateRead}
 use Rattle.vm_machine.specs.Reads.{ReadCanBeRead}
 use Rattle.vm_machine.specs.Cancels.{AwaitsWhole}
 use Rattle.vm_machine.specs.Outcomes.{Does, DoesBy, Failed, IsStarved, Outcome, called}
-use Rattle.vm_parts.specs.declared.types.AwaitResponse.{AwaitResponse}
+use Rattle.vm_types.specs.declared.types.AwaitResponse.{AwaitResponse}
 use Rattle.await_trees.specs.declared.tree.UnresolvedFuture.{UnresolvedFuture}
 use Rattle.await_trees.specs.Tree.{tree_of}
 use Rattle.vm_steps.specs.declared.progress.Reply.{Reply}

@@ -7,8 +7,8 @@ use vm_parts::{Answer, Step};
 /// A handler's code, as what it asks for next.
 pub trait Handler {
     ghost use Rattle.std.specs.Prelude.{List};
-    ghost use Rattle.vm_parts.specs.declared.steps.Answer.{Answer};
-    ghost use Rattle.vm_parts.specs.declared.steps.Step.{Step};
+    ghost use Rattle.vm_types.specs.declared.steps.Answer.{Answer};
+    ghost use Rattle.vm_types.specs.declared.steps.Step.{Step};
 
     /// The step that follows a list of answers.
     ghost meaning: { Self → List Answer → Step };

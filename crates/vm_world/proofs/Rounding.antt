@@ -12,7 +12,7 @@ use Rattle.journal_streams.proofs.Alone.{read_back}
 use Rattle.journal_messages.specs.declared.message.RawMessage.{RawMessage}
 use Rattle.invocation_vm.specs.Frames.{Tail, frames_of}
 use Rattle.invocation_vm.specs.Making.{made}
-use Rattle.vm_parts.specs.declared.steps.Answer.{Answer}
+use Rattle.vm_types.specs.declared.steps.Answer.{Answer}
 use Rattle.vm_model.specs.Calls.{Meaning}
 use Rattle.vm_model.specs.Journal.{Entry, commands_in, messages_in, notifications_in, stored_form}
 use Rattle.vm_model.specs.Moves.{changed_by, start as first_point}

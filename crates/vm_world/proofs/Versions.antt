@@ -5,7 +5,7 @@ use Rattle.journal_errors.specs.declared.error.Error.{Error}
 use Rattle.journal_errors.specs.declared.version.Version.{Version}
 use Rattle.journal_errors.specs.declared.version.Version.TheVariants.{V1, V2, V3, V4, V5, V6, V7, V8}
 use Rattle.journal_errors.specs.Versions.{content_type, version_of}
-use Rattle.vm_parts.specs.declared.options.VMOptions.{VMOptions}
+use Rattle.vm_types.specs.declared.options.VMOptions.{VMOptions}
 use Rattle.invocation_vm.specs.Making.{made, supported, version_in}
 use Rattle.vm_steps.specs.Record.{AttemptView}
 use Rattle.vm_steps.specs.Stepping.{MakesAttempt, fresh_record}

@@ -7,8 +7,8 @@ use Rattle.std.specs.declared.alloc.AllocError.{AllocError}
 use Rattle.journal_errors.specs.declared.error.Error.{Error}
 use Rattle.journal_errors.specs.declared.faults.NamedFault.TheVariants as fault
 use Rattle.journal_messages.specs.Message.{encoding}
-use Rattle.vm_parts.specs.declared.steps.Step.{Step}
-use Rattle.vm_parts.specs.declared.types.AwakeableHandle.{AwakeableHandle}
+use Rattle.vm_types.specs.declared.steps.Step.{Step}
+use Rattle.vm_types.specs.declared.types.AwakeableHandle.{AwakeableHandle}
 use Rattle.await_trees.specs.declared.handle.NotificationHandle.{NotificationHandle}
 use Rattle.await_trees.specs.declared.tree.UnresolvedFuture.{UnresolvedFuture}
 use Rattle.retries.specs.declared.policy.RetryPolicy.{RetryPolicy}

@@ -1,6 +1,6 @@
 use Rattle.std.proofs.Common.{◌<◌, length, sym, ap, arith, refl}
-use Rattle.vm_parts.proofs.Texts.{some_no_text, text_more, take_next}
-use Rattle.vm_parts.proofs.values.read_keys.Goals as goal
+use Rattle.vm_types.proofs.Texts.{some_no_text, text_more, take_next}
+use Rattle.vm_types.proofs.values.read_keys.Goals as goal
 
 pub returns-in_default : goal.returns-in_default
 returns-in_default c =

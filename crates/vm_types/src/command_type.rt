@@ -1,6 +1,6 @@
 //! The types of commands, as calls and errors name them, and the command that an error relates to.
 ghost use Rattle.std.specs.Prelude.{◌≡◌, Some};
-ghost use Rattle.vm_parts.specs.CommandTypes.{message_type, command_text};
+ghost use Rattle.vm_types.specs.CommandTypes.{message_type, command_text};
 
 use journal_errors::MessageType;
 use std::fmt;

@@ -1,11 +1,11 @@
 //! What a VM and a single call may be asked to do in another way.
 ghost use Rattle.std.specs.Prelude.{◌≡◌, true, false};
-ghost use Rattle.vm_parts.specs.Options.{default_options};
-ghost use Rattle.vm_parts.specs.declared.options.AwaitingOnPolicy.TheVariants as awaiting;
-ghost use Rattle.vm_parts.specs.declared.options.JournalMismatchRetryBehavior.TheVariants as mismatch;
-ghost use Rattle.vm_parts.specs.declared.options.JournalReplay.TheVariants as replay;
-ghost use Rattle.vm_parts.specs.declared.options.NonDeterministicChecksOption.TheVariants as checks;
-ghost use Rattle.vm_parts.specs.declared.options.SignalDelivery.TheVariants as delivery;
+ghost use Rattle.vm_types.specs.Options.{default_options};
+ghost use Rattle.vm_types.specs.declared.options.AwaitingOnPolicy.TheVariants as awaiting;
+ghost use Rattle.vm_types.specs.declared.options.JournalMismatchRetryBehavior.TheVariants as mismatch;
+ghost use Rattle.vm_types.specs.declared.options.JournalReplay.TheVariants as replay;
+ghost use Rattle.vm_types.specs.declared.options.NonDeterministicChecksOption.TheVariants as checks;
+ghost use Rattle.vm_types.specs.declared.options.SignalDelivery.TheVariants as delivery;
 
 /// How the payload of one call is compared in replay.
 #[derive(Clone, Copy, Debug)]

@@ -2,8 +2,8 @@
 use Rattle.std.specs.Prelude.{ℕ, List, codes}
 use Rattle.journal_errors.specs.declared.types.MessageType.{MessageType}
 use Rattle.journal_errors.specs.declared.types.MessageType.TheVariants as message
-use Rattle.vm_parts.specs.declared.command_type.CommandType.{CommandType}
-use Rattle.vm_parts.specs.declared.command_type.CommandType.TheVariants as command
+use Rattle.vm_types.specs.declared.command_type.CommandType.{CommandType}
+use Rattle.vm_types.specs.declared.command_type.CommandType.TheVariants as command
 
 -- a state read is named by its lazy form, the cancelling of an invocation by the signal that it sends; each other
 -- command by its own message

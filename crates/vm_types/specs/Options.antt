@@ -1,13 +1,13 @@
 -- What a VM does where nothing else is asked for.
 use Rattle.std.specs.Prelude.{Bool, true, false}
-use Rattle.vm_parts.specs.declared.options.VMOptions.{VMOptions}
-use Rattle.vm_parts.specs.declared.options.AwaitingOnPolicy.TheVariants as awaiting
-use Rattle.vm_parts.specs.declared.options.ImplicitCancellationOption.{ImplicitCancellationOption}
-use Rattle.vm_parts.specs.declared.options.ImplicitCancellationOption.TheVariants as cancellation
-use Rattle.vm_parts.specs.declared.options.JournalMismatchRetryBehavior.TheVariants as mismatch
-use Rattle.vm_parts.specs.declared.options.JournalReplay.TheVariants as replay
-use Rattle.vm_parts.specs.declared.options.NonDeterministicChecksOption.TheVariants as checks
-use Rattle.vm_parts.specs.declared.options.SignalDelivery.TheVariants as delivery
+use Rattle.vm_types.specs.declared.options.VMOptions.{VMOptions}
+use Rattle.vm_types.specs.declared.options.AwaitingOnPolicy.TheVariants as awaiting
+use Rattle.vm_types.specs.declared.options.ImplicitCancellationOption.{ImplicitCancellationOption}
+use Rattle.vm_types.specs.declared.options.ImplicitCancellationOption.TheVariants as cancellation
+use Rattle.vm_types.specs.declared.options.JournalMismatchRetryBehavior.TheVariants as mismatch
+use Rattle.vm_types.specs.declared.options.JournalReplay.TheVariants as replay
+use Rattle.vm_types.specs.declared.options.NonDeterministicChecksOption.TheVariants as checks
+use Rattle.vm_types.specs.declared.options.SignalDelivery.TheVariants as delivery
 
 -- the options of a VM by default
 abbrev pub default_options : VMOptions

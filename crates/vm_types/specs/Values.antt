@@ -7,11 +7,11 @@ use Rattle.journal_values.specs.declared.parts.ValueOrFailure.{ValueOrFailure}
 use Rattle.journal_values.specs.declared.parts.ValueOrFailure.TheVariants as message
 use Rattle.journal_values.specs.declared.notification.NotificationResult.{NotificationResult}
 use Rattle.journal_values.specs.declared.notification.NotificationResult.TheVariants as found
-use Rattle.vm_parts.specs.declared.values.TerminalFailure.{TerminalFailure}
-use Rattle.vm_parts.specs.declared.values.NonEmptyValue.{NonEmptyValue}
-use Rattle.vm_parts.specs.declared.values.NonEmptyValue.TheVariants as given
-use Rattle.vm_parts.specs.declared.values.Value.{Value}
-use Rattle.vm_parts.specs.declared.values.Value.TheVariants.{Void, Success, Failure as Failed, StateKeys, InvocationId}
+use Rattle.vm_types.specs.declared.values.TerminalFailure.{TerminalFailure}
+use Rattle.vm_types.specs.declared.values.NonEmptyValue.{NonEmptyValue}
+use Rattle.vm_types.specs.declared.values.NonEmptyValue.TheVariants as given
+use Rattle.vm_types.specs.declared.values.Value.{Value}
+use Rattle.vm_types.specs.declared.values.Value.TheVariants.{Void, Success, Failure as Failed, StateKeys, InvocationId}
 
 -- a failure that is read: of its code the low sixteen bits count
 abbrev pub terminal_failure : Failure → TerminalFailure

@@ -1,6 +1,6 @@
 //! The values that calls take and answer, and how they stand in messages.
 ghost use Rattle.std.specs.Prelude.{◌≡◌, codes, IfOk};
-ghost use Rattle.vm_parts.specs.Values.{terminal_failure, failure_message, value_message, value_of, texts_in, case_name, as_value};
+ghost use Rattle.vm_types.specs.Values.{terminal_failure, failure_message, value_message, value_of, texts_in, case_name, as_value};
 
 use bytes::Bytes;
 use journal_errors::Version;

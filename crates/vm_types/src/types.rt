@@ -1,6 +1,6 @@
 //! The small public types of calls and their answers: ids, groups of handles and states.
 ghost use Rattle.std.specs.Prelude.{◌≡◌, IsTrue, ◌↔◌};
-ghost use Rattle.vm_parts.specs.declared.types.State.TheVariants as state;
+ghost use Rattle.vm_types.specs.declared.types.State.TheVariants as state;
 
 use await_trees::NotificationHandle;
 use wire::Text;

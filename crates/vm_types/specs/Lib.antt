@@ -1,0 +1,3 @@
+pub mod CommandTypes
+pub mod Options
+pub mod Values
