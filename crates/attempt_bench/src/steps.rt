@@ -14,7 +14,7 @@ pub fn sleep(alloc: Global) -> Step
     ensures { result ≡ sleep_step }
 {
     Step::Sleep {
-        name: Text::from_string(String::new(alloc)),
+        name: Text::empty(alloc),
         wake_up_time_since_unix_epoch: Duration::from_millis(1000),
         now_since_unix_epoch: None,
     }

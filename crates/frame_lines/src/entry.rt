@@ -28,11 +28,7 @@ fn print_raw(raw: &RawMessage, line: &mut Line) -> Result<(), AllocError> {
 /// Writes the message of a frame, or the frame as it is where its body doesn't decode.
 pub fn print_frame(alloc: Global, raw: &RawMessage, line: &mut Line) -> Result<(), AllocError> {
     match raw.read(alloc) {
-        Ok(mut message) => {
-            let printed = print_message(&mut message, line);
-            drop(message);
-            printed
-        }
+        Ok(mut message) => print_message(&mut message, line),
         Err(Fault::Malformed) => print_raw(raw, line),
         Err(Fault::Memory) => Err(AllocError),
     }
@@ -48,9 +44,7 @@ fn frame_of_message(alloc: Global, ty: MessageType, fields: Fields<'_>) -> Resul
     ensures { IfOk result (Encodes ty) }
 {
     let message = parse_message(ty, fields)?;
-    let frame = Encoder::new(alloc).encode(&message);
-    drop(message);
-    Ok(frame?)
+    Ok(Encoder::new(alloc).encode(&message)?)
 }
 
 /// A frame of any type and any body.

@@ -48,7 +48,7 @@ impl Handler for Race {
     fn next(&self, answers: &[Answer]) -> Result<Step, AllocError> {
         match answers.len() {
             1 => Ok(Step::Sleep {
-                name: Text::from_string(String::new(self.alloc)),
+                name: Text::empty(self.alloc),
                 wake_up_time_since_unix_epoch: Duration::from_millis(1000),
                 now_since_unix_epoch: None,
             }),

@@ -9,7 +9,6 @@ use journal_errors::NamedFault;
 use runs::RunHandle;
 use std::alloc::Global;
 use vm_asks::asks::{call_handles, send_handle};
-use vm_asks::request::empty_text;
 use vm_machine::fault::refuse;
 use vm_machine::{Awaited, Fault, Machine};
 use vm_parts::{
@@ -24,7 +23,7 @@ pub(crate) fn name_text(alloc: Global, name: Option<String>) -> Text
 {
     match name {
         Some(name) => Text::from_string(name),
-        None => empty_text(alloc),
+        None => Text::empty(alloc),
     }
 }
 

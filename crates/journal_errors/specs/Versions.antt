@@ -1,5 +1,5 @@
--- The content types of the versions.
-use Rattle.std.specs.Prelude.{ℕ, List, codes, nat_eq, Option, Some, None, Result, Ok, Err, if◌then◌else◌}
+-- The versions of the protocol: their content types, and what is later than what.
+use Rattle.std.specs.Prelude.{Bool, true, false, ℕ, List, codes, nat_eq, Option, Some, None, Result, Ok, Err, if◌then◌else◌}
 use Rattle.std.specs.Cmp.Lexicographic.{pointwise}
 use Rattle.journal_errors.specs.declared.version.Version.{Version}
 use Rattle.journal_errors.specs.declared.version.Version.TheVariants.{V1, V2, V3, V4, V5, V6, V7, V8}
@@ -35,3 +35,16 @@ version_of text =
 abbrev pub version_read : Option Version → Result Version Error
 version_read None = Err (named_error fault.BadContentType None)
 version_read (Some v) = Ok v
+
+-- the version is V6 or later
+abbrev pub is_from_v6 : Version → Bool
+is_from_v6 V6 = true
+is_from_v6 V7 = true
+is_from_v6 V8 = true
+is_from_v6 earlier = false
+
+-- the version is V7 or later
+abbrev pub is_from_v7 : Version → Bool
+is_from_v7 V7 = true
+is_from_v7 V8 = true
+is_from_v7 earlier = false

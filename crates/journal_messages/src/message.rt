@@ -1,5 +1,6 @@
 //! Messages as frames: writing one, and reading the body of one.
-ghost use Rattle.std.specs.Prelude.{◌≡◌, ◌++◌, IfOk, OnOk};
+ghost use Rattle.std.specs.Prelude.{◌≡◌, ◌==◌, ◌++◌, IfOk, OnOk};
+ghost use Rattle.journal_errors.specs.Types.{type_number};
 ghost use Rattle.wire.specs.Reads.{Read};
 ghost use Rattle.journal_messages.specs.Reading.{acknowledgement_in, body_as, start_in, input_in, notification_in, message_in};
 ghost use Rattle.journal_messages.specs.Message.{IsWhole};
@@ -223,6 +224,12 @@ impl Encoder {
 
 #[tactic(auto, unfolding(crate::specs::Reading::body_as))]
 impl RawMessage {
+    pub fn has_type(&self, ty: MessageType) -> bool
+        ensures { result ≡ (type_number self.now.ty == type_number ty) }
+    {
+        self.ty.number() == ty.number()
+    }
+
     /// What the whole body spells, whatever the frame's type.
     pub fn read_as<T: Wire>(&self, alloc: Global) -> Result<T, Fault>
         ensures { Read (body_as T.format self.now.body) result }

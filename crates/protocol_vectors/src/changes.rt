@@ -27,9 +27,7 @@ enum Seen {
 /// A frame's message, as a frame again.
 fn written(alloc: Global, raw: &RawMessage) -> Result<Bytes, Fault> {
     let message = raw.read(alloc)?;
-    let frame = Encoder::new(alloc).encode(&message);
-    drop(message);
-    Ok(frame?)
+    Ok(Encoder::new(alloc).encode(&message)?)
 }
 
 /// Whether a frame's message is written as the front of the stream again.

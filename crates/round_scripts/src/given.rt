@@ -32,7 +32,7 @@ fn default_identity(alloc: Global) -> Result<Identity, AllocError>
     Ok(Identity {
         id: Bytes::from_static(b"abc"),
         debug_id: Text::from_str(alloc, "abc")?,
-        key: Text::from_string(String::new(alloc)),
+        key: Text::empty(alloc),
         random_seed: 0,
         scope: None,
         limit_key: None,

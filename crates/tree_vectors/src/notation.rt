@@ -26,7 +26,7 @@ pub fn id(alloc: Global, word: &str) -> Result<NotificationId, Fail> {
 fn failure(alloc: Global) -> NotificationResult {
     NotificationResult::Failure(Failure {
         code: 500,
-        message: Text::from_string(String::new(alloc)),
+        message: Text::empty(alloc),
         metadata: Items::new(alloc),
     })
 }

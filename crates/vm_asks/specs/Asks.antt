@@ -34,7 +34,7 @@ use Rattle.vm_asks.specs.declared.asks.Ask.{Ask}
 use Rattle.vm_asks.specs.declared.asks.Ask.TheVariants as ask
 use Rattle.vm_asks.specs.declared.asks.Command.{Command}
 use Rattle.vm_asks.specs.declared.state_read.StateRead.TheVariants as reads
-use Rattle.vm_asks.specs.Versions.{is_from_v6, is_from_v7}
+use Rattle.journal_errors.specs.Versions.{is_from_v6, is_from_v7}
 use Rattle.vm_asks.specs.Requests.{ids_of}
 
 -- ---- checks

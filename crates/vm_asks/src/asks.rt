@@ -5,7 +5,7 @@ ghost use Rattle.std.specs.Option.{option_copied};
 ghost use Rattle.vm_asks.specs.Asks.{HandlesFit, allowed, answer_by, answer_kind, ask_of, attach_invocation_command, call_command, call_handles, cancel_invocation_command, clear_all_state_command, clear_state_command, complete_awakeable_command, complete_promise_command, complete_signal_command, early_fault, empty_fault, get_invocation_output_command, get_promise_command, has_metadata, millis_of, name_in, output_command, peek_promise_command, request_of, run_command, scope_fault, scope_of, send_command, send_handle, set_state_command, signal_result, sleep_command, target_fault, time_fault, value_fault};
 ghost use Rattle.vm_asks.specs.Requests.{ids_of};
 
-use crate::request::{self, empty_text};
+use crate::request;
 use crate::state_read::StateRead;
 use bytes::Bytes;
 use journal_attempt::{OutputCommand, RunCommand, SleepCommand};
@@ -102,7 +102,7 @@ fn name_in(alloc: Global, name: Option<Text>) -> Text
 {
     match name {
         Some(name) => name,
-        None => empty_text(alloc),
+        None => Text::empty(alloc),
     }
 }
 

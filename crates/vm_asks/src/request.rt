@@ -1,27 +1,12 @@
 //! What a message asks for as a command: how errors show it, and its numbers. One table over messages for all calls.
-ghost use Rattle.std.specs.Prelude.{◌≡◌, ◌==◌, ◌<◌, ◌+◌, ◌^◌, [], IfOk};
-ghost use Rattle.journal_errors.specs.Types.{type_number};
+ghost use Rattle.std.specs.Prelude.{◌≡◌, ◌<◌, ◌+◌, ◌^◌, IfOk};
 ghost use Rattle.vm_asks.specs.Requests.{ids_of, is_cancelled_with, name_of, shown_type, with_ids};
 
 use journal_errors::MessageType;
-use journal_messages::{Message, RawMessage};
+use journal_messages::Message;
 use std::alloc::{AllocError, Global};
 use vm_parts::ImplicitCancellationOption;
 use wire::{Text, copy_of};
-
-/// No text; it takes no memory.
-pub fn empty_text(alloc: Global) -> Text
-    ensures { result ≡ [] }
-{
-    Text::from_string(String::new(alloc))
-}
-
-/// Whether a recorded command has this type.
-pub fn is_of(ty: MessageType, raw: &RawMessage) -> bool
-    ensures { result ≡ (type_number raw.now.ty == type_number ty) }
-{
-    raw.ty.number() == ty.number()
-}
 
 /// The type that errors show: a state read is shown as its lazy form.
 pub fn shown_type(message: &Message) -> MessageType
@@ -50,7 +35,7 @@ pub fn name_of(alloc: Global, message: &Message) -> Result<Text, AllocError>
         Message::Call(command) => copy_of(&command.request.name),
         Message::OneWayCall(command) => copy_of(&command.request.name),
         Message::Run(command) => copy_of(&command.name),
-        _ => Ok(empty_text(alloc)),
+        _ => Ok(Text::empty(alloc)),
     }
 }
 

@@ -3,7 +3,6 @@ ghost use Rattle.std.specs.Prelude.{◌≡◌, true, Some, IfOk};
 ghost use Rattle.journal_messages.specs.Reading.{message_in};
 ghost use Rattle.vm_asks.specs.StateReads.{eager_form, eager_type, form_of, keys_form, lazy_form, lazy_type, name_read, own_form, read_by, recorded_as, recorded_type, result_in, value_form, value_result};
 
-use crate::request::is_of;
 use bytes::Bytes;
 use journal_equality::header_eq;
 use journal_errors::{MessageType, NamedFault};
@@ -115,11 +114,7 @@ fn read_by(
     ensures { IfOk result (λ given. given ≡ read_by form.now (message_in raw.now.ty raw.now.body)) }
 {
     match raw.read(alloc) {
-        Ok(recorded) => {
-            let given = compared(form, &recorded);
-            drop(recorded);
-            given
-        }
+        Ok(recorded) => compared(form, &recorded),
         Err(wire::Fault::Memory) => Err(AllocError),
         Err(wire::Fault::Malformed) => Ok(Err(NamedFault::BadMessage)),
     }
@@ -200,9 +195,9 @@ impl StateRead {
     fn form_of(&self, id: u32, raw: &RawMessage) -> Result<Option<Message>, AllocError>
         ensures { IfOk result (λ form. form ≡ form_of self.now id raw.now) }
     {
-        if is_of(self.lazy_type(), raw) {
+        if raw.has_type(self.lazy_type()) {
             Ok(Some(self.lazy_form(id)?))
-        } else if is_of(self.eager_type(), raw) {
+        } else if raw.has_type(self.eager_type()) {
             Ok(Some(self.eager_form()?))
         } else {
             Ok(None)
@@ -221,16 +216,14 @@ impl StateRead {
         let Some(form) = self.form_of(id, raw)? else {
             return Ok(Err(NamedFault::CommandTypeMismatch));
         };
-        let given = read_by(alloc, &form, raw);
-        drop(form);
-        given
+        read_by(alloc, &form, raw)
     }
 
     /// The type that an error shows of a recorded read.
     pub fn recorded_type(&self, raw: &RawMessage) -> MessageType
         ensures { result ≡ recorded_type self.now raw.now }
     {
-        if is_of(self.lazy_type(), raw) {
+        if raw.has_type(self.lazy_type()) {
             self.lazy_type()
         } else {
             self.eager_type()

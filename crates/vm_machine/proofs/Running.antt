@@ -28,7 +28,7 @@ use Rattle.journal_errors.specs.declared.error.Error.{Error}
 use Rattle.vm_types.specs.declared.types.AwaitResponse.{AwaitResponse}
 use Rattle.vm_types.specs.declared.types.AwaitResponse.TheVariants.{ExecuteRun}
 use Rattle.vm_machine.specs.Phases.{is_replaying}
-use Rattle.vm_asks.specs.Versions.{is_from_v7}
+use Rattle.journal_errors.specs.Versions.{is_from_v7}
 use Rattle.vm_machine.specs.Awaits.{executed, last_run, pending_in_replay, pending_on, run_at, waits_by, waits_on}
 use Rattle.vm_machine.specs.Inputs.{acknowledged, acknowledged_by, acknowledgement_step, completion_of, enqueued, entry_step, message_step, notification_step, start_step}
 use Rattle.vm_machine.specs.Outcomes.{Done, Failed, Gives, GivesBy, Outcome, lasting, refused}

@@ -35,7 +35,7 @@ use Rattle.vm_machine.specs.declared.machine.Machine.{Machine}
 use Rattle.vm_machine.specs.declared.phase.Phase.TheVariants.{Closed}
 use Rattle.vm_machine.specs.Outcomes.{Outcome, Done, Failed, refused}
 use Rattle.vm_machine.specs.Phases.{is_running, is_replaying, state_fault}
-use Rattle.vm_asks.specs.Versions.{is_from_v7}
+use Rattle.journal_errors.specs.Versions.{is_from_v7}
 
 -- the first n notifications that wait are used
 abbrev pub with_used : ℕ → Machine → Machine

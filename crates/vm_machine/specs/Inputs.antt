@@ -35,7 +35,7 @@ use Rattle.vm_machine.specs.declared.phase.Phase.TheVariants.{WaitingStart, Wait
 use Rattle.vm_machine.specs.Outcomes.{Outcome, Done, Failed, ◌>>=◌, refused, about_last, ruled, failed, starved}
 use Rattle.vm_machine.specs.Commands.{entered, about_next, popped}
 use Rattle.vm_machine.specs.Phases.{state_fault}
-use Rattle.vm_asks.specs.Versions.{is_from_v6, is_from_v7}
+use Rattle.journal_errors.specs.Versions.{is_from_v6, is_from_v7}
 
 -- ---- Start
 

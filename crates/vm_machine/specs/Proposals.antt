@@ -25,7 +25,7 @@ use Rattle.vm_machine.specs.declared.phase.Phase.{Phase}
 use Rattle.vm_machine.specs.declared.phase.Phase.TheVariants.{Processing}
 use Rattle.vm_machine.specs.Awaits.{run_at}
 use Rattle.vm_machine.specs.Outcomes.{Outcome, Done, Failed, refused}
-use Rattle.vm_asks.specs.Versions.{is_from_v6, is_from_v7}
+use Rattle.journal_errors.specs.Versions.{is_from_v6, is_from_v7}
 
 -- why a version can't take a result: metadata on a failure needs V6, and a policy that may pause V7, whatever the result is
 abbrev pub proposal_fault : RunExitResult → RetryPolicy → Version → Option NamedFault

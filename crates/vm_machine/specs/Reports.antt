@@ -11,7 +11,7 @@ use Rattle.vm_types.specs.CommandTypes.{message_type}
 use Rattle.vm_parts.specs.Counting.{next_index}
 use Rattle.vm_machine.specs.declared.machine.Machine.{Machine}
 use Rattle.vm_machine.specs.Outcomes.{Outcome, Failed, refused, last_related}
-use Rattle.vm_asks.specs.Versions.{is_from_v7}
+use Rattle.journal_errors.specs.Versions.{is_from_v7}
 
 -- the command that the error relates to; an absent name is empty
 abbrev pub related_by : CommandRelationship → Machine → RelatedCommand

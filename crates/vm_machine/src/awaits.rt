@@ -91,9 +91,7 @@ impl Machine {
     {
         let future = future_of(self.alloc, &self.results, left)?;
         let message = Message::Suspension(Suspension { future });
-        let written = self.output.write(self.alloc, &message);
-        drop(message);
-        written
+        self.output.write(self.alloc, &message)
     }
 
     /// Whether an await that waits says what for.
@@ -120,9 +118,7 @@ impl Machine {
             future,
             executing_side_effects: false,
         });
-        let written = self.output.write(self.alloc, &message);
-        drop(message);
-        written
+        self.output.write(self.alloc, &message)
     }
 
     /// The pending run of a handle that wasn't taken, as an error that relates to its command shows it.

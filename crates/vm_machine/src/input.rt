@@ -12,7 +12,6 @@ use journal_attempt::InputCommand;
 use journal_errors::{Error, MessageType, NamedFault, RelatedCommand};
 use journal_messages::Message;
 use std::alloc::AllocError;
-use vm_asks::request::empty_text;
 use vm_parts::{Input, StartInfo};
 use wire::{Text, copy_of};
 
@@ -51,11 +50,11 @@ impl Machine {
             let related = RelatedCommand {
                 index: self.counters.next_index(),
                 ty: MessageType::InputCommand,
-                name: empty_text(self.alloc),
+                name: Text::empty(self.alloc),
             };
             return Err(Fault::Refused(Error::named(fault, Some(related))));
         }
-        self.enter(MessageType::InputCommand, empty_text(self.alloc));
+        self.enter(MessageType::InputCommand, Text::empty(self.alloc));
         let raw = self.pop(MessageType::InputCommand)?;
         match raw.read_input(self.alloc) {
             Ok(command) => Ok(input_of(&self.start, command)?),
@@ -73,7 +72,7 @@ impl Machine {
     {
         if !self.phase.is_replaying() {
             let fault = self.phase.fault();
-            self.enter(MessageType::InputCommand, empty_text(self.alloc));
+            self.enter(MessageType::InputCommand, Text::empty(self.alloc));
             return Err(Fault::Refused(self.about_last(fault)?));
         }
         self.pop_input()

@@ -16,7 +16,7 @@ use journal_messages::{Message, RawMessage};
 use journal_values::NotificationId;
 use std::alloc::AllocError;
 use vm_asks::Command;
-use vm_asks::request::{give_ids, ids_of, is_cancelled_with, is_of, name_of, shown_type};
+use vm_asks::request::{give_ids, ids_of, is_cancelled_with, name_of, shown_type};
 use vm_parts::{LastCommand, NonDeterministicChecksOption, NotificationHandle};
 use wire::{Text, copy_of};
 
@@ -83,7 +83,7 @@ impl Machine {
         let Some(raw) = self.pop_next() else {
             return Err(Fault::Refused(self.about_last(NamedFault::UnavailableEntry)?));
         };
-        if !is_of(ty, &raw) {
+        if !raw.has_type(ty) {
             return Err(Fault::Refused(self.about_last(NamedFault::CommandTypeMismatch)?));
         }
         Ok(raw)

@@ -22,7 +22,7 @@ ghost use Rattle.journal_values.specs.declared.parts.ValueOrFailure.{ValueOrFail
 ghost use Rattle.runs.specs.Firsts.{without_first};
 ghost use Rattle.runs.specs.Kept.{is_for};
 ghost use Rattle.vm_parts.specs.declared.run_state.KeptProposal.{KeptProposal};
-ghost use Rattle.vm_asks.specs.Versions.{is_from_v7};
+ghost use Rattle.journal_errors.specs.Versions.{is_from_v7};
 ghost use Rattle.vm_machine.specs.Inputs.{completion_of, enqueued, close_step, end_step, input_step, malformed_step, message_step};
 ghost use Rattle.vm_machine.specs.Reports.{report_step};
 ghost use Rattle.vm_machine.specs.Numbers.{Counted};

@@ -8,12 +8,11 @@ use journal_errors::{Error, MessageType, Version};
 use journal_messages::RawMessage;
 use runs::{KeptProposals, RunState};
 use std::alloc::{AllocError, Global};
-use vm_asks::request::empty_text;
 use vm_parts::{
     AsyncResults, Counters, EphemeralCommand, LastCommand, Outbox, Queue, StartInfo, StateCoverage,
     StateMap, TrackedCalls, VMOptions,
 };
-use wire::Items;
+use wire::{Items, Text};
 
 /// All that a machine is.
 #[derive(Drop)]
@@ -55,8 +54,8 @@ fn nothing_started(alloc: Global) -> StartInfo
 {
     StartInfo {
         id: Bytes::new(),
-        debug_id: empty_text(alloc),
-        key: empty_text(alloc),
+        debug_id: Text::empty(alloc),
+        key: Text::empty(alloc),
         known_entries: 0,
         retry_count: 0,
         duration: 0,
@@ -86,7 +85,7 @@ impl Machine {
             counters: Counters::new(),
             last_command: LastCommand {
                 ty: MessageType::Start,
-                name: empty_text(alloc),
+                name: Text::empty(alloc),
             },
             wrote_command: false,
             results,

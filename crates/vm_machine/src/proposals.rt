@@ -54,9 +54,7 @@ impl Machine {
     {
         self.keep_proposal(id, &given)?;
         let message = Message::ProposeRunCompletion(ProposeRunCompletion { id, result: given });
-        let written = self.output.write(self.alloc, &message);
-        drop(message);
-        written
+        self.output.write(self.alloc, &message)
     }
 
     /// What becomes of a run is done.

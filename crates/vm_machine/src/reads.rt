@@ -13,9 +13,9 @@ use journal_messages::Message;
 use journal_values::NotificationResult;
 use std::alloc::AllocError;
 use vm_asks::StateRead;
-use vm_asks::request::empty_text;
 use vm_asks::state_read::result_in;
 use vm_parts::NotificationHandle;
+use wire::Text;
 
 impl Machine {
     /// Gives a read its result, where it brings one.
@@ -57,7 +57,7 @@ impl Machine {
             return Err(Fault::Refused(self.about_last(NamedFault::UnavailableEntry)?));
         };
         self.last_command.ty = read.recorded_type(&raw);
-        self.last_command.name = empty_text(self.alloc);
+        self.last_command.name = Text::empty(self.alloc);
         match read.recorded_as(self.alloc, id, &raw)? {
             Ok(given) => {
                 self.put_result(id, given)?;
@@ -77,12 +77,10 @@ impl Machine {
         let id = self.counters.completion;
         if self.phase.is_processing() {
             let form = read.own_form(self.alloc, id, &self.state)?;
-            let written = self.write_read(read, &form, id);
-            drop(form);
-            written?;
+            self.write_read(read, &form, id)?;
             return Ok(NotificationHandle(handle));
         }
-        self.enter(read.eager_type(), empty_text(self.alloc));
+        self.enter(read.eager_type(), Text::empty(self.alloc));
         self.hand_out(1)?;
         self.replay_read(read, handle, id)
     }
@@ -94,7 +92,7 @@ impl Machine {
     {
         let index = self.counters.next_index();
         if !self.phase.is_running() {
-            let none = empty_text(self.alloc);
+            let none = Text::empty(self.alloc);
             return Err(Fault::Refused(about_next(
                 self.phase.fault(),
                 index,
@@ -106,7 +104,7 @@ impl Machine {
             let name = if self.phase.is_processing() {
                 read.name()?
             } else {
-                empty_text(self.alloc)
+                Text::empty(self.alloc)
             };
             return Err(Fault::Refused(about_next(fault, index, read.lazy_type(), name)));
         }

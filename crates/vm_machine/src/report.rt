@@ -7,7 +7,6 @@ use crate::fault::{Fault, refuse};
 use crate::machine::Machine;
 use journal_errors::{Error, ErrorBehavior, NamedFault, RelatedCommand, Version};
 use std::alloc::{AllocError, Global};
-use vm_asks::request::empty_text;
 use vm_parts::CommandRelationship;
 use wire::Text;
 
@@ -17,7 +16,7 @@ fn name_text(alloc: Global, name: Option<Text>) -> Text
 {
     match name {
         Some(name) => name,
-        None => empty_text(alloc),
+        None => Text::empty(alloc),
     }
 }
 

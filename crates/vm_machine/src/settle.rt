@@ -68,9 +68,7 @@ impl Machine {
         ensures err { OnErr result (self.new ≡ self.old) }
     {
         let message = Message::Error(error.to_message(self.alloc)?);
-        let written = self.output.write(self.alloc, &message);
-        drop(message);
-        written
+        self.output.write(self.alloc, &message)
     }
 
     fn fail(&mut self, error: &Error) -> Result<(), AllocError>

@@ -38,7 +38,7 @@ use Rattle.vm_model.proofs.Compared.{after_answers, attempt_is_told}
 use Rattle.vm_model.proofs.Runs.{made_after}
 use Rattle.std.specs.List.{AllByRecursion}
 use Rattle.vm_parts.specs.declared.run_state.KeptProposal.{KeptProposal}
-use Rattle.vm_asks.specs.Versions.{is_from_v7}
+use Rattle.journal_errors.specs.Versions.{is_from_v7}
 use Rattle.vm_rounds.specs.Arrivals.{arriving, kept_after}
 use Rattle.vm_steps.specs.Heard.{acknowledged_from}
 use Rattle.vm_rounds.proofs.Arriving.{arriving_alone, kept_none}

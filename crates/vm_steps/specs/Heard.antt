@@ -7,7 +7,7 @@ use Rattle.journal_errors.specs.Types.{type_number}
 use Rattle.journal_messages.specs.declared.message.RawMessage.{RawMessage}
 use Rattle.journal_messages.specs.Reading.{body_as}
 use Rattle.vm_parts.specs.declared.run_state.KeptProposal.{KeptProposal}
-use Rattle.vm_asks.specs.Versions.{is_from_v7}
+use Rattle.journal_errors.specs.Versions.{is_from_v7}
 use Rattle.invocation_vm.specs.Frames.{frames_of}
 use Rattle.vm_steps.specs.declared.progress.Fed.{Fed}
 

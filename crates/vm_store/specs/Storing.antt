@@ -11,7 +11,7 @@ use Rattle.journal_messages.specs.Message.{IsWhole, encoding}
 use Rattle.invocation_vm.specs.Frames.{frames_of}
 use Rattle.vm_parts.specs.declared.run_state.KeptProposal.{KeptProposal}
 use Rattle.vm_machine.specs.Inputs.{completion_of}
-use Rattle.vm_asks.specs.Versions.{is_from_v7}
+use Rattle.journal_errors.specs.Versions.{is_from_v7}
 use Rattle.vm_steps.specs.Heard.{is_proposal, proposal_in}
 use Rattle.vm_rounds.specs.Journals.{is_command}
 use Rattle.vm_store.specs.declared.storing.Written.{Written}

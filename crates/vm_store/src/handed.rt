@@ -106,9 +106,7 @@ fn encode_start(alloc: Global, start: Start) -> Result<Bytes, AllocError>
     ensures whole { OnOk result (IsWhole (message.Start start)) }
 {
     let message = Message::Start(start);
-    let frame = Encoder::new(alloc).encode(&message);
-    drop(message);
-    frame
+    Encoder::new(alloc).encode(&message)
 }
 
 /// The frame of a round's Start.

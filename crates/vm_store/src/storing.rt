@@ -2,7 +2,7 @@
 ghost use Rattle.std.specs.Prelude.{◌≡◌, ◌⊎◌, true, false, [], ◌∷◌, ◌++◌, take, None, Some, IfOk, IfErr, OnOk, if◌then◌else◌};
 ghost use Rattle.journal_messages.specs.Message.{encoding, IsWhole};
 ghost use Rattle.journal_messages.specs.declared.message.Message.TheVariants as message;
-ghost use Rattle.vm_asks.specs.Versions.{is_from_v7};
+ghost use Rattle.journal_errors.specs.Versions.{is_from_v7};
 ghost use Rattle.vm_steps.specs.Heard.{is_proposal};
 ghost use Rattle.vm_store.specs.Arrivals.{room_fault};
 ghost use Rattle.vm_store.specs.Entries.{frame_of};
@@ -82,9 +82,7 @@ fn completion_bytes(alloc: Global, proposal: KeptProposal) -> Result<Bytes, Allo
         id: NotificationId::CompletionId(proposal.completion_id),
         result: completion_result(proposal.result),
     });
-    let frame = Encoder::new(alloc).encode(&message);
-    drop(message);
-    frame
+    Encoder::new(alloc).encode(&message)
 }
 
 /// The frame that acknowledges the proposal for the run of this id.
@@ -93,9 +91,7 @@ fn acknowledgement_bytes(alloc: Global, id: u32) -> Result<Bytes, AllocError>
     ensures whole { OnOk result (IsWhole (acknowledgement id)) }
 {
     let message = Message::ProposeRunCompletionAck(ProposeRunCompletionAck { id });
-    let frame = Encoder::new(alloc).encode(&message);
-    drop(message);
-    frame
+    Encoder::new(alloc).encode(&message)
 }
 
 /// The frame that answers a proposal: from version 7 on its acknowledgement, before it the completion that was stored.

@@ -18,7 +18,7 @@ use Rattle.journal_values.specs.declared.notification.Notification.{Notification
 use Rattle.runs.specs.Kept.{is_for}
 use Rattle.vm_parts.specs.declared.run_state.KeptProposal.{KeptProposal}
 use Rattle.vm_machine.specs.Inputs.{completion_of}
-use Rattle.vm_asks.specs.Versions.{is_from_v7}
+use Rattle.journal_errors.specs.Versions.{is_from_v7}
 use Rattle.vm_model.specs.Carried.{AreCarried, is_carried}
 use Rattle.vm_model.specs.Journal.{stored_form}
 use Rattle.vm_model.proofs.Once.{still_carried}

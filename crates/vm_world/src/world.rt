@@ -42,9 +42,7 @@ fn input_bytes(alloc: Global, input: Bytes) -> Result<Bytes, AllocError>
         headers: Items::new(alloc),
         value: input,
     });
-    let frame = Encoder::new(alloc).encode(&message);
-    drop(message);
-    frame
+    Encoder::new(alloc).encode(&message)
 }
 
 /// A journal of one frame.

@@ -1,5 +1,5 @@
 //! `Text`: a `String` that contracts see as its bytes.
-ghost use Rattle.std.specs.Prelude.{◌≡◌, IfOk, Some, refl};
+ghost use Rattle.std.specs.Prelude.{◌≡◌, [], IfOk, Some, refl};
 ghost use Rattle.std.specs.Cmp.Lexicographic.{pointwise, nat_list_eq_equiv, slice_cmp, texts_po, texts_ties, nat_list_cmp_total};
 ghost use Rattle.std.specs.Prelude.{nat_eq, string_bytes};
 ghost use Rattle.std.specs.Ordering.{nat_cmp};
@@ -24,6 +24,15 @@ impl Model for Text {
 }
 
 impl Text {
+    /// No text; it takes no memory.
+    pub fn empty(alloc: Global) -> Text
+        ensures { result ≡ [] }
+    {
+        Text {
+            inner: String::new(alloc),
+        }
+    }
+
     pub fn from_string(inner: String) -> Text
         ensures { result ≡ string_bytes inner }
     {
