@@ -1,4 +1,3 @@
 pub mod Asks
 pub mod Requests
 pub mod StateReads
-pub mod Versions
