@@ -28,7 +28,7 @@ pub struct FutureNode {
 }
 
 /// A future with all that nest in it: each node stands before those of the futures that nest in it.
-#[derive(Debug, Drop, Clone, PartialEq, Eq)]
+#[derive(Debug, Drop, PartialEq, Eq)]
 pub struct Future {
     nodes: Items<FutureNode>,
 }

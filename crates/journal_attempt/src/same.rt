@@ -1,24 +1,17 @@
 //! Whose `==` says whether two values are the same.
-ghost use Rattle.std.proofs.Common.{rules};
 ghost use Rattle.journal_attempt.specs.Same.{start_exact, node_exact, future_exact};
 
 use crate::{Future, FutureNode, Start};
-use wire::Plain;
+use wire::Exact;
 
-impl Plain for Start {
-    ghost copies = { λ a b. Prim.search rules };
-
+impl Exact for Start {
     ghost compares = { start_exact };
 }
 
-impl Plain for FutureNode {
-    ghost copies = { λ a b. Prim.search rules };
-
+impl Exact for FutureNode {
     ghost compares = { node_exact };
 }
 
-impl Plain for Future {
-    ghost copies = { λ a b. Prim.search rules };
-
+impl Exact for Future {
     ghost compares = { future_exact };
 }

@@ -5,14 +5,14 @@ use bytes::Bytes;
 use std::alloc::{AllocError, Global};
 use wire::{Fault, Text, Wire};
 
-#[derive(Debug, Drop, Clone, PartialEq, Eq)]
+#[derive(Debug, Drop, PartialEq, Eq)]
 pub struct WorkflowId {
     pub name: Text,
     pub key: Text,
     pub scope: Option<Text>,
 }
 
-#[derive(Debug, Drop, Clone, PartialEq, Eq)]
+#[derive(Debug, Drop, PartialEq, Eq)]
 pub struct IdempotencyId {
     pub service_name: Text,
     pub service_key: Option<Text>,
@@ -22,7 +22,7 @@ pub struct IdempotencyId {
 }
 
 /// Which invocation is meant.
-#[derive(Debug, Drop, Clone, PartialEq, Eq)]
+#[derive(Debug, Drop, PartialEq, Eq)]
 pub enum InvocationTarget {
     InvocationId(Text),
     WorkflowId(WorkflowId),
@@ -30,7 +30,7 @@ pub enum InvocationTarget {
 }
 
 /// Attaches to an invocation, or asks for its output.
-#[derive(Debug, Drop, Clone, PartialEq, Eq)]
+#[derive(Debug, Drop, PartialEq, Eq)]
 pub struct InvocationCommand {
     pub target: InvocationTarget,
     pub result_completion_id: u32,

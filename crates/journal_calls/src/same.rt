@@ -1,24 +1,17 @@
 //! Whose `==` says whether two values are the same.
-ghost use Rattle.std.proofs.Common.{rules};
 ghost use Rattle.journal_calls.specs.Same.{signal_exact, signal_result_exact, target_exact};
 
 use crate::{InvocationTarget, Signal, SignalResult};
-use wire::Plain;
+use wire::Exact;
 
-impl Plain for Signal {
-    ghost copies = { λ a b. Prim.search rules };
-
+impl Exact for Signal {
     ghost compares = { signal_exact };
 }
 
-impl Plain for SignalResult {
-    ghost copies = { λ a b. Prim.search rules };
-
+impl Exact for SignalResult {
     ghost compares = { signal_result_exact };
 }
 
-impl Plain for InvocationTarget {
-    ghost copies = { λ a b. Prim.search rules };
-
+impl Exact for InvocationTarget {
     ghost compares = { target_exact };
 }

@@ -24,7 +24,7 @@ pub struct RelatedCommand {
     pub name: Text,
 }
 
-#[derive(Clone, Debug, Drop)]
+#[derive(Clone, Debug)]
 pub struct Error {
     pub code: u16,
     pub message: Said,
@@ -32,6 +32,23 @@ pub struct Error {
     pub behavior: ErrorBehavior,
     pub next_retry_delay: Option<Duration>,
     pub related_command: Option<RelatedCommand>,
+}
+
+/// Written out, so that who lets an error go calls this: a derived drop is taken apart at each way out of a function.
+impl Drop for Error {
+    fn drop(self) {
+        let Self {
+            code: _,
+            message,
+            stacktrace,
+            behavior: _,
+            next_retry_delay: _,
+            related_command,
+        } = self;
+        drop(message);
+        drop(stacktrace);
+        drop(related_command);
+    }
 }
 
 impl Error {

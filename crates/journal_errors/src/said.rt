@@ -4,9 +4,17 @@ use std::alloc::AllocError;
 use std::marker::Model;
 
 /// What an error says: a text of the program's, or one of its own. Contracts see its bytes.
-#[derive(Debug, Drop)]
+#[derive(Debug)]
 pub struct Said {
     text: Source,
+}
+
+/// Written out, as for an error.
+impl Drop for Said {
+    fn drop(self) {
+        let Self { text } = self;
+        drop(text);
+    }
 }
 
 #[derive(Debug, Drop)]

@@ -1,12 +1,9 @@
 //! Whose `==` says whether two values are the same.
-ghost use Rattle.std.proofs.Common.{rules};
 ghost use Rattle.journal_errors.specs.Same.{error_exact};
 
 use crate::ErrorMessage;
-use wire::Plain;
+use wire::Exact;
 
-impl Plain for ErrorMessage {
-    ghost copies = { λ a b. Prim.search rules };
-
+impl Exact for ErrorMessage {
     ghost compares = { error_exact };
 }

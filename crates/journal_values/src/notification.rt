@@ -22,7 +22,7 @@ pub enum NotificationResult {
     InvocationId(Text),
 }
 
-#[derive(Debug, Drop, Clone, PartialEq, Eq)]
+#[derive(Debug, Drop, PartialEq, Eq)]
 pub struct Notification {
     pub id: NotificationId,
     pub result: NotificationResult,

@@ -6,7 +6,7 @@ ghost use Rattle.wire.specs.Same.{exact_on, exact_pair};
 
 use bytes::Bytes;
 use std::alloc::{AllocError, Global};
-use wire::{Fault, Items, Plain, Text, Wire};
+use wire::{Exact, Fault, Items, Plain, Text, Wire};
 
 #[derive(Debug, Drop, Clone, PartialEq, Eq)]
 pub struct Header {
@@ -27,10 +27,12 @@ pub enum ValueOrFailure {
     Failure(Failure),
 }
 
+impl Exact for Header {
+    ghost compares = { exact_on (λ h. (h.key, h.value)) (λ p. record { key = p.0; value = p.1 }) (λ _. refl) (exact_pair bytes_decides bytes_decides) };
+}
+
 impl Plain for Header {
     ghost copies = { λ a b. Prim.search rules };
-
-    ghost compares = { exact_on (λ h. (h.key, h.value)) (λ p. record { key = p.0; value = p.1 }) (λ _. refl) (exact_pair bytes_decides bytes_decides) };
 }
 
 impl Wire for Header {

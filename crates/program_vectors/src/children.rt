@@ -1,420 +1,291 @@
-// Runs of the program `vmrun` with the handlers that call others: their first attempts, what wakes them, and how they are cancelled.
-use crate::children_frames::{
-    CALL_A, CALL_B, CALL_GREET, CANCEL, CANCEL_INV_1, CANCEL_INV_2, FAILURE_2, FAILURE_3,
-    INVOCATION_1, INVOCATION_2, INVOCATION_3, OUTPUT_CANCELLED, OUTPUT_DONE, OUTPUT_HI, OUTPUT_NO,
-    OUTPUT_TIMEOUT, PARENT_WAITS, PARENT_WAITS_FOR_4, RACE_WAITS, RESULT_2, RESULT_3, RESULT_4,
-    START_5, START_6, START_7, SUSPENSION_FOR_1, SUSPENSION_FOR_2, SUSPENSION_FOR_3, VOID_3,
-};
-use runner::exit_status::ExitStatus;
-use runner::run::run;
+// Worked rounds of `parent`: it is cancelled, and its children with it, also where it was stopped between two of their signals.
+use crate::bench::{Told, V7, assert_reported, assert_run, told_of};
+use round_reports::run::run;
 use std::alloc::Global;
 use std::io::Cursor;
 use std::process::Abort;
 use std::test::Fail;
 use streams::Plain;
-use vectors::frames::{
-    COMPLETION_1, END, ERROR_INPUT_CLOSED, INPUT_TILL, OUTPUT_EMPTY, SLEEP_TO_1000, START_1,
-    START_2, START_3,
-};
 
-const V7: &str = "application/vnd.restate.invocation.v7";
+/// The first of the two cancel signals is stored, and the attempt is lost; the next one sends the other.
+const CANCELLED: &str = r#"round
+piece all
+step 3
+store 2
+round
+piece all
+step 4
+arrive Notification id=completion(1) result=invocation_id("inv1")
+arrive Notification id=completion(3) result=invocation_id("inv2")
+arrive Notification id=signal(1) result=void
+piece all
+step
+store 1
+round
+piece all
+step 6
+store 2
+=>
+round 1
+answer input id="abc" seed=0 key="" headers=[] value="" scope=- limit=- idem=-
+answer handles 17 18
+answer handles 19 20
+output Call service_name="Child" handler_name="a" invocation_id_notification_idx=1 result_completion_id=2
+output Call service_name="Child" handler_name="b" invocation_id_notification_idx=3 result_completion_id=4
+entries 3
+round 2
+answer input id="abc" seed=0 key="" headers=[] value="" scope=- limit=- idem=-
+answer handles 17 18
+answer handles 19 20
+answer cancelled
+output AwaitingOn future=(kind=FirstCompleted signals=[1] nested=[(kind=AllCompleted completions=[2, 4])])
+output SendSignal target_invocation_id="inv1" signal=index(1) result=void
+output SendSignal target_invocation_id="inv2" signal=index(1) result=void
+entries 7
+round 3
+answer input id="abc" seed=0 key="" headers=[] value="" scope=- limit=- idem=-
+answer handles 17 18
+answer handles 19 20
+answer cancelled
+answer unit
+output SendSignal target_invocation_id="inv2" signal=index(1) result=void
+output Output result=failure(code=409 message="cancelled")
+output End
+entries 9
+journal
+Input
+Call service_name="Child" handler_name="a" invocation_id_notification_idx=1 result_completion_id=2
+Call service_name="Child" handler_name="b" invocation_id_notification_idx=3 result_completion_id=4
+Notification id=completion(1) result=invocation_id("inv1")
+Notification id=completion(3) result=invocation_id("inv2")
+Notification id=signal(1) result=void
+SendSignal target_invocation_id="inv1" signal=index(1) result=void
+SendSignal target_invocation_id="inv2" signal=index(1) result=void
+Output result=failure(code=409 message="cancelled")
+"#;
 
-/// What came to a race, what it wrote, and how the run ended.
-static RACES: [Row; 17] = [
-    // a first attempt
-    (
-        &[START_1, INPUT_TILL],
-        &[SLEEP_TO_1000, CALL_GREET, RACE_WAITS],
-        ExitStatus::Suspended,
-    ),
-    // lost behind its sleep: the call alone is sent
-    (
-        &[START_2, INPUT_TILL, SLEEP_TO_1000],
-        &[CALL_GREET, RACE_WAITS],
-        ExitStatus::Suspended,
-    ),
-    // nothing came
-    (
-        &[START_3, INPUT_TILL, SLEEP_TO_1000, CALL_GREET],
-        &[RACE_WAITS],
-        ExitStatus::Suspended,
-    ),
-    // the id of the called invocation wakes nothing
-    (
-        &[START_3, INPUT_TILL, SLEEP_TO_1000, CALL_GREET, INVOCATION_2],
-        &[RACE_WAITS],
-        ExitStatus::Suspended,
-    ),
-    // the call is first
-    (
-        &[START_3, INPUT_TILL, SLEEP_TO_1000, CALL_GREET, RESULT_3],
-        &[OUTPUT_HI, END],
-        ExitStatus::Ended,
-    ),
-    // the sleep is first
-    (
-        &[START_3, INPUT_TILL, SLEEP_TO_1000, CALL_GREET, COMPLETION_1],
-        &[OUTPUT_TIMEOUT, END],
-        ExitStatus::Ended,
-    ),
-    // the call is first, and the sleep is over behind it
-    (
-        &[
-            START_3,
-            INPUT_TILL,
-            SLEEP_TO_1000,
-            CALL_GREET,
-            RESULT_3,
-            COMPLETION_1,
-        ],
-        &[OUTPUT_HI, END],
-        ExitStatus::Ended,
-    ),
-    // the sleep is first: what came behind it isn't used, so the call isn't completed
-    (
-        &[
-            START_3,
-            INPUT_TILL,
-            SLEEP_TO_1000,
-            CALL_GREET,
-            COMPLETION_1,
-            RESULT_3,
-        ],
-        &[OUTPUT_TIMEOUT, END],
-        ExitStatus::Ended,
-    ),
-    // the call gave nothing: an empty output
-    (
-        &[START_3, INPUT_TILL, SLEEP_TO_1000, CALL_GREET, VOID_3],
-        &[OUTPUT_EMPTY, END],
-        ExitStatus::Ended,
-    ),
-    // the call failed
-    (
-        &[START_3, INPUT_TILL, SLEEP_TO_1000, CALL_GREET, FAILURE_3],
-        &[OUTPUT_NO, END],
-        ExitStatus::Ended,
-    ),
-    // the output is recorded
-    (
-        &[
-            START_5,
-            INPUT_TILL,
-            SLEEP_TO_1000,
-            CALL_GREET,
-            RESULT_3,
-            OUTPUT_HI,
-        ],
-        &[END],
-        ExitStatus::Ended,
-    ),
-    // cancelled while it waits
-    (
-        &[
-            START_3,
-            INPUT_TILL,
-            SLEEP_TO_1000,
-            CALL_GREET,
-            INVOCATION_2,
-            CANCEL,
-        ],
-        &[CANCEL_INV_1, OUTPUT_CANCELLED, END],
-        ExitStatus::Ended,
-    ),
-    // cancelled before the called invocation has an id that is known
-    (
-        &[
-            START_3,
-            INPUT_TILL,
-            SLEEP_TO_1000,
-            CALL_GREET,
-            CANCEL,
-            INVOCATION_2,
-        ],
-        &[CANCEL_INV_1, OUTPUT_CANCELLED, END],
-        ExitStatus::Ended,
-    ),
-    // cancelled, and the id of the called invocation isn't known yet
-    (
-        &[START_3, INPUT_TILL, SLEEP_TO_1000, CALL_GREET, CANCEL],
-        &[SUSPENSION_FOR_2],
-        ExitStatus::Suspended,
-    ),
-    // cancelled behind the result of the call: the call is first
-    (
-        &[
-            START_3,
-            INPUT_TILL,
-            SLEEP_TO_1000,
-            CALL_GREET,
-            INVOCATION_2,
-            RESULT_3,
-            CANCEL,
-        ],
-        &[OUTPUT_HI, END],
-        ExitStatus::Ended,
-    ),
-    // cancelled before the result of the call
-    (
-        &[
-            START_3,
-            INPUT_TILL,
-            SLEEP_TO_1000,
-            CALL_GREET,
-            INVOCATION_2,
-            CANCEL,
-            RESULT_3,
-        ],
-        &[CANCEL_INV_1, OUTPUT_CANCELLED, END],
-        ExitStatus::Ended,
-    ),
-    // the cancelled await is replayed: the signal to the call is recorded
-    (
-        &[
-            START_6,
-            INPUT_TILL,
-            SLEEP_TO_1000,
-            CALL_GREET,
-            INVOCATION_2,
-            CANCEL,
-            CANCEL_INV_1,
-        ],
-        &[OUTPUT_CANCELLED, END],
-        ExitStatus::Ended,
-    ),
+#[test]
+fn cancelled_parent_cancels_each_child_once(rt: HostRuntime) -> Result<(), Fail> {
+    assert_reported(&rt, rt.alloc(), "parent", CANCELLED)
+}
+
+/// Options that change nothing of these rounds, each alone.
+static IDLE: [&str; 6] = [
+    "cancel=both",
+    "checks=off",
+    "awaiting=always",
+    "mismatch=pause",
+    "mismatch=fail",
+    "delivery=overwrite",
 ];
 
-/// The same of a parent.
-static PARENTS: [Row; 16] = [
-    // a first attempt
-    (
-        &[START_1, INPUT_TILL],
-        &[CALL_A, CALL_B, PARENT_WAITS],
-        ExitStatus::Suspended,
-    ),
-    // lost behind its first call
-    (
-        &[START_2, INPUT_TILL, CALL_A],
-        &[CALL_B, PARENT_WAITS],
-        ExitStatus::Suspended,
-    ),
-    // nothing came
-    (
-        &[START_3, INPUT_TILL, CALL_A, CALL_B],
-        &[PARENT_WAITS],
-        ExitStatus::Suspended,
-    ),
-    // one result came: the other is waited for
-    (
-        &[START_3, INPUT_TILL, CALL_A, CALL_B, RESULT_2],
-        &[PARENT_WAITS_FOR_4],
-        ExitStatus::Suspended,
-    ),
-    // both results came
-    (
-        &[START_3, INPUT_TILL, CALL_A, CALL_B, RESULT_2, RESULT_4],
-        &[OUTPUT_DONE, END],
-        ExitStatus::Ended,
-    ),
-    // both came, the second first
-    (
-        &[START_3, INPUT_TILL, CALL_A, CALL_B, RESULT_4, RESULT_2],
-        &[OUTPUT_DONE, END],
-        ExitStatus::Ended,
-    ),
-    // a call failed: both are waited for all the same
-    (
-        &[START_3, INPUT_TILL, CALL_A, CALL_B, FAILURE_2],
-        &[PARENT_WAITS_FOR_4],
-        ExitStatus::Suspended,
-    ),
-    // a call failed, and the other didn't
-    (
-        &[START_3, INPUT_TILL, CALL_A, CALL_B, FAILURE_2, RESULT_4],
-        &[OUTPUT_DONE, END],
-        ExitStatus::Ended,
-    ),
-    // the output is recorded
-    (
-        &[
-            START_6,
-            INPUT_TILL,
-            CALL_A,
-            CALL_B,
-            RESULT_2,
-            RESULT_4,
-            OUTPUT_DONE,
-        ],
-        &[END],
-        ExitStatus::Ended,
-    ),
-    // cancelled while it waits: both calls are cancelled
-    (
-        &[
-            START_3,
-            INPUT_TILL,
-            CALL_A,
-            CALL_B,
-            INVOCATION_1,
-            INVOCATION_3,
-            CANCEL,
-        ],
-        &[CANCEL_INV_1, CANCEL_INV_2, OUTPUT_CANCELLED, END],
-        ExitStatus::Ended,
-    ),
-    // cancelled, and no id is known yet
-    (
-        &[START_3, INPUT_TILL, CALL_A, CALL_B, CANCEL],
-        &[SUSPENSION_FOR_1],
-        ExitStatus::Suspended,
-    ),
-    // cancelled, and the second id isn't known yet: no signal is sent
-    (
-        &[START_3, INPUT_TILL, CALL_A, CALL_B, CANCEL, INVOCATION_1],
-        &[SUSPENSION_FOR_3],
-        ExitStatus::Suspended,
-    ),
-    // cancelled, and the ids come in the other order
-    (
-        &[
-            START_3,
-            INPUT_TILL,
-            CALL_A,
-            CALL_B,
-            CANCEL,
-            INVOCATION_3,
-            INVOCATION_1,
-        ],
-        &[CANCEL_INV_1, CANCEL_INV_2, OUTPUT_CANCELLED, END],
-        ExitStatus::Ended,
-    ),
-    // cancelled when one result came: both calls are cancelled
-    (
-        &[
-            START_3,
-            INPUT_TILL,
-            CALL_A,
-            CALL_B,
-            INVOCATION_1,
-            INVOCATION_3,
-            RESULT_2,
-            CANCEL,
-        ],
-        &[CANCEL_INV_1, CANCEL_INV_2, OUTPUT_CANCELLED, END],
-        ExitStatus::Ended,
-    ),
-    // cancelled behind both results: it is done
-    (
-        &[
-            START_3, INPUT_TILL, CALL_A, CALL_B, RESULT_2, RESULT_4, CANCEL,
-        ],
-        &[OUTPUT_DONE, END],
-        ExitStatus::Ended,
-    ),
-    // lost behind the first of the two signals
-    (
-        &[
-            START_7,
-            INPUT_TILL,
-            CALL_A,
-            CALL_B,
-            INVOCATION_1,
-            INVOCATION_3,
-            CANCEL,
-            CANCEL_INV_1,
-        ],
-        &[CANCEL_INV_2, OUTPUT_CANCELLED, END],
-        ExitStatus::Ended,
-    ),
-];
+/// What the rounds give where nothing says what an await waits for.
+const SILENT: &str = r#"round 1
+answer input id="abc" seed=0 key="" headers=[] value="" scope=- limit=- idem=-
+answer handles 17 18
+answer handles 19 20
+output Call service_name="Child" handler_name="a" invocation_id_notification_idx=1 result_completion_id=2
+output Call service_name="Child" handler_name="b" invocation_id_notification_idx=3 result_completion_id=4
+entries 3
+round 2
+answer input id="abc" seed=0 key="" headers=[] value="" scope=- limit=- idem=-
+answer handles 17 18
+answer handles 19 20
+answer cancelled
+output SendSignal target_invocation_id="inv1" signal=index(1) result=void
+output SendSignal target_invocation_id="inv2" signal=index(1) result=void
+entries 7
+round 3
+answer input id="abc" seed=0 key="" headers=[] value="" scope=- limit=- idem=-
+answer handles 17 18
+answer handles 19 20
+answer cancelled
+answer unit
+output SendSignal target_invocation_id="inv2" signal=index(1) result=void
+output Output result=failure(code=409 message="cancelled")
+output End
+entries 9
+journal
+Input
+Call service_name="Child" handler_name="a" invocation_id_notification_idx=1 result_completion_id=2
+Call service_name="Child" handler_name="b" invocation_id_notification_idx=3 result_completion_id=4
+Notification id=completion(1) result=invocation_id("inv1")
+Notification id=completion(3) result=invocation_id("inv2")
+Notification id=signal(1) result=void
+SendSignal target_invocation_id="inv1" signal=index(1) result=void
+SendSignal target_invocation_id="inv2" signal=index(1) result=void
+Output result=failure(code=409 message="cancelled")
+"#;
 
-/// The run of this handler over these frames writes those, and ends so.
-fn assert_run(
+/// What they give where the children of calls aren't cancelled: the parent is, and says nothing to them.
+const CHILDLESS: &str = r#"round 1
+answer input id="abc" seed=0 key="" headers=[] value="" scope=- limit=- idem=-
+answer handles 17 18
+answer handles 19 20
+output Call service_name="Child" handler_name="a" invocation_id_notification_idx=1 result_completion_id=2
+output Call service_name="Child" handler_name="b" invocation_id_notification_idx=3 result_completion_id=4
+entries 3
+round 2
+answer input id="abc" seed=0 key="" headers=[] value="" scope=- limit=- idem=-
+answer handles 17 18
+answer handles 19 20
+answer cancelled
+output AwaitingOn future=(kind=FirstCompleted signals=[1] nested=[(kind=AllCompleted completions=[2, 4])])
+entries 6
+round 3
+answer input id="abc" seed=0 key="" headers=[] value="" scope=- limit=- idem=-
+answer handles 17 18
+answer handles 19 20
+answer cancelled
+answer unit
+output Output result=failure(code=409 message="cancelled")
+output End
+entries 7
+journal
+Input
+Call service_name="Child" handler_name="a" invocation_id_notification_idx=1 result_completion_id=2
+Call service_name="Child" handler_name="b" invocation_id_notification_idx=3 result_completion_id=4
+Notification id=completion(1) result=invocation_id("inv1")
+Notification id=completion(3) result=invocation_id("inv2")
+Notification id=signal(1) result=void
+Output result=failure(code=409 message="cancelled")
+"#;
+
+/// What they give where cancellation is disabled: the parent waits for its children, asked again at each step.
+const DISABLED: &str = r#"round 1
+answer input id="abc" seed=0 key="" headers=[] value="" scope=- limit=- idem=-
+answer handles 17 18
+answer handles 19 20
+output Call service_name="Child" handler_name="a" invocation_id_notification_idx=1 result_completion_id=2
+output Call service_name="Child" handler_name="b" invocation_id_notification_idx=3 result_completion_id=4
+entries 3
+round 2
+answer input id="abc" seed=0 key="" headers=[] value="" scope=- limit=- idem=-
+answer handles 17 18
+answer handles 19 20
+output AwaitingOn future=(kind=AllCompleted completions=[2, 4])
+output AwaitingOn future=(kind=AllCompleted completions=[2, 4])
+entries 6
+round 3
+answer input id="abc" seed=0 key="" headers=[] value="" scope=- limit=- idem=-
+answer handles 17 18
+answer handles 19 20
+output AwaitingOn future=(kind=AllCompleted completions=[2, 4])
+output AwaitingOn future=(kind=AllCompleted completions=[2, 4])
+output AwaitingOn future=(kind=AllCompleted completions=[2, 4])
+entries 6
+journal
+Input
+Call service_name="Child" handler_name="a" invocation_id_notification_idx=1 result_completion_id=2
+Call service_name="Child" handler_name="b" invocation_id_notification_idx=3 result_completion_id=4
+Notification id=completion(1) result=invocation_id("inv1")
+Notification id=completion(3) result=invocation_id("inv2")
+Notification id=signal(1) result=void
+"#;
+
+/// The rounds with this one option give the report.
+fn assert_with(
     rt: &impl Abort,
     alloc: Global,
-    handler: &str,
-    journal: &[&[u8]],
-    frames: &[&[u8]],
-    status: ExitStatus,
+    option: &str,
+    rounds: &str,
+    report: &str,
 ) -> Result<(), Fail> {
-    let input = journal.concat(alloc)?;
-    let mut reader = Plain(Cursor::new(input.as_slice()));
-    let mut writer = Plain(Vec::new(alloc));
-    let end = run(alloc, V7, handler, &mut reader, &mut writer);
-    let wanted = frames.concat(alloc)?;
-    assert_eq!(rt; end.status(), status);
-    assert_eq!(rt; writer.0.as_slice(), wanted.as_slice());
-    Ok(())
-}
-
-/// What comes to a run, what it writes, and how it ends.
-type Row = (
-    &'static [&'static [u8]],
-    &'static [&'static [u8]],
-    ExitStatus,
-);
-
-fn assert_runs(rt: &impl Abort, alloc: Global, handler: &str, rows: &[Row]) -> Result<(), Fail> {
-    for (journal, frames, status) in rows {
-        assert_run(rt, alloc, handler, journal, frames, *status)?;
-    }
-    Ok(())
-}
-
-#[test]
-fn races_end_by_what_is_first(rt: HostRuntime) -> Result<(), Fail> {
-    assert_runs(&rt, rt.alloc(), "race", &RACES)
-}
-
-#[test]
-fn parents_wait_for_both_children(rt: HostRuntime) -> Result<(), Fail> {
-    assert_runs(&rt, rt.alloc(), "parent", &PARENTS)
-}
-
-/// A cancelled parent, up to the known entries, which lack the second child's id.
-const CANCELLED: &[&[u8]] = &[START_5, INPUT_TILL, CALL_A, CALL_B, INVOCATION_1, CANCEL];
-
-/// What it writes where so many bytes of its known entries and of the second child's id came, and how it ends.
-fn cut_at(place: usize, known: usize, whole: usize) -> (&'static [&'static [u8]], ExitStatus) {
-    if place < known {
-        (&[ERROR_INPUT_CLOSED], ExitStatus::Failed)
-    } else if place < whole {
-        (&[SUSPENSION_FOR_3], ExitStatus::Suspended)
-    } else {
-        (
-            &[CANCEL_INV_1, CANCEL_INV_2, OUTPUT_CANCELLED, END],
-            ExitStatus::Ended,
-        )
-    }
-}
-
-/// Its input is cut at each byte, and closed: an entry is missing, or the second child's id is, or none is.
-fn assert_cuts(rt: &impl Abort, alloc: Global, known: usize, whole: &[u8]) -> Result<(), Fail> {
-    for place in 0..=whole.len() {
-        let (frames, status) = cut_at(place, known, whole.len());
-        let front = whole.get(..place).ok_or("no such place")?;
-        assert_run(rt, alloc, "parent", &[front], frames, status)?;
-    }
-    Ok(())
-}
-
-#[test]
-fn cancelled_parents_wait_for_the_whole_id(rt: HostRuntime) -> Result<(), Fail> {
-    let known = CANCELLED.concat(rt.alloc())?;
-    let whole = [known.as_slice(), INVOCATION_3].concat(rt.alloc())?;
-    assert_cuts(&rt, rt.alloc(), known.len(), whole.as_slice())
-}
-
-#[test]
-fn cancelled_sleeper_fails(rt: HostRuntime) -> Result<(), Fail> {
-    let journal: &[&[u8]] = &[START_3, INPUT_TILL, SLEEP_TO_1000, CANCEL];
-    let frames: &[&[u8]] = &[OUTPUT_CANCELLED, END];
+    let script = format!(in alloc; "world {option}\n{rounds}")?;
     assert_run(
-        &rt,
-        rt.alloc(),
-        "sleeper",
-        journal,
-        frames,
-        ExitStatus::Ended,
-    )
+        rt,
+        alloc,
+        V7,
+        "parent",
+        script.as_bytes(),
+        Told::Reported,
+        report,
+    );
+    Ok(())
+}
+
+#[test]
+fn options_change_what_they_name(rt: HostRuntime) -> Result<(), Fail> {
+    let (rounds, report) = CANCELLED.split_once("=>\n").ok_or("no =>")?;
+    for option in &IDLE {
+        assert_with(&rt, rt.alloc(), *option, rounds, report)?;
+    }
+    assert_with(&rt, rt.alloc(), "awaiting=never", rounds, SILENT)?;
+    assert_with(&rt, rt.alloc(), "cancel=none", rounds, CHILDLESS)?;
+    assert_with(&rt, rt.alloc(), "cancel=sends", rounds, CHILDLESS)?;
+    assert_with(&rt, rt.alloc(), "cancel=off", rounds, DISABLED)
+}
+
+/// The round behind the calls, which is stopped behind each of its lines in turn. What arrives stays in the journal.
+static STOPPED: [&str; 12] = [
+    "round\n",
+    "piece all\n",
+    "step\n",
+    "step\n",
+    "step\n",
+    "step\n",
+    "arrive Notification id=completion(1) result=invocation_id(\"inv1\")\n",
+    "arrive Notification id=completion(3) result=invocation_id(\"inv2\")\n",
+    "arrive Notification id=signal(1) result=void\n",
+    "piece all\n",
+    "step\n",
+    "store 1\n",
+];
+
+/// How many lines of the round come before what arrives, and how many of them do.
+const BEFORE: usize = 6;
+
+const ARRIVALS: usize = 3;
+
+const CALLS: &str = r#"round
+piece all
+step 3
+store 2
+"#;
+
+const LEFT: &str = r#"round
+piece all
+step 8
+"#;
+
+const ENDS: &str = r#"piece all
+step 8
+store all
+"#;
+
+const SENT: &str = r#"SendSignal target_invocation_id="inv1" signal=index(1) result=void
+SendSignal target_invocation_id="inv2" signal=index(1) result=void
+Output result=failure(code=409 message="cancelled")
+"#;
+
+/// The round is stopped behind so many lines, what didn't arrive in it does in the next, and the journal ends the same.
+fn assert_no_trace(rt: &impl Abort, alloc: Global, at: usize) -> Result<(), Fail> {
+    let mut script = String::from_str(alloc, CALLS)?;
+    for line in STOPPED.iter().take(at) {
+        script.push_str(*line)?;
+    }
+    script.push_str(LEFT)?;
+    for line in STOPPED.iter().skip(at.max(BEFORE)).take(ARRIVALS) {
+        if line.starts_with("arrive") {
+            script.push_str(*line)?;
+        }
+    }
+    script.push_str(ENDS)?;
+    let mut writer = Plain(Vec::new(alloc));
+    let mut reader = Plain(Cursor::new(script.as_bytes()));
+    let end = run(alloc, V7, "parent", &mut reader, &mut writer);
+    assert_eq!(rt; told_of(&end), Told::Reported);
+    assert!(rt;
+        writer.0.ends_with(SENT.as_bytes()),
+        "stopped behind {at} lines"
+    );
+    Ok(())
+}
+
+#[test]
+fn where_a_cancelled_round_stops_leaves_no_trace(rt: HostRuntime) -> Result<(), Fail> {
+    for at in 0..=STOPPED.len() {
+        assert_no_trace(&rt, rt.alloc(), at)?;
+    }
+    Ok(())
 }

@@ -1,164 +1,165 @@
-// Runs of the handler `counter` over the counts that it finds. The frames are put together from the layout: the type's
-// number in two bytes, and the body with its length in eight bytes in front, as each text has.
-use runner::exit_status::ExitStatus;
-use runner::run::run;
-use std::alloc::{AllocError, Global};
-use std::io::Cursor;
-use std::process::Abort;
+// Worked rounds of `counter`: counts that are handed out, and one that is left out and waited for.
+use crate::bench::assert_reported;
 use std::test::Fail;
-use streams::Plain;
-use vectors::frames::{END, INPUT_TILL, START_1, START_3, SUSPENSION_ON_1};
 
-const V7: &str = "application/vnd.restate.invocation.v7";
-
-const START: u8 = 1;
-
-const GET_EAGER_STATE: u8 = 11;
-
-const SET_STATE: u8 = 15;
-
-const OUTPUT: u8 = 29;
-
-const COMPLETION: u8 = 30;
-
-/// A name that is absent, and the key "count".
-const COUNT: &[u8] = b"\0\0\0\0\0\0\0\0\0\0\0\0\0\0\0\x05count";
-
-/// The same, and that a value was found.
-const FOUND: &[u8] = b"\0\0\0\0\0\0\0\0\0\0\0\0\0\0\0\x05count\x01\x01";
-
-/// The count is read, completed under id 1.
-const LAZY_READ: &[u8] = b"\0\x0c\0\0\0\0\0\0\0\x19\
-    \0\0\0\0\0\0\0\0\
-    \0\0\0\0\0\0\0\x05count\
-    \0\0\0\x01";
-
-/// Start of the invocation "abc", with 1 known entry and a state of one pair, up to the value of "count".
-const START_UP_TO_COUNT: &[u8] = b"\0\0\0\0\0\0\0\x03abc\
-    \0\0\0\0\0\0\0\x03abc\
-    \0\0\0\0\0\0\0\0\
-    \0\0\0\x01\
-    \0\0\0\0\0\0\0\x01\0\0\0\0\0\0\0\x05count";
-
-/// What stands behind the value: the state is whole, and all else is at its default.
-const START_BEHIND_COUNT: &[u8] = &[0; 24];
-
-/// Writes a frame of this type, whose body is these fields, this text with its length, and these bytes.
-fn push_frame(
-    frames: &mut Vec<u8>,
-    ty: u8,
-    fields: &[u8],
-    text: &[u8],
-    behind: &[u8],
-) -> Result<(), AllocError> {
-    let len = (fields.len() as u64)
-        .saturating_add(8)
-        .saturating_add(text.len() as u64)
-        .saturating_add(behind.len() as u64);
-    frames.extend_from_slice(&[0, ty])?;
-    frames.extend_from_slice(&len.to_be_bytes())?;
-    frames.extend_from_slice(fields)?;
-    frames.extend_from_slice(&(text.len() as u64).to_be_bytes())?;
-    frames.extend_from_slice(text)?;
-    frames.extend_from_slice(behind)
-}
-
-/// The run of `counter` over this input writes these bytes, and ends with this status.
-fn assert_counts(
-    rt: &impl Abort,
-    alloc: Global,
-    input: &[u8],
-    wanted: &[u8],
-    status: ExitStatus,
-) -> Result<(), Fail> {
-    let mut reader = Plain(Cursor::new(input));
-    let mut writer = Plain(Vec::new(alloc));
-    let end = run(alloc, V7, "counter", &mut reader, &mut writer);
-    assert_eq!(rt; writer.0.as_slice(), wanted);
-    assert_eq!(rt; end.status(), status);
-    Ok(())
-}
-
-/// What comes to an attempt whose state has this count.
-fn input_with(alloc: Global, count: &[u8]) -> Result<Vec<u8>, AllocError> {
-    let mut input = Vec::new(alloc);
-    push_frame(
-        &mut input,
-        START,
-        START_UP_TO_COUNT,
-        count,
-        START_BEHIND_COUNT,
-    )?;
-    input.extend_from_slice(INPUT_TILL)?;
-    Ok(input)
-}
-
-/// What is written where this count was found, or asked for, and the next one set.
-fn output_of(alloc: Global, found: Option<&[u8]>, next: &[u8]) -> Result<Vec<u8>, AllocError> {
-    let mut output = Vec::new(alloc);
-    if let Some(found) = found {
-        push_frame(&mut output, GET_EAGER_STATE, FOUND, found, b"")?;
-    }
-    push_frame(&mut output, SET_STATE, COUNT, next, b"")?;
-    push_frame(&mut output, OUTPUT, b"\0", next, b"")?;
-    output.extend_from_slice(END)?;
-    Ok(output)
-}
-
-/// Counts, and those behind them.
-static COUNTS: [(&[u8], &[u8]); 7] = [
-    (b"41", b"42"),
-    (b"007", b"8"),
-    (b"999999999999999999", b"1000000000000000000"),
-    (b"1000000000000000000", b"1"),
-    (b"", b"1"),
-    (b"+1", b"1"),
-    (b"4x", b"1"),
-];
-
-fn assert_next(rt: &impl Abort, alloc: Global, found: &[u8], next: &[u8]) -> Result<(), Fail> {
-    let input = input_with(alloc, found)?;
-    let wanted = output_of(alloc, Some(found), next)?;
-    assert_counts(
-        rt,
-        alloc,
-        input.as_slice(),
-        wanted.as_slice(),
-        ExitStatus::Ended,
-    )
-}
+/// What is stored of the first round ends with the set; of the second nothing is, and the third ends.
+const COUNTS: &str = r#"world input="Till" state={"count" "41"}
+round
+piece all
+step 5
+store 2
+step
+round
+piece all
+step 2
+round
+piece all
+close
+step 7
+store 1
+=>
+round 1
+answer input id="abc" seed=0 key="" headers=[] value="Till" scope=- limit=- idem=-
+answer handle 17
+answer awake
+answer taken success "41"
+answer unit
+answer unit
+output GetEagerState key="count" result=value("41")
+output SetState key="count" value="42"
+output Output result=value("42")
+entries 3
+round 2
+answer input id="abc" seed=0 key="" headers=[] value="Till" scope=- limit=- idem=-
+answer handle 17
+entries 3
+round 3
+answer input id="abc" seed=0 key="" headers=[] value="Till" scope=- limit=- idem=-
+answer handle 17
+answer awake
+answer taken success "41"
+answer unit
+answer unit
+output Output result=value("42")
+output End
+entries 4
+journal
+Input value="Till"
+GetEagerState key="count" result=value("41")
+SetState key="count" value="42"
+Output result=value("42")
+"#;
 
 #[test]
-fn counts_are_whole_numbers(rt: HostRuntime) -> Result<(), Fail> {
-    for (found, next) in &COUNTS {
-        assert_next(&rt, rt.alloc(), found, next)?;
-    }
-    Ok(())
+fn count_is_read_as_it_was_recorded(rt: HostRuntime) -> Result<(), Fail> {
+    assert_reported(&rt, rt.alloc(), "counter", COUNTS)
 }
 
-#[test]
-fn count_is_waited_for_where_it_is_unknown(rt: HostRuntime) -> Result<(), Fail> {
-    let input = [START_1, INPUT_TILL].concat(rt.alloc())?;
-    let wanted = [LAZY_READ, SUSPENSION_ON_1].concat(rt.alloc())?;
-    assert_counts(
-        &rt,
-        rt.alloc(),
-        input.as_slice(),
-        wanted.as_slice(),
-        ExitStatus::Suspended,
-    )
-}
+/// A partial round hands out the named keys alone, so the count is asked for. The next round is told it.
+const LEFT_OUT: &str = r#"world state={"count" "7"} state={"other" "1"}
+round partial key="other"
+piece all
+step 2
+store all
+arrive Notification id=completion(1) result=value("7")
+round
+piece all
+step 7
+store all
+=>
+round 1
+answer input id="abc" seed=0 key="" headers=[] value="" scope=- limit=- idem=-
+answer handle 17
+output GetLazyState key="count" result_completion_id=1
+entries 3
+round 2
+answer input id="abc" seed=0 key="" headers=[] value="" scope=- limit=- idem=-
+answer handle 17
+answer awake
+answer taken success "7"
+answer unit
+answer unit
+output SetState key="count" value="8"
+output Output result=value("8")
+output End
+entries 5
+journal
+Input
+GetLazyState key="count" result_completion_id=1
+Notification id=completion(1) result=value("7")
+SetState key="count" value="8"
+Output result=value("8")
+"#;
 
 #[test]
-fn count_that_came_is_set(rt: HostRuntime) -> Result<(), Fail> {
-    let mut input = [START_3, INPUT_TILL, LAZY_READ].concat(rt.alloc())?;
-    push_frame(&mut input, COMPLETION, b"\0\0\0\0\x01\x01", b"41", b"")?;
-    let wanted = output_of(rt.alloc(), None, b"42")?;
-    assert_counts(
-        &rt,
-        rt.alloc(),
-        input.as_slice(),
-        wanted.as_slice(),
-        ExitStatus::Ended,
-    )
+fn count_that_is_left_out_is_asked_for(rt: HostRuntime) -> Result<(), Fail> {
+    assert_reported(&rt, rt.alloc(), "counter", LEFT_OUT)
+}
+
+/// Each round's attempt is lost: a named key is handed out, also among others; a key without `partial` has no effect; of a state
+/// without the key a partial round hands out nothing. Of several pairs of one key the last counts.
+const HANDED_OUT: &str = r#"world state={"count" "7"} state={"count" "9"} state={"a" "1"}
+round key="count" partial key="b"
+piece all
+step 2
+round key="a"
+piece all
+step 2
+round partial
+piece all
+step 2
+=>
+round 1
+answer input id="abc" seed=0 key="" headers=[] value="" scope=- limit=- idem=-
+answer handle 17
+output GetEagerState key="count" result=value("9")
+entries 1
+round 2
+answer input id="abc" seed=0 key="" headers=[] value="" scope=- limit=- idem=-
+answer handle 17
+output GetEagerState key="count" result=value("9")
+entries 1
+round 3
+answer input id="abc" seed=0 key="" headers=[] value="" scope=- limit=- idem=-
+answer handle 17
+output GetLazyState key="count" result_completion_id=1
+entries 1
+journal
+Input
+"#;
+
+#[test]
+fn partial_rounds_hand_out_the_named_keys(rt: HostRuntime) -> Result<(), Fail> {
+    assert_reported(&rt, rt.alloc(), "counter", HANDED_OUT)
+}
+
+/// A whole state without the key: the read finds nothing. What is no count counts as 0.
+const NOTHING_YET: &str = r#"world
+round
+piece all
+step 7
+store all
+=>
+round 1
+answer input id="abc" seed=0 key="" headers=[] value="" scope=- limit=- idem=-
+answer handle 17
+answer awake
+answer taken void
+answer unit
+answer unit
+output GetEagerState key="count" result=void
+output SetState key="count" value="1"
+output Output result=value("1")
+output End
+entries 4
+journal
+Input
+GetEagerState key="count" result=void
+SetState key="count" value="1"
+Output result=value("1")
+"#;
+
+#[test]
+fn first_count_is_one(rt: HostRuntime) -> Result<(), Fail> {
+    assert_reported(&rt, rt.alloc(), "counter", NOTHING_YET)
 }

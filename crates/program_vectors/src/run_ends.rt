@@ -1,4 +1,5 @@
 // Runs of the program `vmrun` over readers and writers in memory: how each ends, and what it read and wrote.
+use crate::run_bench::V7;
 use runner::exit_status::ExitStatus;
 use runner::run::run;
 use runner::run_end::{AttemptEnd, RunEnd};
@@ -11,8 +12,6 @@ use vectors::frames::{
     COMPLETION_1, END, ERROR_INPUT_CLOSED, INPUT_TILL, OUTPUT_EMPTY, SLEEP_TO_1000, SLEEP_TO_2024,
     START_1, START_2, START_3, SUSPENSION_ON_1, TYPE_MISMATCH, UNCOMPLETED,
 };
-
-const V7: &str = "application/vnd.restate.invocation.v7";
 
 /// The sleeper's first attempt, which is suspended.
 const FIRST: &[&[u8]] = &[START_1, INPUT_TILL];

@@ -6,6 +6,7 @@ use journal_errors::Error;
 use journal_messages::{Encoder, Message, RawMessage};
 use journal_streams::{Decoder, messages_of};
 use std::alloc::{AllocError, Global};
+use std::process::Abort;
 use std::test::Fail;
 use wire::{Fault, Items, Text, is_same, whole};
 
@@ -124,14 +125,26 @@ static REFUSED: [(&[u8], &str); 17] = [
     ),
 ];
 
-#[test]
-fn refuses_what_is_no_message(rt: HostRuntime) -> Result<(), Fail> {
-    for (frame, what) in &REFUSED {
-        let error = error_of(rt.alloc(), frame)?.ok_or(*what)?;
-        assert_eq!(rt; error.code(), 571, "{what}");
-        assert_eq!(rt; error.message(), "BadMessage", "{what}");
+fn assert_bad_message(rt: &impl Abort, error: &Error, what: &str) {
+    assert_eq!(rt; error.code(), 571, "{what}");
+    assert_eq!(rt; error.message(), "BadMessage", "{what}");
+}
+
+fn assert_refused(
+    rt: &impl Abort,
+    alloc: Global,
+    rows: &[(&'static [u8], &'static str)],
+) -> Result<(), Fail> {
+    for (frame, what) in rows {
+        let error = error_of(alloc, frame)?.ok_or(*what)?;
+        assert_bad_message(rt, &error, what);
     }
     Ok(())
+}
+
+#[test]
+fn refuses_what_is_no_message(rt: HostRuntime) -> Result<(), Fail> {
+    assert_refused(&rt, rt.alloc(), &REFUSED)
 }
 
 #[test]
@@ -182,15 +195,32 @@ fn encoded_again(alloc: Global, raw: &RawMessage) -> Result<Bytes, Fail> {
     Encoder::new(alloc).encode(message).map_err(Fail::from)
 }
 
-#[test]
-fn nests_deeply(rt: HostRuntime) -> Result<(), Fail> {
-    let alloc = rt.alloc();
-    let frame = deep_frame(alloc, 4)?;
+/// The frame is encoded as it was, and is like itself and unlike the other.
+fn assert_read(
+    rt: &impl Abort,
+    alloc: Global,
+    frame: &Bytes,
+    other: &RawMessage,
+) -> Result<(), Fail> {
     let raw = frame_of(alloc, frame.clone()?)?;
     assert!(rt; encoded_again(alloc, &raw)?.as_slice() == frame.as_slice());
     assert!(rt; are_alike(alloc, &raw, &raw)?);
+    assert!(rt; !are_alike(alloc, &raw, other)?);
+    Ok(())
+}
+
+#[test]
+fn nests_deeply(rt: HostRuntime) -> Result<(), Fail> {
+    let alloc = rt.alloc();
     let other = frame_of(alloc, deep_frame(alloc, 3)?)?;
-    assert!(rt; !are_alike(alloc, &raw, &other)?);
+    assert_read(&rt, alloc, &deep_frame(alloc, 4)?, &other)
+}
+
+/// The body is a future of one node a level, and the same whenever it is read.
+fn assert_deep(rt: &impl Abort, alloc: Global, body: &Bytes) -> Result<(), Fail> {
+    let future = whole::<Future>(alloc, body)?;
+    assert_eq!(rt; future.nodes().len(), DEPTH);
+    assert!(rt; is_same(&future, &whole::<Future>(alloc, body)?));
     Ok(())
 }
 
@@ -198,9 +228,7 @@ fn nests_deeply(rt: HostRuntime) -> Result<(), Fail> {
 fn refuses_a_deep_future_that_is_cut_off(rt: HostRuntime) -> Result<(), Fail> {
     let alloc = rt.alloc();
     let mut body = deep_body(alloc, 4)?;
-    let future = whole::<Future>(alloc, &body)?;
-    assert!(rt; is_same(&future, &future.clone()?));
-    assert_eq!(rt; future.nodes().len(), DEPTH);
+    assert_deep(&rt, alloc, &body)?;
     let least = body.len().min(33);
     body.truncate(body.len() - least);
     assert!(rt; matches!(whole::<Future>(alloc, &body), Err(Fault::Malformed)));
@@ -230,15 +258,21 @@ fn is_future(alloc: Global, nested: &[u64]) -> Result<bool, AllocError> {
 #[test]
 fn takes_whole_futures(rt: HostRuntime) -> Result<(), Fail> {
     let alloc = rt.alloc();
-    assert!(rt; is_future(alloc, &[0])?);
-    assert!(rt; is_future(alloc, &[2, 1, 0, 0])?);
-    assert!(rt; !is_future(alloc, &[])?, "no node");
-    assert!(rt; !is_future(alloc, &[1])?, "a nested one is missing");
-    assert!(rt; !is_future(alloc, &[0, 0])?, "one is left over");
-    assert!(rt;
-        !is_future(alloc, &[u64::MAX, u64::MAX])?,
-        "more than there can be"
-    );
+    let rows: [(&[u64], bool); 6] = [
+        (&[0], true),
+        (&[2, 1, 0, 0], true),
+        // no node
+        (&[], false),
+        // a nested one is missing
+        (&[1], false),
+        // one is left over
+        (&[0, 0], false),
+        // more than there can be
+        (&[u64::MAX, u64::MAX], false),
+    ];
+    for (nested, is) in rows {
+        assert_eq!(rt; is_future(alloc, nested)?, is, "{nested:?}");
+    }
     let one = Future::waiting(
         alloc,
         FutureKind::Unknown,
@@ -250,14 +284,19 @@ fn takes_whole_futures(rt: HostRuntime) -> Result<(), Fail> {
     Ok(())
 }
 
+/// The first frame of these pieces.
+fn next_of(decoder: &mut Decoder, pieces: &[&'static [u8]]) -> Result<RawMessage, Fail> {
+    for piece in pieces {
+        decoder.push(Bytes::from_static(piece))?;
+    }
+    Ok(decoder.next_frame()?.ok_or("a part of a frame")?)
+}
+
 #[test]
 fn lets_go_of_what_waits(rt: HostRuntime) -> Result<(), Fail> {
     let mut decoder = Decoder::new(rt.alloc());
-    decoder.push(Bytes::from_static(NAP))?;
-    decoder.push(Bytes::from_static(b"\0"))?;
-    let raw = decoder.next_frame()?.ok_or("a part of a frame")?;
+    let raw = next_of(&mut decoder, &[NAP, b"\0"])?;
     decoder.clear();
-    decoder.push(Bytes::from_static(NAP))?;
-    assert!(rt; decoder.next_frame()? == Some(raw.clone()?));
+    assert!(rt; next_of(&mut decoder, &[NAP])? == raw);
     Ok(())
 }

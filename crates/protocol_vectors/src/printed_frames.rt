@@ -166,27 +166,15 @@ fn failing_runs(rt: HostRuntime) -> Result<(), Fail> {
     let alloc = rt.alloc();
     let end = [0, 4, 0, 0, 0, 0, 0, 0, 0, 0];
     let mut out = Vec::new(alloc);
-    assert_eq!(rt;
+    let ends = [
         decode(alloc, &mut Failing { left: 12 }, &mut out),
-        ExitStatus::Failed
-    );
-    assert_eq!(rt;
         encode(alloc, &mut Failing { left: 0 }, &mut out),
-        ExitStatus::Failed
-    );
-    assert_eq!(rt; out.len(), 0);
-    assert_eq!(rt;
         decode(alloc, &mut end.as_slice(), &mut Failing { left: 3 }),
-        ExitStatus::Failed
-    );
-    assert_eq!(rt;
         encode(alloc, &mut b"End".as_slice(), &mut Failing { left: 9 }),
-        ExitStatus::Failed
-    );
-    assert_eq!(rt;
-        encode(alloc, &mut b"Stop".as_slice(), &mut out),
-        ExitStatus::BadLine(1)
-    );
+    ];
+    assert_eq!(rt; ends, [ExitStatus::Failed; 4]);
+    let end = encode(alloc, &mut b"Stop".as_slice(), &mut out);
+    assert_eq!(rt; end, ExitStatus::BadLine(1));
     assert_eq!(rt; out.len(), 0);
     Ok(())
 }

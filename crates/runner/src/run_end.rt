@@ -20,7 +20,7 @@ pub enum AttemptEnd {
 }
 
 /// How a run ends.
-#[derive(Debug, Drop)]
+#[derive(Debug)]
 pub enum RunEnd {
     /// There is no handler of this name. Nothing was read or written.
     UnknownHandler,
@@ -34,6 +34,22 @@ pub enum RunEnd {
     WriteFailed(AttemptEnd, io::Error),
     /// The attempt ended so, and all its output is written.
     Written(AttemptEnd),
+}
+
+/// Written out, so that who lets an end go calls this: a derived drop is taken apart at each way out of a function.
+impl Drop for RunEnd {
+    fn drop(self) {
+        match self {
+            RunEnd::UnknownHandler | RunEnd::NoMemory => {}
+            RunEnd::Refused(error) => drop(error),
+            RunEnd::ReadFailed(error) => drop(error),
+            RunEnd::WriteFailed(end, error) => {
+                drop(end);
+                drop(error);
+            }
+            RunEnd::Written(end) => drop(end),
+        }
+    }
 }
 
 impl RunEnd {

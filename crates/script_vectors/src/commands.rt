@@ -493,18 +493,12 @@ output                              => frames Error
 
 #[test]
 fn commands_are_refused(rt: HostRuntime) -> Result<(), Fail> {
-    for rows in &REFUSALS {
-        assert_each_line(&rt, rt.alloc(), VERSIONS, *rows)?;
-    }
-    Ok(())
+    assert_each_line(&rt, rt.alloc(), VERSIONS, &REFUSALS)
 }
 
 #[test]
 fn input_is_refused(rt: HostRuntime) -> Result<(), Fail> {
-    for rows in &INPUT_REFUSALS {
-        assert_each_line(&rt, rt.alloc(), VERSIONS, *rows)?;
-    }
-    Ok(())
+    assert_each_line(&rt, rt.alloc(), VERSIONS, &INPUT_REFUSALS)
 }
 
 #[test]

@@ -18,7 +18,7 @@ use vectors::frames::{
     START_WITH_A_BAD_KEY, SUSPENSION_ON_1, TYPE_31, TYPE_MISMATCH, UNCOMPLETED,
 };
 
-static FRAMES: [(&str, &[u8]); 82] = [
+static STARTS: [(&str, &[u8]); 12] = [
     ("start_0", START_0),
     ("start_1", START_1),
     ("start_2", START_2),
@@ -27,6 +27,13 @@ static FRAMES: [(&str, &[u8]); 82] = [
     ("start_fb_ff", START_FB_FF),
     ("no_start", NO_START),
     ("start_with_a_bad_key", START_WITH_A_BAD_KEY),
+    ("start_1_k", START_1_K),
+    ("start_3_empty", START_3_EMPTY),
+    ("start_1_part_k", START_1_PART_K),
+    ("start_1_a_b", START_1_A_B),
+];
+
+static COMMANDS: [(&str, &[u8]); 18] = [
     ("input_till", INPUT_TILL),
     ("sleep_to_2024", SLEEP_TO_2024),
     ("sleep_to_1000", SLEEP_TO_1000),
@@ -34,7 +41,34 @@ static FRAMES: [(&str, &[u8]); 82] = [
     ("sleep_under_2", SLEEP_UNDER_2),
     ("output_empty", OUTPUT_EMPTY),
     ("output_x", OUTPUT_X),
-    ("end", END),
+    ("set_k", SET_K),
+    ("set_k_to_2", SET_K_TO_2),
+    ("clear_k", CLEAR_K),
+    ("clear_l", CLEAR_L),
+    ("clear_all", CLEAR_ALL),
+    ("clear_all_n", CLEAR_ALL_N),
+    ("awakeable_x", AWAKEABLE_X),
+    ("awakeable_y", AWAKEABLE_Y),
+    ("signal_v", SIGNAL_V),
+    ("signal_w", SIGNAL_W),
+    ("cancel_inv1", CANCEL_INV1),
+];
+
+static STATE_READS: [(&str, &[u8]); 11] = [
+    ("eager_k_1", EAGER_K_1),
+    ("eager_k_void", EAGER_K_VOID),
+    ("eager_k_unsaid", EAGER_K_UNSAID),
+    ("eager_u_void", EAGER_U_VOID),
+    ("lazy_u", LAZY_U),
+    ("lazy_k", LAZY_K),
+    ("eager_no_keys", EAGER_NO_KEYS),
+    ("eager_keys_a_b", EAGER_KEYS_A_B),
+    ("eager_keys_b", EAGER_KEYS_B),
+    ("eager_keys_unsaid", EAGER_KEYS_UNSAID),
+    ("lazy_keys_3", LAZY_KEYS_3),
+];
+
+static NOTIFICATIONS: [(&str, &[u8]); 9] = [
     ("completion_1", COMPLETION_1),
     ("completion_9", COMPLETION_9),
     ("failure_1", FAILURE_1),
@@ -44,10 +78,9 @@ static FRAMES: [(&str, &[u8]); 82] = [
     ("signal_a_1", SIGNAL_A_1),
     ("signal_a_2", SIGNAL_A_2),
     ("no_notification", NO_NOTIFICATION),
-    ("suspension_on_1", SUSPENSION_ON_1),
-    ("awaiting_on_1", AWAITING_ON_1),
-    ("uncompleted", UNCOMPLETED),
-    ("type_mismatch", TYPE_MISMATCH),
+];
+
+static ERRORS: [(&str, &[u8]); 15] = [
     ("error_input_closed", ERROR_INPUT_CLOSED),
     ("error_known_entries", ERROR_KNOWN_ENTRIES),
     ("error_input_message", ERROR_INPUT_MESSAGE),
@@ -60,17 +93,14 @@ static FRAMES: [(&str, &[u8]); 82] = [
     ("error_out_of_bounds", ERROR_OUT_OF_BOUNDS),
     ("error_unsupported", ERROR_UNSUPPORTED),
     ("error_no_replay", ERROR_NO_REPLAY),
-    ("set_k", SET_K),
-    ("set_k_to_2", SET_K_TO_2),
-    ("clear_k", CLEAR_K),
-    ("clear_l", CLEAR_L),
-    ("clear_all", CLEAR_ALL),
-    ("clear_all_n", CLEAR_ALL_N),
-    ("awakeable_x", AWAKEABLE_X),
-    ("awakeable_y", AWAKEABLE_Y),
-    ("signal_v", SIGNAL_V),
-    ("signal_w", SIGNAL_W),
-    ("cancel_inv1", CANCEL_INV1),
+    ("error_no_value", ERROR_NO_VALUE),
+    ("error_no_keys", ERROR_NO_KEYS),
+    ("error_read_too_early", ERROR_READ_TOO_EARLY),
+];
+
+static MISMATCHES: [(&str, &[u8]); 12] = [
+    ("uncompleted", UNCOMPLETED),
+    ("type_mismatch", TYPE_MISMATCH),
     ("clear_mismatch", CLEAR_MISMATCH),
     ("of_nothing", OF_NOTHING),
     ("of_a_first_sleep", OF_A_FIRST_SLEEP),
@@ -81,36 +111,75 @@ static FRAMES: [(&str, &[u8]); 82] = [
     ("mismatch_retried", MISMATCH_RETRIED),
     ("mismatch_paused", MISMATCH_PAUSED),
     ("mismatch_failed", MISMATCH_FAILED),
-    ("start_1_k", START_1_K),
-    ("start_3_empty", START_3_EMPTY),
-    ("start_1_part_k", START_1_PART_K),
-    ("start_1_a_b", START_1_A_B),
-    ("eager_k_1", EAGER_K_1),
-    ("eager_k_void", EAGER_K_VOID),
-    ("eager_k_unsaid", EAGER_K_UNSAID),
-    ("eager_u_void", EAGER_U_VOID),
-    ("lazy_u", LAZY_U),
-    ("lazy_k", LAZY_K),
-    ("eager_no_keys", EAGER_NO_KEYS),
-    ("eager_keys_a_b", EAGER_KEYS_A_B),
-    ("eager_keys_b", EAGER_KEYS_B),
-    ("eager_keys_unsaid", EAGER_KEYS_UNSAID),
-    ("lazy_keys_3", LAZY_KEYS_3),
-    ("error_no_value", ERROR_NO_VALUE),
-    ("error_no_keys", ERROR_NO_KEYS),
-    ("error_read_too_early", ERROR_READ_TOO_EARLY),
+];
+
+static OTHERS: [(&str, &[u8]); 5] = [
+    ("end", END),
+    ("suspension_on_1", SUSPENSION_ON_1),
+    ("awaiting_on_1", AWAITING_ON_1),
     ("type_31", TYPE_31),
     ("cut", CUT),
 ];
 
-/// The frame of this name.
-pub fn frame_of(name: &str) -> Result<&'static [u8], Fail> {
-    for (known, frame) in &FRAMES {
+/// What the table has under this name.
+fn find<T: Copy>(table: &[(&str, T)], name: &str) -> Option<T> {
+    for (known, found) in table {
         if *known == name {
-            return Ok(*frame);
+            return Some(*found);
         }
     }
-    Err("no such frame")?
+    None
+}
+
+fn start_of(name: &str) -> Option<&'static [u8]> {
+    find(&STARTS, name)
+}
+
+fn command_of(name: &str) -> Option<&'static [u8]> {
+    find(&COMMANDS, name)
+}
+
+fn state_read_of(name: &str) -> Option<&'static [u8]> {
+    find(&STATE_READS, name)
+}
+
+fn notification_of(name: &str) -> Option<&'static [u8]> {
+    find(&NOTIFICATIONS, name)
+}
+
+fn error_of(name: &str) -> Option<&'static [u8]> {
+    find(&ERRORS, name)
+}
+
+fn mismatch_of(name: &str) -> Option<&'static [u8]> {
+    find(&MISMATCHES, name)
+}
+
+fn other_of(name: &str) -> Option<&'static [u8]> {
+    find(&OTHERS, name)
+}
+
+/// The frame of this name. Each table stands in a function of its own: where it is used its bytes are proved with the rest.
+pub fn frame_of(name: &str) -> Result<&'static [u8], Fail> {
+    if let Some(frame) = start_of(name) {
+        return Ok(frame);
+    }
+    if let Some(frame) = command_of(name) {
+        return Ok(frame);
+    }
+    if let Some(frame) = state_read_of(name) {
+        return Ok(frame);
+    }
+    if let Some(frame) = notification_of(name) {
+        return Ok(frame);
+    }
+    if let Some(frame) = error_of(name) {
+        return Ok(frame);
+    }
+    if let Some(frame) = mismatch_of(name) {
+        return Ok(frame);
+    }
+    Ok(other_of(name).ok_or("no such frame")?)
 }
 
 static TYPES: [(&str, u8); 15] = [
@@ -133,10 +202,5 @@ static TYPES: [(&str, u8); 15] = [
 
 /// The number of the type of this name.
 pub fn type_of(name: &str) -> Result<u8, Fail> {
-    for (known, number) in &TYPES {
-        if *known == name {
-            return Ok(*number);
-        }
-    }
-    Err("no such type")?
+    Ok(find(&TYPES, name).ok_or("no such type")?)
 }

@@ -613,10 +613,7 @@ failed => err 573 "UNSUPPORTED_FEATURE"
 
 #[test]
 fn calls_are_refused(rt: HostRuntime) -> Result<(), Fail> {
-    for rows in &REFUSALS {
-        assert_each_line(&rt, rt.alloc(), VERSIONS, *rows)?;
-    }
-    Ok(())
+    assert_each_line(&rt, rt.alloc(), VERSIONS, &REFUSALS)
 }
 
 #[test]
@@ -626,18 +623,12 @@ fn calls_are_done(rt: HostRuntime) -> Result<(), Fail> {
 
 #[test]
 fn reported_error_fails_in_each_state(rt: HostRuntime) -> Result<(), Fail> {
-    for rows in &REPORTED {
-        assert_each_line(&rt, rt.alloc(), VERSIONS, *rows)?;
-    }
-    Ok(())
+    assert_each_line(&rt, rt.alloc(), VERSIONS, &REPORTED)
 }
 
 #[test]
 fn metadata_is_refused_before_v6(rt: HostRuntime) -> Result<(), Fail> {
-    for rows in &METADATA {
-        assert_each_line(&rt, rt.alloc(), &[5], *rows)?;
-    }
-    Ok(())
+    assert_each_line(&rt, rt.alloc(), &[5], &METADATA)
 }
 
 #[test]
@@ -647,18 +638,12 @@ fn metadata_is_sent_from_v6(rt: HostRuntime) -> Result<(), Fail> {
 
 #[test]
 fn sleep_out_of_bounds_is_refused_before_the_state(rt: HostRuntime) -> Result<(), Fail> {
-    for rows in &TOO_LONG {
-        assert_each_line(&rt, rt.alloc(), VERSIONS, *rows)?;
-    }
-    Ok(())
+    assert_each_line(&rt, rt.alloc(), VERSIONS, &TOO_LONG)
 }
 
 #[test]
 fn awakeable_is_refused_without_replay(rt: HostRuntime) -> Result<(), Fail> {
-    for rows in &WITHOUT_REPLAY {
-        assert_each_line(&rt, rt.alloc(), VERSIONS, *rows)?;
-    }
-    Ok(())
+    assert_each_line(&rt, rt.alloc(), VERSIONS, &WITHOUT_REPLAY)
 }
 
 #[test]

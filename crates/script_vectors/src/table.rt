@@ -8,7 +8,7 @@ use invocation_vm::CoreVM;
 use lines::atoms::bytes_of;
 use lines::line::Line;
 use scripts::run::answer;
-use std::alloc::Global;
+use std::alloc::{AllocError, Global};
 use std::process::Abort;
 use std::test::Fail;
 
@@ -24,22 +24,29 @@ pub struct Rows {
     pub behind: &'static str,
 }
 
-/// The text, with the bytes of frames in the place of their names.
+/// The bytes of the frames of these names.
+fn frames_of(alloc: Global, names: &str) -> Result<Vec<u8>, Fail> {
+    let mut bytes = Vec::new(alloc);
+    for name in names.split_whitespace() {
+        bytes.extend_from_slice(frame_of(name)?)?;
+    }
+    Ok(bytes)
+}
+
+/// Writes the text, with the bytes of frames in the place of their names.
+fn expand(alloc: Global, text: &str, line: &mut Line) -> Result<(), Fail> {
+    let Some((before, named)) = text.split_once('<') else {
+        return Ok(line.word(text)?);
+    };
+    let (names, behind) = named.split_once('>').ok_or("no >")?;
+    line.word(before)?;
+    line.hex(frames_of(alloc, names)?.as_slice())?;
+    Ok(line.word(behind)?)
+}
+
 fn expanded(alloc: Global, text: &str) -> Result<Line, Fail> {
     let mut line = Line::new(alloc);
-    match text.split_once('<') {
-        Some((before, named)) => {
-            let (names, behind) = named.split_once('>').ok_or("no >")?;
-            let mut bytes = Vec::new(alloc);
-            for name in names.split_whitespace() {
-                bytes.extend_from_slice(frame_of(name)?)?;
-            }
-            line.word(before)?;
-            line.hex(bytes.as_slice())?;
-            line.word(behind)?;
-        }
-        None => line.word(text)?,
-    }
+    expand(alloc, text, &mut line)?;
     Ok(line)
 }
 
@@ -65,6 +72,23 @@ fn are_frames(alloc: Global, answer: &str, types: &str) -> Result<bool, Fail> {
     Ok(rest.is_empty())
 }
 
+fn assert_found(
+    rt: &impl Abort,
+    alloc: Global,
+    asked: &str,
+    found: &str,
+    wanted: &str,
+) -> Result<(), Fail> {
+    match wanted.strip_prefix("frames ") {
+        Some(types) => {
+            let are_frames = are_frames(alloc, found, types)?;
+            assert!(rt; are_frames, "{asked}: no frames {types}");
+        }
+        None => assert_eq!(rt; found, wanted, "{asked}"),
+    }
+    Ok(())
+}
+
 fn assert_answer(
     rt: &impl Abort,
     alloc: Global,
@@ -73,14 +97,7 @@ fn assert_answer(
     wanted: &str,
 ) -> Result<(), Fail> {
     let found = answer(alloc, vm, asked.as_bytes())?;
-    match wanted.strip_prefix("frames ") {
-        Some(types) => {
-            let are_frames = are_frames(alloc, found.as_str(), types)?;
-            assert!(rt; are_frames, "{asked}: no frames {types}");
-        }
-        None => assert_eq!(rt; found.as_str(), wanted, "{asked}"),
-    }
-    Ok(())
+    assert_found(rt, alloc, asked, found.as_str(), wanted)
 }
 
 /// The calls that a failed VM answers with its error.
@@ -108,6 +125,20 @@ fn assert_failed(
     assert_answer(rt, alloc, vm, "output", "ok 0x")
 }
 
+fn assert_answer_or_failed(
+    rt: &impl Abort,
+    alloc: Global,
+    vm: &mut Option<CoreVM>,
+    asked: &str,
+    wanted: &str,
+) -> Result<(), Fail> {
+    if asked == "failed" {
+        assert_failed(rt, alloc, vm, wanted)
+    } else {
+        assert_answer(rt, alloc, vm, asked, wanted)
+    }
+}
+
 fn assert_line(
     rt: &impl Abort,
     alloc: Global,
@@ -117,11 +148,7 @@ fn assert_line(
     let (asked, wanted) = line.split_once(" => ").unwrap_or((line, ""));
     let asked = expanded(alloc, asked.trim_end())?;
     let wanted = expanded(alloc, wanted)?;
-    if asked.as_str() == "failed" {
-        assert_failed(rt, alloc, vm, wanted.as_str())
-    } else {
-        assert_answer(rt, alloc, vm, asked.as_str(), wanted.as_str())
-    }
+    assert_answer_or_failed(rt, alloc, vm, asked.as_str(), wanted.as_str())
 }
 
 fn assert_lines(
@@ -142,27 +169,24 @@ pub fn assert_table(rt: &impl Abort, alloc: Global, table: &str) -> Result<(), F
     assert_lines(rt, alloc, &mut vm, table)
 }
 
-/// The line by which a VM of this version is made.
-fn making(alloc: Global, version: u8, options: &str) -> Result<Line, Fail> {
-    let mut line = Line::new(alloc);
+/// Writes the line by which a VM of this version is made.
+fn write_making(line: &mut Line, version: u8, options: &str) -> Result<(), AllocError> {
     line.word("vm \"application/vnd.restate.invocation.v")?;
     line.number(u64::from(version))?;
     line.word("\" ")?;
     line.word(options)?;
     line.word(" => ok V")?;
-    line.number(u64::from(version))?;
-    Ok(line)
+    line.number(u64::from(version))
 }
 
-/// The script of a row.
-fn script(alloc: Global, version: u8, rows: Rows, row: &str) -> Result<Line, Fail> {
-    let mut script = making(alloc, version, rows.options)?;
+/// Writes the script of a row.
+fn write_script(script: &mut Line, version: u8, rows: Rows, row: &str) -> Result<(), AllocError> {
+    write_making(script, version, rows.options)?;
     script.word("\n")?;
     script.word(rows.before)?;
     script.word(row)?;
     script.word("\n")?;
-    script.word(rows.behind)?;
-    Ok(script)
+    script.word(rows.behind)
 }
 
 fn assert_row(
@@ -172,12 +196,12 @@ fn assert_row(
     rows: Rows,
     row: &str,
 ) -> Result<(), Fail> {
-    let script = script(alloc, version, rows, row)?;
+    let mut script = Line::new(alloc);
+    write_script(&mut script, version, rows, row)?;
     assert_table(rt, alloc, script.as_str())
 }
 
-/// Each line is a row, and is played on a VM of each of these versions.
-pub fn assert_each_line(
+fn assert_each_line_of(
     rt: &impl Abort,
     alloc: Global,
     versions: &[u8],
@@ -189,6 +213,19 @@ pub fn assert_each_line(
                 assert_row(rt, alloc, *version, rows, line)?;
             }
         }
+    }
+    Ok(())
+}
+
+/// Each line of each table is a row, and is played on a VM of each of these versions.
+pub fn assert_each_line(
+    rt: &impl Abort,
+    alloc: Global,
+    versions: &[u8],
+    tables: &[Rows],
+) -> Result<(), Fail> {
+    for rows in tables {
+        assert_each_line_of(rt, alloc, versions, *rows)?;
     }
     Ok(())
 }

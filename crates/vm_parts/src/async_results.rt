@@ -22,11 +22,24 @@ pub struct Mapping {
 }
 
 /// What came and what eager reads gave, and the handles that can still be answered.
-#[derive(Drop)]
 pub struct AsyncResults {
     arrivals: Arrivals,
     eager: EagerResults,
     handles: Handles,
+}
+
+/// Written out, so that who lets results go calls this: a derived drop is taken apart at each way out of a function.
+impl Drop for AsyncResults {
+    fn drop(self) {
+        let Self {
+            arrivals,
+            eager,
+            handles,
+        } = self;
+        drop(arrivals);
+        drop(eager);
+        drop(handles);
+    }
 }
 
 impl Model for AsyncResults {

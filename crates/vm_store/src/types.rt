@@ -20,13 +20,26 @@ pub struct Identity {
 }
 
 /// What all attempts of a world are made with.
-#[derive(Drop)]
 pub struct Setting {
     pub identity: Identity,
     pub options: VMOptions,
     pub version: Version,
     /// The state before any command, as keys with their values; of several pairs of one key the last counts.
     pub base: Items<(Text, Bytes)>,
+}
+
+/// Written out, so that who lets a world go calls this: a derived drop is taken apart at each way out of a function.
+impl Drop for Setting {
+    fn drop(self) {
+        let Self {
+            identity,
+            options: _,
+            version: _,
+            base,
+        } = self;
+        drop(identity);
+        drop(base);
+    }
 }
 
 /// What happens in a round.
@@ -60,7 +73,6 @@ pub struct Round {
 }
 
 /// What a round tells.
-#[derive(Drop)]
 pub struct Report {
     pub answers: Vec<Answer>,
     /// All that the attempt has sent.
@@ -69,6 +81,21 @@ pub struct Report {
     pub error: Option<Error>,
     /// The journal's length after the round.
     pub entries: u32,
+}
+
+/// Written out, as for a setting.
+impl Drop for Report {
+    fn drop(self) {
+        let Self {
+            answers,
+            output,
+            error,
+            entries: _,
+        } = self;
+        drop(answers);
+        drop(output);
+        drop(error);
+    }
 }
 
 /// Why rounds stopped: the first event that has a fault has this one, of several the first in this list.

@@ -30,7 +30,7 @@ pub struct Input {
 }
 
 /// Which handler is called, and how.
-#[derive(Debug, Drop, Clone, PartialEq, Eq)]
+#[derive(Debug, Drop, PartialEq, Eq)]
 pub struct Target {
     pub service: Text,
     pub handler: Text,

@@ -12,6 +12,6 @@ mod wire;
 pub use fault::Fault;
 pub use frames::set_length;
 pub use items::Items;
-pub use plain::{Plain, copy_of, is_same};
+pub use plain::{Exact, Plain, copy_of, is_same};
 pub use text::Text;
 pub use wire::{Wire, whole};

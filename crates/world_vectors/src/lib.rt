@@ -1,13 +1,24 @@
-//! The test bench for rounds in Rust: handlers that no program has, and random rounds. Worked rounds and faults stand as text in `round_vectors`.
+//! The test bench of attempts and of rounds in Rust: whole runs that are replayed, cut and refused; handlers that no program has; and
+//! random rounds. Worked rounds and faults stand as text in `program_vectors`.
 #![tactic(auto)]
 
+#[cfg(test)]
+mod attempts;
 #[cfg(test)]
 mod bench;
 #[cfg(test)]
 mod counts;
 #[cfg(test)]
+mod cuts;
+#[cfg(test)]
+mod histories;
+#[cfg(test)]
+mod mismatches;
+#[cfg(test)]
 mod rounds;
 #[cfg(test)]
 mod simulation;
+#[cfg(test)]
+mod starvation;
 #[cfg(test)]
 mod stops;

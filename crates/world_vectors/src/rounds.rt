@@ -9,6 +9,13 @@ use vectors::frames::{AWAITING_ON_1, COMPLETION_1, END, INPUT_TILL, OUTPUT_EMPTY
 use vm_parts::{Answer, Value};
 use vm_world::Report;
 
+fn assert_answers(rt: &impl Abort, answers: &[Answer], wanted: &[&str]) {
+    assert_eq!(rt; answers.len(), wanted.len());
+    for (answer, wanted) in answers.iter().zip(wanted) {
+        assert_eq!(rt; told(answer), *wanted);
+    }
+}
+
 /// The report tells these answers, this output and this many entries, and no error.
 fn assert_report(
     rt: &impl Abort,
@@ -19,10 +26,7 @@ fn assert_report(
     entries: u32,
 ) -> Result<(), Fail> {
     let report = report.ok_or("no report")?;
-    assert_eq!(rt; report.answers.len(), answers.len());
-    for (answer, wanted) in report.answers.iter().zip(answers) {
-        assert_eq!(rt; told(answer), *wanted);
-    }
+    assert_answers(rt, report.answers.as_slice(), answers);
     let output = output.concat(alloc)?;
     assert_eq!(rt; report.output.as_slice(), output.as_slice());
     assert!(rt; report.error.is_none());
