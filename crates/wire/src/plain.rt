@@ -1,4 +1,4 @@
-//! Plain data: values whose `==` is exact, and those whose copies are equal too.
+//! Plain data: values whose `==` is exact, and values whose copies are equal.
 ghost use Rattle.std.specs.Prelude.{◌≡◌, ◌↔◌, IsTrue, IfOk};
 ghost use Rattle.std.specs.Bool.{Decides};
 ghost use Rattle.std.specs.Cmp.Lexicographic.{bytes_decides, pointwise_decides};
