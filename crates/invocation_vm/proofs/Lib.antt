@@ -1,6 +1,5 @@
 pub mod Calls
 pub mod Cancelling
-pub mod Endings
 pub mod Cuts
+pub mod Failing
 pub mod Feeds
-pub mod Lawful

@@ -3,7 +3,6 @@
 
 mod core_vm;
 mod feed;
-mod laws;
 mod shared;
 mod versions;
 mod vm;
@@ -12,7 +11,6 @@ pub use core_vm::CoreVM;
 pub use feed::any_cut;
 pub use journal_calls::{IdempotencyId, WorkflowId};
 pub use journal_errors::{Error, ErrorBehavior, HeaderMap, Version};
-pub use laws::{all_output_ends_once, first_error_is_answered, sleep_is_written};
 pub use retries::{Fraction, OnMaxAttempts, RetryPolicy};
 pub use runs::{RunExitResult, RunHandle};
 pub use vm::VM;

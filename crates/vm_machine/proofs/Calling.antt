@@ -11,3 +11,8 @@ called_from {A} R v o h = by_failure v.failure refl h
     by_failure : (f : Option Error) → v.failure ≡ f → CalledAt f R v o → (event : Outcome A) × (v.failure ≡ None → R event) × (o ≡ called_at v.failure event v)
     by_failure None live x = (x.0, λ _. x.1, x.2 ∙ ap (λ f. called_at f x.0 v) (sym live))
     by_failure (Some e) dead x = (Failed e v, λ live. absurd (let z : Some e ≡ None = sym dead ∙ live in cc), x ∙ ap (λ f. called_at f (Failed e v) v) (sym dead))
+
+-- a machine that has failed answers its first error
+pub answers_first : {A : Type 0} (o : Outcome A) (e : Error) (v : Machine) → v.failure ≡ Some e → called o v ≡ Failed e v
+unfolding called
+answers_first o e v f = ap (λ (x : Option Error). called_at x o v) f

@@ -1,10 +1,8 @@
 pub mod Answering
 pub mod Calling
 pub mod Cancelling
-pub mod Carried
-pub mod Endings
+pub mod Numbering
 pub mod Preparing
-pub mod Replaying
 pub mod Resolving
 pub mod Ruling
 pub mod Running

@@ -2,16 +2,13 @@ pub mod Answered
 pub mod Awaits
 pub mod Cancels
 pub mod Commands
-pub mod Endings
 pub mod Inputs
 pub mod Making
-pub mod Numbers
 pub mod Outcomes
 pub mod Phases
 pub mod Proposals
 pub mod Queries
 pub mod Reads
-pub mod Replays
 pub mod Reports
 pub mod Signals
 pub mod Takes

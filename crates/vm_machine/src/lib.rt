@@ -6,7 +6,6 @@ pub mod awaits;
 pub mod fault;
 pub mod input;
 pub mod issue;
-pub mod laws;
 pub mod machine;
 pub mod phase;
 pub mod proposals;

@@ -33,7 +33,7 @@ use Rattle.vm_asks.specs.declared.asks.Command.{Command}
 use Rattle.vm_asks.specs.declared.state_read.StateRead.{StateRead}
 use Rattle.vm_asks.specs.Asks.{ask_of}
 use Rattle.vm_asks.specs.Requests.{ids_of}
-use Rattle.vm_machine.proofs.Endings.{same_type}
+use Rattle.vm_machine.proofs.Numbering.{same_type}
 use Rattle.invocation_vm.specs.Calls.{skips_replay}
 use Rattle.vm_model.specs.Calls.{Setup, Meaning, Derived, Move, asked, awaited, awakeable_made, awaiting, cancel_sent, cancelled, cancelling, commanding, id_awaited, id_read, is_awake, is_cancelled_in, making_awakeable, numbered, reading, ready_in, result_taken, signal_made, value_noted, value_taken}
 use Rattle.vm_model.specs.Calls.Move.{Answers, Needs, Awaits, Ends, Refuses}

@@ -38,7 +38,7 @@ use Rattle.journal_errors.specs.Versions.{is_from_v7}
 use Rattle.vm_machine.specs.Proposals.{Proposes, Settled, SettledAt, SettledUnless, SettlesAs, proposal_fault, proposed, without_run}
 use Rattle.vm_machine.proofs.Calling.{called_from}
 use Rattle.invocation_vm.specs.Views.{View}
-use Rattle.invocation_vm.proofs.Lawful.{first_proposed}
+use Rattle.invocation_vm.proofs.Failing.{first_proposed}
 use Rattle.vm_model.specs.Calls.{Meaning, Setup}
 use Rattle.vm_model.specs.Histories.{Handed, IsPrefix, Made}
 use Rattle.vm_model.specs.Moves.{Point, start}

@@ -14,7 +14,7 @@ use Rattle.vm_asks.specs.declared.asks.Ask.TheVariants as ask
 use Rattle.vm_asks.specs.declared.asks.Command.{Command}
 use Rattle.vm_asks.specs.Asks.{ask_of}
 use Rattle.vm_asks.specs.Requests.{with_ids}
-use Rattle.vm_machine.proofs.Endings.{same_type}
+use Rattle.vm_machine.proofs.Numbering.{same_type}
 use Rattle.vm_model.specs.Calls.{Setup, Derived, demand_of}
 use Rattle.vm_model.specs.Journal.{stored_form}
 use Rattle.vm_model.specs.Moves.{found}

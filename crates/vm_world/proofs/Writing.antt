@@ -21,11 +21,11 @@ use Rattle.vm_machine.specs.declared.phase.Phase.{Phase}
 use Rattle.vm_machine.specs.declared.phase.Phase.TheVariants.{WaitingStart, WaitingReplayEntries, Replaying, Processing, Closed}
 use Rattle.vm_asks.specs.Asks.{ask_of}
 use Rattle.vm_machine.specs.Commands.{commanded}
-use Rattle.vm_machine.specs.Endings.{EventWrites, Writes}
+use Rattle.vm_laws.specs.Endings.{EventWrites, Writes}
 use Rattle.vm_machine.specs.Inputs.{close_step, input_step}
 use Rattle.vm_machine.specs.Outcomes.{Does, DoesBy, Done, Failed, Outcome, called, refused}
 use Rattle.vm_machine.specs.Signals.{awakeable_step}
-use Rattle.vm_machine.proofs.Endings.{GoesOn, asks_go_on, awakeable_writes, called_writes, close_writes, commanded_event, end_writes, input_writes, read_writes, same, signal_writes, take_writes, writes_nothing}
+use Rattle.vm_laws.proofs.Endings.{GoesOn, asks_go_on, awakeable_writes, called_writes, close_writes, commanded_event, end_writes, input_writes, read_writes, same, signal_writes, take_writes, writes_nothing}
 use Rattle.invocation_vm.specs.Calls.{skips_replay}
 use Rattle.invocation_vm.specs.Views.{View, after_closing, after_input, left_by}
 use Rattle.invocation_vm.proofs.Feeds.{among_output}
@@ -37,7 +37,7 @@ use Rattle.vm_steps.specs.declared.progress.Reply.TheVariants as reply
 use Rattle.vm_steps.specs.Record.{Record, bytes_written}
 use Rattle.vm_steps.specs.Stepping.{Advances, Asks, CloseDoes, Closes, FeedDoes, Feeds, FinishDoes, Reads, StepAt, StepDoes, StepFrom, StepUnless, future_in, kept_at, replied, step_asked, with_vm}
 use Rattle.vm_steps.specs.Steps.{Awaited, Performs, PerformsBy, mapped}
-use Rattle.invocation_vm.proofs.Endings.{whole_writes}
+use Rattle.vm_laws.proofs.Outputs.{whole_writes}
 use Rattle.vm_rounds.proofs.Finishing.{finished}
 use Rattle.vm_rounds.proofs.Quiet.{input_quiet}
 

@@ -1,5 +1,5 @@
-use Rattle.vm_machine.proofs.Replaying.{pops, none_left, other_type, not_read, not_equal}
-use Rattle.vm_machine.proofs.laws.replay_pops_what_is_equal.Goals as goal
+use Rattle.vm_laws.proofs.Replaying.{pops, none_left, other_type, not_read, not_equal}
+use Rattle.vm_laws.proofs.machine.replay_pops_what_is_equal.Goals as goal
 
 pub returns-clause-popped : goal.returns-clause-popped
 returns-clause-popped c = pops

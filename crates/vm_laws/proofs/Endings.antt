@@ -63,12 +63,13 @@ use Rattle.vm_machine.specs.Reads.{own_result, read_back, read_counted, read_pop
 use Rattle.vm_asks.specs.StateReads.{eager_type, keys_form, lazy_type, name_read, own_form, recorded_as, recorded_type, result_in, value_form}
 use Rattle.vm_machine.specs.Signals.{awakeable_counted, awakeable_step, signal_counted, signal_step}
 use Rattle.vm_machine.specs.Commands.{entered, written, ignores_payloads, phase_after, popped, popped_from, compared, replayed, carried_out, prepared, counted, issued, commanded, commanded_unless, about_next, handed_out}
-use Rattle.vm_machine.specs.Endings.{EndsOnce, EventWrites, Writes, is_over, is_terminal}
+use Rattle.vm_laws.specs.Endings.{EndsOnce, EventWrites, Writes, is_over, is_terminal}
 use Rattle.vm_machine.specs.Outcomes.{Outcome, Done, Failed, ◌>>=◌, CalledBy, about_last, called, called_at, failed, refused, ruled}
 use Rattle.vm_machine.specs.Phases.{is_closed, is_processing, is_replaying, is_running, state_fault}
 use Rattle.journal_errors.specs.Versions.{is_from_v7}
 use Rattle.vm_asks.specs.Requests.{ids_of, name_of, shown_type, with_ids}
 use Rattle.vm_machine.proofs.Calling.{called_from}
+use Rattle.vm_machine.proofs.Numbering.{same_type}
 use Rattle.retries.specs.declared.policy.RetryPolicy.{RetryPolicy}
 use Rattle.runs.specs.declared.settling.Settlement.{Settlement}
 use Rattle.runs.specs.declared.settling.Settlement.TheVariants as settlement
@@ -156,21 +157,6 @@ not_closed Closed e = absurd cc
 
 goes_on : (v : Machine) → v.failure ≡ None → is_running v.phase ≡ true → is_over v ≡ false
 goes_on v live runs = λ i. is_some (live i) || not_closed v.phase runs i
-
--- its numbers don't change what a message is
-pub same_type : (id : ℕ) (m : Message) → type_of (with_ids id m) ≡ type_of m
-same_type id (message.GetLazyState c) = refl
-same_type id (message.GetLazyStateKeys c) = refl
-same_type id (message.Sleep c) = refl
-same_type id (message.Call c) = refl
-same_type id (message.OneWayCall c) = refl
-same_type id (message.GetPromise c) = refl
-same_type id (message.PeekPromise c) = refl
-same_type id (message.CompletePromise c) = refl
-same_type id (message.Run c) = refl
-same_type id (message.AttachInvocation c) = refl
-same_type id (message.GetInvocationOutput c) = refl
-same_type id m = refl
 
 command_goes_on : (m : Message) (id : ℕ) → is_terminal m ≡ false → is_terminal (with_ids id m) ≡ false
 command_goes_on m id goes = ap (λ ty. nat_le 2 (type_number ty) && nat_le (type_number ty) 4) (same_type id m) ∙ goes

@@ -1,5 +1,5 @@
-use Rattle.invocation_vm.proofs.Lawful.{slept, sleep_starved}
-use Rattle.invocation_vm.proofs.laws.sleep_is_written.Goals as goal
+use Rattle.vm_laws.proofs.Sleeping.{slept, sleep_starved}
+use Rattle.vm_laws.proofs.vm.sleep_is_written.Goals as goal
 
 pub returns-clause-slept : goal.returns-clause-slept
 returns-clause-slept c = slept

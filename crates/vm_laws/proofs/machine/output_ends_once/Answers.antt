@@ -1,5 +1,5 @@
-use Rattle.vm_machine.proofs.Endings.{issued_writes, awakeable_writes, signal_writes, read_writes, await_writes, take_writes, input_writes, end_writes, report_writes, message_writes, proposals_write, malformed_writes, close_writes}
-use Rattle.vm_machine.proofs.laws.output_ends_once.Goals as goal
+use Rattle.vm_laws.proofs.Endings.{issued_writes, awakeable_writes, signal_writes, read_writes, await_writes, take_writes, input_writes, end_writes, report_writes, message_writes, proposals_write, malformed_writes, close_writes}
+use Rattle.vm_laws.proofs.machine.output_ends_once.Goals as goal
 
 pub returns-clause-commands : goal.returns-clause-commands
 returns-clause-commands c = issued_writes

@@ -1,5 +1,5 @@
-use Rattle.invocation_vm.proofs.Lawful.{first_answered, first_awaited, first_fed, first_proposed}
-use Rattle.invocation_vm.proofs.laws.first_error_is_answered.Goals as goal
+use Rattle.invocation_vm.proofs.Failing.{first_answered, first_awaited, first_fed, first_proposed}
+use Rattle.vm_laws.proofs.vm.first_error_is_answered.Goals as goal
 
 pub returns-clause-calls : goal.returns-clause-calls
 returns-clause-calls g c = first_answered

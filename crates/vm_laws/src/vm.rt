@@ -22,15 +22,15 @@ ghost use Rattle.vm_machine.specs.declared.machine.Machine.{Machine};
 ghost use Rattle.vm_asks.specs.declared.asks.Command.{Command};
 ghost use Rattle.vm_asks.specs.Asks.{call_handles, send_handle, sleep_command};
 ghost use Rattle.vm_machine.specs.Takes.{take_step};
-ghost use Rattle.vm_machine.specs.Endings.{is_terminal};
+ghost use Rattle.vm_laws.specs.Endings.{is_terminal};
 ghost use Rattle.vm_machine.specs.Inputs.{end_step, input_step};
 ghost use Rattle.vm_machine.specs.Outcomes.{IsStarved, Outcome};
 ghost use Rattle.vm_machine.specs.Signals.{signal_step};
 ghost use Rattle.vm_asks.specs.declared.state_read.StateRead.{StateRead};
 ghost use Rattle.invocation_vm.specs.Calls.{CallsCommand, CallsFlatAwait, CallsFor, CallsProposal, CallsRead, CallsRun, CallsUnit, new_awakeable_step};
-ghost use Rattle.invocation_vm.specs.Endings.{EndsOnceAfter, StaysSo};
+ghost use Rattle.vm_laws.specs.Outputs.{EndsOnceAfter, StaysSo};
 ghost use Rattle.invocation_vm.specs.Making.{made};
-ghost use Rattle.invocation_vm.specs.Sleeps.{MaySleep, sleeping};
+ghost use Rattle.vm_laws.specs.Sleeps.{MaySleep, sleeping};
 ghost use Rattle.invocation_vm.specs.Views.{View, AnswersFirst, Calls, Leaves, TakesOutput, after_closing, after_error, after_input, brought};
 
 /// Over any list of calls, all output together has at most one Suspension, Error or End, and nothing behind it: that

@@ -27,7 +27,7 @@ use Rattle.vm_machine.specs.Commands.{entered, given_on, handed_out}
 use Rattle.vm_machine.specs.Reads.{own_result, read_back, read_counted, read_popped, read_step, read_written, with_result}
 use Rattle.vm_asks.specs.StateReads.{eager_type, name_read, own_form, recorded_as, recorded_type, result_in}
 use Rattle.vm_machine.specs.Signals.{awakeable_step, awakeable_counted, signal_counted, signal_step}
-use Rattle.vm_machine.specs.Numbers.{Counted}
+use Rattle.vm_laws.specs.Numbers.{Counted}
 
 -- the same state and the same counters
 abbrev Keeps : Machine → Machine → Type 0

@@ -17,7 +17,7 @@ ghost use Rattle.vm_asks.specs.declared.asks.Command.{Command};
 ghost use Rattle.vm_asks.specs.Asks.{ask_of};
 ghost use Rattle.vm_machine.specs.Takes.{take_step};
 ghost use Rattle.vm_machine.specs.Commands.{issued};
-ghost use Rattle.vm_machine.specs.Endings.{EventWrites, Writes, is_over, is_terminal};
+ghost use Rattle.vm_laws.specs.Endings.{EventWrites, Writes, is_over, is_terminal};
 ghost use Rattle.journal_values.specs.declared.parts.ValueOrFailure.{ValueOrFailure};
 ghost use Rattle.runs.specs.Firsts.{without_first};
 ghost use Rattle.runs.specs.Kept.{is_for};
@@ -25,9 +25,9 @@ ghost use Rattle.vm_parts.specs.declared.run_state.KeptProposal.{KeptProposal};
 ghost use Rattle.journal_errors.specs.Versions.{is_from_v7};
 ghost use Rattle.vm_machine.specs.Inputs.{completion_of, enqueued, close_step, end_step, input_step, malformed_step, message_step};
 ghost use Rattle.vm_machine.specs.Reports.{report_step};
-ghost use Rattle.vm_machine.specs.Numbers.{Counted};
+ghost use Rattle.vm_laws.specs.Numbers.{Counted};
 ghost use Rattle.vm_machine.specs.Outcomes.{Done, Failed, Outcome, called, refused};
-ghost use Rattle.vm_machine.specs.Replays.{MayReplay, Pops, Refuses, is_header_equal, is_of_its_type};
+ghost use Rattle.vm_laws.specs.Replays.{MayReplay, Pops, Refuses, is_header_equal, is_of_its_type};
 ghost use Rattle.vm_asks.specs.Requests.{changed, ids_of, with_ids};
 ghost use Rattle.vm_machine.specs.Signals.{awakeable_step, signal_step};
 ghost use Rattle.vm_asks.specs.declared.state_read.StateRead.{StateRead};
@@ -107,7 +107,7 @@ pub fn nothing_follows()
 {}
 
 /// A machine that has failed answers its first error to each event, whatever its answers are, and stays as it is.
-#[tactic(auto, using(crate::proofs::Replaying::answers_first))]
+#[tactic(auto, using(vm_machine::proofs::Calling::answers_first))]
 pub fn first_error_stays<A>()
     ensures { (o : Outcome A) (e : Error) (v : Machine) → v.failure ≡ Some e → called o v ≡ Failed e v }
 {}

@@ -3,7 +3,7 @@ use Rattle.std.specs.Prelude.{◌≡◌, ℕ, false, List, ◌++◌}
 use Rattle.std.specs.List.{concat, flat_map}
 use Rattle.journal_messages.specs.declared.message.Message.{Message}
 use Rattle.journal_messages.specs.Message.{encoding}
-use Rattle.vm_machine.specs.Endings.{EndsOnce, is_over}
+use Rattle.vm_laws.specs.Endings.{EndsOnce, is_over}
 use Rattle.invocation_vm.specs.Views.{View}
 
 -- What was taken of the output and what waits are whole messages, at most the last of them terminal; once one is, the

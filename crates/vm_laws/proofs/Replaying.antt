@@ -17,12 +17,12 @@ use Rattle.vm_machine.specs.declared.machine.Machine.{Machine}
 use Rattle.vm_machine.specs.declared.phase.Phase.{Phase}
 use Rattle.vm_machine.specs.declared.phase.Phase.TheVariants.{Replaying}
 use Rattle.vm_machine.specs.Commands.{entered, written, phase_after, popped, popped_from, compared, replayed, carried_out, prepared, counted, issued}
-use Rattle.vm_machine.specs.Endings.{EndsOnce, Writes, is_over}
-use Rattle.vm_machine.specs.Outcomes.{Outcome, Done, Failed, ◌>>=◌, about_last, called, called_at}
+use Rattle.vm_laws.specs.Endings.{EndsOnce, Writes, is_over}
+use Rattle.vm_machine.specs.Outcomes.{Outcome, Done, Failed, ◌>>=◌, about_last}
 use Rattle.vm_machine.specs.Phases.{is_running, is_processing, state_fault}
-use Rattle.vm_machine.specs.Replays.{MayReplay, Pops, Refuses, command_at, ignores, is_header_equal, is_of_its_type}
+use Rattle.vm_laws.specs.Replays.{MayReplay, Pops, Refuses, command_at, ignores, is_header_equal, is_of_its_type}
 use Rattle.vm_asks.specs.Requests.{ids_of, name_of, shown_type}
-use Rattle.vm_machine.proofs.Carried.{IsDone, answered, no_answer, same_machine}
+use Rattle.vm_laws.proofs.Carried.{IsDone, answered, no_answer, same_machine}
 
 -- ---- the next recorded command
 
@@ -151,10 +151,6 @@ not_equal r unstable raw rest recorded v may c t i n =
     refuses_read fault.CommandMismatch r unstable raw rest v (Some recorded) may c t i (ap (λ b. if b then Done tt x else Failed (about_last fault.CommandMismatch x) x) n)
 
 -- ---- a machine that is over
-
-pub answers_first : {A : Type 0} (o : Outcome A) (e : Error) (v : Machine) → v.failure ≡ Some e → called o v ≡ Failed e v
-unfolding called
-answers_first o e v f = ap (λ (x : Option Error). called_at x o v) f
 
 none_behind : (b : Bool) (messages : List Message) (after : Bool) → b ≡ true → EndsOnce b messages after → messages ≡ []
 none_behind true messages after e h = h.0

@@ -1,0 +1,5 @@
+pub mod Carried
+pub mod Endings
+pub mod Outputs
+pub mod Replaying
+pub mod Sleeping

@@ -1,0 +1,5 @@
+pub mod Endings
+pub mod Numbers
+pub mod Outputs
+pub mod Replays
+pub mod Sleeps
