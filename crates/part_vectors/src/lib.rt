@@ -1,4 +1,4 @@
-//! Rows over the public types of the VM: conversions, defaults and texts, the state map, and policies of retries.
+//! Rows over the VM's parts: its public types, the state map, policies of retries, and awaits of trees.
 #![tactic(auto)]
 
 #[cfg(test)]
@@ -9,3 +9,5 @@ mod parts;
 mod policies;
 #[cfg(test)]
 mod state_maps;
+#[cfg(test)]
+mod trees;

@@ -1,5 +1,5 @@
 //! What is sent of trees that wait: kinds, the ids of their leaves, and what nests in them.
-use crate::rows::play;
+use crate::trees::rows::play;
 use std::test::Fail;
 
 const SENT: &str = r#"ids 1 2 3; await 11; send (kind=FirstCompleted completions=[1])

@@ -1,5 +1,5 @@
 //! The texts of trees and of their copies.
-use crate::rows::play;
+use crate::trees::rows::play;
 use std::test::Fail;
 
 const TEXTS: &str = "\

@@ -1,5 +1,5 @@
-// Runs of the program `vmrun` over readers and writers in memory: how each ends, and what it read and wrote.
-use crate::run_bench::V7;
+// Runs over readers and writers in memory: how each ends, and what it read and wrote.
+use crate::vmrun::bench::V7;
 use runner::exit_status::ExitStatus;
 use runner::run::run;
 use runner::run_end::{AttemptEnd, RunEnd};

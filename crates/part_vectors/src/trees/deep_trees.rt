@@ -1,5 +1,5 @@
 //! Deep trees alone: made, printed, copied and let go.
-use crate::deep::deep;
+use crate::trees::deep::deep;
 use await_trees::{FutureKind, UnresolvedFuture, list_nodes};
 use std::alloc::Global;
 use std::fmt::Write;

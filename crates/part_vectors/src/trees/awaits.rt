@@ -1,5 +1,5 @@
 //! Which trees wake by what arrives, after how much of it, and what is left of the others.
-use crate::rows::play;
+use crate::trees::rows::play;
 use std::test::Fail;
 
 const AWAITS: &str = "\

@@ -1,5 +1,5 @@
 //! Tries of deep trees, and what is sent of them.
-use crate::deep::deep;
+use crate::trees::deep::deep;
 use await_trees::{FutureKind, UnresolvedFuture};
 use await_tries::{Residue, Resolution, future_of, list_handles, try_future};
 use bytes::Bytes;

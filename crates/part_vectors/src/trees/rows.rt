@@ -1,6 +1,8 @@
 //! Rows over awaits of trees, one a line, played over the notifications of an attempt.
-use crate::notation::{arrival, id, number};
-use crate::shown::{copy_shown, future_shown, handles_shown, left_shown, result_shown, tree_shown};
+use crate::trees::notation::{arrival, id, number};
+use crate::trees::shown::{
+    copy_shown, future_shown, handles_shown, left_shown, result_shown, tree_shown,
+};
 use await_trees::UnresolvedFuture;
 use await_tries::{Residue, Resolution, future_of, list_handles, try_future};
 use line_parts::trees::tree_of_word;

@@ -1,6 +1,6 @@
-// Runs of the program `vmrun` with the handlers that call others: their first attempts, what wakes them, and how they are cancelled.
-use crate::run_bench::assert_written;
-use crate::run_frames::{
+// Runs with the handlers that call others: their first attempts, what wakes them, and how they are cancelled.
+use crate::vmrun::bench::assert_written;
+use crate::vmrun::frames::{
     CALL_A, CALL_B, CALL_GREET, CANCEL, CANCEL_INV_1, CANCEL_INV_2, FAILURE_2, FAILURE_3,
     INVOCATION_1, INVOCATION_2, INVOCATION_3, OUTPUT_CANCELLED, OUTPUT_DONE, OUTPUT_HI, OUTPUT_NO,
     OUTPUT_TIMEOUT, PARENT_WAITS, PARENT_WAITS_FOR_4, RACE_WAITS, RESULT_2, RESULT_3, RESULT_4,

@@ -1,5 +1,5 @@
 //! Deliveries of one id: those that queue up, those that replace one another, and takes of them.
-use crate::rows::play;
+use crate::trees::rows::play;
 use std::test::Fail;
 
 const TAKES: &str =

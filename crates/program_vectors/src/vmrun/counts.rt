@@ -1,6 +1,6 @@
 // Runs of the handler `counter` over the counts that it finds. The frames are put together from the layout: the type's
 // number in two bytes, and the body with its length in eight bytes in front, as each text has.
-use crate::run_bench::assert_written;
+use crate::vmrun::bench::assert_written;
 use runner::exit_status::ExitStatus;
 use std::alloc::{AllocError, Global};
 use std::process::Abort;

@@ -1,5 +1,5 @@
 //! Awaits that are asked twice, with one more arrival between.
-use crate::rows::play;
+use crate::trees::rows::play;
 use std::test::Fail;
 
 /// Each is played twice: the same tree is asked again, and what was left of it.
