@@ -6,20 +6,20 @@ use journal_values::{Header, ValueOrFailure};
 use std::alloc::{AllocError, Global};
 use wire::{Fault, Items, Text, Wire};
 
-#[derive(Debug, Drop, PartialEq, Eq)]
+#[derive(Drop, PartialEq, Eq)]
 pub struct InputCommand {
     pub headers: Items<Header>,
     pub value: Bytes,
 }
 
-#[derive(Debug, Drop, PartialEq, Eq)]
+#[derive(Drop, PartialEq, Eq)]
 pub struct SleepCommand {
     pub wake_up_time: u64,
     pub result_completion_id: u32,
     pub name: Text,
 }
 
-#[derive(Debug, Drop, PartialEq, Eq)]
+#[derive(Drop, PartialEq, Eq)]
 pub struct OutputCommand {
     pub result: ValueOrFailure,
 }

@@ -7,13 +7,13 @@ use std::alloc::{AllocError, Global};
 use wire::{Fault, Wire};
 
 /// The attempt stops until the future may go on.
-#[derive(Debug, Drop, PartialEq, Eq)]
+#[derive(Drop, PartialEq, Eq)]
 pub struct Suspension {
     pub future: Future,
 }
 
 /// What the attempt waits for while it goes on.
-#[derive(Debug, Drop, PartialEq, Eq)]
+#[derive(Drop, PartialEq, Eq)]
 pub struct AwaitingOn {
     pub future: Future,
     pub executing_side_effects: bool,

@@ -17,7 +17,7 @@ pub enum FutureKind {
 }
 
 /// One future without those that nest in it.
-#[derive(Debug, Drop, Clone, PartialEq, Eq)]
+#[derive(Drop, Clone, PartialEq, Eq)]
 pub struct FutureNode {
     pub kind: FutureKind,
     pub waiting_completions: Items<u32>,
@@ -28,7 +28,7 @@ pub struct FutureNode {
 }
 
 /// A future with all that nest in it: each node stands before those of the futures that nest in it.
-#[derive(Debug, Drop, PartialEq, Eq)]
+#[derive(Drop, PartialEq, Eq)]
 pub struct Future {
     nodes: Items<FutureNode>,
 }

@@ -6,20 +6,20 @@ use journal_values::ValueOrFailure;
 use std::alloc::{AllocError, Global};
 use wire::{Fault, Text, Wire};
 
-#[derive(Debug, Drop, PartialEq, Eq)]
+#[derive(Drop, PartialEq, Eq)]
 pub struct RunCommand {
     pub name: Text,
     pub result_completion_id: u32,
 }
 
-#[derive(Debug, Drop, PartialEq, Eq)]
+#[derive(Drop, PartialEq, Eq)]
 pub struct ProposeRunCompletion {
     pub id: u32,
     pub result: ValueOrFailure,
 }
 
 /// The proposed result is kept.
-#[derive(Debug, Drop, PartialEq, Eq)]
+#[derive(Drop, PartialEq, Eq)]
 pub struct ProposeRunCompletionAck {
     pub id: u32,
 }

@@ -5,7 +5,7 @@ use bytes::Bytes;
 use std::alloc::{AllocError, Global};
 use wire::{Fault, Items, Text, Wire};
 
-#[derive(Debug, Drop, PartialEq, Eq)]
+#[derive(Drop, PartialEq, Eq)]
 pub struct Start {
     pub id: Bytes,
     pub debug_id: Text,

@@ -6,26 +6,26 @@ use journal_values::{Failure, ValueOrFailure};
 use std::alloc::{AllocError, Global};
 use wire::{Fault, Text, Wire};
 
-#[derive(Debug, Drop, PartialEq, Eq)]
+#[derive(Drop, PartialEq, Eq)]
 pub struct CompleteAwakeableCommand {
     pub awakeable_id: Text,
     pub result: ValueOrFailure,
 }
 
-#[derive(Debug, Drop, PartialEq, Eq)]
+#[derive(Drop, PartialEq, Eq)]
 pub enum Signal {
     Index(u32),
     Name(Text),
 }
 
-#[derive(Debug, Drop, PartialEq, Eq)]
+#[derive(Drop, PartialEq, Eq)]
 pub enum SignalResult {
     Void,
     Value(Bytes),
     Failure(Failure),
 }
 
-#[derive(Debug, Drop, PartialEq, Eq)]
+#[derive(Drop, PartialEq, Eq)]
 pub struct SendSignalCommand {
     pub target_invocation_id: Text,
     pub signal: Signal,

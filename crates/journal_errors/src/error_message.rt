@@ -7,7 +7,7 @@ use std::alloc::{AllocError, Global};
 use wire::{Fault, Text, Wire};
 
 /// The attempt failed.
-#[derive(Debug, Drop, PartialEq, Eq)]
+#[derive(Drop, PartialEq, Eq)]
 pub struct ErrorMessage {
     pub code: u32,
     pub message: Text,

@@ -26,7 +26,6 @@ use std::alloc::{AllocError, Global};
 use wire::{Fault, Wire, set_length, whole};
 
 /// What the runtime and the attempt tell each other.
-#[derive(Debug)]
 pub enum Message {
     Start(Start),
     Suspension(Suspension),
@@ -99,7 +98,7 @@ impl Drop for Message {
 }
 
 /// A frame whose body isn't decoded yet.
-#[derive(Debug, Drop, Clone, PartialEq, Eq)]
+#[derive(Drop, Clone, PartialEq, Eq)]
 pub struct RawMessage {
     pub ty: MessageType,
     pub body: Bytes,

@@ -6,65 +6,65 @@ use std::alloc::{AllocError, Global};
 use wire::{Fault, Items, Text, Wire};
 
 /// What stands under a key: nothing, or a value.
-#[derive(Debug, Drop, Clone, PartialEq, Eq)]
+#[derive(Drop, Clone, PartialEq, Eq)]
 pub enum VoidOrValue {
     Void,
     Value(Bytes),
 }
 
 /// Asks for what stands under a key. The journal doesn't keep it.
-#[derive(Debug, Drop, PartialEq, Eq)]
+#[derive(Drop, PartialEq, Eq)]
 pub struct GetStateEphemeralCommand {
     pub id: u32,
     pub key: Text,
 }
 
-#[derive(Debug, Drop, PartialEq, Eq)]
+#[derive(Drop, PartialEq, Eq)]
 pub struct GetStateEphemeralNotification {
     pub id: u32,
     pub result: Option<VoidOrValue>,
 }
 
-#[derive(Debug, Drop, PartialEq, Eq)]
+#[derive(Drop, PartialEq, Eq)]
 pub struct GetEagerStateCommand {
     pub name: Text,
     pub key: Text,
     pub result: Option<VoidOrValue>,
 }
 
-#[derive(Debug, Drop, PartialEq, Eq)]
+#[derive(Drop, PartialEq, Eq)]
 pub struct GetLazyStateCommand {
     pub name: Text,
     pub key: Text,
     pub result_completion_id: u32,
 }
 
-#[derive(Debug, Drop, PartialEq, Eq)]
+#[derive(Drop, PartialEq, Eq)]
 pub struct GetEagerStateKeysCommand {
     pub value: Option<Items<Bytes>>,
     pub name: Text,
 }
 
-#[derive(Debug, Drop, PartialEq, Eq)]
+#[derive(Drop, PartialEq, Eq)]
 pub struct GetLazyStateKeysCommand {
     pub result_completion_id: u32,
     pub name: Text,
 }
 
-#[derive(Debug, Drop, PartialEq, Eq)]
+#[derive(Drop, PartialEq, Eq)]
 pub struct SetStateCommand {
     pub name: Text,
     pub key: Text,
     pub value: Bytes,
 }
 
-#[derive(Debug, Drop, PartialEq, Eq)]
+#[derive(Drop, PartialEq, Eq)]
 pub struct ClearStateCommand {
     pub name: Text,
     pub key: Text,
 }
 
-#[derive(Debug, Drop, PartialEq, Eq)]
+#[derive(Drop, PartialEq, Eq)]
 pub struct ClearAllStateCommand {
     pub name: Text,
 }

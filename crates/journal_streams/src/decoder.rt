@@ -15,7 +15,6 @@ use wire::Fault;
 const HEAD: usize = 10;
 
 /// Frames out of the pieces of a stream. Contracts see the bytes that wait.
-#[derive(Debug)]
 pub struct Decoder {
     alloc: Global,
     waiting: Waiting,

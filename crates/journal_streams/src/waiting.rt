@@ -6,7 +6,7 @@ use bytes::{Bytes, BytesMut};
 use std::alloc::{AllocError, Global};
 
 /// The bytes that wait, all behind one another in memory.
-#[derive(Debug, Drop)]
+#[derive(Drop)]
 pub enum Waiting {
     /// The rest of one piece, whose memory it shares.
     Piece(Bytes),

@@ -6,14 +6,14 @@ use bytes::Bytes;
 use std::alloc::{AllocError, Global};
 use wire::{Fault, Items, Text, Wire};
 
-#[derive(Debug, Drop, Clone, PartialEq, Eq)]
+#[derive(Drop, Clone, PartialEq, Eq)]
 pub enum NotificationId {
     CompletionId(u32),
     SignalId(u32),
     SignalName(Text),
 }
 
-#[derive(Debug, Drop, Clone, PartialEq, Eq)]
+#[derive(Drop, Clone, PartialEq, Eq)]
 pub enum NotificationResult {
     Void,
     Value(Bytes),
@@ -22,7 +22,7 @@ pub enum NotificationResult {
     InvocationId(Text),
 }
 
-#[derive(Debug, Drop, PartialEq, Eq)]
+#[derive(Drop, PartialEq, Eq)]
 pub struct Notification {
     pub id: NotificationId,
     pub result: NotificationResult,

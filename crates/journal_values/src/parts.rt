@@ -14,14 +14,14 @@ pub struct Header {
     pub value: Text,
 }
 
-#[derive(Debug, Drop, Clone, PartialEq, Eq)]
+#[derive(Drop, Clone, PartialEq, Eq)]
 pub struct Failure {
     pub code: u32,
     pub message: Text,
     pub metadata: Items<(Text, Text)>,
 }
 
-#[derive(Debug, Drop, Clone, PartialEq, Eq)]
+#[derive(Drop, Clone, PartialEq, Eq)]
 pub enum ValueOrFailure {
     Value(Bytes),
     Failure(Failure),

@@ -5,6 +5,7 @@ use journal_equality::header_eq;
 use journal_errors::Error;
 use journal_messages::{Encoder, Message, RawMessage};
 use journal_streams::{Decoder, messages_of};
+use journal_values::ValueOrFailure;
 use std::alloc::{AllocError, Global};
 use std::process::Abort;
 use std::test::Fail;
@@ -46,6 +47,17 @@ const NAP: &[u8] = b"\0\x12\0\0\0\0\0\0\0\x17\
     \0\0\0\x01\
     \0\0\0\0\0\0\0\x03nap";
 
+/// The message is an output of this value.
+fn is_output(message: &Message, text: &str) -> bool {
+    match message {
+        Message::Output(output) => match &output.result {
+            ValueOrFailure::Value(bytes) => bytes.as_slice() == text.as_bytes(),
+            ValueOrFailure::Failure(_) => false,
+        },
+        _ => false,
+    }
+}
+
 #[test]
 fn reads_a_stream_byte_by_byte(rt: HostRuntime) -> Result<(), Fail> {
     let alloc = rt.alloc();
@@ -55,11 +67,11 @@ fn reads_a_stream_byte_by_byte(rt: HostRuntime) -> Result<(), Fail> {
         pieces.push(Bytes::copy_from_slice(alloc, &[*byte])?)?;
     }
     let messages = messages_of(alloc, pieces.as_slice())?;
-    let text = format!(in alloc; "{messages:?}")?;
-    assert_eq!(rt;
-        text.as_str(),
-        "[Output(OutputCommand { result: Value(b\"ok\") }), End]"
-    );
+    let is_told = match messages.as_slice() {
+        [first, last] => is_output(first, "ok") && matches!(last, Message::End),
+        _ => false,
+    };
+    assert!(rt; is_told);
     Ok(())
 }
 
