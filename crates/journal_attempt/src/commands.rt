@@ -6,20 +6,20 @@ use journal_values::{Header, ValueOrFailure};
 use std::alloc::{AllocError, Global};
 use wire::{Fault, Items, Text, Wire};
 
-#[derive(Drop, PartialEq, Eq)]
+#[derive(Drop)]
 pub struct InputCommand {
     pub headers: Items<Header>,
     pub value: Bytes,
 }
 
-#[derive(Drop, PartialEq, Eq)]
+#[derive(Drop)]
 pub struct SleepCommand {
     pub wake_up_time: u64,
     pub result_completion_id: u32,
     pub name: Text,
 }
 
-#[derive(Drop, PartialEq, Eq)]
+#[derive(Drop)]
 pub struct OutputCommand {
     pub result: ValueOrFailure,
 }

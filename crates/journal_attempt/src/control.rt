@@ -7,13 +7,13 @@ use std::alloc::{AllocError, Global};
 use wire::{Fault, Wire};
 
 /// The attempt stops until the future may go on.
-#[derive(Drop, PartialEq, Eq)]
+#[derive(Drop)]
 pub struct Suspension {
     pub future: Future,
 }
 
 /// What the attempt waits for while it goes on.
-#[derive(Drop, PartialEq, Eq)]
+#[derive(Drop)]
 pub struct AwaitingOn {
     pub future: Future,
     pub executing_side_effects: bool,

@@ -6,20 +6,20 @@ use journal_values::ValueOrFailure;
 use std::alloc::{AllocError, Global};
 use wire::{Fault, Text, Wire};
 
-#[derive(Drop, PartialEq, Eq)]
+#[derive(Drop)]
 pub struct RunCommand {
     pub name: Text,
     pub result_completion_id: u32,
 }
 
-#[derive(Drop, PartialEq, Eq)]
+#[derive(Drop)]
 pub struct ProposeRunCompletion {
     pub id: u32,
     pub result: ValueOrFailure,
 }
 
 /// The proposed result is kept.
-#[derive(Drop, PartialEq, Eq)]
+#[derive(Drop)]
 pub struct ProposeRunCompletionAck {
     pub id: u32,
 }

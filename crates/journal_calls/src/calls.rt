@@ -7,7 +7,7 @@ use std::alloc::{AllocError, Global};
 use wire::{Fault, Items, Text, Wire};
 
 /// Which handler is called, and with what.
-#[derive(Drop, PartialEq, Eq)]
+#[derive(Drop)]
 pub struct CallRequest {
     pub service_name: Text,
     pub handler_name: Text,
@@ -21,14 +21,14 @@ pub struct CallRequest {
     pub name: Text,
 }
 
-#[derive(Drop, PartialEq, Eq)]
+#[derive(Drop)]
 pub struct CallCommand {
     pub request: CallRequest,
     pub result_completion_id: u32,
 }
 
 /// A call whose result nobody waits for.
-#[derive(Drop, PartialEq, Eq)]
+#[derive(Drop)]
 pub struct OneWayCallCommand {
     pub request: CallRequest,
     pub invoke_time: u64,

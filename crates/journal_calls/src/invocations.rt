@@ -30,7 +30,7 @@ pub enum InvocationTarget {
 }
 
 /// Attaches to an invocation, or asks for its output.
-#[derive(Drop, PartialEq, Eq)]
+#[derive(Drop)]
 pub struct InvocationCommand {
     pub target: InvocationTarget,
     pub result_completion_id: u32,

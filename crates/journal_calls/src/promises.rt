@@ -7,13 +7,13 @@ use std::alloc::{AllocError, Global};
 use wire::{Fault, Text, Wire};
 
 /// Awaits a promise, or looks at it.
-#[derive(Drop, PartialEq, Eq)]
+#[derive(Drop)]
 pub struct PromiseCommand {
     pub key: Text,
     pub result_completion_id: u32,
 }
 
-#[derive(Drop, PartialEq, Eq)]
+#[derive(Drop)]
 pub struct CompletePromiseCommand {
     pub key: Text,
     pub completion: ValueOrFailure,

@@ -6,7 +6,7 @@ use journal_values::{Failure, ValueOrFailure};
 use std::alloc::{AllocError, Global};
 use wire::{Fault, Text, Wire};
 
-#[derive(Drop, PartialEq, Eq)]
+#[derive(Drop)]
 pub struct CompleteAwakeableCommand {
     pub awakeable_id: Text,
     pub result: ValueOrFailure,
@@ -25,7 +25,7 @@ pub enum SignalResult {
     Failure(Failure),
 }
 
-#[derive(Drop, PartialEq, Eq)]
+#[derive(Drop)]
 pub struct SendSignalCommand {
     pub target_invocation_id: Text,
     pub signal: Signal,

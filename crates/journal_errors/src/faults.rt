@@ -3,7 +3,7 @@ ghost use Rattle.std.specs.Prelude.{◌≡◌};
 ghost use Rattle.journal_errors.specs.Faults.{code_of, text_of};
 
 /// A fault that has a name, which is the text of its error.
-#[derive(Clone, Copy, Debug, PartialEq, Eq)]
+#[derive(Clone, Copy, Debug)]
 pub enum NamedFault {
     BadRequest,
     MissingContentType,

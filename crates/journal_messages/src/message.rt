@@ -98,7 +98,7 @@ impl Drop for Message {
 }
 
 /// A frame whose body isn't decoded yet.
-#[derive(Drop, Clone, PartialEq, Eq)]
+#[derive(Drop)]
 pub struct RawMessage {
     pub ty: MessageType,
     pub body: Bytes,

@@ -13,58 +13,58 @@ pub enum VoidOrValue {
 }
 
 /// Asks for what stands under a key. The journal doesn't keep it.
-#[derive(Drop, PartialEq, Eq)]
+#[derive(Drop)]
 pub struct GetStateEphemeralCommand {
     pub id: u32,
     pub key: Text,
 }
 
-#[derive(Drop, PartialEq, Eq)]
+#[derive(Drop)]
 pub struct GetStateEphemeralNotification {
     pub id: u32,
     pub result: Option<VoidOrValue>,
 }
 
-#[derive(Drop, PartialEq, Eq)]
+#[derive(Drop)]
 pub struct GetEagerStateCommand {
     pub name: Text,
     pub key: Text,
     pub result: Option<VoidOrValue>,
 }
 
-#[derive(Drop, PartialEq, Eq)]
+#[derive(Drop)]
 pub struct GetLazyStateCommand {
     pub name: Text,
     pub key: Text,
     pub result_completion_id: u32,
 }
 
-#[derive(Drop, PartialEq, Eq)]
+#[derive(Drop)]
 pub struct GetEagerStateKeysCommand {
     pub value: Option<Items<Bytes>>,
     pub name: Text,
 }
 
-#[derive(Drop, PartialEq, Eq)]
+#[derive(Drop)]
 pub struct GetLazyStateKeysCommand {
     pub result_completion_id: u32,
     pub name: Text,
 }
 
-#[derive(Drop, PartialEq, Eq)]
+#[derive(Drop)]
 pub struct SetStateCommand {
     pub name: Text,
     pub key: Text,
     pub value: Bytes,
 }
 
-#[derive(Drop, PartialEq, Eq)]
+#[derive(Drop)]
 pub struct ClearStateCommand {
     pub name: Text,
     pub key: Text,
 }
 
-#[derive(Drop, PartialEq, Eq)]
+#[derive(Drop)]
 pub struct ClearAllStateCommand {
     pub name: Text,
 }

@@ -13,7 +13,7 @@ pub enum NotificationId {
     SignalName(Text),
 }
 
-#[derive(Drop, Clone, PartialEq, Eq)]
+#[derive(Drop, PartialEq, Eq)]
 pub enum NotificationResult {
     Void,
     Value(Bytes),

@@ -18,7 +18,7 @@ enum Quotes {
 }
 
 /// In how many brackets, and in which quotes, a place of a text is.
-#[derive(Clone, Copy, PartialEq, Eq)]
+#[derive(Clone, Copy)]
 struct Nesting {
     brackets: usize,
     quotes: Quotes,
@@ -82,7 +82,7 @@ impl Nesting {
 }
 
 /// Which bytes a text has.
-#[derive(Clone, Copy, Debug, PartialEq, Eq)]
+#[derive(Clone, Copy)]
 pub enum Charset {
     Ascii,
     /// Some byte isn't ASCII.

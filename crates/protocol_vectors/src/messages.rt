@@ -309,6 +309,7 @@ fn lets_go_of_what_waits(rt: HostRuntime) -> Result<(), Fail> {
     let mut decoder = Decoder::new(rt.alloc());
     let raw = next_of(&mut decoder, &[NAP, b"\0"])?;
     decoder.clear();
-    assert!(rt; next_of(&mut decoder, &[NAP])? == raw);
+    let next = next_of(&mut decoder, &[NAP])?;
+    assert!(rt; next.ty == raw.ty && next.body == raw.body);
     Ok(())
 }

@@ -5,7 +5,7 @@ ghost use Rattle.requests.specs.Verbs.{verb_name, verb_named};
 use wire::Fault;
 
 /// A call of the VM, as the first word of a line names it.
-#[derive(Clone, Copy, Debug)]
+#[derive(Clone, Copy)]
 pub enum Verb {
     Head,
     Input,

@@ -501,7 +501,7 @@ pub fn ask_of(alloc: Global, version: Version, step: Step) -> Ask
 }
 
 /// How a command is answered, by its first handle.
-#[derive(Clone, Copy, PartialEq, Eq)]
+#[derive(Clone, Copy)]
 pub enum AnswerKind {
     /// By nothing.
     Unit,

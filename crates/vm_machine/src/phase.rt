@@ -6,7 +6,7 @@ use journal_errors::NamedFault;
 use vm_parts::State;
 
 /// The state of a machine that hasn't failed.
-#[derive(Clone, Copy, PartialEq, Eq)]
+#[derive(Clone, Copy)]
 pub enum Phase {
     WaitingStart,
     WaitingReplayEntries,

@@ -50,7 +50,7 @@ pub struct StartInfo {
 }
 
 /// Whether a key that the state map doesn't list is known to have no value.
-#[derive(Clone, Copy, PartialEq, Eq)]
+#[derive(Clone, Copy)]
 pub enum StateCoverage {
     /// The runtime handed out some keys only.
     Partial,
