@@ -1,5 +1,5 @@
-//! The test bench of attempts and of rounds in Rust: whole runs that are replayed, cut and refused; handlers that no program has; and
-//! random rounds. Worked rounds and faults stand as text in `program_vectors`.
+//! The test bench of attempts and of rounds in Rust: whole runs that are replayed, cut and refused; handlers that no program has;
+//! random rounds; and runs of `vmrun`. Worked rounds and faults stand as text in `round_vectors`.
 #![tactic(auto)]
 
 #[cfg(test)]
@@ -22,3 +22,5 @@ mod simulation;
 mod starvation;
 #[cfg(test)]
 mod stops;
+#[cfg(test)]
+mod vmrun;

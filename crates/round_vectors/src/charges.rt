@@ -1,5 +1,5 @@
 // Worked rounds of `charge`: its run is executed outside, and what it came to is told, proposed and stored.
-use crate::vmrounds::bench::{Told, V6, assert_reported, assert_table_in};
+use crate::bench::{Told, V6, assert_reported, assert_table_in};
 use std::test::Fail;
 
 /// The third step hands the run out. What it came to is proposed, and stored as the run's completion; what waits then is fed.

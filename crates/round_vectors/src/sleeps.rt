@@ -1,5 +1,5 @@
 // Worked rounds of `sleeper`: one that is lost behind its sleep, and the ones in which the sleep is over.
-use crate::vmrounds::bench::assert_reported;
+use crate::bench::assert_reported;
 use std::test::Fail;
 
 /// The first attempt sleeps. Its command is stored, and the attempt is lost; the next one finds it.

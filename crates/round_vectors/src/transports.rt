@@ -1,5 +1,5 @@
 // Arguments that are refused, and readers and writers that fail.
-use crate::vmrounds::bench::{Told, V7, code, told_of};
+use crate::bench::{Told, V7, code, told_of};
 use round_reports::run::run;
 use std::alloc::Global;
 use std::io::{self, Cursor, ErrorKind, Read, Write};

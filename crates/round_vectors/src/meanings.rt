@@ -1,5 +1,5 @@
 // Lines without a meaning: nothing is written, and the run tells the number of the first.
-use crate::vmrounds::bench::{Told, V7, assert_run};
+use crate::bench::{Told, V7, assert_run};
 use std::test::Fail;
 
 /// Each is the third line of a script that begins with a world and a round.

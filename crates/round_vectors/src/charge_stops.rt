@@ -1,5 +1,5 @@
 // A round of `charge` that is stopped behind each of its events in turn, and then a round to the end: the journal is the same.
-use crate::vmrounds::bench::{Told, V6, V7, told_of};
+use crate::bench::{Told, V6, V7, told_of};
 use round_reports::run::run;
 use std::alloc::Global;
 use std::io::Cursor;

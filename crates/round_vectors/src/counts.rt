@@ -1,5 +1,5 @@
 // Worked rounds of `counter`: counts that are handed out, and one that is left out and waited for.
-use crate::vmrounds::bench::assert_reported;
+use crate::bench::assert_reported;
 use std::test::Fail;
 
 /// What is stored of the first round ends with the set; of the second nothing is, and the third ends.

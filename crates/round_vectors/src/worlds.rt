@@ -1,5 +1,5 @@
 // What the lines `world` and `round` give, and attempts that are refused.
-use crate::vmrounds::bench::{Told, V4, assert_reported, assert_run};
+use crate::bench::{Told, V4, assert_reported, assert_run};
 use std::test::Fail;
 
 /// The seed is the identity's, and the options of the VM stand among the others.
@@ -30,7 +30,7 @@ fn script_without_rounds_reports_the_journal(rt: HostRuntime) -> Result<(), Fail
         assert_run(
             &rt,
             alloc,
-            crate::vmrounds::bench::V7,
+            crate::bench::V7,
             "counter",
             script.as_bytes(),
             Told::Reported,
@@ -54,7 +54,7 @@ Input
     assert_run(
         &rt,
         rt.alloc(),
-        crate::vmrounds::bench::V7,
+        crate::bench::V7,
         "counter",
         script,
         Told::Reported,

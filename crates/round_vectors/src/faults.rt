@@ -1,5 +1,5 @@
 // Arrivals that the rounds don't take: the report is the name of the fault alone.
-use crate::vmrounds::bench::{Told, assert_reported, assert_table};
+use crate::bench::{Told, assert_reported, assert_table};
 use std::alloc::Global;
 use std::process::Abort;
 use std::test::Fail;

@@ -1,5 +1,5 @@
 // Worked rounds of `charge` whose run fails, is retried, or is told of where none runs; and arrivals of a run's completion.
-use crate::vmrounds::bench::{Told, assert_reported, assert_table};
+use crate::bench::{Told, assert_reported, assert_table};
 use std::test::Fail;
 
 /// A terminal failure is proposed, taken and handed on.

@@ -1,5 +1,5 @@
 // Worked rounds of `parent`: it is cancelled, and its children with it, also where it was stopped between two of their signals.
-use crate::vmrounds::bench::{Told, V7, assert_reported, assert_run, told_of};
+use crate::bench::{Told, V7, assert_reported, assert_run, told_of};
 use round_reports::run::run;
 use std::alloc::Global;
 use std::io::Cursor;
