@@ -5,7 +5,7 @@ use std::alloc::Global;
 use std::io::Cursor;
 use std::process::Abort;
 use std::test::Fail;
-use streams::Plain;
+use streams::{Plain, Sink, Source};
 
 pub const V4: &str = "application/vnd.restate.invocation.v4";
 
@@ -26,7 +26,7 @@ pub enum Told {
     NoMemory,
 }
 
-pub fn told_of(end: &RunEnd) -> Told {
+fn told_of(end: &RunEnd) -> Told {
     match end {
         RunEnd::Reported => Told::Reported,
         RunEnd::Stopped(_) => Told::Stopped,
@@ -40,12 +40,27 @@ pub fn told_of(end: &RunEnd) -> Told {
 }
 
 /// The status of the process that each end has.
-pub fn code(told: Told) -> u8 {
+fn code(told: Told) -> u8 {
     match told {
         Told::Reported => 0,
         Told::NoMeaning(_) | Told::UnknownHandler => 2,
         _ => 1,
     }
+}
+
+/// The run ends so, and the process with its status.
+pub fn assert_ends<R: Source, W: Sink>(
+    rt: &impl Abort,
+    alloc: Global,
+    content_type: &str,
+    handler: &str,
+    reader: &mut R,
+    writer: &mut W,
+    wanted: Told,
+) {
+    let end = run(alloc, content_type, handler, reader, writer);
+    assert_eq!(rt; told_of(&end), wanted);
+    assert_eq!(rt; end.code(), code(wanted));
 }
 
 /// The run of the script ends so, and writes this.
@@ -60,13 +75,46 @@ pub fn assert_run(
 ) {
     let mut reader = Plain(Cursor::new(script));
     let mut writer = Plain(Vec::new(alloc));
-    let end = run(alloc, content_type, handler, &mut reader, &mut writer);
-    assert_eq!(rt; told_of(&end), wanted);
-    assert_eq!(rt; end.code(), code(wanted));
+    assert_ends(
+        rt,
+        alloc,
+        content_type,
+        handler,
+        &mut reader,
+        &mut writer,
+        wanted,
+    );
     assert!(rt;
         writer.0.as_slice() == report.as_bytes(),
         "{:?}",
         std::str::from_utf8(writer.0.as_slice())
+    );
+}
+
+/// All rounds of a script that is stopped behind so many lines run, and the report ends so.
+pub fn assert_report_ends(
+    rt: &impl Abort,
+    alloc: Global,
+    content_type: &str,
+    handler: &str,
+    script: &str,
+    at: usize,
+    ending: &str,
+) {
+    let mut reader = Plain(Cursor::new(script.as_bytes()));
+    let mut writer = Plain(Vec::new(alloc));
+    assert_ends(
+        rt,
+        alloc,
+        content_type,
+        handler,
+        &mut reader,
+        &mut writer,
+        Told::Reported,
+    );
+    assert!(rt;
+        writer.0.ends_with(ending.as_bytes()),
+        "stopped behind {at} lines"
     );
 }
 

@@ -1,11 +1,8 @@
 // A round of `charge` that is stopped behind each of its events in turn, and then a round to the end: the journal is the same.
-use crate::bench::{Told, V6, V7, told_of};
-use round_reports::run::run;
+use crate::bench::{V6, V7, assert_report_ends};
 use std::alloc::Global;
-use std::io::Cursor;
 use std::process::Abort;
 use std::test::Fail;
-use streams::Plain;
 
 /// The lines of the round that is stopped.
 static FIRST: [&str; 14] = [
@@ -54,18 +51,6 @@ Notification id=completion(1) result=value("x")
 Output result=value("x")
 "#;
 
-/// The report of these rounds ends so.
-fn assert_ends(rt: &impl Abort, alloc: Global, content_type: &str, script: &str, at: usize) {
-    let mut writer = Plain(Vec::new(alloc));
-    let mut reader = Plain(Cursor::new(script.as_bytes()));
-    let end = run(alloc, content_type, "charge", &mut reader, &mut writer);
-    assert_eq!(rt; told_of(&end), Told::Reported);
-    assert!(rt;
-        writer.0.ends_with(JOURNAL.as_bytes()),
-        "stopped behind {at} lines"
-    );
-}
-
 fn assert_no_trace(
     rt: &impl Abort,
     alloc: Global,
@@ -77,7 +62,15 @@ fn assert_no_trace(
         script.push_str(*line)?;
     }
     script.push_str(if at < STORED { EXECUTES } else { REPLAYS })?;
-    assert_ends(rt, alloc, content_type, script.as_str(), at);
+    assert_report_ends(
+        rt,
+        alloc,
+        content_type,
+        "charge",
+        script.as_str(),
+        at,
+        JOURNAL,
+    );
     Ok(())
 }
 

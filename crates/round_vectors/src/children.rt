@@ -1,11 +1,8 @@
 // Worked rounds of `parent`: it is cancelled, and its children with it, also where it was stopped between two of their signals.
-use crate::bench::{Told, V7, assert_reported, assert_run, told_of};
-use round_reports::run::run;
+use crate::bench::{Told, V7, assert_report_ends, assert_reported, assert_run};
 use std::alloc::Global;
-use std::io::Cursor;
 use std::process::Abort;
 use std::test::Fail;
-use streams::Plain;
 
 /// The first of the two cancel signals is stored, and the attempt is lost; the next one sends the other.
 const CANCELLED: &str = r#"round
@@ -271,14 +268,7 @@ fn assert_no_trace(rt: &impl Abort, alloc: Global, at: usize) -> Result<(), Fail
         }
     }
     script.push_str(ENDS)?;
-    let mut writer = Plain(Vec::new(alloc));
-    let mut reader = Plain(Cursor::new(script.as_bytes()));
-    let end = run(alloc, V7, "parent", &mut reader, &mut writer);
-    assert_eq!(rt; told_of(&end), Told::Reported);
-    assert!(rt;
-        writer.0.ends_with(SENT.as_bytes()),
-        "stopped behind {at} lines"
-    );
+    assert_report_ends(rt, alloc, V7, "parent", script.as_str(), at, SENT);
     Ok(())
 }
 

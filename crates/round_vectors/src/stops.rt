@@ -1,11 +1,8 @@
 // A round that is stopped behind each of its events in turn, and then a round to the end: the journal is the same.
-use crate::bench::{Told, V7, told_of};
-use round_reports::run::run;
+use crate::bench::{V7, assert_report_ends};
 use std::alloc::Global;
-use std::io::Cursor;
 use std::process::Abort;
 use std::test::Fail;
-use streams::Plain;
 
 /// The lines of the round that is stopped. Nothing is stored before the last.
 static FIRST: [&str; 6] = [
@@ -41,14 +38,7 @@ fn assert_no_trace(rt: &impl Abort, alloc: Global, at: usize) -> Result<(), Fail
         script.push_str(*line)?;
     }
     script.push_str(ENDS)?;
-    let mut writer = Plain(Vec::new(alloc));
-    let mut reader = Plain(Cursor::new(script.as_bytes()));
-    let end = run(alloc, V7, "sleeper", &mut reader, &mut writer);
-    assert_eq!(rt; told_of(&end), Told::Reported);
-    assert!(rt;
-        writer.0.ends_with(JOURNAL.as_bytes()),
-        "stopped behind {at} lines"
-    );
+    assert_report_ends(rt, alloc, V7, "sleeper", script.as_str(), at, JOURNAL);
     Ok(())
 }
 

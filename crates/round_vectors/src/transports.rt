@@ -1,6 +1,5 @@
 // Arguments that are refused, and readers and writers that fail.
-use crate::bench::{Told, V7, code, told_of};
-use round_reports::run::run;
+use crate::bench::{Told, V7, assert_ends};
 use std::alloc::Global;
 use std::io::{self, Cursor, ErrorKind, Read, Write};
 use std::process::Abort;
@@ -36,9 +35,15 @@ fn refused_arguments_read_and_write_nothing(rt: HostRuntime) {
     for (content_type, handler, wanted) in rows {
         let mut reader = Plain(Cursor::new(SCRIPT));
         let mut writer = Plain(Vec::new(rt.alloc()));
-        let end = run(rt.alloc(), content_type, handler, &mut reader, &mut writer);
-        assert_eq!(rt; told_of(&end), wanted);
-        assert_eq!(rt; end.code(), code(wanted));
+        assert_ends(
+            &rt,
+            rt.alloc(),
+            content_type,
+            handler,
+            &mut reader,
+            &mut writer,
+            wanted,
+        );
         assert_eq!(rt; reader.0.position(), 0);
         assert!(rt; writer.0.is_empty());
     }
@@ -68,8 +73,16 @@ fn failed_reads_write_nothing(rt: HostRuntime) -> Result<(), Fail> {
             front: Cursor::new(front),
         });
         let mut writer = Plain(Vec::new(rt.alloc()));
-        let end = run(rt.alloc(), V7, "sleeper", &mut reader, &mut writer);
-        assert_eq!(rt; told_of(&end), Told::ReadFailed);
+        let wanted = Told::ReadFailed;
+        assert_ends(
+            &rt,
+            rt.alloc(),
+            V7,
+            "sleeper",
+            &mut reader,
+            &mut writer,
+            wanted,
+        );
         assert!(rt; writer.0.is_empty());
     }
     Ok(())
@@ -116,15 +129,8 @@ fn assert_piped(
         room,
         is_flushed,
     });
-    let end = run(
-        alloc,
-        V7,
-        "sleeper",
-        &mut Plain(Cursor::new(SCRIPT)),
-        &mut writer,
-    );
-    assert_eq!(rt; told_of(&end), wanted);
-    assert_eq!(rt; end.code(), code(wanted));
+    let mut reader = Plain(Cursor::new(SCRIPT));
+    assert_ends(rt, alloc, V7, "sleeper", &mut reader, &mut writer, wanted);
     let front = REPORT.as_bytes().get(..room).ok_or("no such place")?;
     assert!(rt; writer.0.taken.as_slice() == front);
     Ok(())
