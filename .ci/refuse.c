@@ -2,9 +2,9 @@
 
    REFUSE_AT=N refuses the Nth, and then makes the file REFUSED.
 
-   REFUSE_EACH=DIR refuses each in turn, in a child that goes on without it while the program waits, and the program then gets it. The child's
-   standard output and error are DIR/N.out and DIR/N.err. A line of DIR/ends is N, how many bytes the program had written to its own
-   output and error, which must be files, as its input must, and the child's status as wait tells it. */
+   REFUSE_EACH=DIR refuses each in turn, in a child that goes on without it while the program has it; as many children at a time as there are
+   processors. The child's standard output and error are DIR/N.out and DIR/N.err. A line of DIR/ends is N, how many bytes the program
+   had written to its own output and error, which must be files, as its input must, and the child's status as wait tells it. */
 #include <errno.h>
 #include <fcntl.h>
 #include <stddef.h>
@@ -18,11 +18,20 @@ void *__libc_calloc(size_t count, size_t size);
 void *__libc_realloc(void *old, size_t size);
 void *__libc_memalign(size_t align, size_t size);
 
-/* How many seconds a child has. */
-enum { SECONDS = 20 };
+/* How many seconds a child has, and the most that run at a time. */
+enum { SECONDS = 20, MOST = 64 };
+
+/* A child: which allocation it lacks, and what the program had written before. */
+struct run {
+    pid_t child;
+    unsigned long at;
+    long output, error;
+};
 
 static unsigned long at, seen;
 static const char *refused, *each;
+static struct run running[MOST];
+static int many, most = 1;
 /* Whether nothing is refused any more: in a child behind its refusal, and in here. */
 static int is_over;
 
@@ -33,6 +42,8 @@ __attribute__((constructor)) static void begin(void)
     refused = getenv("REFUSED");
     each = getenv("REFUSE_EACH");
     at = number ? strtoul(number, NULL, 10) : 0;
+    long processors = sysconf(_SC_NPROCESSORS_ONLN);
+    most = processors < 1 ? 1 : processors > MOST ? MOST : (int)processors;
 }
 
 /* Has this descriptor be that of the file. */
@@ -56,33 +67,56 @@ static void go_on(void)
     place(2, path, O_CREAT | O_WRONLY, 0);
 }
 
-static void tell(int status)
+static void tell(const struct run *run, int status)
 {
     char text[4096];
     snprintf(text, sizeof text, "%s/ends", each);
     int file = open(text, O_CREAT | O_WRONLY | O_APPEND, 0600);
-    int size = snprintf(text, sizeof text, "%lu %ld %ld %d\n", seen, (long)lseek(1, 0, SEEK_CUR), (long)lseek(2, 0, SEEK_CUR), status);
+    int size = snprintf(text, sizeof text, "%lu %ld %ld %d\n", run->at, run->output, run->error, status);
     if (file < 0 || write(file, text, size) != size)
         _exit(125);
     close(file);
 }
 
+/* Waits for a child that ends. */
+static void end_one(void)
+{
+    int status = 0, i = 0;
+    pid_t child = wait(&status);
+    while (i < many && running[i].child != child)
+        ++i;
+    if (i == many)
+        _exit(125);
+    tell(&running[i], status);
+    running[i] = running[--many];
+}
+
 /* Whether this is the child that goes on without the allocation. */
 static int is_in_child(void)
 {
-    int status = 0;
-    ++seen;
+    struct run run = {0, ++seen, lseek(1, 0, SEEK_CUR), lseek(2, 0, SEEK_CUR)};
     is_over = 1;
-    pid_t child = fork();
-    if (child == 0) {
+    run.child = fork();
+    if (run.child < 0)
+        _exit(125);
+    if (run.child == 0) {
+        many = 0;
         go_on();
         return 1;
     }
-    if (child < 0 || waitpid(child, &status, 0) != child)
-        _exit(125);
-    tell(status);
+    running[many++] = run;
+    if (many == most)
+        end_one();
     is_over = 0;
     return 0;
+}
+
+/* The program ends once all children have. */
+__attribute__((destructor)) static void end(void)
+{
+    is_over = 1;
+    while (many > 0)
+        end_one();
 }
 
 static int is_refused(void)
