@@ -19,7 +19,7 @@ use Rattle.invocation_vm.specs.Views.{View}
 use Rattle.await_trees.specs.declared.tree.UnresolvedFuture.{UnresolvedFuture}
 use Rattle.vm_types.specs.declared.types.AwaitResponse.{AwaitResponse}
 use Rattle.vm_parts.specs.Tracked.{invocation_ids}
-use Rattle.vm_machine.specs.Cancels.{Cancels, FinishesIf, sends_cancels}
+use Rattle.vm_awaits.specs.Cancels.{Cancels, FinishesIf, sends_cancels}
 use Rattle.vm_machine.specs.Outcomes.{CalledAt, CalledBy, Does, DoesBy, Done, Failed, Gives, GivesBy, IsStarved, Lasting, Lives, Outcome, Settles, called, called_at, failed, flattened, lasting, ruled, settled, starved}
 
 -- a machine that hasn't failed, and finds no memory

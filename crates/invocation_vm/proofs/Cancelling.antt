@@ -8,7 +8,7 @@ use Rattle.vm_types.specs.declared.types.AwaitResponse.TheVariants.{CancelSignal
 use Rattle.vm_parts.specs.Tracked.{if_known, invocation_ids}
 use Rattle.vm_machine.specs.declared.machine.Machine.{Machine}
 use Rattle.vm_asks.specs.Asks.{cancel_invocation_command}
-use Rattle.vm_machine.specs.Cancels.{Cancels, SendsCancel, cancel_taken}
+use Rattle.vm_awaits.specs.Cancels.{Cancels, SendsCancel, cancel_taken}
 use Rattle.invocation_vm.specs.Calls.{CallsCommand}
 use Rattle.invocation_vm.specs.Views.{View}
 

@@ -10,8 +10,8 @@ use Rattle.journal_messages.specs.declared.message.RawMessage.{RawMessage}
 use Rattle.await_trees.specs.declared.handle.NotificationHandle.{NotificationHandle}
 use Rattle.await_trees.specs.declared.tree.UnresolvedFuture.{UnresolvedFuture}
 use Rattle.await_trees.specs.Tree.{tree_of}
-use Rattle.vm_machine.specs.Awaits.{Awaits}
-use Rattle.vm_machine.specs.Cancels.{Finishes}
+use Rattle.vm_awaits.specs.Awaits.{Awaits}
+use Rattle.vm_awaits.specs.Cancels.{Finishes}
 use Rattle.journal_errors.specs.Errors.{no_memory}
 use Rattle.vm_types.specs.declared.types.AwaitResponse.{AwaitResponse}
 use Rattle.vm_machine.specs.declared.machine.Machine.{Machine}

@@ -15,8 +15,8 @@ use Rattle.runs.specs.declared.types.RunHandle.{RunHandle}
 use Rattle.await_trees.specs.declared.tree.UnresolvedFuture.{UnresolvedFuture}
 use Rattle.vm_asks.specs.declared.asks.Command.{Command}
 use Rattle.vm_machine.specs.declared.machine.Machine.{Machine}
-use Rattle.vm_machine.specs.Awaits.{Awaits}
-use Rattle.vm_machine.specs.Cancels.{AwaitsWhole}
+use Rattle.vm_awaits.specs.Awaits.{Awaits}
+use Rattle.vm_awaits.specs.Cancels.{AwaitsWhole}
 use Rattle.vm_asks.specs.Asks.{run_command}
 use Rattle.vm_machine.specs.Commands.{CanBeRead, Fits, answered_by, commanded, knows_next}
 use Rattle.vm_machine.specs.Outcomes.{Outcome, flattened, refused}

@@ -4,7 +4,7 @@ ghost use Rattle.std.specs.List.{concat};
 ghost use Rattle.vm_parts.specs.Outboxes.{WholeFrames, WholeStream, len_of};
 ghost use Rattle.vm_asks.specs.Asks.{ask_of, call_handles, send_handle};
 ghost use Rattle.vm_asks.specs.Requests.{ids_of};
-ghost use Rattle.vm_machine.specs.Cancels.{Cancels};
+ghost use Rattle.vm_awaits.specs.Cancels.{Cancels};
 ghost use Rattle.vm_machine.specs.Outcomes.{Lives};
 ghost use Rattle.vm_parts.specs.Tracked.{invocation_ids};
 ghost use Rattle.invocation_vm.specs.Calls.{CallsAwait, CallsCommand, CallsFor, CallsRead, CallsTry, CallsUnit, run_handle};
@@ -25,8 +25,9 @@ use std::alloc::{AllocError, Global};
 use std::fmt;
 use std::time::Duration;
 use vm_asks::{Ask, Command, StateRead, asks};
-use vm_machine::awaited::flatten;
-use vm_machine::{Awaited, Machine};
+use vm_awaits::{Awaited, await_tree, drop_cancel, flatten};
+use vm_inputs::close_input;
+use vm_machine::Machine;
 use vm_parts::{
     AttachInvocationTarget, AwaitResponse, AwakeableHandle, CallHandle, CommandRelationship, Input,
     NonEmptyValue, NotificationHandle, PayloadOptions, ResponseHead, SendHandle, State, StateKey,
@@ -165,7 +166,7 @@ impl CoreVM {
             return Err(error);
         }
         let before = self.machine.counters;
-        let given = self.machine.await_tree(future);
+        let given = await_tree(&mut self.machine, future);
         self.machine.settle(before, given)
     }
 
@@ -181,7 +182,7 @@ impl CoreVM {
                 }
             }
         }
-        self.machine.drop_cancel();
+        drop_cancel(&mut self.machine);
         Ok(Awaited::with(AwaitResponse::CancelSignalReceived))
     }
 
@@ -264,7 +265,7 @@ impl VM for CoreVM {
             return Ok(());
         }
         let before = self.machine.counters;
-        let given = self.machine.close_input();
+        let given = close_input(&mut self.machine);
         self.machine.settle_quietly(before, given)
     }
 

@@ -9,6 +9,7 @@ ghost use Rattle.invocation_vm.specs.Views.{View, Goes, Leaves, consumed, after_
 
 use crate::core_vm::CoreVM;
 use std::alloc::AllocError;
+use vm_inputs::{receive, receive_malformed};
 use wire::Fault;
 
 impl CoreVM {
@@ -31,7 +32,7 @@ impl CoreVM {
             return Ok(false);
         };
         let before = self.machine.counters;
-        let given = self.machine.receive(raw);
+        let given = receive(&mut self.machine, raw);
         match self.machine.settle_quietly(before, given) {
             Ok(()) => {}
             Err(error) => return Err(error),
@@ -51,7 +52,7 @@ impl CoreVM {
         ensures err { OnErr result (IsStarved self.old.machine no_memory self.new.machine) }
     {
         let before = self.machine.counters;
-        let given = self.machine.receive_malformed();
+        let given = receive_malformed(&mut self.machine);
         match self.machine.settle_quietly(before, given) {
             Ok(()) => {}
             Err(error) => return Err(error),

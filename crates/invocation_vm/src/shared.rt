@@ -1,7 +1,7 @@
 //! What the calls share that have a command, what is checked of the call that makes an awakeable, and of an await.
 ghost use Rattle.std.specs.Prelude.{◌≡◌, ◌+◌, ◌<◌, ◌^◌, IfOk};
 ghost use Rattle.vm_asks.specs.Asks.{call_handles, send_handle};
-ghost use Rattle.vm_machine.specs.Cancels.{sends_cancels};
+ghost use Rattle.vm_awaits.specs.Cancels.{sends_cancels};
 ghost use Rattle.vm_machine.specs.Outcomes.{Gives};
 ghost use Rattle.invocation_vm.specs.Calls.{name_or_empty, new_awakeable_step, result_by, run_handle, skips_replay};
 
@@ -9,8 +9,9 @@ use journal_errors::NamedFault;
 use runs::RunHandle;
 use std::alloc::Global;
 use vm_asks::asks::{call_handles, send_handle};
+use vm_awaits::Awaited;
 use vm_machine::fault::refuse;
-use vm_machine::{Awaited, Fault, Machine};
+use vm_machine::{Fault, Machine};
 use vm_parts::{
     AwaitResponse, AwakeableHandle, CallHandle, JournalReplay, NotificationHandle, SendHandle,
     VMResult,

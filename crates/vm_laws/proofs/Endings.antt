@@ -76,8 +76,9 @@ use Rattle.runs.specs.declared.settling.Settlement.TheVariants as settlement
 use Rattle.runs.specs.declared.types.RunExitResult.{RunExitResult}
 use Rattle.journal_values.specs.declared.parts.ValueOrFailure.{ValueOrFailure}
 use Rattle.vm_machine.specs.Proposals.{Proposes, Settled, SettledAt, SettledUnless, SettlesAs, proposal_fault, proposed, without_run}
-use Rattle.vm_machine.specs.Awaits.{Awaits, AwaitsAt, AwaitsBy, Behind, Ends, EndsBy, Gathers, ReadsId, StaysPending, Tries, id_read, is_cancelled, executed, or_cancelled, pending_in_replay, result_at, run_at, said_waiting, says_so, suspended, waiting, waits_by, waits_on, with_used}
-use Rattle.vm_machine.proofs.Cancelling.{Keeps, woken_keeps, read_keeps}
+use Rattle.vm_awaits.specs.Awaits.{Awaits, AwaitsAt, AwaitsBy, Behind, Ends, EndsBy, Gathers, ReadsId, StaysPending, Tries, id_read, is_cancelled, executed, or_cancelled, pending_in_replay, result_at, said_waiting, says_so, suspended, waiting, waits_by, waits_on, with_used}
+use Rattle.vm_machine.specs.Proposals.{run_at}
+use Rattle.vm_awaits.proofs.Cancelling.{Keeps, woken_keeps, read_keeps}
 use Rattle.vm_types.specs.Options.{ends_awaits}
 use Rattle.vm_parts.specs.Tracked.{id_of_result, id_of_value, noted, unresolved, with_next_id}
 use Rattle.vm_parts.specs.declared.run_state.TrackedCall.{TrackedCall}

@@ -1,3 +1,4 @@
+pub mod Acknowledging
 pub mod Carried
 pub mod Endings
 pub mod Outputs

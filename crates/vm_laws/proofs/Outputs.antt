@@ -24,8 +24,8 @@ use Rattle.vm_types.specs.declared.values.Value.{Value}
 use Rattle.vm_machine.specs.declared.machine.Machine.{Machine}
 use Rattle.vm_asks.specs.declared.asks.Command.{Command}
 use Rattle.vm_asks.specs.Asks.{cancel_invocation_command}
-use Rattle.vm_machine.specs.Awaits.{Awaits}
-use Rattle.vm_machine.specs.Cancels.{AwaitsWhole, Cancels, FinishesIf, Onward, SendsCancel, cancel_taken, sends_cancels}
+use Rattle.vm_awaits.specs.Awaits.{Awaits}
+use Rattle.vm_awaits.specs.Cancels.{AwaitsWhole, Cancels, FinishesIf, Onward, SendsCancel, cancel_taken, sends_cancels}
 use Rattle.vm_parts.specs.Tracked.{invocation_ids}
 use Rattle.vm_machine.specs.Commands.{answered_by, commanded}
 use Rattle.vm_laws.specs.Endings.{EndsIf, EndsOnce, EventWrites, Writes, is_over, is_terminal}

@@ -34,7 +34,7 @@ ghost use Rattle.vm_asks.specs.declared.state_read.StateRead.{StateRead};
 ghost use Rattle.vm_machine.specs.Reads.{read_step};
 ghost use Rattle.retries.specs.declared.policy.RetryPolicy.{RetryPolicy};
 ghost use Rattle.runs.specs.declared.types.RunExitResult.{RunExitResult};
-ghost use Rattle.vm_machine.specs.Awaits.{Awaits};
+ghost use Rattle.vm_awaits.specs.Awaits.{Awaits};
 ghost use Rattle.vm_machine.specs.Proposals.{Acknowledges, Proposes, proposed};
 ghost use Rattle.await_trees.specs.Tree.{Tree};
 ghost use Rattle.vm_types.specs.declared.types.AwaitResponse.{AwaitResponse};

@@ -1,9 +1,6 @@
 pub mod Answering
 pub mod Calling
-pub mod Cancelling
 pub mod Numbering
 pub mod Preparing
-pub mod Resolving
 pub mod Ruling
 pub mod Running
-pub mod States

@@ -1,6 +1,3 @@
-pub mod Answered
-pub mod Awaits
-pub mod Cancels
 pub mod Commands
 pub mod Inputs
 pub mod Making

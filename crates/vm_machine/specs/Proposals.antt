@@ -1,5 +1,5 @@
 -- What executing a run came to: its result is proposed, or the attempt fails.
-use Rattle.std.specs.Prelude.{◌≡◌, ◌++◌, [], ◌∷◌, not, ◌&&◌, ◌||◌, if◌then◌else◌, ℕ, Option, Some, None}
+use Rattle.std.specs.Prelude.{◌≡◌, ◌++◌, [], ◌∷◌, not, ◌&&◌, ◌||◌, if◌then◌else◌, ℕ, Option, Some, None, find, is_some}
 use Rattle.await_trees.specs.declared.handle.NotificationHandle.{NotificationHandle}
 use Rattle.journal_errors.specs.declared.faults.NamedFault.{NamedFault}
 use Rattle.journal_errors.specs.declared.faults.NamedFault.TheVariants as fault
@@ -19,13 +19,17 @@ use Rattle.runs.specs.declared.types.RunExitResult.{RunExitResult}
 use Rattle.runs.specs.Firsts.{without_first}
 use Rattle.runs.specs.Pending.{has_handle}
 use Rattle.runs.specs.Settling.{Becomes, has_metadata}
+use Rattle.vm_parts.specs.Deliveries.{id_at}
 use Rattle.vm_parts.specs.declared.run_state.PendingRun.{PendingRun}
 use Rattle.vm_machine.specs.declared.machine.Machine.{Machine}
 use Rattle.vm_machine.specs.declared.phase.Phase.{Phase}
 use Rattle.vm_machine.specs.declared.phase.Phase.TheVariants.{Processing}
-use Rattle.vm_machine.specs.Awaits.{run_at}
 use Rattle.vm_machine.specs.Outcomes.{Outcome, Done, Failed, refused}
 use Rattle.journal_errors.specs.Versions.{is_from_v6, is_from_v7}
+
+-- the pending run of a handle that wasn't taken
+abbrev pub run_at : ℕ → Machine → Option PendingRun
+run_at handle v = if is_some (id_at handle v.results.handles) then find (has_handle (record { 0 = handle })) v.runs else None
 
 -- why a version can't take a result: metadata on a failure needs V6, and a policy that may pause V7, whatever the result is
 abbrev pub proposal_fault : RunExitResult → RetryPolicy → Version → Option NamedFault

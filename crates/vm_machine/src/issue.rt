@@ -17,7 +17,7 @@ use journal_values::NotificationId;
 use std::alloc::AllocError;
 use vm_asks::Command;
 use vm_asks::request::{give_ids, ids_of, is_cancelled_with, name_of, shown_type};
-use vm_parts::{LastCommand, NonDeterministicChecksOption, NotificationHandle};
+use vm_parts::{LastCommand, NonDeterministicChecksOption, NotificationHandle, Queue};
 use wire::{Text, copy_of};
 
 /// An error that relates to the command that would come next.
@@ -25,6 +25,17 @@ pub fn about_next(fault: NamedFault, index: u32, ty: MessageType, name: Text) ->
     ensures { result ≡ named_error fault (Some (record { index = index; ty = ty; name = name })) }
 {
     Error::named(fault, Some(RelatedCommand { index, ty, name }))
+}
+
+/// The phase in which these recorded commands are left.
+fn phase_after(commands: &Queue<RawMessage>) -> Phase
+    ensures { result ≡ phase_after commands.now }
+{
+    if commands.is_empty() {
+        Phase::Processing
+    } else {
+        Phase::Replaying
+    }
 }
 
 fn checks_are_off(option: NonDeterministicChecksOption) -> bool
@@ -66,11 +77,7 @@ impl Machine {
         ensures some { IfSome result (λ raw. (self.old.commands ≡ raw ∷ self.new.commands) × (self.new ≡ record self.old { commands = self.new.commands; phase = phase_after self.new.commands })) }
     {
         let raw = self.commands.pop()?;
-        self.phase = if self.commands.is_empty() {
-            Phase::Processing
-        } else {
-            Phase::Replaying
-        };
+        self.phase = phase_after(&self.commands);
         Some(raw)
     }
 

@@ -1,8 +1,6 @@
 //! The machine of the VM: one function for each event, each with the outcome that its contract names.
 #![tactic(auto)]
 
-pub mod awaited;
-pub mod awaits;
 pub mod fault;
 pub mod input;
 pub mod issue;
@@ -11,13 +9,11 @@ pub mod phase;
 pub mod proposals;
 pub mod queries;
 pub mod reads;
-pub mod receive;
 pub mod report;
 pub mod settle;
 pub mod signals;
 pub mod takes;
 
-pub use awaited::Awaited;
-pub use fault::Fault;
+pub use fault::{Fault, refuse};
 pub use machine::Machine;
 pub use phase::Phase;

@@ -3,9 +3,8 @@ ghost use Rattle.std.specs.Prelude.{◌≡◌, ◌++◌, ◌∷◌, [], Some, If
 ghost use Rattle.journal_messages.specs.Message.{IsWhole, encoding};
 ghost use Rattle.journal_messages.specs.declared.message.Message.TheVariants as message;
 ghost use Rattle.runs.specs.Pending.{has_handle};
-ghost use Rattle.vm_machine.specs.Awaits.{run_at};
 ghost use Rattle.vm_machine.specs.Outcomes.{GivesBy, lasting};
-ghost use Rattle.vm_machine.specs.Proposals.{Proposes, Settled, SettlesAs, kept, proposal_fault, proposed, without_run};
+ghost use Rattle.vm_machine.specs.Proposals.{Proposes, Settled, SettlesAs, kept, proposal_fault, proposed, run_at, without_run};
 
 use crate::fault::{Fault, refuse};
 use crate::machine::Machine;

@@ -37,9 +37,9 @@ impl Machine {
         ensures whole { OnOk result (IsWhole form.now) }
         ensures err { OnErr result (lasting self.new ≡ lasting self.old) }
     {
-        let given = result_in(form)?.unwrap_or(None);
         self.enter(form.ty(), read.name()?);
         self.hand_out(1)?;
+        let given = result_in(form)?.unwrap_or(None);
         self.put_result(id, given)?;
         self.write(form)
     }

@@ -13,7 +13,7 @@ use Rattle.runs.specs.Pending.{handle_of, has_handle, is_one_of, may_execute, st
 use Rattle.vm_parts.specs.declared.run_state.PendingRun.{PendingRun}
 use Rattle.vm_parts.specs.Counting.{next_index}
 use Rattle.vm_machine.specs.declared.machine.Machine.{Machine}
-use Rattle.vm_machine.specs.Awaits.{executed}
+use Rattle.vm_awaits.specs.Awaits.{executed}
 use Rattle.vm_machine.specs.Commands.{handed_out, knows_next, prepared, runs_after}
 use Rattle.vm_machine.specs.Proposals.{without_run}
 use Rattle.vm_asks.specs.Requests.{ids_of}

@@ -29,7 +29,7 @@ use Rattle.vm_types.specs.Options.{ends_awaits}
 use Rattle.vm_parts.specs.Tracked.{id_of_result, unresolved, with_next_id}
 use Rattle.vm_parts.proofs.Tracking.{unresolved-with_next_id}
 use Rattle.vm_machine.specs.declared.machine.Machine.{Machine}
-use Rattle.vm_machine.specs.Awaits.{AwaitsBy, Behind, EndsBy, Gathers, ReadsId, id_read as read_by_machine, is_cancelled, is_first_of_none, or_cancelled, result_at}
+use Rattle.vm_awaits.specs.Awaits.{AwaitsBy, Behind, EndsBy, Gathers, ReadsId, id_read as read_by_machine, is_cancelled, is_first_of_none, or_cancelled, result_at}
 use Rattle.vm_machine.specs.Outcomes.{Outcome, Done, Failed}
 use Rattle.vm_model.specs.Calls.{Derived, Setup, Meaning, awaited, awaiting, call_of, cancelled, id_awaited, id_read, identity_of, is_awake, is_cancelled_in, tree_wakes, leaf_in}
 use Rattle.vm_model.specs.Calls.Usage.{Used}

@@ -27,8 +27,8 @@ use Rattle.vm_parts.specs.Tracked.{invocation_ids, unresolved, without_first_cal
 use Rattle.vm_asks.specs.declared.asks.Command.{Command}
 use Rattle.vm_machine.specs.declared.machine.Machine.{Machine}
 use Rattle.vm_asks.specs.Asks.{cancel_invocation_command, command_answer}
-use Rattle.vm_machine.specs.Awaits.{Awaits, AwaitsAt}
-use Rattle.vm_machine.specs.Cancels.{AwaitsWhole, Cancels, Onward, SendsCancel, cancel_taken}
+use Rattle.vm_awaits.specs.Awaits.{Awaits, AwaitsAt}
+use Rattle.vm_awaits.specs.Cancels.{AwaitsWhole, Cancels, Onward, SendsCancel, cancel_taken}
 use Rattle.vm_machine.specs.Commands.{CanBeRead, commanded}
 use Rattle.vm_machine.specs.Outcomes.{CalledBy, DoesBy, Done, Failed, IsStarved, Outcome, called, failed, ruled, settled}
 use Rattle.vm_model.specs.Calls.{Demand, Derived, Meaning, Move, Setup, cancel_sent, cancelling, cancelled, identity_of, is_cancelled_in, numbered}

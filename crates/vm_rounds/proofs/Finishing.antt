@@ -29,13 +29,12 @@ use Rattle.vm_parts.specs.Outboxes.{WholeFrames}
 use Rattle.vm_machine.specs.declared.machine.Machine.{Machine}
 use Rattle.vm_machine.specs.declared.phase.Phase.{Phase}
 use Rattle.vm_machine.specs.declared.phase.Phase.TheVariants.{WaitingStart, WaitingReplayEntries, Replaying, Processing, Closed}
-use Rattle.vm_machine.specs.Awaits.{run_at}
 use Rattle.vm_machine.specs.Making.{fresh}
 use Rattle.vm_machine.specs.Inputs.{coverage_of}
 use Rattle.vm_machine.specs.Outcomes.{CalledBy, Done, Failed, IsStarved, Outcome, called, called_at, failed, ruled, ruled_by, settled}
 use Rattle.vm_machine.specs.Phases.{is_closed, is_running}
 use Rattle.journal_errors.specs.Versions.{is_from_v7}
-use Rattle.vm_machine.specs.Proposals.{Proposes, Settled, SettledAt, SettledUnless, SettlesAs, proposal_fault, proposed, without_run}
+use Rattle.vm_machine.specs.Proposals.{Proposes, Settled, SettledAt, SettledUnless, SettlesAs, proposal_fault, proposed, run_at, without_run}
 use Rattle.vm_machine.proofs.Calling.{called_from}
 use Rattle.invocation_vm.specs.Views.{View}
 use Rattle.invocation_vm.proofs.Failing.{first_proposed}

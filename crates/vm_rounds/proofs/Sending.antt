@@ -39,9 +39,9 @@ use Rattle.vm_machine.specs.declared.machine.Machine.{Machine}
 use Rattle.vm_machine.specs.declared.phase.Phase.{Phase}
 use Rattle.vm_machine.specs.declared.phase.Phase.TheVariants.{WaitingStart, WaitingReplayEntries, Replaying, Processing, Closed}
 use Rattle.vm_asks.specs.Asks.{ask_of, cancel_invocation_command}
-use Rattle.vm_machine.specs.Awaits.{Awaits, AwaitsAt, AwaitsBy, Behind, Ends, EndsBy, Gathers, ReadsId, StaysPending, Tries, id_read, is_cancelled, or_cancelled, pending_on, result_at, said_waiting, says_so, suspended, waiting, with_used, waits_by, waits_on, executed, pending_in_replay}
-use Rattle.vm_machine.specs.Cancels.{AwaitsWhole, Cancels, FinishesIf, Onward, SendsCancel, cancel_taken, sends_cancels}
-use Rattle.vm_machine.proofs.Cancelling.{read_known, woken_used}
+use Rattle.vm_awaits.specs.Awaits.{Awaits, AwaitsAt, AwaitsBy, Behind, Ends, EndsBy, Gathers, ReadsId, StaysPending, Tries, id_read, is_cancelled, or_cancelled, pending_on, result_at, said_waiting, says_so, suspended, waiting, with_used, waits_by, waits_on, executed, pending_in_replay}
+use Rattle.vm_awaits.specs.Cancels.{AwaitsWhole, Cancels, FinishesIf, Onward, SendsCancel, cancel_taken, sends_cancels}
+use Rattle.vm_awaits.proofs.Cancelling.{read_known, woken_used}
 use Rattle.vm_types.specs.Options.{ends_awaits}
 use Rattle.vm_parts.specs.Tracked.{id_of_result, id_of_value, invocation_ids, noted, unresolved, with_next_id}
 use Rattle.vm_parts.specs.declared.run_state.TrackedCall.{TrackedCall}

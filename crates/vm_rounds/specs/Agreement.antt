@@ -29,7 +29,7 @@ use Rattle.vm_types.specs.Options.{ends_awaits}
 use Rattle.vm_parts.specs.Tracked.{unresolved}
 use Rattle.vm_machine.specs.declared.machine.Machine.{Machine}
 use Rattle.vm_machine.specs.declared.phase.Phase.TheVariants.{Closed}
-use Rattle.vm_machine.specs.Awaits.{or_cancelled, said_waiting}
+use Rattle.vm_awaits.specs.Awaits.{or_cancelled, said_waiting}
 use Rattle.vm_machine.specs.Commands.{phase_after}
 use Rattle.vm_machine.specs.Outcomes.{Outcome, Done, Failed, ruled}
 use Rattle.vm_model.specs.Calls.{Setup, Meaning, Derived, identity_of, is_cancelled_in, leaf_in, ready_in}

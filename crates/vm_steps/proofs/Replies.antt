@@ -7,7 +7,7 @@ use Rattle.journal_messages.specs.declared.message.Message.{Message}
 use Rattle.vm_machine.specs.Commands.{CanBeRead}
 use Rattle.vm_asks.specs.declared.state_read.StateRead.{StateRead}
 use Rattle.vm_machine.specs.Reads.{ReadCanBeRead}
-use Rattle.vm_machine.specs.Cancels.{AwaitsWhole}
+use Rattle.vm_awaits.specs.Cancels.{AwaitsWhole}
 use Rattle.vm_machine.specs.Outcomes.{Does, DoesBy, Failed, IsStarved, Outcome, called}
 use Rattle.vm_types.specs.declared.types.AwaitResponse.{AwaitResponse}
 use Rattle.await_trees.specs.declared.tree.UnresolvedFuture.{UnresolvedFuture}

@@ -1,4 +1,4 @@
-use Rattle.vm_machine.proofs.Running.{kept_comes, none_comes, none_kept_early}
+use Rattle.vm_laws.proofs.Acknowledging.{kept_comes, none_comes, none_kept_early}
 use Rattle.vm_laws.proofs.machine.acknowledgements_bring_what_was_proposed.Goals as goal
 
 pub returns-clause-kept : goal.returns-clause-kept

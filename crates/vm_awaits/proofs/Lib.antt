@@ -1,0 +1,3 @@
+pub mod Cancelling
+pub mod Resolving
+pub mod Waiting

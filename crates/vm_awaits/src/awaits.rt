@@ -1,0 +1,312 @@
+//! Awaits of trees: notifications are used until the tree is awake, or the cancel signal is there; else the machine waits for what is
+//! left of the tree.
+ghost use Rattle.std.specs.Prelude.{◌≡◌, ◌∷◌, ◌++◌, [], find, IfNone, IfOk, IfSome, OnOk, OnErr};
+ghost use Rattle.std.specs.List.{list_any};
+ghost use Rattle.std.specs.Option.{option_and_then, option_map};
+ghost use Rattle.await_trees.specs.Tree.{tree_of};
+ghost use Rattle.await_trees.specs.Wires.{sent};
+ghost use Rattle.await_tries.specs.Left.{tree_left};
+ghost use Rattle.await_tries.specs.Message.{ids};
+ghost use Rattle.journal_messages.specs.Message.{encoding};
+ghost use Rattle.runs.specs.Pending.{handle_of, is_executing, may_execute};
+ghost use Rattle.runs.specs.Settling.{run_command};
+ghost use Rattle.journal_messages.specs.declared.message.Message.TheVariants as message;
+ghost use Rattle.vm_machine.specs.Outcomes.{Gives, GivesBy};
+ghost use Rattle.vm_types.specs.Options.{ends_awaits};
+ghost use Rattle.vm_parts.specs.Tracked.{id_of_result, unresolved};
+ghost use Rattle.vm_awaits.specs.Awaits.{Awaits, Gathers, ReadsId, Tries, TriesOrCancels, allows, executed, has_woken, is_cancelled, is_first_of_none, last_run, or_cancelled, pending_on, result_at, says_so, waiting, waits_by};
+ghost use Rattle.vm_machine.specs.Proposals.{run_at};
+ghost use Rattle.vm_awaits.specs.Cancels.{cancel_taken};
+
+use crate::awaited::Awaited;
+use await_trees::UnresolvedFuture;
+use await_tries::{Residue, Resolution, future_of, has_leaf, list_handles, try_future};
+use journal_attempt::{AwaitingOn, Suspension};
+use journal_errors::{Error, MessageType, NamedFault, RelatedCommand, Version};
+use journal_messages::Message;
+use journal_values::NotificationResult;
+use std::alloc::{AllocError, Global};
+use vm_machine::{Fault, Machine, Phase, refuse};
+use vm_parts::{
+    AwaitResponse, AwaitingOnPolicy, CANCEL_NOTIFICATION_HANDLE, ImplicitCancellationOption,
+    NotificationHandle,
+};
+use wire::{Items, Text, copy_of};
+
+/// Whether an await that waits may say what for, by whether any run is executing.
+fn allows(policy: AwaitingOnPolicy, executing: bool) -> bool
+    ensures { result ≡ allows policy executing }
+{
+    match policy {
+        AwaitingOnPolicy::SendAlways => true,
+        AwaitingOnPolicy::DontSendWhenExecutingRun => !executing,
+        AwaitingOnPolicy::DontSend => false,
+    }
+}
+
+/// Whether the cancel signal ends awaits.
+fn ends_awaits(option: ImplicitCancellationOption) -> bool
+    ensures { result ≡ ends_awaits option }
+{
+    matches!(option, ImplicitCancellationOption::Enabled { .. })
+}
+
+/// Whether an await has woken.
+fn has_woken(answer: &Awaited) -> bool
+    ensures { result ≡ has_woken answer.now }
+{
+    matches!(answer.response(), Some(AwaitResponse::AnyCompleted))
+}
+
+/// Whether it is the first of none.
+fn is_first_of_none(future: &UnresolvedFuture) -> bool
+    ensures { result ≡ is_first_of_none (tree_of future.now) }
+{
+    match future {
+        UnresolvedFuture::FirstCompleted(children) => children.is_empty(),
+        _ => false,
+    }
+}
+
+/// A future that the cancel signal ends too.
+fn or_cancelled(alloc: Global, future: UnresolvedFuture) -> Result<UnresolvedFuture, AllocError>
+    ensures { IfOk result (λ both. tree_of both ≡ or_cancelled (tree_of future)) }
+{
+    let mut children = Vec::with_capacity(alloc, 2)?;
+    if is_first_of_none(&future) {
+        drop(future);
+    } else {
+        children.push(future)?;
+    }
+    children.push(UnresolvedFuture::Single(CANCEL_NOTIFICATION_HANDLE))?;
+    Ok(UnresolvedFuture::FirstCompleted(Items::from_vec(children)))
+}
+
+/// Writes a suspension on what is left of a tree.
+fn suspend_on(machine: &mut Machine, left: &Residue) -> Result<(), AllocError>
+    ensures ok { OnOk result (machine.new ≡ record machine.old { output = machine.old.output ++ encoding (message.Suspension (record { future = sent (ids machine.old.results) (tree_left left.now) })) ∷ [] }) }
+    ensures err { OnErr result (machine.new ≡ machine.old) }
+{
+    let future = future_of(machine.alloc, &machine.results, left)?;
+    let message = Message::Suspension(Suspension { future });
+    machine.output.write(machine.alloc, &message)
+}
+
+/// Whether an await that waits says what for.
+fn says_so(machine: &Machine, left: &Residue) -> Result<bool, AllocError>
+    ensures { IfOk result (λ says. says ≡ says_so machine.now.version machine.now.options.awaiting_on_policy (list_any is_executing machine.now.runs) (tree_left left.now)) }
+{
+    let executing = machine.runs.any_executing();
+    if machine.version < Version::V7 || !allows(machine.options.awaiting_on_policy, executing) {
+        return Ok(false);
+    }
+    has_leaf(machine.alloc, left)
+}
+
+/// An await waits for what is left of its tree, and says so.
+fn wait_on(machine: &mut Machine, left: &Residue) -> Result<(), AllocError>
+    ensures ok { OnOk result (machine.new ≡ waiting (tree_left left.now) machine.old) }
+    ensures err { OnErr result (machine.new ≡ machine.old) }
+{
+    if !says_so(machine, left)? {
+        return Ok(());
+    }
+    let future = future_of(machine.alloc, &machine.results, left)?;
+    let message = Message::AwaitingOn(AwaitingOn {
+        future,
+        executing_side_effects: false,
+    });
+    machine.output.write(machine.alloc, &message)
+}
+
+/// The pending run of a handle that wasn't taken, as an error that relates to its command shows it.
+fn related_run(machine: &Machine, handle: u32) -> Result<Option<RelatedCommand>, AllocError>
+    ensures { IfOk result (λ related. related ≡ option_map run_command (run_at handle machine.now)) }
+{
+    if machine.results.find(handle).is_none() {
+        return Ok(None);
+    }
+    match machine.runs.get_run_info(&NotificationHandle(handle)) {
+        None => Ok(None),
+        Some((index, name)) => Ok(Some(RelatedCommand {
+            index,
+            ty: MessageType::RunCommand,
+            name: Text::from_str(machine.alloc, name)?,
+        })),
+    }
+}
+
+/// The run of the last of these handles that has one, as an error that relates to its command shows it.
+fn last_related_run(
+    machine: &Machine,
+    handles: &[u32],
+) -> Result<Option<RelatedCommand>, AllocError>
+    ensures { IfOk result (λ related. related ≡ option_map run_command (last_run handles.now machine.now)) }
+{
+    let mut found = None;
+    for handle in handles {
+        found = related_run(machine, *handle)?.or(found);
+    }
+    Ok(found)
+}
+
+/// The first of the runs with these handles that isn't executing is executed from now on.
+fn execute_run(machine: &mut Machine, handles: &[u32]) -> Option<NotificationHandle>
+    ensures run { result ≡ option_map handle_of (find (may_execute handles.now) machine.old.runs) }
+    ensures some { IfSome result (λ run. machine.new ≡ executed handles.now machine.old) }
+    ensures none { IfNone result (machine.new ≡ machine.old) }
+{
+    match machine.runs.try_execute_run(handles) {
+        Some(run) => Some(run),
+        None => None,
+    }
+}
+
+/// An await waits for input and for the results of runs, by whether a run that it waits for is executing; where neither can come,
+/// the invocation is suspended.
+fn wait_or_suspend(machine: &mut Machine, left: &Residue, executing: bool) -> Result<Awaited, Fault>
+    ensures { Gives (waits_by machine.old.input_closed executing (tree_left left.now) machine.old) result machine.old machine.new }
+{
+    if !machine.input_closed {
+        wait_on(machine, left)?;
+        return Ok(Awaited::with(AwaitResponse::WaitingExternalProgress {
+            waiting_input: true,
+            waiting_run_proposal: executing,
+        }));
+    }
+    if executing {
+        return Ok(Awaited::with(AwaitResponse::WaitingExternalProgress {
+            waiting_input: false,
+            waiting_run_proposal: true,
+        }));
+    }
+    suspend_on(machine, left)?;
+    machine.output_ended = true;
+    machine.phase = Phase::Closed;
+    Ok(Awaited::suspended())
+}
+
+/// An await that stays pending on what is left of a tree.
+#[inline(never)]
+fn pend_on(machine: &mut Machine, left: &Residue) -> Result<Awaited, Fault>
+    ensures { Gives (pending_on (tree_left left.now) machine.old) result machine.old machine.new }
+{
+    let handles = list_handles(machine.alloc, left)?;
+    if machine.phase.is_replaying() {
+        let related = last_related_run(machine, handles.as_slice())?;
+        let fault = NamedFault::UncompletedDoProgressDuringReplay;
+        return Err(Fault::Refused(Error::named(fault, related)));
+    }
+    if let Some(run) = execute_run(machine, handles.as_slice()) {
+        return Ok(Awaited::with(AwaitResponse::ExecuteRun(run)));
+    }
+    let executing = machine.runs.any_executing_in_this_set(handles.as_slice());
+    wait_or_suspend(machine, left, executing)
+}
+
+/// One try of a future by the notifications alone; it may stay pending.
+#[tactic(auto, using(crate::proofs::Resolving::stays_pending))]
+fn try_alone(machine: &mut Machine, future: &UnresolvedFuture) -> Result<Awaited, Fault>
+    ensures { GivesBy (Tries (tree_of future.now) machine.old) result machine.old machine.new }
+{
+    let delivery = machine.options.signal_delivery;
+    match try_future(machine.alloc, &mut machine.results, delivery, future)? {
+        Resolution::AnyCompleted => Ok(Awaited::with(AwaitResponse::AnyCompleted)),
+        Resolution::Pending(left) => pend_on(machine, &left),
+    }
+}
+
+/// Whether the cancel signal is there.
+fn is_cancelled(machine: &Machine) -> bool
+    ensures { result ≡ is_cancelled machine.now }
+{
+    let delivery = machine.options.signal_delivery;
+    machine
+        .results
+        .present(delivery, CANCEL_NOTIFICATION_HANDLE.0)
+        .is_some()
+}
+
+/// The invocation's id that the present result of a handle is.
+fn id_at(machine: &Machine, handle: u32) -> Result<Option<Text>, AllocError>
+    ensures { IfOk result (λ id. id ≡ option_and_then id_of_result (result_at handle machine.now)) }
+{
+    match machine
+        .results
+        .present(machine.options.signal_delivery, handle)
+    {
+        Some(NotificationResult::InvocationId(id)) => Ok(Some(copy_of(id)?)),
+        _ => Ok(None),
+    }
+}
+
+/// Awaits the handle of a tracked call's id by itself, the first whose id isn't known, and reads the id.
+fn read_id(machine: &mut Machine, handle: u32) -> Result<Awaited, Fault>
+    ensures { GivesBy (ReadsId handle machine.old) result machine.old machine.new }
+{
+    let future = UnresolvedFuture::Single(NotificationHandle(handle));
+    let given = try_alone(machine, &future);
+    drop(future);
+    let answer = given?;
+    if !has_woken(&answer) {
+        return Ok(answer);
+    }
+    match id_at(machine, handle)? {
+        Some(id) => machine.tracked.resolve_first(id),
+        None => return Err(refuse(NamedFault::UnexpectedInvocationIdResult)),
+    }
+    Ok(Awaited::with(AwaitResponse::AnyCompleted))
+}
+
+/// Reads the ids of tracked calls that aren't known, as they come.
+fn gather_ids(machine: &mut Machine) -> Result<Awaited, Fault>
+    ensures { GivesBy (Gathers (unresolved machine.old.tracked) machine.old) result machine.old machine.new }
+{
+    while let Some(handle) = machine.tracked.first_unresolved() {
+        let answer = read_id(machine, handle)?;
+        if !has_woken(&answer) {
+            return Ok(answer);
+        }
+    }
+    Ok(Awaited::with(AwaitResponse::CancelSignalReceived))
+}
+
+/// Awaits a future, or the cancel signal.
+fn try_or_cancel(machine: &mut Machine, future: UnresolvedFuture) -> Result<Awaited, Fault>
+    ensures { GivesBy (TriesOrCancels (tree_of future) machine.old) result machine.old machine.new }
+{
+    let future = or_cancelled(machine.alloc, future)?;
+    let given = try_alone(machine, &future);
+    drop(future);
+    let answer = given?;
+    if !has_woken(&answer) {
+        return Ok(answer);
+    }
+    if !is_cancelled(machine) {
+        return Ok(Awaited::with(AwaitResponse::AnyCompleted));
+    }
+    gather_ids(machine)
+}
+
+/// The handler awaits a tree. The inner error is an answer by which the machine doesn't fail.
+pub fn await_tree(machine: &mut Machine, future: UnresolvedFuture) -> Result<Awaited, Fault>
+    ensures { GivesBy (Awaits (tree_of future) machine.old) result machine.old machine.new }
+{
+    if !machine.phase.is_running() {
+        return Err(refuse(machine.phase.fault()));
+    }
+    if ends_awaits(machine.options.implicit_cancellation) {
+        return try_or_cancel(machine, future);
+    }
+    let given = try_alone(machine, &future);
+    drop(future);
+    given
+}
+
+/// Takes one result of the cancel handle.
+pub fn drop_cancel(machine: &mut Machine)
+    ensures { machine.new ≡ cancel_taken machine.old }
+{
+    let delivery = machine.options.signal_delivery;
+    let _ = machine.results.take(delivery, CANCEL_NOTIFICATION_HANDLE);
+}
