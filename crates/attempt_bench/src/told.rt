@@ -1,6 +1,7 @@
 //! What rows tell of an attempt: its answers, its errors and what it sends. A row that doesn't hold is a failure.
 //! The attempts are made for the version 7, under the options by default.
 
+use bytes::Bytes;
 use invocation_vm::{AwaitingOnPolicy, VMOptions, VMResult, Value};
 use std::alloc::Global;
 use std::test::Fail;
@@ -120,4 +121,23 @@ pub fn drive<H: Handler>(attempt: &mut Attempt<H>) -> VMResult<Progress> {
         }
     }
     Ok(Progress::Stepped)
+}
+
+/// Whether steps are made until one that gives no answer, and that one does this.
+pub fn drives_to<H: Handler>(attempt: &mut Attempt<H>, wanted: Progress) -> bool {
+    match drive(attempt) {
+        Ok(progress) => progress == wanted,
+        Err(_) => false,
+    }
+}
+
+/// Feeds a copy of these bytes.
+pub fn feed_copy<H: Handler>(
+    alloc: Global,
+    attempt: &mut Attempt<H>,
+    bytes: &[u8],
+) -> Result<(), Fail> {
+    let bytes = Bytes::copy_from_slice(alloc, bytes)?;
+    attempt.feed(bytes)?;
+    Ok(())
 }

@@ -3,7 +3,9 @@
 use attempt_bench::asker::Asker;
 use attempt_bench::frames::AWAITING_ON_SIGNAL_17;
 use attempt_bench::napper::Napper;
-use attempt_bench::told::{Told, attempt_of, expect_answers, expect_error, expect_frames};
+use attempt_bench::told::{
+    Told, attempt_of, expect_answers, expect_error, expect_frames, feed_copy,
+};
 use bytes::Bytes;
 use std::alloc::Global;
 use std::process::Abort;
@@ -39,15 +41,25 @@ const WAITING: Progress = Progress::Waiting {
     run: false,
 };
 
+fn assert_step<H: Handler>(
+    rt: &impl Abort,
+    attempt: &mut Attempt<H>,
+    progress: Progress,
+) -> Result<(), Fail> {
+    let made = attempt.step()?;
+    assert!(rt; made == progress, "{made:?} is not {progress:?}");
+    Ok(())
+}
+
 fn trickle<H: Handler>(
     rt: &impl Abort,
     alloc: Global,
     attempt: &mut Attempt<H>,
     bytes: &[u8],
 ) -> Result<(), Fail> {
-    for byte in bytes {
-        assert_eq!(rt; attempt.step()?, Progress::NotReady);
-        attempt.feed(Bytes::copy_from_slice(alloc, &[*byte])?)?;
+    for byte in bytes.chunks(1) {
+        assert_step(rt, attempt, Progress::NotReady)?;
+        feed_copy(alloc, attempt, byte)?;
     }
     Ok(())
 }
@@ -59,7 +71,7 @@ fn assert_steps<H: Handler>(
     progress: Progress,
 ) -> Result<(), Fail> {
     for _ in 0..count {
-        assert_eq!(rt; attempt.step()?, progress);
+        assert_step(rt, attempt, progress)?;
     }
     Ok(())
 }

@@ -5,7 +5,7 @@ use std::alloc::{AllocError, Global};
 use std::process::Abort;
 use std::test::Fail;
 use vm_rounds::Handler;
-use vm_world::{Event, Identity, Report, Round, RoundFault, World, run_rounds};
+use vm_world::{Event, Identity, Report, Round, World, run_rounds};
 use wire::{Items, Text};
 
 /// What happens in a round.
@@ -54,23 +54,28 @@ pub fn world(alloc: Global, state: Vec<(String, Bytes)>) -> Result<World, Fail> 
     Ok(made.ok().ok_or("no world")?)
 }
 
-/// A round in which this happens, one after another; the whole state is handed out.
-pub fn round(alloc: Global, events: &[Happens]) -> Result<Round, AllocError> {
-    let mut items = Items::new(alloc);
-    for happens in events {
-        items.push(event(*happens))?;
+fn events(alloc: Global, all: &[Happens]) -> Result<Items<Event>, AllocError> {
+    let mut events = Items::new(alloc);
+    for happens in all {
+        events.push(event(*happens))?;
     }
+    Ok(events)
+}
+
+/// A round in which this happens, one after another; the whole state is handed out.
+fn round(alloc: Global, all: &[Happens]) -> Result<Round, AllocError> {
+    let events = events(alloc, all)?;
     Ok(Round {
         partial: false,
         keys: Items::new(alloc),
         retry_count: 0,
         duration: 0,
-        events: items,
+        events,
     })
 }
 
 /// Rounds in which this happens.
-pub fn rounds(alloc: Global, all: &[&[Happens]]) -> Result<Vec<Round>, AllocError> {
+fn rounds(alloc: Global, all: &[&[Happens]]) -> Result<Vec<Round>, AllocError> {
     let mut rounds = Vec::new(alloc);
     for events in all {
         rounds.push(round(alloc, *events)?)?;
@@ -78,23 +83,25 @@ pub fn rounds(alloc: Global, all: &[&[Happens]]) -> Result<Vec<Round>, AllocErro
     Ok(rounds)
 }
 
-/// The world and the reports behind these rounds of a new world, or the fault that stopped them.
+/// The world and the reports behind these rounds of a new world.
 pub fn played<H: Handler>(
     alloc: Global,
     handler: &H,
     state: Vec<(String, Bytes)>,
     all: &[&[Happens]],
-) -> Result<Result<(World, Vec<Report>), RoundFault>, Fail> {
-    let world = world(alloc, state)?;
+) -> Result<(World, Vec<Report>), Fail> {
     let rounds = rounds(alloc, all)?;
-    Ok(run_rounds(handler, world, rounds.as_slice()))
+    let world = world(alloc, state)?;
+    match run_rounds(handler, world, rounds.as_slice()) {
+        Ok(played) => Ok(played),
+        Err(fault) => Err(Fail::new(format_args!("{fault:?}"))),
+    }
 }
 
 /// The journal has these entries.
-pub fn assert_journal(rt: &impl Abort, world: &World, wanted: &[&[u8]]) {
-    let journal = world.journal();
+pub fn assert_journal(rt: &impl Abort, journal: &[Bytes], wanted: &[&[u8]]) {
     assert_eq!(rt; journal.len(), wanted.len());
     for (entry, frame) in journal.iter().zip(wanted) {
-        assert_eq!(rt; entry.as_slice(), *frame);
+        assert!(rt; entry.as_slice() == *frame);
     }
 }

@@ -1,8 +1,9 @@
 // Journals of whole runs, cut at each byte, and one byte at a time.
 // However a journal is cut, an attempt is ready when the known entries are there, and makes the same run.
-use attempt_bench::told::{drive, expect_answers, expect_error, expect_frames, quiet_attempt_of};
+use attempt_bench::told::{
+    drives_to, expect_answers, expect_error, expect_frames, feed_copy, quiet_attempt_of,
+};
 use attempt_bench::whole_runs::{Ending, Replay, Run};
-use bytes::Bytes;
 use std::alloc::{AllocError, Global};
 use std::process::Abort;
 use std::test::Fail;
@@ -18,10 +19,9 @@ fn feed_pieces<H: Handler>(
 ) -> Result<(), Fail> {
     let mut fed = 0usize;
     for piece in pieces {
-        attempt.feed(Bytes::copy_from_slice(alloc, piece)?)?;
+        feed_copy(alloc, attempt, piece)?;
         fed = fed.saturating_add(piece.len());
-        let is_waiting = matches!(drive(attempt), Ok(Progress::NotReady));
-        assert_eq!(rt; is_waiting, fed < recorded);
+        assert!(rt; drives_to(attempt, Progress::NotReady) == (fed < recorded));
     }
     Ok(())
 }
@@ -33,8 +33,8 @@ fn assert_over<H: Handler>(
     ending: Ending,
 ) -> Result<(), Fail> {
     match ending {
-        Ending::Ended => assert_eq!(rt; drive(attempt)?, Progress::Ended),
-        Ending::Suspended(_) => assert_eq!(rt; drive(attempt)?, Progress::Suspended),
+        Ending::Ended => assert!(rt; drives_to(attempt, Progress::Ended)),
+        Ending::Suspended(_) => assert!(rt; drives_to(attempt, Progress::Suspended)),
         Ending::Refused(code, text, _) => {
             expect_error(attempt, code, text)?;
             expect_error(attempt, code, text)?;

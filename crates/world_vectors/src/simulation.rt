@@ -9,6 +9,7 @@ use handlers::sleeper::Sleeper;
 use retries::RetryPolicy;
 use runs::RunExitResult;
 use std::alloc::{AllocError, Global};
+use std::process::Abort;
 use std::test::Fail;
 use vectors::frames::{COMPLETION_1, INPUT_TILL, OUTPUT_EMPTY, OUTPUT_X, SLEEP_TO_1000};
 use vm_parts::NotificationHandle;
@@ -97,16 +98,27 @@ impl Dice {
         }
     }
 
-    /// A round of up to 31 events.
-    fn round(&mut self, alloc: Global) -> Result<Round, AllocError> {
+    /// Up to 31 events.
+    fn events(&mut self, alloc: Global) -> Result<Items<Event>, AllocError> {
         let mut events = Items::new(alloc);
         for _ in 0..self.roll() % 32 {
             events.push(self.event())?;
         }
+        Ok(events)
+    }
+
+    /// The keys that a round is to have, whose state may be partial.
+    fn keys(&self, alloc: Global) -> Result<Items<Text>, AllocError> {
         let mut keys = Items::new(alloc);
         if !self.lacks_count {
             keys.push(Text::from_str(alloc, "count")?)?;
         }
+        Ok(keys)
+    }
+
+    fn round(&mut self, alloc: Global) -> Result<Round, AllocError> {
+        let events = self.events(alloc)?;
+        let keys = self.keys(alloc)?;
         Ok(Round {
             partial: self.lacks_count || self.roll() % 4 == 0,
             keys,
@@ -123,21 +135,6 @@ impl Dice {
             rounds.push(self.round(alloc)?)?;
         }
         Ok(rounds)
-    }
-}
-
-/// The world behind the rounds that the dice give, if none has a fault.
-fn played<H: Handler>(
-    alloc: Global,
-    handler: &H,
-    state: Vec<(String, Bytes)>,
-    mut dice: Dice,
-) -> Result<Option<World>, Fail> {
-    let world = world(alloc, state)?;
-    let rounds = dice.rounds(alloc)?;
-    match run_rounds(handler, world, rounds.as_slice()) {
-        Ok((world, _)) => Ok(Some(world)),
-        Err(_) => Ok(None),
     }
 }
 
@@ -161,8 +158,60 @@ fn begins(journal: &[Bytes], wanted: &[&[u8]]) -> bool {
     true
 }
 
+/// How many results the journal has, where each is "x" under id 1.
+fn results_of_x(journal: &[Bytes]) -> Option<usize> {
+    let mut results = 0usize;
+    for entry in journal {
+        let entry = entry.as_slice();
+        if entry == RESULT_X {
+            results = results.wrapping_add(1);
+        } else if is_notification(entry) {
+            return None;
+        }
+    }
+    Some(results)
+}
+
+/// What a journal has.
+#[derive(Clone, Copy)]
+struct Left {
+    /// Its commands are a beginning of one of these runs.
+    begins: bool,
+    /// The results of id 1.
+    results: Option<usize>,
+    entries: usize,
+}
+
+fn left_in(journal: &[Bytes], runs: &[&[&[u8]]]) -> Left {
+    let mut begins_one = false;
+    for commands in runs {
+        begins_one |= begins(journal, commands);
+    }
+    Left {
+        begins: begins_one,
+        results: results_of_x(journal),
+        entries: journal.len(),
+    }
+}
+
+/// What the rounds that the dice give leave, if none has a fault.
+fn played<H: Handler>(
+    alloc: Global,
+    handler: &H,
+    state: Vec<(String, Bytes)>,
+    mut dice: Dice,
+    runs: &[&[&[u8]]],
+) -> Result<Option<Left>, Fail> {
+    let rounds = dice.rounds(alloc)?;
+    let world = world(alloc, state)?;
+    match run_rounds(handler, world, rounds.as_slice()) {
+        Ok((world, _)) => Ok(Some(left_in(world.journal(), runs))),
+        Err(_) => Ok(None),
+    }
+}
+
 /// How the runs of many seeds ended: without a fault, and of these with all commands stored.
-#[derive(Clone, Copy, Debug)]
+#[derive(Clone, Copy)]
 struct Tally {
     faultless: u64,
     whole: u64,
@@ -179,14 +228,27 @@ impl Tally {
 
 const RUNS: u64 = 5000;
 
+/// Each seed's commands are a beginning of one of these runs.
+fn assert_begins(rt: &impl Abort, left: Left, seed: u64) {
+    assert!(rt; left.begins, "seed {seed}");
+}
+
+/// Many seeds had no fault, and of some all commands were stored.
+fn assert_tally(rt: &impl Abort, tally: Tally, faultless: u64) {
+    assert!(rt; tally.faultless >= faultless, "{}", tally.faultless);
+    assert!(rt; tally.whole > 250, "{}", tally.whole);
+}
+
+const NOTHING: Tally = Tally {
+    faultless: 0,
+    whole: 0,
+};
+
 #[test]
 fn sleeps_leave_one_history(rt: HostRuntime) -> Result<(), Fail> {
     let alloc = rt.alloc();
     let handler = Sleeper { alloc };
-    let mut tally = Tally {
-        faultless: 0,
-        whole: 0,
-    };
+    let mut tally = NOTHING;
     for seed in 0..RUNS {
         let dice = Dice {
             state: seed,
@@ -195,14 +257,13 @@ fn sleeps_leave_one_history(rt: HostRuntime) -> Result<(), Fail> {
             lacks_count: false,
             executes: false,
         };
-        if let Some(world) = played(alloc, &handler, Vec::new(alloc), dice)? {
-            let journal = world.journal();
-            let commands = &[INPUT_TILL, SLEEP_TO_1000, OUTPUT_EMPTY];
-            assert!(rt; begins(journal, commands), "seed {seed}");
-            tally.count(journal.len() == 4);
+        let runs: &[&[&[u8]]] = &[&[INPUT_TILL, SLEEP_TO_1000, OUTPUT_EMPTY]];
+        if let Some(left) = played(alloc, &handler, Vec::new(alloc), dice, runs)? {
+            assert_begins(&rt, left, seed);
+            tally.count(left.entries == 4);
         }
     }
-    assert!(rt; tally.faultless > 2500 && tally.whole > 250, "{tally:?}");
+    assert_tally(&rt, tally, 2501);
     Ok(())
 }
 
@@ -210,10 +271,7 @@ fn sleeps_leave_one_history(rt: HostRuntime) -> Result<(), Fail> {
 fn counts_leave_one_history(rt: HostRuntime) -> Result<(), Fail> {
     let alloc = rt.alloc();
     let handler = Counter { alloc };
-    let mut tally = Tally {
-        faultless: 0,
-        whole: 0,
-    };
+    let mut tally = NOTHING;
     for seed in 0..RUNS {
         let lacks_count = seed % 2 == 0;
         let dice = Dice {
@@ -223,30 +281,17 @@ fn counts_leave_one_history(rt: HostRuntime) -> Result<(), Fail> {
             lacks_count,
             executes: false,
         };
-        if let Some(world) = played(alloc, &handler, state_of_41(alloc)?, dice)? {
-            let journal = world.journal();
-            let is_one = begins(journal, &[INPUT_TILL, READ_41, SET_42, OUTPUT_42])
-                || begins(journal, &[INPUT_TILL, LAZY_COUNT, SET_42, OUTPUT_42]);
-            assert!(rt; is_one, "seed {seed}");
-            tally.count(journal.len() >= 4);
+        let runs: &[&[&[u8]]] = &[
+            &[INPUT_TILL, READ_41, SET_42, OUTPUT_42],
+            &[INPUT_TILL, LAZY_COUNT, SET_42, OUTPUT_42],
+        ];
+        if let Some(left) = played(alloc, &handler, state_of_41(alloc)?, dice, runs)? {
+            assert_begins(&rt, left, seed);
+            tally.count(left.entries >= 4);
         }
     }
-    assert!(rt; tally.faultless > 2500 && tally.whole > 250, "{tally:?}");
+    assert_tally(&rt, tally, 2501);
     Ok(())
-}
-
-/// How many results the journal has, where each is "x" under id 1.
-fn results_of_x(journal: &[Bytes]) -> Option<usize> {
-    let mut results = 0usize;
-    for entry in journal {
-        let entry = entry.as_slice();
-        if entry == RESULT_X {
-            results = results.wrapping_add(1);
-        } else if is_notification(entry) {
-            return None;
-        }
-    }
-    Some(results)
 }
 
 /// Nothing arrives from outside, and what is told that isn't executing fails its attempt alone: no event has a fault.
@@ -254,10 +299,7 @@ fn results_of_x(journal: &[Bytes]) -> Option<usize> {
 fn charges_leave_one_history(rt: HostRuntime) -> Result<(), Fail> {
     let alloc = rt.alloc();
     let handler = Charge { alloc };
-    let mut tally = Tally {
-        faultless: 0,
-        whole: 0,
-    };
+    let mut tally = NOTHING;
     for seed in 0..RUNS {
         let dice = Dice {
             state: seed,
@@ -266,17 +308,13 @@ fn charges_leave_one_history(rt: HostRuntime) -> Result<(), Fail> {
             lacks_count: false,
             executes: true,
         };
-        let world = played(alloc, &handler, Vec::new(alloc), dice)?.ok_or("an event has a fault")?;
-        let journal = world.journal();
-        let commands = &[INPUT_TILL, RUN_CHARGE, OUTPUT_X];
-        assert!(rt; begins(journal, commands), "seed {seed}");
-        let results = results_of_x(journal);
-        assert!(rt;
-            matches!(results, Some(0) | Some(1)),
-            "seed {seed}: {results:?}"
-        );
-        tally.count(journal.len() == 4);
+        let runs: &[&[&[u8]]] = &[&[INPUT_TILL, RUN_CHARGE, OUTPUT_X]];
+        if let Some(left) = played(alloc, &handler, Vec::new(alloc), dice, runs)? {
+            assert_begins(&rt, left, seed);
+            assert!(rt; matches!(left.results, Some(0) | Some(1)), "seed {seed}");
+            tally.count(left.entries == 4);
+        }
     }
-    assert!(rt; tally.whole > 250, "{tally:?}");
+    assert_tally(&rt, tally, RUNS);
     Ok(())
 }

@@ -5,7 +5,9 @@ use attempt_bench::chooser::Chooser;
 use attempt_bench::frames::{CLEAR_A, COMPLETE_1, SET_B};
 use attempt_bench::keeper::Keeper;
 use attempt_bench::starving::Starving;
-use attempt_bench::told::{Told, attempt_of, drive, expect_answers, expect_error, expect_frames};
+use attempt_bench::told::{
+    Told, attempt_of, drive, expect_answers, expect_error, expect_frames, feed_copy,
+};
 use attempt_bench::whole_runs::Run;
 use bytes::Bytes;
 use std::alloc::Global;
@@ -45,7 +47,7 @@ fn assert_fails_on<H: Handler>(
     attempt: &mut Attempt<H>,
     journal: &[u8],
 ) -> Result<(), Fail> {
-    attempt.feed(Bytes::copy_from_slice(alloc, journal)?)?;
+    feed_copy(alloc, attempt, journal)?;
     assert!(rt; drive(attempt).is_err());
     Ok(())
 }

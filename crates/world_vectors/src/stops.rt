@@ -84,10 +84,8 @@ fn assert_leaves_no_trace<H: Handler>(
 ) -> Result<(), Fail> {
     for at in 0..stops.first.len() + 1 {
         let first = stops.first.get(..at).ok_or("no such event")?;
-        let (world, _) = played(alloc, handler, Vec::new(alloc), &[first, stops.second])?
-            .ok()
-            .ok_or("a fault")?;
-        assert_journal(rt, &world, stops.journal);
+        let (world, _) = played(alloc, handler, Vec::new(alloc), &[first, stops.second])?;
+        assert_journal(rt, world.journal(), stops.journal);
     }
     Ok(())
 }

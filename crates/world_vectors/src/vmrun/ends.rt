@@ -50,90 +50,113 @@ fn is_told(end: &RunEnd, told: Told) -> bool {
     }
 }
 
-/// The run ends so, and the program with this status.
-fn assert_end(rt: &impl Abort, end: &RunEnd, told: Told, status: ExitStatus, code: u8) {
-    assert!(rt; is_told(end, told), "{end:?} is not {told:?}");
+/// The status of each end, and the process's code.
+fn status_of(told: Told) -> (ExitStatus, u8) {
+    match told {
+        Told::Ended => (ExitStatus::Ended, 0),
+        Told::UnknownHandler => (ExitStatus::Usage, 2),
+        Told::Suspended => (ExitStatus::Suspended, 3),
+        _ => (ExitStatus::Failed, 1),
+    }
+}
+
+/// The run ends so, and the program with its status.
+fn assert_ends<R: Source, W: Sink>(
+    rt: &impl Abort,
+    alloc: Global,
+    content_type: &str,
+    handler: &str,
+    reader: &mut R,
+    writer: &mut W,
+    told: Told,
+) {
+    let end = run(alloc, content_type, handler, reader, writer);
+    assert!(rt; is_told(&end, told), "{end:?} is not {told:?}");
+    let (status, code) = status_of(told);
     assert_eq!(rt; end.status(), status);
     assert_eq!(rt; status.code(), code);
 }
 
-/// The run of the sleeper over these frames, into this writer.
-fn slept<W: Sink>(alloc: Global, frames: &[&[u8]], writer: &mut W) -> Result<RunEnd, Fail> {
-    let input = frames.concat(alloc)?;
-    let mut reader = Plain(Cursor::new(input.as_slice()));
-    Ok(run(alloc, V7, "sleeper", &mut reader, writer))
+/// The sleeper's run from this reader ends so, and writes this.
+fn assert_writes<R: Source>(
+    rt: &impl Abort,
+    alloc: Global,
+    reader: &mut R,
+    wanted: &[u8],
+    told: Told,
+) {
+    let mut writer = Plain(Vec::new(alloc));
+    assert_ends(rt, alloc, V7, "sleeper", reader, &mut writer, told);
+    assert!(rt; writer.0.as_slice() == wanted);
 }
+
+/// What comes to the sleeper, what it writes, and how its run ends.
+static RUNS: [(&[&[u8]], &[&[u8]], Told); 5] = [
+    (FIRST, SLEPT, Told::Suspended),
+    (COMPLETED, ENDED, Told::Ended),
+    (
+        &[START_3, INPUT_TILL, SLEEP_TO_1000, OUTPUT_EMPTY],
+        &[UNCOMPLETED],
+        Told::Failed("UncompletedDoProgressDuringReplay"),
+    ),
+    (
+        &[START_2, INPUT_TILL, OUTPUT_EMPTY],
+        &[TYPE_MISMATCH],
+        Told::Failed("CommandTypeMismatchError"),
+    ),
+    (
+        &[START_2, INPUT_TILL],
+        &[ERROR_INPUT_CLOSED],
+        Told::Failed("INPUT_CLOSED_WHILE_WAITING_ENTRIES"),
+    ),
+];
 
 #[test]
 fn runs_write_what_their_attempt_sends(rt: HostRuntime) -> Result<(), Fail> {
-    let alloc = rt.alloc();
-    let rows: [(&[&[u8]], &[&[u8]], Told, ExitStatus, u8); 5] = [
-        (FIRST, SLEPT, Told::Suspended, ExitStatus::Suspended, 3),
-        (COMPLETED, ENDED, Told::Ended, ExitStatus::Ended, 0),
-        (
-            &[START_3, INPUT_TILL, SLEEP_TO_1000, OUTPUT_EMPTY],
-            &[UNCOMPLETED],
-            Told::Failed("UncompletedDoProgressDuringReplay"),
-            ExitStatus::Failed,
-            1,
-        ),
-        (
-            &[START_2, INPUT_TILL, OUTPUT_EMPTY],
-            &[TYPE_MISMATCH],
-            Told::Failed("CommandTypeMismatchError"),
-            ExitStatus::Failed,
-            1,
-        ),
-        (
-            &[START_2, INPUT_TILL],
-            &[ERROR_INPUT_CLOSED],
-            Told::Failed("INPUT_CLOSED_WHILE_WAITING_ENTRIES"),
-            ExitStatus::Failed,
-            1,
-        ),
-    ];
-    for (journal, frames, told, status, code) in rows {
-        let mut writer = Plain(Vec::new(alloc));
-        let end = slept(alloc, journal, &mut writer)?;
-        assert_end(&rt, &end, told, status, code);
-        let wanted = frames.concat(alloc)?;
-        assert_eq!(rt; writer.0.as_slice(), wanted.as_slice());
+    for (journal, frames, told) in &RUNS {
+        let input = journal.concat(rt.alloc())?;
+        let wanted = frames.concat(rt.alloc())?;
+        let mut reader = Plain(Cursor::new(input.as_slice()));
+        assert_writes(&rt, rt.alloc(), &mut reader, wanted.as_slice(), *told);
     }
     Ok(())
 }
 
+/// Arguments, and how they are refused.
+static ARGUMENTS: [(&str, &str, Told); 5] = [
+    ("", V7, Told::UnknownHandler),
+    ("Sleeper", V7, Told::UnknownHandler),
+    ("sleeper ", "text/plain", Told::UnknownHandler),
+    ("sleeper", "text/plain", Told::Refused("BadContentType")),
+    (
+        "sleeper",
+        "application/vnd.restate.invocation.v4",
+        Told::Refused("UNSUPPORTED_MEDIA_TYPE"),
+    ),
+];
+
+/// With these arguments nothing is read and nothing is written.
+fn assert_untouched(rt: &impl Abort, alloc: Global, handler: &str, content_type: &str, told: Told) {
+    let mut reader = Plain(Cursor::new(START_1));
+    let mut writer = Plain(Vec::new(alloc));
+    assert_ends(
+        rt,
+        alloc,
+        content_type,
+        handler,
+        &mut reader,
+        &mut writer,
+        told,
+    );
+    assert_eq!(rt; reader.0.position(), 0);
+    assert!(rt; writer.0.is_empty());
+}
+
 #[test]
-fn refused_arguments_read_and_write_nothing(rt: HostRuntime) -> Result<(), Fail> {
-    let alloc = rt.alloc();
-    let (usage, failed) = (ExitStatus::Usage, ExitStatus::Failed);
-    let rows = [
-        ("", V7, Told::UnknownHandler, usage, 2),
-        ("Sleeper", V7, Told::UnknownHandler, usage, 2),
-        ("sleeper ", "text/plain", Told::UnknownHandler, usage, 2),
-        (
-            "sleeper",
-            "text/plain",
-            Told::Refused("BadContentType"),
-            failed,
-            1,
-        ),
-        (
-            "sleeper",
-            "application/vnd.restate.invocation.v4",
-            Told::Refused("UNSUPPORTED_MEDIA_TYPE"),
-            failed,
-            1,
-        ),
-    ];
-    for (handler, content_type, told, status, code) in rows {
-        let mut reader = Plain(Cursor::new(START_1));
-        let mut writer = Plain(Vec::new(alloc));
-        let end = run(alloc, content_type, handler, &mut reader, &mut writer);
-        assert_end(&rt, &end, told, status, code);
-        assert_eq!(rt; reader.0.position(), 0);
-        assert!(rt; writer.0.is_empty());
+fn refused_arguments_read_and_write_nothing(rt: HostRuntime) {
+    for (handler, content_type, told) in &ARGUMENTS {
+        assert_untouched(&rt, rt.alloc(), *handler, *content_type, *told);
     }
-    Ok(())
 }
 
 /// A connection that is reset behind these bytes.
@@ -165,24 +188,23 @@ impl Read for Starved {
     }
 }
 
+/// The input is reset behind each byte.
+fn assert_resets(rt: &impl Abort, alloc: Global, journal: &[u8]) -> Result<(), Fail> {
+    for place in 0..=journal.len() {
+        let front = journal.get(..place).ok_or("no such place")?;
+        let told = Told::ReadFailed(ErrorKind::ConnectionReset);
+        assert_writes(rt, alloc, &mut Reset(front), b"", told);
+    }
+    Ok(())
+}
+
 #[test]
 fn failed_reads_write_nothing(rt: HostRuntime) -> Result<(), Fail> {
-    let alloc = rt.alloc();
-    let journal = FIRST.concat(alloc)?;
-    for place in 0..=journal.len() {
-        let front = journal.as_slice().get(..place).ok_or("no such place")?;
-        let mut writer = Plain(Vec::new(alloc));
-        let end = run(alloc, V7, "sleeper", &mut Reset(front), &mut writer);
-        let told = Told::ReadFailed(ErrorKind::ConnectionReset);
-        assert_end(&rt, &end, told, ExitStatus::Failed, 1);
-        assert!(rt; writer.0.is_empty());
-    }
-    let mut writer = Plain(Vec::new(alloc));
-    let end = run(alloc, V7, "sleeper", &mut Plain(Starved), &mut writer);
+    let journal = FIRST.concat(rt.alloc())?;
+    let reset = assert_resets(&rt, rt.alloc(), journal.as_slice());
     let told = Told::ReadFailed(ErrorKind::OutOfMemory);
-    assert_end(&rt, &end, told, ExitStatus::Failed, 1);
-    assert!(rt; writer.0.is_empty());
-    Ok(())
+    assert_writes(&rt, rt.alloc(), &mut Plain(Starved), b"", told);
+    reset
 }
 
 /// A pipe that takes one byte a call, is interrupted before each call, and breaks once it is full.
@@ -218,38 +240,43 @@ impl Write for Pipe {
     }
 }
 
-fn pipe_of(alloc: Global, room: usize, is_flushed: bool) -> Plain<Pipe> {
-    Plain(Pipe {
+/// The sleeper's last run into a pipe with so much room ends so, and a beginning of what it writes is in it.
+fn assert_piped(
+    rt: &impl Abort,
+    alloc: Global,
+    input: &[u8],
+    wanted: &[u8],
+    is_flushed: bool,
+    told: Told,
+) {
+    let mut reader = Plain(Cursor::new(input));
+    let mut writer = Plain(Pipe {
         taken: Vec::new(alloc),
-        room,
+        room: wanted.len(),
         is_interrupted: false,
         is_flushed,
-    })
+    });
+    assert_ends(rt, alloc, V7, "sleeper", &mut reader, &mut writer, told);
+    assert!(rt; writer.0.taken.as_slice() == wanted);
+}
+
+/// The pipe has room for less than is written, for just that, or can't be flushed.
+fn assert_pipes(rt: &impl Abort, alloc: Global, input: &[u8], wanted: &[u8]) -> Result<(), Fail> {
+    let broken = Told::WriteFailed(ErrorKind::BrokenPipe);
+    for room in 0..wanted.len() {
+        let front = wanted.get(..room).ok_or("no such place")?;
+        assert_piped(rt, alloc, input, front, true, broken);
+    }
+    assert_piped(rt, alloc, input, wanted, true, Told::Ended);
+    assert_piped(rt, alloc, input, wanted, false, broken);
+    Ok(())
 }
 
 #[test]
 fn failed_writes_leave_a_beginning(rt: HostRuntime) -> Result<(), Fail> {
-    let alloc = rt.alloc();
-    let wanted = ENDED.concat(alloc)?;
-    let broken = Told::WriteFailed(ErrorKind::BrokenPipe);
-    for room in 0..wanted.len() {
-        let mut writer = pipe_of(alloc, room, true);
-        let end = slept(alloc, COMPLETED, &mut writer)?;
-        assert_end(&rt, &end, broken, ExitStatus::Failed, 1);
-        let front = wanted.as_slice().get(..room).ok_or("no such place")?;
-        assert_eq!(rt; writer.0.taken.as_slice(), front);
-    }
-    let rows = [
-        (true, Told::Ended, ExitStatus::Ended, 0),
-        (false, broken, ExitStatus::Failed, 1),
-    ];
-    for (is_flushed, told, status, code) in rows {
-        let mut writer = pipe_of(alloc, wanted.len(), is_flushed);
-        let end = slept(alloc, COMPLETED, &mut writer)?;
-        assert_end(&rt, &end, told, status, code);
-        assert_eq!(rt; writer.0.taken.as_slice(), wanted.as_slice());
-    }
-    Ok(())
+    let input = COMPLETED.concat(rt.alloc())?;
+    let wanted = ENDED.concat(rt.alloc())?;
+    assert_pipes(&rt, rt.alloc(), input.as_slice(), wanted.as_slice())
 }
 
 /// A writer that takes nothing.
@@ -268,8 +295,17 @@ impl Write for Full {
 
 #[test]
 fn writer_that_takes_nothing_fails(rt: HostRuntime) -> Result<(), Fail> {
-    let end = slept(rt.alloc(), COMPLETED, &mut Plain(Full))?;
+    let input = COMPLETED.concat(rt.alloc())?;
+    let mut reader = Plain(Cursor::new(input.as_slice()));
     let told = Told::WriteFailed(ErrorKind::WriteZero);
-    assert_end(&rt, &end, told, ExitStatus::Failed, 1);
+    assert_ends(
+        &rt,
+        rt.alloc(),
+        V7,
+        "sleeper",
+        &mut reader,
+        &mut Plain(Full),
+        told,
+    );
     Ok(())
 }
