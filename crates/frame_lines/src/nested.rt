@@ -11,7 +11,7 @@ pub struct Begun<'a> {
 }
 
 /// What is read next.
-#[derive(Clone, Copy, PartialEq, Eq)]
+#[derive(Clone, Copy)]
 enum Next {
     /// The bracket that begins a future.
     Future,

@@ -72,7 +72,7 @@ pub fn decode<R: Read, W: Write>(alloc: Global, reader: &mut R, writer: &mut W) 
 }
 
 /// Why lines aren't frames.
-#[derive(Clone, Copy, Debug, PartialEq, Eq)]
+#[derive(Clone, Copy)]
 pub enum Unread {
     Memory,
     /// The line of this number has no meaning.

@@ -2,17 +2,16 @@
 // what is read is written as the same bytes again.
 ghost use Rattle.std.specs.Prelude.{◌<◌, length};
 
-use crate::frame_rows::{FRAMES, parts_of};
+use crate::frame_rows::{control_rows, expect, frame_rows, other_rows, parts_of, state_rows};
+use crate::reading::{encoded, frame_in, whole_in};
 use bytes::Bytes;
-use journal_messages::{Encoder, RawMessage};
-use journal_streams::Decoder;
+use journal_messages::{Message, RawMessage};
 use std::alloc::Global;
-use std::process::Abort;
 use std::test::Fail;
 use wire::Fault;
 
 /// What a stream of so many bytes is.
-#[derive(Clone, Copy, Debug, PartialEq, Eq)]
+#[derive(Clone, Copy, PartialEq)]
 enum Seen {
     /// No whole frame yet.
     Waits,
@@ -24,10 +23,19 @@ enum Seen {
     Wrong,
 }
 
+/// A frame's message, as the only one.
+fn message_in(alloc: Global, raw: &RawMessage) -> Result<Vec<Message>, Fault> {
+    let mut messages = Vec::new(alloc);
+    messages.push(raw.read(alloc)?)?;
+    Ok(messages)
+}
+
 /// A frame's message, as a frame again.
 fn written(alloc: Global, raw: &RawMessage) -> Result<Bytes, Fault> {
-    let message = raw.read(alloc)?;
-    Ok(Encoder::new(alloc).encode(&message)?)
+    let messages = message_in(alloc, raw)?;
+    let frame = encoded(alloc, messages.as_slice());
+    drop(messages);
+    frame
 }
 
 /// Whether a frame's message is written as the front of the stream again.
@@ -39,18 +47,10 @@ fn seen_again(alloc: Global, raw: &RawMessage, stream: &[u8]) -> Seen {
     }
 }
 
-/// The one frame of a stream.
-fn whole_of(alloc: Global, stream: &[u8]) -> Result<RawMessage, Fail> {
-    let mut decoder = Decoder::new(alloc);
-    decoder.push(Bytes::copy_from_slice(alloc, stream)?)?;
-    Ok(decoder.next_frame()?.ok_or("no whole frame")?)
-}
-
 /// What a stream is.
 fn seen_in(alloc: Global, stream: &[u8]) -> Result<Seen, Fail> {
-    let mut decoder = Decoder::new(alloc);
-    decoder.push(Bytes::copy_from_slice(alloc, stream)?)?;
-    Ok(match decoder.next_frame() {
+    let stream_again = Bytes::copy_from_slice(alloc, stream)?;
+    Ok(match frame_in(alloc, stream_again) {
         Ok(None) => Seen::Waits,
         Ok(Some(raw)) => seen_again(alloc, &raw, stream),
         Err(Fault::Malformed) => Seen::Refused,
@@ -89,34 +89,45 @@ fn are_changes_seen(alloc: Global, frame: &[u8]) -> Result<bool, Fail> {
     Ok(true)
 }
 
+fn is_row_changed(alloc: Global, row: &str) -> Result<bool, Fail> {
+    let (_, frame) = parts_of(alloc, row)?;
+    are_changes_seen(alloc, frame.as_slice())
+}
+
 /// Each change of one byte of each of these frames.
-fn assert_changes(rt: &impl Abort, alloc: Global, rows: &str) -> Result<(), Fail> {
+fn expect_changes(alloc: Global, rows: &str) -> Result<(), Fail> {
     for row in rows.lines() {
-        let (line, frame) = parts_of(alloc, row)?;
-        assert!(rt; are_changes_seen(alloc, frame.as_slice())?, "{line}");
+        expect(row, is_row_changed(alloc, row)?)?;
     }
     Ok(())
 }
 
 #[test]
 fn each_change_of_control_frames(rt: HostRuntime) -> Result<(), Fail> {
-    assert_changes(&rt, rt.alloc(), FRAMES[0])
+    expect_changes(rt.alloc(), control_rows())
 }
 
 #[test]
 fn each_change_of_state_frames(rt: HostRuntime) -> Result<(), Fail> {
-    assert_changes(&rt, rt.alloc(), FRAMES[1])
+    expect_changes(rt.alloc(), state_rows())
 }
 
 #[test]
 fn each_change_of_other_frames(rt: HostRuntime) -> Result<(), Fail> {
-    assert_changes(&rt, rt.alloc(), FRAMES[2])
+    expect_changes(rt.alloc(), other_rows())
+}
+
+/// The front of a frame waits for the rest.
+fn is_front_waiting(alloc: Global, frame: &[u8], at: usize) -> Result<bool, Fail>
+    requires { at < length frame.now }
+{
+    Ok(seen_in(alloc, &frame[..at])? == Seen::Waits)
 }
 
 /// Each part of a frame waits for the rest.
 fn do_cuts_wait(alloc: Global, frame: &[u8]) -> Result<bool, Fail> {
     for at in 0..frame.len() {
-        if seen_in(alloc, &frame[..at])? != Seen::Waits {
+        if !is_front_waiting(alloc, frame, at)? {
             return Ok(false);
         }
     }
@@ -134,22 +145,33 @@ fn is_part_refused(alloc: Global, whole: &RawMessage, at: usize) -> Result<bool,
     Ok(seen_again(alloc, &part, b"") == Seen::Refused)
 }
 
-/// Each part of the frame's body is no message's.
-fn are_parts_refused(alloc: Global, frame: &[u8]) -> Result<bool, Fail> {
-    let whole = whole_of(alloc, frame)?;
+/// Each part of the body is no message's.
+fn are_parts_refused(alloc: Global, whole: &RawMessage) -> Result<bool, Fail> {
     for at in 0..whole.body.len() {
-        if !is_part_refused(alloc, &whole, at)? {
+        if !is_part_refused(alloc, whole, at)? {
             return Ok(false);
         }
     }
     Ok(true)
 }
 
-fn assert_cuts(rt: &impl Abort, alloc: Global, rows: &str) -> Result<(), Fail> {
+fn is_body_cut(alloc: Global, frame: &[u8]) -> Result<bool, Fail> {
+    let whole = whole_in(alloc, Bytes::copy_from_slice(alloc, frame)?)?;
+    are_parts_refused(alloc, &whole)
+}
+
+fn are_cuts_seen(alloc: Global, frame: &[u8]) -> Result<bool, Fail> {
+    Ok(do_cuts_wait(alloc, frame)? && is_body_cut(alloc, frame)?)
+}
+
+fn is_row_cut(alloc: Global, row: &str) -> Result<bool, Fail> {
+    let (_, frame) = parts_of(alloc, row)?;
+    are_cuts_seen(alloc, frame.as_slice())
+}
+
+fn expect_cuts(alloc: Global, rows: &str) -> Result<(), Fail> {
     for row in rows.lines() {
-        let (line, frame) = parts_of(alloc, row)?;
-        assert!(rt; do_cuts_wait(alloc, frame.as_slice())?, "{line}");
-        assert!(rt; are_parts_refused(alloc, frame.as_slice())?, "{line}");
+        expect(row, is_row_cut(alloc, row)?)?;
     }
     Ok(())
 }
@@ -157,8 +179,8 @@ fn assert_cuts(rt: &impl Abort, alloc: Global, rows: &str) -> Result<(), Fail> {
 /// A part of a frame waits for the rest; a part of its body, with the length that it has, is no message's.
 #[test]
 fn each_cut_of_each_frame(rt: HostRuntime) -> Result<(), Fail> {
-    for rows in &FRAMES {
-        assert_cuts(&rt, rt.alloc(), rows)?;
+    for rows in &frame_rows() {
+        expect_cuts(rt.alloc(), rows)?;
     }
     Ok(())
 }

@@ -62,11 +62,8 @@ Notification id=completion(2) result=state_keys(["a", "b"]) => 0x001e00000000000
 Notification id=completion(3) result=invocation_id("inv1") => 0x001e00000000000000120000000003040000000000000004696e7631
 raw 18 0x00ff => 0x0012000000000000000200ff"#;
 
-/// Lines as they are printed, and the bytes of their frames.
-pub static FRAMES: [&str; 3] = [CONTROL, STATE, OTHERS];
-
 /// Other lines, and the bytes that they show.
-pub const OTHER_FORMS: &str =
+const OTHER_FORMS: &str =
     r#"  Sleep   name="n"  result_completion_id=1 wake_up_time=2 => 0x0012000000000000001500000000000000020000000100000000000000016e
 Input value=0x54696C6c headers=[ ("a"   "b") ,("c" 0x)] => 0x000a000000000000003700000000000000020000000000000001610000000000000001620000000000000001630000000000000000000000000000000454696c6c
 Input value="\"\\\x0Aé) ]" => 0x000a000000000000001800000000000000000000000000000008225c0ac3a929205d
@@ -78,7 +75,7 @@ raw 31 0x => 0x001f0000000000000000
  => 0x"#;
 
 /// Lines that show nothing.
-pub const BAD: &str = r#"Sleeper
+const BAD: &str = r#"Sleeper
 sleep wake_up_time=1
 Sleep wake_up_time=-1
 Sleep wake_up_time=18446744073709551616
@@ -122,8 +119,59 @@ rest
 End now
 Error code=1 behaviour=retry"#;
 
+// Tests take the tables from these, so that the proofs of tests don't hold the texts.
+
+pub fn control_rows() -> &'static str {
+    CONTROL
+}
+
+pub fn state_rows() -> &'static str {
+    STATE
+}
+
+pub fn other_rows() -> &'static str {
+    OTHERS
+}
+
+/// Lines as they are printed, and the bytes of their frames.
+pub fn frame_rows() -> [&'static str; 3] {
+    [control_rows(), state_rows(), other_rows()]
+}
+
+pub fn rows_in_other_forms() -> &'static str {
+    OTHER_FORMS
+}
+
+pub fn bad_lines() -> &'static str {
+    BAD
+}
+
+fn halves_of(row: &str) -> Result<(&str, &str), Fail> {
+    match row.split_once(" => ") {
+        Some((line, hex)) => Ok((line, hex)),
+        None => Err(Fail::from("no =>")),
+    }
+}
+
 /// The line of a row, and its bytes.
 pub fn parts_of(alloc: Global, row: &str) -> Result<(&str, Vec<u8>), Fail> {
-    let (line, hex) = row.split_once(" => ").ok_or("no =>")?;
+    let (line, hex) = halves_of(row)?;
     Ok((line, bytes_of(alloc, hex.as_bytes())?))
+}
+
+/// What was looked for, where it is there.
+pub fn found<T>(value: Option<T>, what: &'static str) -> Result<T, Fail> {
+    match value {
+        Some(value) => Ok(value),
+        None => Err(Fail::from(what)),
+    }
+}
+
+/// Fails unless the row holds.
+pub fn expect(row: &str, holds: bool) -> Result<(), Fail> {
+    if holds {
+        Ok(())
+    } else {
+        Err(Fail::new(format_args!("it doesn't hold: {row}")))
+    }
 }

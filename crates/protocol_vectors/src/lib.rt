@@ -5,6 +5,8 @@
 #[cfg(test)]
 mod changes;
 #[cfg(test)]
+mod deep_frames;
+#[cfg(test)]
 mod faults;
 #[cfg(test)]
 mod frame_rows;
@@ -12,5 +14,7 @@ mod frame_rows;
 mod messages;
 #[cfg(test)]
 mod printed_frames;
+#[cfg(test)]
+mod reading;
 #[cfg(test)]
 mod short_bodies;

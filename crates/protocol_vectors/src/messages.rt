@@ -1,45 +1,35 @@
 // Streams and messages whose bytes were written out by hand from the layout; and that each call succeeds where there is memory.
+use crate::deep_frames::{DEPTH, deep_body, deep_frame};
+use crate::faults::says;
+use crate::frame_rows::{expect, found};
+use crate::reading::{encoded, first_frame, sent_in};
 use bytes::Bytes;
 use journal_attempt::{Future, FutureKind, FutureNode};
 use journal_equality::header_eq;
 use journal_errors::Error;
-use journal_messages::{Encoder, Message, RawMessage};
+use journal_messages::{Message, RawMessage};
 use journal_streams::{Decoder, messages_of};
 use journal_values::ValueOrFailure;
 use std::alloc::{AllocError, Global};
-use std::process::Abort;
 use std::test::Fail;
 use wire::{Fault, Items, Text, is_same, whole};
 
-// A message is owned by a `Vec`: where a function lends one of its own, its proof takes all kinds of messages apart.
-
-/// The one frame of a stream.
-fn frame_of(alloc: Global, stream: Bytes) -> Result<RawMessage, Fail> {
-    let mut decoder = Decoder::new(alloc);
-    decoder.push(stream)?;
-    let raw = decoder.next()?.ok_or("a part of a frame")?;
-    if decoder.next()?.is_some() {
-        return Err(Fail::from("two frames"));
-    }
-    Ok(raw)
-}
+// A message is owned by a list: where a function lends one of its own, its proof takes all kinds of messages apart.
 
 /// The message of a frame, as the only one.
-fn message_of(alloc: Global, raw: &RawMessage) -> Result<Vec<Message>, Fail> {
-    let mut messages = Vec::new(alloc);
+fn message_of(alloc: Global, raw: &RawMessage) -> Result<Items<Message>, Error> {
+    let mut messages = Items::new(alloc);
     messages.push(raw.decode(alloc)?)?;
     Ok(messages)
 }
 
 /// What is wrong with a frame: an error of the decoder, or of the body.
-fn error_of(alloc: Global, frame: &'static [u8]) -> Result<Option<Error>, Fail> {
-    let mut decoder = Decoder::new(alloc);
-    decoder.push(Bytes::from_static(frame))?;
-    Ok(match decoder.next() {
+fn error_of(alloc: Global, frame: &'static [u8]) -> Option<Error> {
+    match sent_in(alloc, Bytes::from_static(frame)) {
         Err(e) => Some(e),
         Ok(None) => None,
         Ok(Some(raw)) => raw.decode(alloc).err(),
-    })
+    }
 }
 
 const NAP: &[u8] = b"\0\x12\0\0\0\0\0\0\0\x17\
@@ -58,21 +48,37 @@ fn is_output(message: &Message, text: &str) -> bool {
     }
 }
 
-#[test]
-fn reads_a_stream_byte_by_byte(rt: HostRuntime) -> Result<(), Fail> {
-    let alloc = rt.alloc();
-    let stream = b"\0\x1d\0\0\0\0\0\0\0\x0b\0\0\0\0\0\0\0\0\x02ok\0\x04\0\0\0\0\0\0\0\0";
+/// Each byte as a piece of its own.
+fn pieces_of(alloc: Global, stream: &[u8]) -> Result<Vec<Bytes>, AllocError> {
     let mut pieces = Vec::new(alloc);
     for byte in stream {
         pieces.push(Bytes::copy_from_slice(alloc, &[*byte])?)?;
     }
-    let messages = messages_of(alloc, pieces.as_slice())?;
-    let is_told = match messages.as_slice() {
+    Ok(pieces)
+}
+
+fn read_byte_by_byte(alloc: Global, stream: &[u8]) -> Result<Vec<Message>, Fault> {
+    let pieces = pieces_of(alloc, stream)?;
+    let messages = messages_of(alloc, pieces.as_slice());
+    drop(pieces);
+    messages
+}
+
+/// The messages are an output and an end.
+fn are_output_and_end(messages: &[Message]) -> bool {
+    match messages {
         [first, last] => is_output(first, "ok") && matches!(last, Message::End),
         _ => false,
-    };
-    assert!(rt; is_told);
-    Ok(())
+    }
+}
+
+#[test]
+fn reads_a_stream_byte_by_byte(rt: HostRuntime) -> Result<(), Fail> {
+    let stream = b"\0\x1d\0\0\0\0\0\0\0\x0b\0\0\0\0\0\0\0\0\x02ok\0\x04\0\0\0\0\0\0\0\0";
+    let messages = read_byte_by_byte(rt.alloc(), stream)?;
+    let is_told = are_output_and_end(messages.as_slice());
+    drop(messages);
+    expect("an output and an end", is_told)
 }
 
 /// What is no frame or no body, and why.
@@ -137,60 +143,38 @@ static REFUSED: [(&[u8], &str); 17] = [
     ),
 ];
 
-fn assert_bad_message(rt: &impl Abort, error: &Error, what: &str) {
-    assert_eq!(rt; error.code(), 571, "{what}");
-    assert_eq!(rt; error.message(), "BadMessage", "{what}");
-}
-
-fn assert_refused(
-    rt: &impl Abort,
-    alloc: Global,
-    rows: &[(&'static [u8], &'static str)],
-) -> Result<(), Fail> {
-    for (frame, what) in rows {
-        let error = error_of(alloc, frame)?.ok_or(*what)?;
-        assert_bad_message(rt, &error, what);
+fn is_bad_message(alloc: Global, frame: &'static [u8]) -> bool {
+    match error_of(alloc, frame) {
+        None => false,
+        Some(error) => says(&error, 571, "BadMessage"),
     }
-    Ok(())
 }
 
 #[test]
 fn refuses_what_is_no_message(rt: HostRuntime) -> Result<(), Fail> {
-    assert_refused(&rt, rt.alloc(), &REFUSED)
+    for (frame, what) in &REFUSED {
+        expect(what, is_bad_message(rt.alloc(), frame))?;
+    }
+    Ok(())
 }
 
 #[test]
 fn waits_for_the_longest_body(rt: HostRuntime) -> Result<(), Fail> {
-    let mut decoder = Decoder::new(rt.alloc());
-    decoder.push(Bytes::from_static(b"\0\x0a\xff\xff\xff\xff\xff\xff\xff\xff"))?;
-    assert!(rt; decoder.next()?.is_none());
-    Ok(())
+    let stream = Bytes::from_static(b"\0\x0a\xff\xff\xff\xff\xff\xff\xff\xff");
+    let frame = sent_in(rt.alloc(), stream)?;
+    expect("no frame", frame.is_none())
 }
 
-/// How deep the futures of the tests nest.
-const DEPTH: usize = 100_000;
-
-/// The bytes of a suspension on a future that nests as deep, where the deepest is of a kind: a kind and four counts
-/// each.
-fn deep_body(alloc: Global, kind: u8) -> Result<Bytes, AllocError> {
-    let mut body = Vec::new(alloc);
-    for _ in 1..DEPTH {
-        body.push(4)?;
-        body.extend_from_slice(&[0; 24])?;
-        body.extend_from_slice(&1u64.to_be_bytes())?;
+/// The one frame of a stream.
+fn frame_of(alloc: Global, stream: Bytes) -> Result<RawMessage, Fail> {
+    let length = stream.len();
+    let raw = found(sent_in(alloc, stream).ok().flatten(), "no whole frame")?;
+    // In front of a body stand its type and its length.
+    if raw.body.len().wrapping_add(10) == length {
+        Ok(raw)
+    } else {
+        Err(Fail::from("more than a frame"))
     }
-    body.push(kind)?;
-    body.extend_from_slice(&[0; 32])?;
-    Bytes::copy_from_slice(alloc, body.as_slice())
-}
-
-fn deep_frame(alloc: Global, kind: u8) -> Result<Bytes, AllocError> {
-    let body = deep_body(alloc, kind)?;
-    let mut frame = Vec::new(alloc);
-    frame.extend_from_slice(&[0, 2])?;
-    frame.extend_from_slice(&(body.len() as u64).to_be_bytes())?;
-    frame.extend_from_slice(body.as_slice())?;
-    Bytes::copy_from_slice(alloc, frame.as_slice())
 }
 
 /// Whether two frames have one message for replay.
@@ -203,48 +187,70 @@ fn are_alike(alloc: Global, a: &RawMessage, b: &RawMessage) -> Result<bool, Fail
 
 fn encoded_again(alloc: Global, raw: &RawMessage) -> Result<Bytes, Fail> {
     let messages = message_of(alloc, raw)?;
-    let message = messages.get(0).ok_or("no message")?;
-    Encoder::new(alloc).encode(message).map_err(Fail::from)
+    let frame = encoded(alloc, messages.as_slice());
+    drop(messages);
+    Ok(frame?)
+}
+
+fn is_encoded_again(alloc: Global, raw: &RawMessage, frame: &[u8]) -> Result<bool, Fail> {
+    let again = encoded_again(alloc, raw)?;
+    Ok(again.as_slice() == frame)
 }
 
 /// The frame is encoded as it was, and is like itself and unlike the other.
-fn assert_read(
-    rt: &impl Abort,
-    alloc: Global,
-    frame: &Bytes,
-    other: &RawMessage,
-) -> Result<(), Fail> {
+fn expect_read(alloc: Global, frame: &Bytes, other: &RawMessage) -> Result<(), Fail> {
     let raw = frame_of(alloc, frame.clone()?)?;
-    assert!(rt; encoded_again(alloc, &raw)?.as_slice() == frame.as_slice());
-    assert!(rt; are_alike(alloc, &raw, &raw)?);
-    assert!(rt; !are_alike(alloc, &raw, other)?);
-    Ok(())
+    let is_encoded = is_encoded_again(alloc, &raw, frame.as_slice())?;
+    expect("the frame, encoded again", is_encoded)?;
+    expect("the frame and itself", are_alike(alloc, &raw, &raw)?)?;
+    expect("the frame and the other", !are_alike(alloc, &raw, other)?)
+}
+
+fn read_deep(alloc: Global, kind: u8) -> Result<RawMessage, Fail> {
+    frame_of(alloc, deep_frame(alloc, kind)?)
 }
 
 #[test]
 fn nests_deeply(rt: HostRuntime) -> Result<(), Fail> {
-    let alloc = rt.alloc();
-    let other = frame_of(alloc, deep_frame(alloc, 3)?)?;
-    assert_read(&rt, alloc, &deep_frame(alloc, 4)?, &other)
+    let frame = deep_frame(rt.alloc(), 4)?;
+    let other = read_deep(rt.alloc(), 3)?;
+    expect_read(rt.alloc(), &frame, &other)
 }
 
-/// The body is a future of one node a level, and the same whenever it is read.
-fn assert_deep(rt: &impl Abort, alloc: Global, body: &Bytes) -> Result<(), Fail> {
-    let future = whole::<Future>(alloc, body)?;
-    assert_eq!(rt; future.nodes().len(), DEPTH);
-    assert!(rt; is_same(&future, &whole::<Future>(alloc, body)?));
-    Ok(())
+fn future_of(alloc: Global, body: &Bytes) -> Result<Future, Fault> {
+    whole::<Future>(alloc, body)
+}
+
+fn is_read_again(alloc: Global, body: &Bytes, future: &Future) -> Result<bool, Fault> {
+    let again = future_of(alloc, body)?;
+    Ok(is_same(future, &again))
+}
+
+/// Whether the body is a future of one node a level, and the same whenever it is read.
+fn is_deep(alloc: Global, body: &Bytes) -> Result<bool, Fault> {
+    let future = future_of(alloc, body)?;
+    let is_same = is_read_again(alloc, body, &future);
+    let has_each_level = future.nodes().len() == DEPTH;
+    drop(future);
+    Ok(has_each_level && is_same?)
+}
+
+/// Cuts the body off within its last node, which leaves no future.
+fn is_refused_when_cut(alloc: Global, body: &mut Bytes) -> bool {
+    let least = body.len().min(33);
+    body.truncate(body.len() - least);
+    matches!(future_of(alloc, body), Err(Fault::Malformed))
 }
 
 #[test]
 fn refuses_a_deep_future_that_is_cut_off(rt: HostRuntime) -> Result<(), Fail> {
     let alloc = rt.alloc();
     let mut body = deep_body(alloc, 4)?;
-    assert_deep(&rt, alloc, &body)?;
-    let least = body.len().min(33);
-    body.truncate(body.len() - least);
-    assert!(rt; matches!(whole::<Future>(alloc, &body), Err(Fault::Malformed)));
-    Ok(())
+    let is_deep = is_deep(alloc, &body);
+    let is_refused = is_refused_when_cut(alloc, &mut body);
+    drop(body);
+    expect("a deep future", is_deep?)?;
+    expect("a deep future that is cut off", is_refused)
 }
 
 /// A node in which so many futures nest.
@@ -267,24 +273,21 @@ fn is_future(alloc: Global, nested: &[u64]) -> Result<bool, AllocError> {
     Ok(Future::from_nodes(nodes).is_some())
 }
 
-#[test]
-fn takes_whole_futures(rt: HostRuntime) -> Result<(), Fail> {
-    let alloc = rt.alloc();
-    let rows: [(&[u64], bool); 6] = [
-        (&[0], true),
-        (&[2, 1, 0, 0], true),
-        // no node
-        (&[], false),
-        // a nested one is missing
-        (&[1], false),
-        // one is left over
-        (&[0, 0], false),
-        // more than there can be
-        (&[u64::MAX, u64::MAX], false),
-    ];
-    for (nested, is) in rows {
-        assert_eq!(rt; is_future(alloc, nested)?, is, "{nested:?}");
-    }
+static NESTINGS: [(&[u64], bool, &str); 6] = [
+    (&[0], true, "one node"),
+    (
+        &[2, 1, 0, 0],
+        true,
+        "two nested futures, one of them around another",
+    ),
+    (&[], false, "no node"),
+    (&[1], false, "a nested one is missing"),
+    (&[0, 0], false, "one is left over"),
+    (&[u64::MAX, u64::MAX], false, "more than there can be"),
+];
+
+/// How many nodes a future has that waits for nothing.
+fn nodes_of_one(alloc: Global) -> Result<usize, AllocError> {
     let one = Future::waiting(
         alloc,
         FutureKind::Unknown,
@@ -292,24 +295,37 @@ fn takes_whole_futures(rt: HostRuntime) -> Result<(), Fail> {
         Items::new(alloc),
         Items::new(alloc),
     )?;
-    assert_eq!(rt; one.nodes().len(), 1);
-    Ok(())
+    Ok(one.nodes().len())
 }
 
-/// The first frame of these pieces.
-fn next_of(decoder: &mut Decoder, pieces: &[&'static [u8]]) -> Result<RawMessage, Fail> {
-    for piece in pieces {
-        decoder.push(Bytes::from_static(piece))?;
+#[test]
+fn takes_whole_futures(rt: HostRuntime) -> Result<(), Fail> {
+    for (nested, is, what) in &NESTINGS {
+        expect(what, is_future(rt.alloc(), nested)? == *is)?;
     }
-    Ok(decoder.next_frame()?.ok_or("a part of a frame")?)
+    expect("a future of its own", nodes_of_one(rt.alloc())? == 1)
+}
+
+fn are_same(a: &Option<RawMessage>, b: &Option<RawMessage>) -> bool {
+    match (a, b) {
+        (Some(a), Some(b)) => a.ty == b.ty && a.body == b.body,
+        _ => false,
+    }
+}
+
+/// Whether the frame behind what was let go of is the same as that before it.
+fn is_let_go(decoder: &mut Decoder) -> Result<bool, Fault> {
+    decoder.push(Bytes::from_static(NAP))?;
+    let first = first_frame(decoder, Bytes::from_static(b"\0"))?;
+    decoder.clear();
+    let next = first_frame(decoder, Bytes::from_static(NAP))?;
+    Ok(are_same(&first, &next))
 }
 
 #[test]
 fn lets_go_of_what_waits(rt: HostRuntime) -> Result<(), Fail> {
     let mut decoder = Decoder::new(rt.alloc());
-    let raw = next_of(&mut decoder, &[NAP, b"\0"])?;
-    decoder.clear();
-    let next = next_of(&mut decoder, &[NAP])?;
-    assert!(rt; next.ty == raw.ty && next.body == raw.body);
-    Ok(())
+    let is_let_go = is_let_go(&mut decoder);
+    drop(decoder);
+    expect("a byte that waits", is_let_go?)
 }

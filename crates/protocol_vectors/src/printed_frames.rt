@@ -1,118 +1,138 @@
 // The rows as lines and as frames, and whole runs of the program.
-use crate::frame_rows::{BAD, FRAMES, OTHER_FORMS, parts_of};
+use crate::deep_frames::deep_frame;
+use crate::frame_rows::{bad_lines, expect, frame_rows, parts_of, rows_in_other_forms};
+use crate::reading::whole_in;
 use bytes::Bytes;
 use frame_lines::entry::{frame_of, print_frame};
 use frame_lines::exit_status::ExitStatus;
 use frame_lines::run::{Unread, decode, encode, frames_of};
-use journal_streams::Decoder;
+use journal_messages::RawMessage;
 use lines::line::Line;
-use std::alloc::Global;
+use std::alloc::{AllocError, Global};
 use std::io::{self, Read, Write};
-use std::process::Abort;
 use std::test::Fail;
 use wire::Fault;
 
-/// A frame as a line.
-fn line_of(alloc: Global, frame: Bytes) -> Result<Line, Fail> {
-    let mut decoder = Decoder::new(alloc);
-    decoder.push(frame)?;
-    let raw = decoder.next_frame()?.ok_or("no whole frame")?;
+fn printed(alloc: Global, raw: &RawMessage) -> Result<Line, AllocError> {
     let mut line = Line::new(alloc);
-    print_frame(alloc, &raw, &mut line)?;
+    print_frame(alloc, raw, &mut line)?;
     Ok(line)
 }
 
-/// The frame of each row is printed as its line.
-fn assert_printed(rt: &impl Abort, alloc: Global, rows: &str) -> Result<(), Fail> {
+/// A frame as a line.
+fn line_of(alloc: Global, frame: Bytes) -> Result<Line, Fail> {
+    let raw = whole_in(alloc, frame)?;
+    let line = printed(alloc, &raw);
+    drop(raw);
+    Ok(line?)
+}
+
+fn is_printed_as(alloc: Global, frame: &[u8], line: &str) -> Result<bool, Fail> {
+    let found = line_of(alloc, Bytes::copy_from_slice(alloc, frame)?)?;
+    Ok(found.as_str() == line)
+}
+
+/// Whether the frame of a row is printed as its line.
+fn is_printed(alloc: Global, row: &str) -> Result<bool, Fail> {
+    let (line, frame) = parts_of(alloc, row)?;
+    is_printed_as(alloc, frame.as_slice(), line)
+}
+
+fn expect_printed(alloc: Global, rows: &str) -> Result<(), Fail> {
     for row in rows.lines() {
-        let (line, frame) = parts_of(alloc, row)?;
-        assert_eq!(rt; line_of(alloc, Bytes::from_vec(frame)?)?.as_str(), line);
+        expect(row, is_printed(alloc, row)?)?;
     }
     Ok(())
 }
 
 #[test]
 fn frames_as_lines(rt: HostRuntime) -> Result<(), Fail> {
-    for rows in &FRAMES {
-        assert_printed(&rt, rt.alloc(), rows)?;
+    for rows in &frame_rows() {
+        expect_printed(rt.alloc(), rows)?;
     }
     Ok(())
 }
 
-/// The line of each row shows its bytes.
-fn assert_shown(rt: &impl Abort, alloc: Global, rows: &str) -> Result<(), Fail> {
+fn shows(alloc: Global, line: &str, bytes: &[u8]) -> bool {
+    match frames_of(alloc, line.as_bytes()) {
+        Ok(frames) => frames.as_slice() == bytes,
+        Err(_) => false,
+    }
+}
+
+/// Whether the line of a row shows its bytes.
+fn is_shown(alloc: Global, row: &str) -> Result<bool, Fail> {
+    let (line, bytes) = parts_of(alloc, row)?;
+    let shows = shows(alloc, line, bytes.as_slice());
+    drop(bytes);
+    Ok(shows)
+}
+
+fn expect_shown(alloc: Global, rows: &str) -> Result<(), Fail> {
     for row in rows.lines() {
-        let (line, bytes) = parts_of(alloc, row)?;
-        assert_eq!(rt;
-            frames_of(alloc, line.as_bytes())?.as_slice(),
-            bytes.as_slice(),
-            "{line}"
-        );
+        expect(row, is_shown(alloc, row)?)?;
     }
     Ok(())
 }
 
 #[test]
 fn lines_as_frames(rt: HostRuntime) -> Result<(), Fail> {
-    for rows in &FRAMES {
-        assert_shown(&rt, rt.alloc(), rows)?;
+    for rows in &frame_rows() {
+        expect_shown(rt.alloc(), rows)?;
     }
     Ok(())
 }
 
 #[test]
 fn lines_in_other_forms(rt: HostRuntime) -> Result<(), Fail> {
-    assert_shown(&rt, rt.alloc(), OTHER_FORMS)
+    expect_shown(rt.alloc(), rows_in_other_forms())
+}
+
+fn is_meaningless(alloc: Global, line: &str) -> bool {
+    matches!(frame_of(alloc, line.as_bytes()), Err(Fault::Malformed))
+}
+
+/// The number of the first line that has no meaning.
+fn blamed_line(alloc: Global, text: &[u8]) -> Option<u64> {
+    match frames_of(alloc, text) {
+        Err(Unread::Line(number)) => Some(number),
+        _ => None,
+    }
 }
 
 #[test]
 fn lines_without_a_meaning(rt: HostRuntime) -> Result<(), Fail> {
-    let alloc = rt.alloc();
-    for line in BAD.lines() {
-        assert_eq!(rt;
-            frame_of(alloc, line.as_bytes()).err(),
-            Some(Fault::Malformed),
-            "{line}"
-        );
+    for line in bad_lines().lines() {
+        expect(line, is_meaningless(rt.alloc(), line))?;
     }
-    assert_eq!(rt;
-        frames_of(alloc, b"End\n\n# no\nend\nEnd\n"),
-        Err(Unread::Line(4))
-    );
-    Ok(())
+    let blamed = blamed_line(rt.alloc(), b"End\n\n# no\nend\nEnd\n");
+    expect("the fourth line is blamed", blamed == Some(4))
 }
 
-/// The frame of a suspension on a future that nests so deep.
-fn deep_frame(alloc: Global, depth: u64) -> Result<Bytes, Fail> {
-    let mut body = Vec::new(alloc);
-    for i in 0..depth {
-        body.extend_from_slice(&[4])?;
-        body.extend_from_slice(&[0; 24])?;
-        body.extend_from_slice(&u64::from(i + 1 < depth).to_be_bytes())?;
-    }
-    let mut frame = Vec::new(alloc);
-    frame.extend_from_slice(&[0, 2])?;
-    frame.extend_from_slice(&(body.len() as u64).to_be_bytes())?;
-    frame.extend_from_slice(body.as_slice())?;
-    Ok(Bytes::from_vec(frame)?)
+/// Whether the line is as long as that of the deep frame, and shows the frame.
+fn shows_deep(alloc: Global, line: &str, frame: &[u8]) -> Result<bool, Fault> {
+    let levels = "(kind=Unknown nested=[])".len() * 99_999;
+    let again = frame_of(alloc, line.as_bytes())?;
+    let is_long = line.len() == "Suspension future=(kind=Unknown)".len() + levels;
+    Ok(is_long && again.as_slice() == frame)
+}
+
+fn is_deep_printed(alloc: Global, frame: &Bytes) -> Result<bool, Fail> {
+    let line = line_of(alloc, frame.clone()?)?;
+    let shows = shows_deep(alloc, line.as_str(), frame.as_slice());
+    drop(line);
+    Ok(shows?)
 }
 
 #[test]
 fn deep_futures(rt: HostRuntime) -> Result<(), Fail> {
     let alloc = rt.alloc();
-    let frame = deep_frame(alloc, 100_000)?;
-    let line = line_of(alloc, frame.clone()?)?;
-    let levels = "(kind=Unknown nested=[])".len() * 99_999;
-    assert_eq!(rt;
-        line.as_str().len(),
-        "Suspension future=(kind=Unknown)".len() + levels
-    );
-    assert!(rt; frame_of(alloc, line.as_str().as_bytes())?.as_slice() == frame.as_slice());
-    Ok(())
+    let frame = deep_frame(alloc, 4)?;
+    expect("a deep frame", is_deep_printed(alloc, &frame)?)
 }
 
 /// A reader and a writer that fail after some bytes.
-#[derive(Debug, Drop)]
+#[derive(Drop)]
 struct Failing {
     left: usize,
 }
@@ -142,39 +162,57 @@ impl Write for Failing {
     }
 }
 
-#[test]
-fn whole_runs(rt: HostRuntime) -> Result<(), Fail> {
-    let alloc = rt.alloc();
-    let mut lines = Vec::new(alloc);
-    let frames = [0, 4, 0, 0, 0, 0, 0, 0, 0, 0, 0, 31];
-    assert_eq!(rt;
-        decode(alloc, &mut frames.as_slice(), &mut lines),
-        ExitStatus::Done
-    );
-    assert_eq!(rt; lines.as_slice(), b"End\nrest 0x001f\n".as_slice());
-    let mut again = Vec::new(alloc);
-    assert_eq!(rt;
-        encode(alloc, &mut lines.as_slice(), &mut again),
-        ExitStatus::Done
-    );
-    assert_eq!(rt; again.as_slice(), frames.as_slice());
-    Ok(())
+static RUN_FRAMES: [u8; 12] = [0, 4, 0, 0, 0, 0, 0, 0, 0, 0, 0, 31];
+
+const RUN_LINES: &str = "End\nrest 0x001f\n";
+
+/// Whether the frames are read to their end, and these lines written.
+fn is_decoded(alloc: Global, mut frames: &[u8], lines: &str) -> bool {
+    let mut written = Vec::new(alloc);
+    let end = decode(alloc, &mut frames, &mut written);
+    end == ExitStatus::Done && written.as_slice() == lines.as_bytes()
+}
+
+/// Whether the lines are read to their end, and these frames written.
+fn is_encoded(alloc: Global, mut lines: &[u8], frames: &[u8]) -> bool {
+    let mut written = Vec::new(alloc);
+    let end = encode(alloc, &mut lines, &mut written);
+    end == ExitStatus::Done && written.as_slice() == frames
 }
 
 #[test]
-fn failing_runs(rt: HostRuntime) -> Result<(), Fail> {
-    let alloc = rt.alloc();
-    let end = [0, 4, 0, 0, 0, 0, 0, 0, 0, 0];
+fn whole_runs(rt: HostRuntime) {
+    assert!(rt; is_decoded(rt.alloc(), &RUN_FRAMES, RUN_LINES));
+    assert!(rt; is_encoded(rt.alloc(), RUN_LINES.as_bytes(), &RUN_FRAMES));
+}
+
+/// How runs end whose reader fails after 12 bytes, and at once.
+fn failing_reads(alloc: Global, out: &mut Vec<u8>) -> [ExitStatus; 2] {
+    [
+        decode(alloc, &mut Failing { left: 12 }, out),
+        encode(alloc, &mut Failing { left: 0 }, out),
+    ]
+}
+
+/// How runs end whose writer fails after 3 bytes, and after 9.
+fn failing_writes(alloc: Global, mut frames: &[u8], mut lines: &[u8]) -> [ExitStatus; 2] {
+    [
+        decode(alloc, &mut frames, &mut Failing { left: 3 }),
+        encode(alloc, &mut lines, &mut Failing { left: 9 }),
+    ]
+}
+
+/// Whether lines without a meaning are blamed, and nothing is written, as by reads that fail.
+fn is_nothing_written(alloc: Global, mut lines: &[u8]) -> bool {
     let mut out = Vec::new(alloc);
-    let ends = [
-        decode(alloc, &mut Failing { left: 12 }, &mut out),
-        encode(alloc, &mut Failing { left: 0 }, &mut out),
-        decode(alloc, &mut end.as_slice(), &mut Failing { left: 3 }),
-        encode(alloc, &mut b"End".as_slice(), &mut Failing { left: 9 }),
-    ];
-    assert_eq!(rt; ends, [ExitStatus::Failed; 4]);
-    let end = encode(alloc, &mut b"Stop".as_slice(), &mut out);
-    assert_eq!(rt; end, ExitStatus::BadLine(1));
-    assert_eq!(rt; out.len(), 0);
-    Ok(())
+    let reads = failing_reads(alloc, &mut out);
+    let end = encode(alloc, &mut lines, &mut out);
+    reads == [ExitStatus::Failed; 2] && end == ExitStatus::BadLine(1) && out.is_empty()
+}
+
+#[test]
+fn failing_runs(rt: HostRuntime) {
+    let end = [0, 4, 0, 0, 0, 0, 0, 0, 0, 0];
+    assert!(rt; failing_writes(rt.alloc(), &end, b"End") == [ExitStatus::Failed; 2]);
+    assert!(rt; is_nothing_written(rt.alloc(), b"Stop"));
 }

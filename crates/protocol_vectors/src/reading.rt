@@ -1,0 +1,47 @@
+// Frames and messages, read and written: what several tests do, each with one thing that it lets go of.
+use crate::frame_rows::found;
+use bytes::Bytes;
+use journal_errors::Error;
+use journal_messages::{Encoder, Message, RawMessage};
+use journal_streams::Decoder;
+use std::alloc::Global;
+use std::test::Fail;
+use wire::Fault;
+
+/// Takes the next piece of a stream; the frame at the front, if it is whole.
+pub fn first_frame(decoder: &mut Decoder, stream: Bytes) -> Result<Option<RawMessage>, Fault> {
+    decoder.push(stream)?;
+    decoder.next_frame()
+}
+
+/// The first frame of a stream, if it is whole.
+pub fn frame_in(alloc: Global, stream: Bytes) -> Result<Option<RawMessage>, Fault> {
+    let mut decoder = Decoder::new(alloc);
+    let frame = first_frame(&mut decoder, stream);
+    drop(decoder);
+    frame
+}
+
+/// The first frame of a stream, which has to be whole.
+pub fn whole_in(alloc: Global, stream: Bytes) -> Result<RawMessage, Fail> {
+    found(frame_in(alloc, stream)?, "no whole frame")
+}
+
+fn first_sent(decoder: &mut Decoder, stream: Bytes) -> Result<Option<RawMessage>, Error> {
+    decoder.push(stream)?;
+    decoder.next()
+}
+
+/// As `frame_in`, by the decoder's `next`.
+pub fn sent_in(alloc: Global, stream: Bytes) -> Result<Option<RawMessage>, Error> {
+    let mut decoder = Decoder::new(alloc);
+    let frame = first_sent(&mut decoder, stream);
+    drop(decoder);
+    frame
+}
+
+/// The first of these messages, as a frame.
+pub fn encoded(alloc: Global, messages: &[Message]) -> Result<Bytes, Fault> {
+    let message = messages.first().ok_or(Fault::Malformed)?;
+    Ok(Encoder::new(alloc).encode(message)?)
+}
