@@ -4,6 +4,8 @@
 #[cfg(test)]
 mod delays;
 #[cfg(test)]
+mod found;
+#[cfg(test)]
 mod parts;
 #[cfg(test)]
 mod policies;

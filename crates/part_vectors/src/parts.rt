@@ -1,5 +1,7 @@
 // The small public types, where they are copied or shown. Conversions, names and defaults are in their contracts.
+use crate::trees::rows::{expect, texts_of};
 use runs::RunHandle;
+use std::alloc::{AllocError, Global};
 use std::test::Fail;
 use vm_parts::{
     CommandType, NonEmptyValue, NotificationHandle, TerminalFailure, UnresolvedFuture, Value,
@@ -29,12 +31,11 @@ fn failures_are_copied(rt: HostRuntime) -> Result<(), Fail> {
 #[test]
 fn future_is_shown_by_its_number(rt: HostRuntime) -> Result<(), Fail> {
     let future = UnresolvedFuture::from(NotificationHandle(17));
-    let shown = format!(in rt.alloc(); "{future:?}")?;
-    assert_eq!(rt; shown.as_str(), "17");
-    let copy = future.clone()?;
-    let shown = format!(in rt.alloc(); "{copy:?}")?;
-    assert_eq!(rt; shown.as_str(), "17");
-    Ok(())
+    let texts = texts_of(rt.alloc(), &future);
+    drop(future);
+    let (text, text_of_copy) = texts?;
+    expect("a future", text.as_str(), "17")?;
+    expect("its copy", text_of_copy.as_str(), "17")
 }
 
 static COMMANDS: [(CommandType, &str); 19] = [
@@ -59,11 +60,15 @@ static COMMANDS: [(CommandType, &str); 19] = [
     (CommandType::CancelInvocation, "cancel invocation"),
 ];
 
+fn has_text(alloc: Global, command: CommandType, text: &str) -> Result<bool, AllocError> {
+    let shown = command.to_string(alloc)?;
+    Ok(shown.as_str() == text)
+}
+
 #[test]
 fn commands_have_texts(rt: HostRuntime) -> Result<(), Fail> {
     for (command, text) in &COMMANDS {
-        let shown = command.to_string(rt.alloc())?;
-        assert_eq!(rt; shown.as_str(), *text);
+        assert!(rt; has_text(rt.alloc(), *command, text)?, "{text}");
     }
     Ok(())
 }
@@ -75,6 +80,6 @@ fn handles_of_runs_are_copied(rt: HostRuntime) -> Result<(), Fail> {
         handle: NotificationHandle(17),
     };
     let copy = handle.clone()?;
-    assert_eq!(rt; copy, handle);
+    assert!(rt; copy == handle);
     Ok(())
 }

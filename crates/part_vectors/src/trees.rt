@@ -8,7 +8,7 @@ mod deep_tries;
 mod deliveries;
 mod laws;
 mod notation;
-mod rows;
+pub mod rows;
 mod sent;
 mod shown;
 mod texts;

@@ -5,7 +5,9 @@ use crate::trees::shown::{
 };
 use await_trees::UnresolvedFuture;
 use await_tries::{Residue, Resolution, future_of, list_handles, try_future};
+use journal_values::NotificationResult;
 use line_parts::trees::tree_of_word;
+use lines::line::Line;
 use std::alloc::Global;
 use std::test::Fail;
 use vm_parts::{AsyncResults, NotificationHandle, SignalDelivery};
@@ -24,7 +26,7 @@ enum Again {
 struct Left {
     tree: String,
     handles: String,
-    future: String,
+    future: Line,
 }
 
 /// Where a row stands: the tree that was tried last, and what the try left, or none where it is awake.
@@ -40,7 +42,7 @@ struct Bench<'a> {
 }
 
 /// Fails unless the two are the same.
-fn expect(row: &str, found: &str, wanted: &str) -> Result<(), Fail> {
+pub fn expect(row: &str, found: &str, wanted: &str) -> Result<(), Fail> {
     if found == wanted {
         Ok(())
     } else {
@@ -48,8 +50,22 @@ fn expect(row: &str, found: &str, wanted: &str) -> Result<(), Fail> {
     }
 }
 
+fn expect_result(row: &str, found: Option<&NotificationResult>, wanted: &str) -> Result<(), Fail> {
+    expect(row, result_shown(found), wanted)
+}
+
+/// Whether so many that arrived weren't used, and no more; now they are used.
+fn were_unused(results: &mut AsyncResults, count: u32) -> bool {
+    for _ in 0..count {
+        if !results.use_one() {
+            return false;
+        }
+    }
+    !results.use_one()
+}
+
 /// Puts what arrives behind what waits.
-fn arrive(alloc: Global, results: &mut AsyncResults, words: &str) -> Result<(), Fail> {
+pub fn arrive(alloc: Global, results: &mut AsyncResults, words: &str) -> Result<(), Fail> {
     for word in words.split_whitespace() {
         results.enqueue(arrival(alloc, word)?)?;
     }
@@ -57,7 +73,7 @@ fn arrive(alloc: Global, results: &mut AsyncResults, words: &str) -> Result<(), 
 }
 
 /// The handles from 11 on stand for these ids.
-fn mapped(alloc: Global, ids: &str) -> Result<AsyncResults, Fail> {
+pub fn mapped(alloc: Global, ids: &str) -> Result<AsyncResults, Fail> {
     let mut results = AsyncResults::new(alloc)?;
     let mut last = 10u32;
     for word in ids.split_whitespace() {
@@ -69,12 +85,14 @@ fn mapped(alloc: Global, ids: &str) -> Result<AsyncResults, Fail> {
 
 /// The handle and the word of an argument.
 fn handle_and_word(argument: &str) -> Result<(NotificationHandle, &str), Fail> {
-    let (word, rest) = argument.split_once(" ").ok_or("no second word")?;
-    Ok((NotificationHandle(number(word)?), rest))
+    match argument.split_once(" ") {
+        Some((word, rest)) => Ok((NotificationHandle(number(word)?), rest)),
+        None => Err(Fail::from("no second word")),
+    }
 }
 
 /// Maps one more handle.
-fn map(alloc: Global, results: &mut AsyncResults, argument: &str) -> Result<(), Fail> {
+pub fn map(alloc: Global, results: &mut AsyncResults, argument: &str) -> Result<(), Fail> {
     let (handle, word) = handle_and_word(argument)?;
     Ok(results.map_handle(handle.0, id(alloc, word)?)?)
 }
@@ -101,7 +119,7 @@ fn tried(
 }
 
 /// The texts of a tree and of its copy.
-fn texts_of(alloc: Global, future: &UnresolvedFuture) -> Result<(String, String), Fail> {
+pub fn texts_of(alloc: Global, future: &UnresolvedFuture) -> Result<(String, String), Fail> {
     Ok((tree_shown(alloc, future)?, copy_shown(alloc, future)?))
 }
 
@@ -116,11 +134,15 @@ impl<'a> Bench<'a> {
 
     /// Tries the same tree, or what was left of it.
     fn ask_again(&mut self) -> Result<(), Fail> {
-        let left = self.left.take().ok_or("it is awake")?;
-        match self.again {
+        let Some(left) = self.left.take() else {
+            return Err(Fail::from("it is awake"));
+        };
+        let held = match self.again {
             Again::Same => self.ask(self.asked),
             Again::Rest => self.ask(left.tree.as_str()),
-        }
+        };
+        drop(left);
+        held
     }
 
     fn expect_left(&self, verb: &str, wanted: &str) -> Result<(), Fail> {
@@ -136,30 +158,29 @@ impl<'a> Bench<'a> {
     }
 
     fn expect_unused(&mut self, wanted: &str) -> Result<(), Fail> {
-        for _ in 0..number(wanted)? {
-            if !self.results.use_one() {
-                return Err(Fail::new(format_args!("{}: all were used", self.row)));
-            }
-        }
-        if self.results.use_one() {
-            return Err(Fail::new(format_args!("{}: more weren't used", self.row)));
-        }
-        Ok(())
+        let found = if were_unused(&mut self.results, number(wanted)?) {
+            wanted
+        } else {
+            "more or fewer"
+        };
+        expect(self.row, found, wanted)
     }
 
     fn copy(&self, argument: &str) -> Result<(), Fail> {
         let (handle, wanted) = handle_and_word(argument)?;
-        let found = self.results.present(self.delivery, handle.0);
-        let text = result_shown(self.alloc, found)?;
-        expect(self.row, text.as_str(), wanted)
+        expect_result(
+            self.row,
+            self.results.present(self.delivery, handle.0),
+            wanted,
+        )
     }
 
     fn take(&mut self, argument: &str) -> Result<(), Fail> {
         let (handle, wanted) = handle_and_word(argument)?;
         let found = self.results.take(self.delivery, handle);
-        let text = result_shown(self.alloc, found.as_ref());
+        let held = expect_result(self.row, found.as_ref(), wanted);
         drop(found);
-        expect(self.row, text?.as_str(), wanted)
+        held
     }
 
     fn text(&self, wanted: &str) -> Result<(), Fail> {

@@ -1,12 +1,13 @@
 //! What rows expect, as it is written: what is left of a tree, its handles, and the future that is sent of it.
-use await_trees::{Label, UnresolvedFuture};
+use crate::found::found;
+use await_trees::{Label, Node, UnresolvedFuture};
 use await_tries::Residue;
 use frame_lines::value::Value;
 use journal_attempt::Future;
 use journal_values::NotificationResult;
 use line_parts::trees::name_of_kind;
 use lines::line::Line;
-use std::alloc::Global;
+use std::alloc::{AllocError, Global};
 use std::fmt::Write;
 use std::test::Fail;
 
@@ -21,24 +22,23 @@ enum Piece {
     End,
 }
 
-/// Puts the children in a range onto the stack, the first on top, with commas between them.
-fn push_children(
-    left: &Residue,
-    pieces: &mut Vec<Piece>,
-    first: usize,
-    count: usize,
-) -> Result<(), Fail> {
-    for place in (0..count).rev() {
-        let kid = left
-            .kids()
-            .get(first.wrapping_add(place))
-            .ok_or("no such child")?;
-        pieces.push(Piece::Node(*kid))?;
-        if place > 0 {
+/// Puts children onto the stack, the first on top, with commas between them.
+fn push_children(pieces: &mut Vec<Piece>, kids: &[usize]) -> Result<(), AllocError> {
+    let mut is_last = true;
+    for kid in kids.iter().rev() {
+        if !is_last {
             pieces.push(Piece::Comma)?;
         }
+        pieces.push(Piece::Node(*kid))?;
+        is_last = false;
     }
     Ok(())
+}
+
+/// The numbers of a node's children.
+fn kids_of<'a>(left: &'a Residue, node: &Node) -> Result<&'a [usize], Fail> {
+    let end = node.first.wrapping_add(node.count);
+    found(left.kids().get(node.first..end), "no such children")
 }
 
 fn show_node(
@@ -47,13 +47,13 @@ fn show_node(
     pieces: &mut Vec<Piece>,
     number: usize,
 ) -> Result<(), Fail> {
-    let node = left.nodes().get(number).ok_or("no such node")?;
+    let node = found(left.nodes().get(number), "no such node")?;
     match node.label {
         Label::Leaf(handle) => Ok(write!(text, "{handle}")?),
         Label::Inner(kind) => {
             write!(text, "{}(", name_of_kind(kind))?;
             pieces.push(Piece::End)?;
-            push_children(left, pieces, node.first, node.count)
+            Ok(push_children(pieces, kids_of(left, node)?)?)
         }
     }
 }
@@ -75,23 +75,29 @@ pub fn left_shown(alloc: Global, left: &Residue) -> Result<String, Fail> {
 }
 
 /// What is sent, as frames are shown.
-pub fn future_shown(alloc: Global, mut future: Future) -> Result<String, Fail> {
+pub fn future_shown(alloc: Global, mut future: Future) -> Result<Line, AllocError> {
     let mut line = Line::new(alloc);
     future.print(&mut line)?;
-    Ok(String::from_str(alloc, line.as_str())?)
+    Ok(line)
 }
 
 /// A result as a row says it: `none`, `void`, `failure`, or the text of a value.
-pub fn result_shown(alloc: Global, found: Option<&NotificationResult>) -> Result<String, Fail> {
-    let text = match found {
+pub fn result_shown(found: Option<&NotificationResult>) -> &str {
+    match found {
         None => "none",
         Some(NotificationResult::Void) => "void",
         Some(NotificationResult::Failure(_)) => "failure",
-        Some(NotificationResult::Value(bytes)) => str::from_utf8(bytes.as_slice())?,
+        Some(NotificationResult::Value(bytes)) => text_of(bytes.as_slice()),
         Some(NotificationResult::StateKeys(_)) => "keys",
         Some(NotificationResult::InvocationId(_)) => "invocation",
-    };
-    Ok(String::from_str(alloc, text)?)
+    }
+}
+
+fn text_of(bytes: &[u8]) -> &str {
+    match str::from_utf8(bytes) {
+        Ok(text) => text,
+        Err(_) => "no text",
+    }
 }
 
 /// Handles with blanks between them.
