@@ -127,30 +127,25 @@ fn first_lines_without_a_meaning_stop_the_program(rt: HostRuntime) -> Result<(),
     Ok(())
 }
 
+/// Scripts, and the number of the first line of each that has no meaning.
+static FIRST_LINES: [(&[u8], u64); 7] = [
+    (b"world\nworld\n", 2),
+    (b"round\nworld\n", 2),
+    (b"\n\nstep\nround\n", 3),
+    (b"round\nstep\n\n#\nno\nno", 5),
+    (
+        b"round\narrive Notification id=completion(1) result=void\nno",
+        3,
+    ),
+    (b"round\nworld input=\"\xff\"\n", 2),
+    (b"round\n# \xff\n", 2),
+];
+
 #[test]
 fn first_line_without_a_meaning_is_told(rt: HostRuntime) {
-    let rows: [(&[u8], u64); 7] = [
-        (b"world\nworld\n", 2),
-        (b"round\nworld\n", 2),
-        (b"\n\nstep\nround\n", 3),
-        (b"round\nstep\n\n#\nno\nno", 5),
-        (
-            b"round\narrive Notification id=completion(1) result=void\nno",
-            3,
-        ),
-        (b"round\nworld input=\"\xff\"\n", 2),
-        (b"round\n# \xff\n", 2),
-    ];
-    for (script, line) in rows {
-        assert_run(
-            &rt,
-            rt.alloc(),
-            V7,
-            "sleeper",
-            script,
-            Told::NoMeaning(line),
-            "",
-        );
+    for (script, line) in &FIRST_LINES {
+        let wanted = Told::NoMeaning(*line);
+        assert_run(&rt, rt.alloc(), V7, "sleeper", *script, wanted, "");
     }
 }
 

@@ -18,34 +18,47 @@ Input value="a"
 Sleep wake_up_time=1000 result_completion_id=1
 "#;
 
+/// Arguments, and how they are refused.
+static ARGUMENTS: [(&str, &str, Told); 6] = [
+    (V7, "", Told::UnknownHandler),
+    (V7, "Sleeper", Told::UnknownHandler),
+    ("text/plain", "sleeper ", Told::UnknownHandler),
+    ("text/plain", "sleeper", Told::UnknownContentType),
+    ("", "counter", Told::UnknownContentType),
+    (
+        "application/vnd.restate.invocation.v9",
+        "counter",
+        Told::UnknownContentType,
+    ),
+];
+
+/// With these arguments nothing is read and nothing is written.
+fn assert_untouched(
+    rt: &impl Abort,
+    alloc: Global,
+    content_type: &str,
+    handler: &str,
+    wanted: Told,
+) {
+    let mut reader = Plain(Cursor::new(SCRIPT));
+    let mut writer = Plain(Vec::new(alloc));
+    assert_ends(
+        rt,
+        alloc,
+        content_type,
+        handler,
+        &mut reader,
+        &mut writer,
+        wanted,
+    );
+    assert_eq!(rt; reader.0.position(), 0);
+    assert!(rt; writer.0.is_empty());
+}
+
 #[test]
 fn refused_arguments_read_and_write_nothing(rt: HostRuntime) {
-    let rows = [
-        (V7, "", Told::UnknownHandler),
-        (V7, "Sleeper", Told::UnknownHandler),
-        ("text/plain", "sleeper ", Told::UnknownHandler),
-        ("text/plain", "sleeper", Told::UnknownContentType),
-        ("", "counter", Told::UnknownContentType),
-        (
-            "application/vnd.restate.invocation.v9",
-            "counter",
-            Told::UnknownContentType,
-        ),
-    ];
-    for (content_type, handler, wanted) in rows {
-        let mut reader = Plain(Cursor::new(SCRIPT));
-        let mut writer = Plain(Vec::new(rt.alloc()));
-        assert_ends(
-            &rt,
-            rt.alloc(),
-            content_type,
-            handler,
-            &mut reader,
-            &mut writer,
-            wanted,
-        );
-        assert_eq!(rt; reader.0.position(), 0);
-        assert!(rt; writer.0.is_empty());
+    for (content_type, handler, wanted) in &ARGUMENTS {
+        assert_untouched(&rt, rt.alloc(), *content_type, *handler, *wanted);
     }
 }
 
@@ -65,25 +78,22 @@ impl Read for Breaking<'_> {
     }
 }
 
+/// A read that fails behind this beginning of the script writes nothing.
+fn assert_broken(rt: &impl Abort, alloc: Global, front: &[u8]) {
+    let mut reader = Plain(Breaking {
+        front: Cursor::new(front),
+    });
+    let mut writer = Plain(Vec::new(alloc));
+    let wanted = Told::ReadFailed;
+    assert_ends(rt, alloc, V7, "sleeper", &mut reader, &mut writer, wanted);
+    assert!(rt; writer.0.is_empty());
+}
+
 #[test]
 fn failed_reads_write_nothing(rt: HostRuntime) -> Result<(), Fail> {
     for place in 0..=SCRIPT.len() {
         let front = SCRIPT.get(..place).ok_or("no such place")?;
-        let mut reader = Plain(Breaking {
-            front: Cursor::new(front),
-        });
-        let mut writer = Plain(Vec::new(rt.alloc()));
-        let wanted = Told::ReadFailed;
-        assert_ends(
-            &rt,
-            rt.alloc(),
-            V7,
-            "sleeper",
-            &mut reader,
-            &mut writer,
-            wanted,
-        );
-        assert!(rt; writer.0.is_empty());
+        assert_broken(&rt, rt.alloc(), front);
     }
     Ok(())
 }
@@ -116,31 +126,25 @@ impl Write for Pipe {
     }
 }
 
-/// A run into a pipe with so much room ends so, and a beginning of the report is in it.
-fn assert_piped(
-    rt: &impl Abort,
-    alloc: Global,
-    room: usize,
-    is_flushed: bool,
-    wanted: Told,
-) -> Result<(), Fail> {
+/// A run into a pipe with room for this beginning of the report ends so, and leaves it there.
+fn assert_piped(rt: &impl Abort, alloc: Global, front: &str, is_flushed: bool, wanted: Told) {
     let mut writer = Plain(Pipe {
         taken: Vec::new(alloc),
-        room,
+        room: front.len(),
         is_flushed,
     });
     let mut reader = Plain(Cursor::new(SCRIPT));
     assert_ends(rt, alloc, V7, "sleeper", &mut reader, &mut writer, wanted);
-    let front = REPORT.as_bytes().get(..room).ok_or("no such place")?;
-    assert!(rt; writer.0.taken.as_slice() == front);
-    Ok(())
+    assert!(rt; writer.0.taken.as_slice() == front.as_bytes());
 }
 
 #[test]
 fn failed_writes_leave_a_beginning(rt: HostRuntime) -> Result<(), Fail> {
     for room in 0..REPORT.len() {
-        assert_piped(&rt, rt.alloc(), room, true, Told::WriteFailed)?;
+        let front = REPORT.get(..room).ok_or("no such place")?;
+        assert_piped(&rt, rt.alloc(), front, true, Told::WriteFailed);
     }
-    assert_piped(&rt, rt.alloc(), REPORT.len(), false, Told::WriteFailed)?;
-    assert_piped(&rt, rt.alloc(), REPORT.len(), true, Told::Reported)
+    assert_piped(&rt, rt.alloc(), REPORT, false, Told::WriteFailed);
+    assert_piped(&rt, rt.alloc(), REPORT, true, Told::Reported);
+    Ok(())
 }
