@@ -1,5 +1,5 @@
 -- Brackets that name no command.
-use Rattle.std.proofs.Common.{◌≡◌, ◌≢◌, ◌<◌, ℕ, List, [], ◌∷◌, None, find, length, get_or, subst, ◌∙◌, arith, nat_eq}
+use Rattle.std.proofs.Common.{◌≡◌, ◌≢◌, ◌<◌, ℕ, List, [], ◌∷◌, None, find, length, drop, get_or, ap, sym, subst, ◌∙◌, arith, nat_eq, Option}
 use Rattle.std.specs.Borrow.{Bor}
 use Rattle.std.specs.Cmp.Lexicographic.{pointwise}
 use Rattle.wire.specs.declared.fault.Fault.{Fault}
@@ -7,10 +7,12 @@ use Rattle.vm_types.specs.declared.command_type.CommandType.{CommandType}
 use Rattle.vm_types.specs.declared.command_type.CommandType.TheVariants as command
 use Rattle.lines.specs.Pieces.{AreWordsWithin}
 use Rattle.lines.specs.Readings.{Blames}
+use Rattle.lines.proofs.Once.{words_within_once}
 use Rattle.line_parts.specs.Reports.{IsCommand, IsCommandAt, IsCommandName, IsType, type_name}
-use Rattle.line_parts.specs.Words.{IsNumberOf}
+use Rattle.line_parts.specs.Words.{IsNumberOf, text_at}
 use Rattle.line_parts.proofs.Finding.{none_named}
-use Rattle.line_parts.proofs.Pairs.{within_at, within_length}
+use Rattle.line_parts.proofs.Pairs.{same_at, same_length}
+use Rattle.line_parts.proofs.Places.{word_at}
 
 -- the types of commands
 abbrev pub types : List CommandType
@@ -45,39 +47,57 @@ no_type text fault none = record { nothing = λ bad ty is. go ty is }
     go command.CompleteAwakeable is = at 17 (omega arith) is
     go command.CancelInvocation is = at 18 (omega arith) is
 
+-- the words are a type and a name
+abbrev pub AreTypeAndName : List (Bor (List ℕ)) → CommandType × Option (List ℕ) → Type 0
+AreTypeAndName words command = (length words ≡ 2) × IsType (text_at 0 words) command.0 × IsCommandName (text_at 1 words) command.1
+
+pub count_blamed : (words : List (Bor (List ℕ))) (fault : Fault) → length words ≢ 2 → Blames (AreTypeAndName words) fault
+count_blamed words fault other = record { nothing = λ bad command are. other are.0 }
+
+pub type_blamed : (words : List (Bor (List ℕ))) (d : Bor (List ℕ)) (fault : Fault) → length words ≡ 2 → Blames (IsType (get_or words 0 d).now) fault → Blames (AreTypeAndName words) fault
+type_blamed words d fault two blames = record {
+  nothing = λ bad command are. blames.nothing bad command.0 (subst (λ t. IsType t command.0) (sym (word_at words 0 d (omega arith))) are.1);
+}
+
+pub name_blamed : (words : List (Bor (List ℕ))) (d : Bor (List ℕ)) (fault : Fault) → length words ≡ 2 → Blames (IsCommandName (get_or words 1 d).now) fault → Blames (AreTypeAndName words) fault
+name_blamed words d fault two blames = record {
+  nothing = λ bad command are. blames.nothing bad command.1 (subst (λ t. IsCommandName t command.1) (sym (word_at words 1 d (omega arith))) are.2);
+}
+
 pub unbracketed_blamed : (text : List ℕ) (fault : Fault) → Blames (AreWordsWithin 40 41 text) fault → Blames (IsCommand text) fault
 unbracketed_blamed text fault blames = record { nothing = λ bad command is. blames.nothing bad is.words is.are_words }
 
-pub count_blamed : (text : List ℕ) (ws : List (Bor (List ℕ))) (fault : Fault) → AreWordsWithin 40 41 text ws → length ws ≢ 2 → Blames (IsCommand text) fault
-count_blamed text ws fault are other = record { nothing = λ bad command is. other (within_length 40 41 text ws is.words are is.are_words ∙ is.two) }
-
-pub type_blamed : (text : List ℕ) (ws : List (Bor (List ℕ))) (d : Bor (List ℕ)) (fault : Fault) → AreWordsWithin 40 41 text ws → length ws ≡ 2 → Blames (IsType (get_or ws 0 d).now) fault → Blames (IsCommand text) fault
-type_blamed text ws d fault are two blames = record {
-  nothing = λ bad command is. blames.nothing bad command.0 (subst (λ t. IsType t command.0) (within_at 0 40 41 text ws is.words d (omega arith) are is.are_words) is.is_type);
-}
-
-pub name_blamed : (text : List ℕ) (ws : List (Bor (List ℕ))) (d : Bor (List ℕ)) (fault : Fault) → AreWordsWithin 40 41 text ws → length ws ≡ 2 → Blames (IsCommandName (get_or ws 1 d).now) fault → Blames (IsCommand text) fault
-name_blamed text ws d fault are two blames = record {
-  nothing = λ bad command is. blames.nothing bad command.1 (subst (λ t. IsCommandName t command.1) (within_at 1 40 41 text ws is.words d (omega arith) are is.are_words) is.is_name);
+pub words_blamed : (text : List ℕ) (ws : List (Bor (List ℕ))) (fault : Fault) → AreWordsWithin 40 41 text ws → Blames (AreTypeAndName ws) fault → Blames (IsCommand text) fault
+words_blamed text ws fault are blames = record {
+  nothing = λ bad command is.
+      let all = words_within_once 40 41 text ws is.words are is.are_words in
+      blames.nothing bad command (same_length ws is.words all ∙ is.two, subst (λ t. IsType t command.0) (sym (same_at 0 ws is.words all)) is.is_type, subst (λ t. IsCommandName t command.1) (sym (same_at 1 ws is.words all)) is.is_name);
 }
 
 pub at_unbracketed_blamed : (text : List ℕ) (fault : Fault) → Blames (AreWordsWithin 40 41 text) fault → Blames (IsCommandAt text) fault
 at_unbracketed_blamed text fault blames = record { nothing = λ bad command is. blames.nothing bad is.words is.are_words }
 
-pub at_count_blamed : (text : List ℕ) (ws : List (Bor (List ℕ))) (fault : Fault) → AreWordsWithin 40 41 text ws → length ws ≢ 3 → Blames (IsCommandAt text) fault
-at_count_blamed text ws fault are other = record { nothing = λ bad command is. other (within_length 40 41 text ws is.words are is.are_words ∙ is.three) }
-
-pub at_index_blamed : (text : List ℕ) (ws : List (Bor (List ℕ))) (d : Bor (List ℕ)) (fault : Fault) → AreWordsWithin 40 41 text ws → length ws ≡ 3 → Blames (IsNumberOf 32 (get_or ws 0 d).now) fault → Blames (IsCommandAt text) fault
-at_index_blamed text ws d fault are three blames = record {
-  nothing = λ bad command is. blames.nothing bad command.0 (subst (λ t. IsNumberOf 32 t command.0) (within_at 0 40 41 text ws is.words d (omega arith) are is.are_words) is.is_index);
+pub at_index_blamed : (text : List ℕ) (ws : List (Bor (List ℕ))) (fault : Fault) → AreWordsWithin 40 41 text ws → Blames (IsNumberOf 32 (text_at 0 ws)) fault → Blames (IsCommandAt text) fault
+at_index_blamed text ws fault are blames = record {
+  nothing = λ bad command is. blames.nothing bad command.0 (subst (λ t. IsNumberOf 32 t command.0) (sym (same_at 0 ws is.words (words_within_once 40 41 text ws is.words are is.are_words))) is.is_index);
 }
 
-pub at_type_blamed : (text : List ℕ) (ws : List (Bor (List ℕ))) (d : Bor (List ℕ)) (fault : Fault) → AreWordsWithin 40 41 text ws → length ws ≡ 3 → Blames (IsType (get_or ws 1 d).now) fault → Blames (IsCommandAt text) fault
-at_type_blamed text ws d fault are three blames = record {
-  nothing = λ bad command is. blames.nothing bad command.1 (subst (λ t. IsType t command.1) (within_at 1 40 41 text ws is.words d (omega arith) are is.are_words) is.is_type);
+-- a type and a name behind an index
+behind_index : (words : List (Bor (List ℕ))) (ty : CommandType) (name : Option (List ℕ)) → length words ≡ 3 → IsType (text_at 1 words) ty → IsCommandName (text_at 2 words) name → AreTypeAndName (drop 1 words) (ty, name)
+behind_index [] ty name three is_type is_name = absurd (omega arith)
+behind_index (w ∷ words) ty name three is_type is_name = (omega arith, is_type, is_name)
+
+pub at_words_blamed : (text : List ℕ) (ws others : List (Bor (List ℕ))) (fault : Fault) → AreWordsWithin 40 41 text ws → others ≡ drop 1 ws → Blames (AreTypeAndName others) fault → Blames (IsCommandAt text) fault
+at_words_blamed text ws others fault are e blames = record {
+  nothing = λ bad command is.
+      let all = words_within_once 40 41 text ws is.words are is.are_words in
+      let behind = behind_index ws command.1 command.2 (same_length ws is.words all ∙ is.three) (subst (λ t. IsType t command.1) (sym (same_at 1 ws is.words all)) is.is_type) (subst (λ t. IsCommandName t command.2) (sym (same_at 2 ws is.words all)) is.is_name) in
+      blames.nothing bad (command.1, command.2) (subst (λ words. AreTypeAndName words (command.1, command.2)) (sym e) behind);
 }
 
-pub at_name_blamed : (text : List ℕ) (ws : List (Bor (List ℕ))) (d : Bor (List ℕ)) (fault : Fault) → AreWordsWithin 40 41 text ws → length ws ≡ 3 → Blames (IsCommandName (get_or ws 2 d).now) fault → Blames (IsCommandAt text) fault
-at_name_blamed text ws d fault are three blames = record {
-  nothing = λ bad command is. blames.nothing bad command.2 (subst (λ t. IsCommandName t command.2) (within_at 2 40 41 text ws is.words d (omega arith) are is.are_words) is.is_name);
-}
+pub command_at : (text : List ℕ) (ws others : List (Bor (List ℕ))) (index : ℕ) (ty : CommandType) (name : Option (List ℕ)) → AreWordsWithin 40 41 text ws → others ≡ drop 1 ws → IsNumberOf 32 (text_at 0 ws) index → AreTypeAndName others (ty, name) → IsCommandAt text (index, ty, name)
+command_at text [] others index ty name are e is_index is = let long = is.0 in let none = ap length e in absurd (omega arith)
+command_at text (w ∷ ws) others index ty name are e is_index is =
+    let those = subst (λ words. AreTypeAndName words (ty, name)) e is in
+    let long = those.0 in
+    record { words = w ∷ ws; are_words = are; three = omega arith; is_index = is_index; is_type = those.1; is_name = those.2 }

@@ -44,10 +44,8 @@ one_atom_blamed words d fault one blames = record {
 }
 
 -- nor a text
-pub one_text_blamed : (words : List (Bor (List ℕ))) (d : Bor (List ℕ)) (fault : Fault) → length words ≡ 1 → Blames (IsText (get_or words 0 d).now) fault → Blames (IsOneText words) fault
-one_text_blamed words d fault one blames = record {
-  nothing = λ bad bytes is. blames.nothing bad bytes (subst (λ t. IsText t bytes) (sym (word_at words 0 d (omega arith))) is.1);
-}
+pub one_text_blamed : (words : List (Bor (List ℕ))) (fault : Fault) → Blames (IsText (text_at 0 words)) fault → Blames (IsOneText words) fault
+one_text_blamed words fault blames = record { nothing = λ bad bytes is. blames.nothing bad bytes is.1 }
 
 -- what is so of each fault that came
 pub if_err_map : {A E : Type 0} (r : Result A E) (P Q : E → Type 0) → ((e : E) → P e → Q e) → IfErr r P → IfErr r Q
@@ -136,8 +134,11 @@ second_of_two words fault blames = record { nothing = λ bad two are. blames.not
 pub first_of_three : (words : List (Bor (List ℕ))) (fault : Fault) → Blames (IsText (text_at 0 words)) fault → Blames (AreThreeTexts words) fault
 first_of_three words fault blames = record { nothing = λ bad three are. blames.nothing bad three.0 are.0 }
 
-pub second_of_three : (words : List (Bor (List ℕ))) (fault : Fault) → Blames (IsText (text_at 1 words)) fault → Blames (AreThreeTexts words) fault
-second_of_three words fault blames = record { nothing = λ bad three are. blames.nothing bad three.1 are.1 }
-
-pub third_of_three : (words : List (Bor (List ℕ))) (fault : Fault) → Blames (IsText (text_at 2 words)) fault → Blames (AreThreeTexts words) fault
-third_of_three words fault blames = record { nothing = λ bad three are. blames.nothing bad three.2 are.2 }
+pub others_of_three : (words others : List (Bor (List ℕ))) (fault : Fault) → others ≡ drop 1 words → Blames (AreTwoTexts others) fault → Blames (AreThreeTexts words) fault
+others_of_three words others fault e blames = record {
+  nothing = λ bad three are. blames.nothing bad (three.1, three.2) (subst (λ ws. AreTwoTexts ws (three.1, three.2)) (sym e) (two_behind words three are));
+}
+  where
+    two_behind : (words : List (Bor (List ℕ))) (three : List ℕ × List ℕ × List ℕ) → AreThreeTexts words three → AreTwoTexts (drop 1 words) (three.1, three.2)
+    two_behind [] three are = (are.1, are.2)
+    two_behind (w ∷ words) three are = (are.1, are.2)

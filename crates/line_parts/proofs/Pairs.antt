@@ -11,17 +11,17 @@ use Rattle.journal_values.specs.declared.parts.Header.{Header}
 use Rattle.line_parts.specs.Fields.{text_behind, texts}
 use Rattle.line_parts.specs.Targets.{AreHeaders}
 use Rattle.line_parts.specs.Values.{ArePairs, IsPair}
-use Rattle.line_parts.specs.Words.{text_at}
+use Rattle.line_parts.specs.Words.{AreTwoTexts, text_at}
 use Rattle.line_parts.proofs.Places.{word_at}
 
 -- words that are the same as texts
-same_length : (ws vs : List (Bor (List ℕ))) → Same ws vs → length ws ≡ length vs
+pub same_length : (ws vs : List (Bor (List ℕ))) → Same ws vs → length ws ≡ length vs
 same_length [] [] all = refl
 same_length [] (v ∷ vs) all = absurd all
 same_length (w ∷ ws) [] all = absurd all
 same_length (w ∷ ws) (v ∷ vs) all = let more : length ws ≡ length vs = same_length ws vs all.1 in omega (arith, more)
 
-same_at : (i : ℕ) (ws vs : List (Bor (List ℕ))) → Same ws vs → text_at i ws ≡ text_at i vs
+pub same_at : (i : ℕ) (ws vs : List (Bor (List ℕ))) → Same ws vs → text_at i ws ≡ text_at i vs
 same_at i [] [] all = refl
 same_at i [] (v ∷ vs) all = absurd all
 same_at i (w ∷ ws) [] all = absurd all
@@ -44,14 +44,11 @@ unbraced_blamed text fault blames = record { nothing = λ bad pair is. blames.no
 pub count_blamed : (text : List ℕ) (ws : List (Bor (List ℕ))) (fault : Fault) → AreWordsWithin 123 125 text ws → length ws ≢ 2 → Blames (IsPair text) fault
 count_blamed text ws fault are other = record { nothing = λ bad pair is. other (within_length 123 125 text ws is.words are is.are_words ∙ is.two) }
 
-pub first_blamed : (text : List ℕ) (ws : List (Bor (List ℕ))) (d : Bor (List ℕ)) (fault : Fault) → AreWordsWithin 123 125 text ws → length ws ≡ 2 → Blames (IsText (get_or ws 0 d).now) fault → Blames (IsPair text) fault
-first_blamed text ws d fault are two blames = record {
-  nothing = λ bad pair is. blames.nothing bad pair.0 (subst (λ t. IsText t pair.0) (within_at 0 123 125 text ws is.words d (omega arith) are is.are_words) is.is_first);
-}
-
-pub second_blamed : (text : List ℕ) (ws : List (Bor (List ℕ))) (d : Bor (List ℕ)) (fault : Fault) → AreWordsWithin 123 125 text ws → length ws ≡ 2 → Blames (IsText (get_or ws 1 d).now) fault → Blames (IsPair text) fault
-second_blamed text ws d fault are two blames = record {
-  nothing = λ bad pair is. blames.nothing bad pair.1 (subst (λ t. IsText t pair.1) (within_at 1 123 125 text ws is.words d (omega arith) are is.are_words) is.is_second);
+pub texts_blamed : (text : List ℕ) (ws : List (Bor (List ℕ))) (fault : Fault) → AreWordsWithin 123 125 text ws → Blames (AreTwoTexts ws) fault → Blames (IsPair text) fault
+texts_blamed text ws fault are blames = record {
+  nothing = λ bad pair is.
+      let all = words_within_once 123 125 text ws is.words are is.are_words in
+      blames.nothing bad pair (subst (λ t. IsText t pair.0) (sym (same_at 0 ws is.words all)) is.is_first, subst (λ t. IsText t pair.1) (sym (same_at 1 ws is.words all)) is.is_second);
 }
 
 -- ---- lists of pairs

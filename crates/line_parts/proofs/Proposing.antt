@@ -7,7 +7,6 @@ use Rattle.retries.specs.declared.policy.RetryPolicy.TheVariants as policy
 use Rattle.runs.specs.declared.types.RunExitResult.{RunExitResult}
 use Rattle.runs.specs.declared.types.RunExitResult.TheVariants as exit
 use Rattle.vm_types.specs.declared.values.NonEmptyValue.TheVariants as value
-use Rattle.await_trees.specs.declared.handle.NotificationHandle.{NotificationHandle}
 use Rattle.lines.specs.Readings.{Blames}
 use Rattle.line_parts.specs.Fields.{IsSet, are_named, texts}
 use Rattle.line_parts.specs.Policies.{IsPolicy}
@@ -82,8 +81,8 @@ nothing_blamed (w ∷ words) fault h = absurd (omega arith)
 
 -- ---- proposals
 
-pub handle_blamed : (words : List (Bor (List ℕ))) (fault : Fault) → Blames (λ (handle : NotificationHandle). IsNumberOf 32 (text_at 0 words) handle.0) fault → Blames (IsProposal words) fault
-handle_blamed words fault blames = record { nothing = λ bad it is. blames.nothing bad it.handle is.handle }
+pub handle_blamed : (words : List (Bor (List ℕ))) (fault : Fault) → Blames (IsNumberOf 32 (text_at 0 words)) fault → Blames (IsProposal words) fault
+handle_blamed words fault blames = record { nothing = λ bad it is. blames.nothing bad it.handle.0 is.handle }
 
 pub result_blamed : (words others : List (Bor (List ℕ))) (fault : Fault) → others ≡ behind words → Blames (IsResult others) fault → Blames (IsProposal words) fault
 result_blamed words others fault e blames = record { nothing = λ bad it is. blames.nothing bad it.result (subst (λ ws. IsResult ws it.result) (sym e) is.result) }

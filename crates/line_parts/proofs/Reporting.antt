@@ -70,8 +70,15 @@ details_blamed words fault blames = record { nothing = λ bad error is. blames.n
 pub error_blamed : (words : List (Bor (List ℕ))) (fault : Fault) → Blames (IsError words) fault → Blames (IsReport words) fault
 error_blamed words fault blames = record { nothing = λ bad report is. blames.nothing bad report.0 is.error }
 
-pub options_blamed : (words options : List (Bor (List ℕ))) (fault : Fault) → options ≡ drop 2 words → are_named error_names options ≡ false → Blames (IsReport words) fault
-options_blamed words options fault e other = record { nothing = λ bad report is. absurd (cc (sym other ∙ subst (λ ws. are_named error_names ws ≡ true) (sym e) is.only)) }
+-- the command that it relates to, and no other options than those of an error
+abbrev pub IsRelatedAlone : List (Bor (List ℕ)) → Option CommandRelationship → Type 0
+IsRelatedAlone options related = IsOptional IsRelated (texts (codes "rel=") options) related × (are_named error_names options ≡ true)
 
-pub related_blamed : (words options : List (Bor (List ℕ))) (fault : Fault) → options ≡ drop 2 words → Blames (IsOptional IsRelated (texts (codes "rel=") options)) fault → Blames (IsReport words) fault
-related_blamed words options fault e blames = record { nothing = λ bad report is. blames.nothing bad report.1 (subst (λ ws. IsOptional IsRelated (texts (codes "rel=") ws) report.1) (sym e) is.related) }
+pub options_blamed : (options : List (Bor (List ℕ))) (fault : Fault) → are_named error_names options ≡ false → Blames (IsRelatedAlone options) fault
+options_blamed options fault other = record { nothing = λ bad related are. absurd (cc (sym other ∙ are.1)) }
+
+pub related_blamed : (options : List (Bor (List ℕ))) (fault : Fault) → Blames (IsOptional IsRelated (texts (codes "rel=") options)) fault → Blames (IsRelatedAlone options) fault
+related_blamed options fault blames = record { nothing = λ bad related are. blames.nothing bad related are.0 }
+
+pub alone_blamed : (words options : List (Bor (List ℕ))) (fault : Fault) → options ≡ drop 2 words → Blames (IsRelatedAlone options) fault → Blames (IsReport words) fault
+alone_blamed words options fault e blames = record { nothing = λ bad report is. blames.nothing bad report.1 (subst (λ ws. IsRelatedAlone ws report.1) (sym e) (is.related, is.only)) }

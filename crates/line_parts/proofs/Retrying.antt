@@ -1,5 +1,5 @@
 -- Texts that name no policy.
-use Rattle.std.proofs.Common.{◌≡◌, ◌≢◌, ◌<◌, ◌+◌, ℕ, false, List, Some, None, codes, position, take, drop, get_or, ap, sym, subst, ◌∙◌, arith}
+use Rattle.std.proofs.Common.{◌≡◌, ◌≢◌, ◌<◌, ◌+◌, ℕ, true, false, List, Some, None, codes, position, take, drop, get_or, ap, sym, subst, ◌∙◌, arith}
 use Rattle.std.specs.Borrow.{Bor}
 use Rattle.wire.specs.declared.fault.Fault.{Fault}
 use Rattle.wire.specs.declared.fault.Fault.TheVariants.{Malformed}
@@ -76,24 +76,33 @@ fixed_others text ws others fault are but other = record {
 pub growth_unbracketed : (text : List ℕ) (fault : Fault) → Blames (AreWordsWithin 40 41 text) fault → Blames (IsExponential text) fault
 growth_unbracketed text fault blames = record { nothing = λ bad growth is. blames.nothing bad is.words is.are_words }
 
-pub growth_bounds : (text : List ℕ) (ws : List (Bor (List ℕ))) (fault : Fault) → AreWordsWithin 40 41 text ws → Blames (AreBounds ws) fault → Blames (IsExponential text) fault
-growth_bounds text ws fault are blames = record { nothing = λ bad growth is. blames.nothing bad growth.bounds (bounds_same ws is.words growth.bounds (words_within_once 40 41 text ws is.words are is.are_words) is.are_bounds) }
+-- what the brackets hold, by their words
+abbrev pub AreGrowth : List (Bor (List ℕ)) → Growth → Type 0
+AreGrowth words growth =
+    IsRequired IsTime (texts (codes "initial=") words) growth.initial × IsRequired IsFraction (texts (codes "factor=") words) growth.factor × AreBounds words growth.bounds × (are_named exponential_names (without (codes "pause") words) ≡ true)
 
-pub initial_blamed : (text : List ℕ) (ws : List (Bor (List ℕ))) (fault : Fault) → AreWordsWithin 40 41 text ws → Blames (IsRequired IsTime (texts (codes "initial=") ws)) fault → Blames (IsExponential text) fault
-initial_blamed text ws fault are blames = record {
-  nothing = λ bad growth is. blames.nothing bad growth.initial (subst (λ ts. IsRequired IsTime ts growth.initial) (sym (texts_same (codes "initial=") ws is.words (words_within_once 40 41 text ws is.words are is.are_words))) is.initial);
-}
+pub initial_blamed : (words : List (Bor (List ℕ))) (fault : Fault) → Blames (IsRequired IsTime (texts (codes "initial=") words)) fault → Blames (AreGrowth words) fault
+initial_blamed words fault blames = record { nothing = λ bad growth are. blames.nothing bad growth.initial are.0 }
 
-pub factor_blamed : (text : List ℕ) (ws : List (Bor (List ℕ))) (fault : Fault) → AreWordsWithin 40 41 text ws → Blames (IsRequired IsFraction (texts (codes "factor=") ws)) fault → Blames (IsExponential text) fault
-factor_blamed text ws fault are blames = record {
-  nothing = λ bad growth is. blames.nothing bad growth.factor (subst (λ ts. IsRequired IsFraction ts growth.factor) (sym (texts_same (codes "factor=") ws is.words (words_within_once 40 41 text ws is.words are is.are_words))) is.factor);
-}
+pub factor_blamed : (words : List (Bor (List ℕ))) (fault : Fault) → Blames (IsRequired IsFraction (texts (codes "factor=") words)) fault → Blames (AreGrowth words) fault
+factor_blamed words fault blames = record { nothing = λ bad growth are. blames.nothing bad growth.factor are.1 }
 
-pub growth_others : (text : List ℕ) (ws others : List (Bor (List ℕ))) (fault : Fault) → AreWordsWithin 40 41 text ws → others ≡ without (codes "pause") ws → are_named exponential_names others ≡ false → Blames (IsExponential text) fault
-growth_others text ws others fault are but other = record {
+pub growth_bounds : (words : List (Bor (List ℕ))) (fault : Fault) → Blames (AreBounds words) fault → Blames (AreGrowth words) fault
+growth_bounds words fault blames = record { nothing = λ bad growth are. blames.nothing bad growth.bounds are.2 }
+
+pub growth_others : (words others : List (Bor (List ℕ))) (fault : Fault) → others ≡ without (codes "pause") words → are_named exponential_names others ≡ false → Blames (AreGrowth words) fault
+growth_others words others fault but other = record { nothing = λ bad growth are. absurd (cc (sym other ∙ ap (are_named exponential_names) but ∙ are.3)) }
+
+pub growth_blamed : (text : List ℕ) (ws : List (Bor (List ℕ))) (fault : Fault) → AreWordsWithin 40 41 text ws → Blames (AreGrowth ws) fault → Blames (IsExponential text) fault
+growth_blamed text ws fault are blames = record {
   nothing = λ bad growth is.
       let all = words_within_once 40 41 text ws is.words are is.are_words in
-      absurd (cc (sym other ∙ ap (are_named exponential_names) but ∙ named_same exponential_names (without (codes "pause") ws) (without (codes "pause") is.words) (without_same (codes "pause") ws is.words all) ∙ is.only));
+      blames.nothing bad growth (
+        subst (λ ts. IsRequired IsTime ts growth.initial) (sym (texts_same (codes "initial=") ws is.words all)) is.initial,
+        subst (λ ts. IsRequired IsFraction ts growth.factor) (sym (texts_same (codes "factor=") ws is.words all)) is.factor,
+        bounds_same ws is.words growth.bounds all is.are_bounds,
+        named_same exponential_names (without (codes "pause") ws) (without (codes "pause") is.words) (without_same (codes "pause") ws is.words all) ∙ is.only,
+      );
 }
 
 -- ---- policies

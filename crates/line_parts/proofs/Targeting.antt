@@ -18,26 +18,26 @@ call_texts_blamed words fault blames = record { nothing = λ bad call is. blames
 pub call_options_blamed : (words : List (Bor (List ℕ))) (fault : Fault) → Blames (HasKeyAndScope (drop 3 words)) fault → Blames (IsCallOf words) fault
 call_options_blamed words fault blames = record { nothing = λ bad call is. blames.nothing bad (call.service_key, call.scope) is.options }
 
-pub id_blamed : (word : List ℕ) (others : List (Bor (List ℕ))) (fault : Fault) → word ≡ codes "id" → Blames (IsOneText others) fault → Blames (NamesBehind word others) fault
-id_blamed word others fault e blames = record { nothing = λ bad t is. go bad t is }
+pub id_blamed : (others : List (Bor (List ℕ))) (fault : Fault) → Blames (IsOneText others) fault → Blames (NamesBehind (codes "id") others) fault
+id_blamed others fault blames = record { nothing = λ bad t is. go bad t is }
   where
-    go : fault ≡ Malformed → (t : InvocationTarget) → NamesBehind word others t → ⊥
+    go : fault ≡ Malformed → (t : InvocationTarget) → NamesBehind (codes "id") others t → ⊥
     go bad (target.InvocationId id) is = blames.nothing bad id is.1
-    go bad (target.WorkflowId workflow) is = absurd (cc (sym e ∙ is.0))
-    go bad (target.IdempotencyId call) is = absurd (cc (sym e ∙ is.0))
+    go bad (target.WorkflowId workflow) is = absurd (cc is.0)
+    go bad (target.IdempotencyId call) is = absurd (cc is.0)
 
-pub workflow_blamed : (word : List ℕ) (others : List (Bor (List ℕ))) (fault : Fault) → word ≡ codes "workflow" → Blames (IsWorkflow others) fault → Blames (NamesBehind word others) fault
-workflow_blamed word others fault e blames = record { nothing = λ bad t is. go bad t is }
+pub workflow_blamed : (others : List (Bor (List ℕ))) (fault : Fault) → Blames (IsWorkflow others) fault → Blames (NamesBehind (codes "workflow") others) fault
+workflow_blamed others fault blames = record { nothing = λ bad t is. go bad t is }
   where
-    go : fault ≡ Malformed → (t : InvocationTarget) → NamesBehind word others t → ⊥
-    go bad (target.InvocationId id) is = absurd (cc (sym e ∙ is.0))
+    go : fault ≡ Malformed → (t : InvocationTarget) → NamesBehind (codes "workflow") others t → ⊥
+    go bad (target.InvocationId id) is = absurd (cc is.0)
     go bad (target.WorkflowId workflow) is = blames.nothing bad workflow is.1
-    go bad (target.IdempotencyId call) is = absurd (cc (sym e ∙ is.0))
+    go bad (target.IdempotencyId call) is = absurd (cc is.0)
 
-pub call_blamed : (word : List ℕ) (others : List (Bor (List ℕ))) (fault : Fault) → word ≡ codes "idem" → Blames (IsCallOf others) fault → Blames (NamesBehind word others) fault
-call_blamed word others fault e blames = record { nothing = λ bad t is. go bad t is }
+pub call_blamed : (others : List (Bor (List ℕ))) (fault : Fault) → Blames (IsCallOf others) fault → Blames (NamesBehind (codes "idem") others) fault
+call_blamed others fault blames = record { nothing = λ bad t is. go bad t is }
   where
-    go : fault ≡ Malformed → (t : InvocationTarget) → NamesBehind word others t → ⊥
-    go bad (target.InvocationId id) is = absurd (cc (sym e ∙ is.0))
-    go bad (target.WorkflowId workflow) is = absurd (cc (sym e ∙ is.0))
+    go : fault ≡ Malformed → (t : InvocationTarget) → NamesBehind (codes "idem") others t → ⊥
+    go bad (target.InvocationId id) is = absurd (cc is.0)
+    go bad (target.WorkflowId workflow) is = absurd (cc is.0)
     go bad (target.IdempotencyId call) is = blames.nothing bad call is.1

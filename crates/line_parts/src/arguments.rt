@@ -90,9 +90,13 @@ pub fn optional_text(alloc: Global, words: &[&[u8]], name: &str) -> Result<Optio
     ensures value { IfOk result (IsOptional IsText (texts name.now words.now)) }
     ensures none { IfErr result (Blames (IsOptional IsText (texts name.now words.now))) }
 {
-    match field_of(words, name)? {
-        Some(text) => Ok(Some(text_of(alloc, text)?)),
-        None => Ok(None),
+    match field_of(words, name) {
+        Ok(Some(text)) => match text_of(alloc, text) {
+            Ok(text) => Ok(Some(text)),
+            Err(fault) => Err(fault),
+        },
+        Ok(None) => Ok(None),
+        Err(fault) => Err(fault),
     }
 }
 
@@ -128,9 +132,13 @@ pub fn optional_duration(words: &[&[u8]], name: &str) -> Result<Option<Duration>
     ensures value { IfOk result (IsOptional IsTime (texts name.now words.now)) }
     ensures none { IfErr result (Blames (IsOptional IsTime (texts name.now words.now))) }
 {
-    match field_of(words, name)? {
-        Some(text) => Ok(Some(duration_of(text)?)),
-        None => Ok(None),
+    match field_of(words, name) {
+        Ok(Some(text)) => match duration_of(text) {
+            Ok(duration) => Ok(Some(duration)),
+            Err(fault) => Err(fault),
+        },
+        Ok(None) => Ok(None),
+        Err(fault) => Err(fault),
     }
 }
 
@@ -157,14 +165,16 @@ pub fn handle_alone(arguments: &[&[u8]]) -> Result<NotificationHandle, Fault>
 }
 
 /// `T` alone.
+#[tactic(auto, using(crate::proofs::Missing::one_text_blamed))]
 pub fn text_alone(alloc: Global, arguments: &[&[u8]]) -> Result<Text, Fault>
     ensures value { IfOk result (IsOneText arguments.now) }
     ensures none { IfErr result (Blames (IsOneText arguments.now)) }
 {
-    match arguments {
-        [text] => text_of(alloc, *text),
-        _ => Err(Fault::Malformed),
+    if arguments.len() != 1 {
+        return Err(Fault::Malformed);
     }
+    let text = text_in(alloc, arguments, 0)?;
+    Ok(text)
 }
 
 /// `T T`, and the words behind them.
@@ -178,12 +188,17 @@ pub fn two_texts<'w, 'a>(
     ensures none { IfErr result (Blames (AreTwoTexts words.now)) }
 {
     let first = text_in(alloc, words, 0)?;
-    let second = text_in(alloc, words, 1)?;
-    Ok((first, second, behind(words, 2)))
+    match text_in(alloc, words, 1) {
+        Ok(second) => Ok((first, second, behind(words, 2))),
+        Err(fault) => {
+            drop(first);
+            Err(fault)
+        }
+    }
 }
 
 /// `T T T`, and the words behind them.
-#[tactic(auto, using(crate::proofs::Missing::first_of_three, crate::proofs::Missing::second_of_three, crate::proofs::Missing::third_of_three))]
+#[tactic(auto, using(crate::proofs::Missing::first_of_three, crate::proofs::Missing::others_of_three, crate::proofs::Places::three_texts_are, crate::proofs::Places::drop_two_more))]
 pub fn three_texts<'w, 'a>(
     alloc: Global,
     words: &'w [&'a [u8]],
@@ -193,9 +208,13 @@ pub fn three_texts<'w, 'a>(
     ensures none { IfErr result (Blames (AreThreeTexts words.now)) }
 {
     let first = text_in(alloc, words, 0)?;
-    let second = text_in(alloc, words, 1)?;
-    let third = text_in(alloc, words, 2)?;
-    Ok((first, second, third, behind(words, 3)))
+    match two_texts(alloc, behind(words, 1)) {
+        Ok((second, third, others)) => Ok((first, second, third, others)),
+        Err(fault) => {
+            drop(first);
+            Err(fault)
+        }
+    }
 }
 
 /// `B` alone.

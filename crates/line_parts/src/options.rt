@@ -55,9 +55,10 @@ fn cancellation_in(words: &[&[u8]]) -> Result<ImplicitCancellationOption, Fault>
     ensures value { IfOk result (IsSet IsCancel default_options.implicit_cancellation (texts (codes "cancel=") words.now)) }
     ensures none { IfErr result (Blames (IsSet IsCancel default_options.implicit_cancellation (texts (codes "cancel=") words.now))) }
 {
-    match field_of(words, "cancel=")? {
-        Some(text) => cancellation_of(text),
-        None => Ok(cancelling(true, false)),
+    match field_of(words, "cancel=") {
+        Ok(Some(text)) => cancellation_of(text),
+        Ok(None) => Ok(cancelling(true, false)),
+        Err(fault) => Err(fault),
     }
 }
 
@@ -82,9 +83,10 @@ fn checks_in(words: &[&[u8]]) -> Result<NonDeterministicChecksOption, Fault>
     ensures value { IfOk result (IsSet IsChecks default_options.non_determinism_checks (texts (codes "checks=") words.now)) }
     ensures none { IfErr result (Blames (IsSet IsChecks default_options.non_determinism_checks (texts (codes "checks=") words.now))) }
 {
-    match field_of(words, "checks=")? {
-        Some(text) => checks_of(text),
-        None => Ok(NonDeterministicChecksOption::Enabled),
+    match field_of(words, "checks=") {
+        Ok(Some(text)) => checks_of(text),
+        Ok(None) => Ok(NonDeterministicChecksOption::Enabled),
+        Err(fault) => Err(fault),
     }
 }
 
@@ -112,9 +114,10 @@ fn awaiting_in(words: &[&[u8]]) -> Result<AwaitingOnPolicy, Fault>
     ensures value { IfOk result (IsSet IsAwaiting default_options.awaiting_on_policy (texts (codes "awaiting=") words.now)) }
     ensures none { IfErr result (Blames (IsSet IsAwaiting default_options.awaiting_on_policy (texts (codes "awaiting=") words.now))) }
 {
-    match field_of(words, "awaiting=")? {
-        Some(text) => awaiting_of(text),
-        None => Ok(AwaitingOnPolicy::DontSendWhenExecutingRun),
+    match field_of(words, "awaiting=") {
+        Ok(Some(text)) => awaiting_of(text),
+        Ok(None) => Ok(AwaitingOnPolicy::DontSendWhenExecutingRun),
+        Err(fault) => Err(fault),
     }
 }
 
@@ -142,9 +145,10 @@ fn mismatch_in(words: &[&[u8]]) -> Result<JournalMismatchRetryBehavior, Fault>
     ensures value { IfOk result (IsSet IsMismatch default_options.journal_mismatch_retry_behavior (texts (codes "mismatch=") words.now)) }
     ensures none { IfErr result (Blames (IsSet IsMismatch default_options.journal_mismatch_retry_behavior (texts (codes "mismatch=") words.now))) }
 {
-    match field_of(words, "mismatch=")? {
-        Some(text) => mismatch_of(text),
-        None => Ok(JournalMismatchRetryBehavior::FollowRetryPolicy),
+    match field_of(words, "mismatch=") {
+        Ok(Some(text)) => mismatch_of(text),
+        Ok(None) => Ok(JournalMismatchRetryBehavior::FollowRetryPolicy),
+        Err(fault) => Err(fault),
     }
 }
 
@@ -169,9 +173,10 @@ fn replay_in(words: &[&[u8]]) -> Result<JournalReplay, Fault>
     ensures value { IfOk result (IsSet IsReplay default_options.journal_replay (texts (codes "replay=") words.now)) }
     ensures none { IfErr result (Blames (IsSet IsReplay default_options.journal_replay (texts (codes "replay=") words.now))) }
 {
-    match field_of(words, "replay=")? {
-        Some(text) => replay_of(text),
-        None => Ok(JournalReplay::Enabled),
+    match field_of(words, "replay=") {
+        Ok(Some(text)) => replay_of(text),
+        Ok(None) => Ok(JournalReplay::Enabled),
+        Err(fault) => Err(fault),
     }
 }
 
@@ -196,9 +201,10 @@ fn delivery_in(words: &[&[u8]]) -> Result<SignalDelivery, Fault>
     ensures value { IfOk result (IsSet IsDelivery default_options.signal_delivery (texts (codes "delivery=") words.now)) }
     ensures none { IfErr result (Blames (IsSet IsDelivery default_options.signal_delivery (texts (codes "delivery=") words.now))) }
 {
-    match field_of(words, "delivery=")? {
-        Some(text) => delivery_of(text),
-        None => Ok(SignalDelivery::Queued),
+    match field_of(words, "delivery=") {
+        Ok(Some(text)) => delivery_of(text),
+        Ok(None) => Ok(SignalDelivery::Queued),
+        Err(fault) => Err(fault),
     }
 }
 
@@ -220,9 +226,10 @@ fn check_skip(words: &[&[u8]]) -> Result<(), Fault>
     ensures value { IfOk result (λ _. IsSet IsSkip (tt {0}) (texts (codes "skip=") words.now) (tt {0})) }
     ensures none { IfErr result (Blames (IsSet IsSkip (tt {0}) (texts (codes "skip=") words.now))) }
 {
-    match field_of(words, "skip=")? {
-        Some(text) => skip_of(text),
-        None => Ok(()),
+    match field_of(words, "skip=") {
+        Ok(Some(text)) => skip_of(text),
+        Ok(None) => Ok(()),
+        Err(fault) => Err(fault),
     }
 }
 
@@ -232,9 +239,10 @@ pub fn seed_in(words: &[&[u8]]) -> Result<u64, Fault>
     ensures value { IfOk result (IsSet (IsNumberOf 64) 0 (texts (codes "seed=") words.now)) }
     ensures none { IfErr result (Blames (IsSet (IsNumberOf 64) 0 (texts (codes "seed=") words.now))) }
 {
-    match field_of(words, "seed=")? {
-        Some(text) => u64_of(text),
-        None => Ok(0),
+    match field_of(words, "seed=") {
+        Ok(Some(text)) => u64_of(text),
+        Ok(None) => Ok(0),
+        Err(fault) => Err(fault),
     }
 }
 

@@ -1,9 +1,10 @@
 //! Policies of retries: `infinite`, `none`, `fixed(..)` or `exp(..)`.
-ghost use Rattle.std.specs.Prelude.{◌≡◌, ◌<◌, ◌==◌, codes, length, position, IfErr, IfOk, IfSome};
+ghost use Rattle.std.specs.Prelude.{◌≡◌, ◌<◌, ◌==◌, true, codes, length, position, IfErr, IfOk, IfSome};
 ghost use Rattle.retries.specs.Policies.{is_pause};
 ghost use Rattle.retries.specs.declared.policy.RetryPolicy.TheVariants as policy;
 ghost use Rattle.lines.specs.Readings.{Blames};
 ghost use Rattle.line_parts.specs.Fields.{IsOptional, IsRequired, IsSet, are_named, texts};
+ghost use Rattle.line_parts.specs.declared.policies.Growth.{Growth};
 ghost use Rattle.line_parts.specs.Policies.{AreBounds, IsExponential, IsFixed, IsFraction, IsPolicy, exponential_names, fixed_names, is_slash};
 ghost use Rattle.line_parts.specs.Values.{IsTime, without};
 ghost use Rattle.line_parts.specs.Words.{IsNumberOf};
@@ -62,9 +63,13 @@ fn attempts_in(words: &[&[u8]]) -> Result<Option<u32>, Fault>
     ensures value { IfOk result (IsOptional (IsNumberOf 32) (texts (codes "attempts=") words.now)) }
     ensures none { IfErr result (Blames (IsOptional (IsNumberOf 32) (texts (codes "attempts=") words.now))) }
 {
-    match field_of(words, "attempts=")? {
-        Some(text) => Ok(Some(u32_of(text)?)),
-        None => Ok(None),
+    match field_of(words, "attempts=") {
+        Ok(Some(text)) => match u32_of(text) {
+            Ok(attempts) => Ok(Some(attempts)),
+            Err(fault) => Err(fault),
+        },
+        Ok(None) => Ok(None),
+        Err(fault) => Err(fault),
     }
 }
 
@@ -74,9 +79,10 @@ fn initial_in(words: &[&[u8]]) -> Result<Duration, Fault>
     ensures value { IfOk result (IsRequired IsTime (texts (codes "initial=") words.now)) }
     ensures none { IfErr result (Blames (IsRequired IsTime (texts (codes "initial=") words.now))) }
 {
-    match field_of(words, "initial=")? {
-        Some(text) => duration_of(text),
-        None => Err(Fault::Malformed),
+    match field_of(words, "initial=") {
+        Ok(Some(text)) => duration_of(text),
+        Ok(None) => Err(Fault::Malformed),
+        Err(fault) => Err(fault),
     }
 }
 
@@ -86,9 +92,10 @@ fn factor_in(words: &[&[u8]]) -> Result<Fraction, Fault>
     ensures value { IfOk result (IsRequired IsFraction (texts (codes "factor=") words.now)) }
     ensures none { IfErr result (Blames (IsRequired IsFraction (texts (codes "factor=") words.now))) }
 {
-    match field_of(words, "factor=")? {
-        Some(text) => fraction_of(text),
-        None => Err(Fault::Malformed),
+    match field_of(words, "factor=") {
+        Ok(Some(text)) => fraction_of(text),
+        Ok(None) => Err(Fault::Malformed),
+        Err(fault) => Err(fault),
     }
 }
 
@@ -154,16 +161,15 @@ fn fixed_of(alloc: Global, text: &[u8]) -> Result<Bounds, Fault>
     Ok(bounds)
 }
 
-/// What stands in brackets behind `exp`.
-#[tactic(auto, using(crate::proofs::Retrying::growth_unbracketed, crate::proofs::Retrying::growth_bounds, crate::proofs::Retrying::growth_others, crate::proofs::Retrying::initial_blamed, crate::proofs::Retrying::factor_blamed))]
-fn growth_of(alloc: Global, text: &[u8]) -> Result<Growth, Fault>
-    ensures value { IfOk result (IsExponential text.now) }
-    ensures none { IfErr result (Blames (IsExponential text.now)) }
+/// `initial=D factor=N/N [interval=D] [attempts=N] [max=D] [pause]` alone.
+#[tactic(auto, using(crate::proofs::Retrying::initial_blamed, crate::proofs::Retrying::factor_blamed, crate::proofs::Retrying::growth_bounds, crate::proofs::Retrying::growth_others))]
+fn growth_among(alloc: Global, words: &[&[u8]]) -> Result<Growth, Fault>
+    ensures value { IfOk result (λ growth. IsRequired IsTime (texts (codes "initial=") words.now) growth.initial × IsRequired IsFraction (texts (codes "factor=") words.now) growth.factor × AreBounds words.now growth.bounds × (are_named exponential_names (without (codes "pause") words.now) ≡ true)) }
+    ensures none { IfErr result (Blames (λ (growth : Growth). IsRequired IsTime (texts (codes "initial=") words.now) growth.initial × IsRequired IsFraction (texts (codes "factor=") words.now) growth.factor × AreBounds words.now growth.bounds × (are_named exponential_names (without (codes "pause") words.now) ≡ true))) }
 {
-    let words = words_within(alloc, text, b'(', b')')?;
-    let initial = initial_in(words.as_slice())?;
-    let factor = factor_in(words.as_slice())?;
-    let (bounds, others) = bounds_of(alloc, words.as_slice())?;
+    let initial = initial_in(words)?;
+    let factor = factor_in(words)?;
+    let (bounds, others) = bounds_of(alloc, words)?;
     if !are_of_growth(others.as_slice()) {
         return Err(Fault::Malformed);
     }
@@ -172,6 +178,17 @@ fn growth_of(alloc: Global, text: &[u8]) -> Result<Growth, Fault>
         factor,
         bounds,
     })
+}
+
+/// What stands in brackets behind `exp`.
+#[tactic(auto, using(crate::proofs::Retrying::growth_unbracketed, crate::proofs::Retrying::growth_blamed))]
+fn growth_of(alloc: Global, text: &[u8]) -> Result<Growth, Fault>
+    ensures value { IfOk result (IsExponential text.now) }
+    ensures none { IfErr result (Blames (IsExponential text.now)) }
+{
+    let words = words_within(alloc, text, b'(', b')')?;
+    let growth = growth_among(alloc, words.as_slice())?;
+    Ok(growth)
 }
 
 fn fixed(bounds: Bounds) -> RetryPolicy
@@ -216,12 +233,16 @@ fn policy_of(alloc: Global, text: &[u8]) -> Result<RetryPolicy, Fault>
         return Ok(RetryPolicy::None);
     }
     if let Some(inside) = text_behind(text, "fixed") {
-        let bounds = fixed_of(alloc, inside)?;
-        return Ok(fixed(bounds));
+        return match fixed_of(alloc, inside) {
+            Ok(bounds) => Ok(fixed(bounds)),
+            Err(fault) => Err(fault),
+        };
     }
     if let Some(inside) = text_behind(text, "exp") {
-        let growth = growth_of(alloc, inside)?;
-        return Ok(exponential(growth));
+        return match growth_of(alloc, inside) {
+            Ok(growth) => Ok(exponential(growth)),
+            Err(fault) => Err(fault),
+        };
     }
     Err(Fault::Malformed)
 }
@@ -232,8 +253,9 @@ pub fn policy_in(alloc: Global, words: &[&[u8]]) -> Result<RetryPolicy, Fault>
     ensures value { IfOk result (IsSet IsPolicy policy.Infinite (texts (codes "policy=") words.now)) }
     ensures none { IfErr result (Blames (IsSet IsPolicy policy.Infinite (texts (codes "policy=") words.now))) }
 {
-    match field_of(words, "policy=")? {
-        Some(text) => policy_of(alloc, text),
-        None => Ok(RetryPolicy::Infinite),
+    match field_of(words, "policy=") {
+        Ok(Some(text)) => policy_of(alloc, text),
+        Ok(None) => Ok(RetryPolicy::Infinite),
+        Err(fault) => Err(fault),
     }
 }

@@ -1,15 +1,19 @@
 //! The words behind `error`: what the handler's runner reports.
-ghost use Rattle.std.specs.Prelude.{◌≡◌, [], IfErr, IfOk, codes, string_bytes};
+ghost use Rattle.std.specs.Prelude.{◌≡◌, ℕ, List, [], Option, IfErr, IfOk, codes, length, string_bytes, true};
 ghost use Rattle.journal_errors.specs.declared.error.ErrorBehavior.TheVariants as behavior;
+ghost use Rattle.vm_types.specs.declared.command_type.CommandRelationship.{CommandRelationship};
+ghost use Rattle.vm_types.specs.declared.command_type.CommandType.{CommandType};
 ghost use Rattle.lines.specs.Atoms.{IsText};
 ghost use Rattle.lines.specs.Readings.{Blames};
 ghost use Rattle.line_parts.specs.Fields.{IsOptional, IsSet, are_named, texts};
 ghost use Rattle.line_parts.specs.Reports.{AreDetails, IsBehavior, IsCommand, IsCommandAt, IsCommandName, IsError, IsRelated, IsReport, IsType, delay_or, error_names, reported, stack_or, type_name};
 ghost use Rattle.line_parts.specs.Values.{IsTime};
+ghost use Rattle.line_parts.specs.Words.{text_at};
 
 use crate::arguments::optional_duration;
-use crate::atoms::{string_of, text_of, u16_of, u32_of};
+use crate::atoms::{string_of, text_of};
 use crate::fields::{are_named, field_of, text_behind};
+use crate::words::{behind, string_in, u16_in, u32_in};
 use journal_errors::{Error, ErrorBehavior};
 use lines::pieces::words_within;
 use std::alloc::Global;
@@ -119,14 +123,13 @@ fn optional_of(alloc: Global, text: &[u8]) -> Result<Option<Text>, Fault>
     Ok(Some(text_of(alloc, text)?))
 }
 
-/// `(TYPE NAME)`.
-#[tactic(auto, using(crate::proofs::Commands::unbracketed_blamed, crate::proofs::Commands::type_blamed, crate::proofs::Commands::name_blamed))]
-fn next_of(alloc: Global, text: &[u8]) -> Result<(CommandType, Option<Text>), Fault>
-    ensures value { IfOk result (IsCommand text.now) }
-    ensures none { IfErr result (Blames (IsCommand text.now)) }
+/// `TYPE NAME` alone.
+#[tactic(auto, using(crate::proofs::Commands::count_blamed, crate::proofs::Commands::type_blamed, crate::proofs::Commands::name_blamed))]
+fn type_and_name(alloc: Global, words: &[&[u8]]) -> Result<(CommandType, Option<Text>), Fault>
+    ensures value { IfOk result (λ found. (length words.now ≡ 2) × IsType (text_at 0 words.now) found.0 × IsCommandName (text_at 1 words.now) found.1) }
+    ensures none { IfErr result (Blames (λ (found : CommandType × Option (List ℕ)). (length words.now ≡ 2) × IsType (text_at 0 words.now) found.0 × IsCommandName (text_at 1 words.now) found.1)) }
 {
-    let words = words_within(alloc, text, b'(', b')')?;
-    let [ty, name] = words.as_slice() else {
+    let [ty, name] = words else {
         return Err(Fault::Malformed);
     };
     let ty = command_type_of(*ty)?;
@@ -134,19 +137,27 @@ fn next_of(alloc: Global, text: &[u8]) -> Result<(CommandType, Option<Text>), Fa
     Ok((ty, name))
 }
 
+/// `(TYPE NAME)`.
+#[tactic(auto, using(crate::proofs::Commands::unbracketed_blamed, crate::proofs::Commands::words_blamed))]
+fn next_of(alloc: Global, text: &[u8]) -> Result<(CommandType, Option<Text>), Fault>
+    ensures value { IfOk result (IsCommand text.now) }
+    ensures none { IfErr result (Blames (IsCommand text.now)) }
+{
+    let words = words_within(alloc, text, b'(', b')')?;
+    let (ty, name) = type_and_name(alloc, words.as_slice())?;
+    Ok((ty, name))
+}
+
 /// `(N TYPE NAME)`.
-#[tactic(auto, using(crate::proofs::Commands::at_unbracketed_blamed, crate::proofs::Commands::at_index_blamed, crate::proofs::Commands::at_type_blamed, crate::proofs::Commands::at_name_blamed))]
+#[tactic(auto, using(crate::proofs::Commands::at_unbracketed_blamed, crate::proofs::Commands::at_index_blamed, crate::proofs::Commands::command_at))]
 fn specific_of(alloc: Global, text: &[u8]) -> Result<(u32, CommandType, Option<Text>), Fault>
     ensures value { IfOk result (IsCommandAt text.now) }
     ensures none { IfErr result (Blames (IsCommandAt text.now)) }
 {
-    let words = words_within(alloc, text, b'(', b')')?;
-    let [index, ty, name] = words.as_slice() else {
-        return Err(Fault::Malformed);
-    };
-    let index = u32_of(*index)?;
-    let ty = command_type_of(*ty)?;
-    let name = optional_of(alloc, *name)?;
+    let found = words_within(alloc, text, b'(', b')')?;
+    let words = found.as_slice();
+    let index = u32_in(words, 0)?;
+    let (ty, name) = type_and_name(alloc, behind(words, 1))?;
     Ok((index, ty, name))
 }
 
@@ -160,16 +171,20 @@ fn relationship_of(alloc: Global, text: &[u8]) -> Result<CommandRelationship, Fa
         return Ok(CommandRelationship::Last);
     }
     if let Some(command) = text_behind(text, "next") {
-        let (ty, name) = next_of(alloc, command)?;
-        return Ok(CommandRelationship::Next { ty, name });
+        return match next_of(alloc, command) {
+            Ok((ty, name)) => Ok(CommandRelationship::Next { ty, name }),
+            Err(fault) => Err(fault),
+        };
     }
     if let Some(command) = text_behind(text, "at") {
-        let (command_index, ty, name) = specific_of(alloc, command)?;
-        return Ok(CommandRelationship::Specific {
-            command_index,
-            ty,
-            name,
-        });
+        return match specific_of(alloc, command) {
+            Ok((command_index, ty, name)) => Ok(CommandRelationship::Specific {
+                command_index,
+                ty,
+                name,
+            }),
+            Err(fault) => Err(fault),
+        };
     }
     Err(Fault::Malformed)
 }
@@ -180,9 +195,13 @@ fn related_in(alloc: Global, words: &[&[u8]]) -> Result<Option<CommandRelationsh
     ensures value { IfOk result (IsOptional IsRelated (texts (codes "rel=") words.now)) }
     ensures none { IfErr result (Blames (IsOptional IsRelated (texts (codes "rel=") words.now))) }
 {
-    match field_of(words, "rel=")? {
-        Some(text) => Ok(Some(relationship_of(alloc, text)?)),
-        None => Ok(None),
+    match field_of(words, "rel=") {
+        Ok(Some(text)) => match relationship_of(alloc, text) {
+            Ok(relationship) => Ok(Some(relationship)),
+            Err(fault) => Err(fault),
+        },
+        Ok(None) => Ok(None),
+        Err(fault) => Err(fault),
     }
 }
 
@@ -192,9 +211,13 @@ fn stack_in(alloc: Global, words: &[&[u8]]) -> Result<Option<String>, Fault>
     ensures value { IfOk result (λ stack. IsSet IsText [] (texts (codes "stack=") words.now) (stack_or stack [])) }
     ensures none { IfErr result (Blames (IsSet IsText [] (texts (codes "stack=") words.now))) }
 {
-    match field_of(words, "stack=")? {
-        Some(text) => Ok(Some(string_of(alloc, text)?)),
-        None => Ok(None),
+    match field_of(words, "stack=") {
+        Ok(Some(text)) => match string_of(alloc, text) {
+            Ok(stack) => Ok(Some(stack)),
+            Err(fault) => Err(fault),
+        },
+        Ok(None) => Ok(None),
+        Err(fault) => Err(fault),
     }
 }
 
@@ -204,9 +227,10 @@ fn behavior_in(words: &[&[u8]]) -> Result<ErrorBehavior, Fault>
     ensures value { IfOk result (IsSet IsBehavior behavior.Retry (texts (codes "behaviour=") words.now)) }
     ensures none { IfErr result (Blames (IsSet IsBehavior behavior.Retry (texts (codes "behaviour=") words.now))) }
 {
-    match field_of(words, "behaviour=")? {
-        Some(text) => behavior_of(text),
-        None => Ok(ErrorBehavior::Retry),
+    match field_of(words, "behaviour=") {
+        Ok(Some(text)) => behavior_of(text),
+        Ok(None) => Ok(ErrorBehavior::Retry),
+        Err(fault) => Err(fault),
     }
 }
 
@@ -261,17 +285,14 @@ fn error_with(code: u16, message: String, details: Details) -> Error
 }
 
 /// `N T`, and among the words behind them `[stack=T] [behaviour=..] [delay=D]`.
-#[tactic(auto, using(crate::proofs::Reporting::code_blamed, crate::proofs::Reporting::message_blamed, crate::proofs::Reporting::details_blamed, crate::proofs::Missing::no_text_at))]
+#[tactic(auto, using(crate::proofs::Reporting::code_blamed, crate::proofs::Reporting::message_blamed, crate::proofs::Reporting::details_blamed))]
 pub fn error_of(alloc: Global, words: &[&[u8]]) -> Result<Error, Fault>
     ensures value { IfOk result (IsError words.now) }
     ensures none { IfErr result (Blames (IsError words.now)) }
 {
-    let [code, message, options @ ..] = words else {
-        return Err(Fault::Malformed);
-    };
-    let code = u16_of(*code)?;
-    let message = string_of(alloc, *message)?;
-    let details = details_in(alloc, options)?;
+    let code = u16_in(words, 0)?;
+    let message = string_in(alloc, words, 1)?;
+    let details = details_in(alloc, behind(words, 2))?;
     Ok(error_with(code, message, details))
 }
 
@@ -282,8 +303,24 @@ fn are_options(words: &[&[u8]]) -> bool
     are_named(words, &["stack=", "behaviour=", "delay=", "rel="])
 }
 
+/// The command that an error relates to, where its options are no others than it may have.
+#[tactic(auto, using(crate::proofs::Reporting::options_blamed, crate::proofs::Reporting::related_blamed))]
+fn relationship_alone(
+    alloc: Global,
+    options: &[&[u8]],
+) -> Result<Option<CommandRelationship>, Fault>
+    ensures value { IfOk result (λ related. IsOptional IsRelated (texts (codes "rel=") options.now) related × (are_named error_names options.now ≡ true)) }
+    ensures none { IfErr result (Blames (λ (related : Option CommandRelationship). IsOptional IsRelated (texts (codes "rel=") options.now) related × (are_named error_names options.now ≡ true))) }
+{
+    if !are_options(options) {
+        return Err(Fault::Malformed);
+    }
+    let relationship = related_in(alloc, options)?;
+    Ok(relationship)
+}
+
 /// The error that is reported, and the command that it relates to.
-#[tactic(auto, using(crate::proofs::Reporting::error_blamed, crate::proofs::Reporting::options_blamed, crate::proofs::Reporting::related_blamed))]
+#[tactic(auto, using(crate::proofs::Reporting::error_blamed, crate::proofs::Reporting::alone_blamed))]
 pub fn report_of(
     alloc: Global,
     words: &[&[u8]],
@@ -292,10 +329,11 @@ pub fn report_of(
     ensures none { IfErr result (Blames (IsReport words.now)) }
 {
     let error = error_of(alloc, words)?;
-    let options = words.get(2..).unwrap_or_default();
-    if !are_options(options) {
-        return Err(Fault::Malformed);
+    match relationship_alone(alloc, behind(words, 2)) {
+        Ok(relationship) => Ok((error, relationship)),
+        Err(fault) => {
+            drop(error);
+            Err(fault)
+        }
     }
-    let relationship = related_in(alloc, options)?;
-    Ok((error, relationship))
 }

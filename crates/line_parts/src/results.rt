@@ -5,11 +5,11 @@ ghost use Rattle.line_parts.specs.Fields.{are_named};
 ghost use Rattle.line_parts.specs.Results.{IsProposal, IsResult, IsRetryable, is_policy, retryable_names, settled};
 ghost use Rattle.line_parts.specs.Values.{but_last};
 
-use crate::atoms::{duration_of, handle_of};
 use crate::fields::are_named;
 use crate::policies::policy_in;
 use crate::report::error_of;
 use crate::values::value_of;
+use crate::words::{behind, but_first, time_in, u32_in};
 use journal_errors::Error;
 use retries::RetryPolicy;
 use runs::RunExitResult;
@@ -34,17 +34,14 @@ fn are_options(words: &[&[u8]]) -> bool
 }
 
 /// `D N T [stack=T] [behaviour=..] [delay=D]`, with or without a policy.
-#[tactic(auto, using(crate::proofs::Proposing::duration_blamed, crate::proofs::Proposing::error_blamed, crate::proofs::Proposing::options_blamed, crate::proofs::Missing::no_time_at, crate::proofs::Missing::time_blamed_at))]
+#[tactic(auto, using(crate::proofs::Proposing::duration_blamed, crate::proofs::Proposing::error_blamed, crate::proofs::Proposing::options_blamed))]
 fn retryable_of(alloc: Global, words: &[&[u8]]) -> Result<(Duration, Error), Fault>
     ensures value { IfOk result (IsRetryable words.now) }
     ensures none { IfErr result (Blames (IsRetryable words.now)) }
 {
-    let [duration, others @ ..] = words else {
-        return Err(Fault::Malformed);
-    };
-    let duration = duration_of(*duration)?;
-    let error = error_of(alloc, others)?;
-    if !are_options(words.get(3..).unwrap_or_default()) {
+    let duration = time_in(words, 0)?;
+    let error = error_of(alloc, behind(words, 1))?;
+    if !are_options(behind(words, 3)) {
         return Err(Fault::Malformed);
     }
     Ok((duration, error))
@@ -94,20 +91,23 @@ fn result_of(alloc: Global, words: &[&[u8]]) -> Result<RunExitResult, Fault>
 }
 
 /// `H RESULT [policy=P]`.
-#[tactic(auto, using(crate::proofs::Proposing::handle_blamed, crate::proofs::Proposing::result_blamed, crate::proofs::Proposing::policy_blamed, crate::proofs::Missing::no_number_at, crate::proofs::Missing::number_blamed_at))]
+#[tactic(auto, using(crate::proofs::Proposing::handle_blamed, crate::proofs::Proposing::result_blamed, crate::proofs::Proposing::policy_blamed))]
 pub fn proposal_of(alloc: Global, arguments: &[&[u8]]) -> Result<Proposal, Fault>
     ensures value { IfOk result (IsProposal arguments.now) }
     ensures none { IfErr result (Blames (IsProposal arguments.now)) }
 {
-    let [handle, others @ ..] = arguments else {
-        return Err(Fault::Malformed);
-    };
-    let handle = handle_of(*handle)?;
+    let handle = NotificationHandle(u32_in(arguments, 0)?);
+    let others = but_first(arguments);
     let result = result_of(alloc, others)?;
-    let policy = policy_in(alloc, others)?;
-    Ok(Proposal {
-        handle,
-        result,
-        policy,
-    })
+    match policy_in(alloc, others) {
+        Ok(policy) => Ok(Proposal {
+            handle,
+            result,
+            policy,
+        }),
+        Err(fault) => {
+            drop(result);
+            Err(fault)
+        }
+    }
 }

@@ -1,5 +1,5 @@
 //! The invocation that a line names: by its id, by its workflow, or by an idempotency key.
-ghost use Rattle.std.specs.Prelude.{IfErr, IfOk};
+ghost use Rattle.std.specs.Prelude.{IfErr, IfOk, codes};
 ghost use Rattle.lines.specs.Readings.{Blames};
 ghost use Rattle.line_parts.specs.Targets.{HasKeyAndScope, HasScope, IsCallOf, IsWorkflow, NamesBehind, NamesInvocation};
 
@@ -28,8 +28,13 @@ fn workflow_of(alloc: Global, words: &[&[u8]]) -> Result<WorkflowId, Fault>
     ensures none { IfErr result (Blames (IsWorkflow words.now)) }
 {
     let (name, key, options) = two_texts(alloc, words)?;
-    let scope = scope_of(alloc, options)?;
-    Ok(WorkflowId { name, key, scope })
+    match scope_of(alloc, options) {
+        Ok(scope) => Ok(WorkflowId { name, key, scope }),
+        Err(fault) => {
+            drop((name, key));
+            Err(fault)
+        }
+    }
 }
 
 /// `[skey=T] [scope=T]` alone.
@@ -52,18 +57,59 @@ fn call_of(alloc: Global, words: &[&[u8]]) -> Result<IdempotencyId, Fault>
     ensures none { IfErr result (Blames (IsCallOf words.now)) }
 {
     let (service_name, handler_name, idempotency_key, options) = three_texts(alloc, words)?;
-    let (service_key, scope) = key_and_scope(alloc, options)?;
-    Ok(IdempotencyId {
-        service_name,
-        service_key,
-        handler_name,
-        idempotency_key,
-        scope,
-    })
+    match key_and_scope(alloc, options) {
+        Ok((service_key, scope)) => Ok(IdempotencyId {
+            service_name,
+            service_key,
+            handler_name,
+            idempotency_key,
+            scope,
+        }),
+        Err(fault) => {
+            drop((service_name, handler_name));
+            drop(idempotency_key);
+            Err(fault)
+        }
+    }
+}
+
+/// `T` behind `id`.
+#[tactic(auto, using(crate::proofs::Targeting::id_blamed))]
+fn target_by_id(alloc: Global, words: &[&[u8]]) -> Result<AttachInvocationTarget, Fault>
+    ensures value { IfOk result (NamesBehind (codes "id") words.now) }
+    ensures none { IfErr result (Blames (NamesBehind (codes "id") words.now)) }
+{
+    match text_alone(alloc, words) {
+        Ok(id) => Ok(AttachInvocationTarget::InvocationId(id)),
+        Err(fault) => Err(fault),
+    }
+}
+
+/// `T T [scope=T]` behind `workflow`.
+#[tactic(auto, using(crate::proofs::Targeting::workflow_blamed))]
+fn target_by_workflow(alloc: Global, words: &[&[u8]]) -> Result<AttachInvocationTarget, Fault>
+    ensures value { IfOk result (NamesBehind (codes "workflow") words.now) }
+    ensures none { IfErr result (Blames (NamesBehind (codes "workflow") words.now)) }
+{
+    match workflow_of(alloc, words) {
+        Ok(workflow) => Ok(AttachInvocationTarget::WorkflowId(workflow)),
+        Err(fault) => Err(fault),
+    }
+}
+
+/// `T T T [skey=T] [scope=T]` behind `idem`.
+#[tactic(auto, using(crate::proofs::Targeting::call_blamed))]
+fn target_by_call(alloc: Global, words: &[&[u8]]) -> Result<AttachInvocationTarget, Fault>
+    ensures value { IfOk result (NamesBehind (codes "idem") words.now) }
+    ensures none { IfErr result (Blames (NamesBehind (codes "idem") words.now)) }
+{
+    match call_of(alloc, words) {
+        Ok(call) => Ok(AttachInvocationTarget::IdempotencyId(call)),
+        Err(fault) => Err(fault),
+    }
 }
 
 /// The invocation that this word and those behind it name.
-#[tactic(auto, using(crate::proofs::Targeting::id_blamed, crate::proofs::Targeting::workflow_blamed, crate::proofs::Targeting::call_blamed))]
 fn target_behind(
     alloc: Global,
     word: &[u8],
@@ -73,16 +119,13 @@ fn target_behind(
     ensures none { IfErr result (Blames (NamesBehind word.now others.now)) }
 {
     if word == b"id".as_slice() {
-        let id = text_alone(alloc, others)?;
-        return Ok(AttachInvocationTarget::InvocationId(id));
+        return target_by_id(alloc, others);
     }
     if word == b"workflow".as_slice() {
-        let workflow = workflow_of(alloc, others)?;
-        return Ok(AttachInvocationTarget::WorkflowId(workflow));
+        return target_by_workflow(alloc, others);
     }
     if word == b"idem".as_slice() {
-        let call = call_of(alloc, others)?;
-        return Ok(AttachInvocationTarget::IdempotencyId(call));
+        return target_by_call(alloc, others);
     }
     Err(Fault::Malformed)
 }

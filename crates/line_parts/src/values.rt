@@ -3,25 +3,24 @@ ghost use Rattle.std.specs.Prelude.{◌≡◌, IfErr, IfOk};
 ghost use Rattle.lines.specs.Readings.{Blames};
 ghost use Rattle.line_parts.specs.Values.{ArePairs, HasValue, IsFailure, IsPair, IsValue, IsValueBehind, but_last, is_unstable, last_is};
 
-use crate::arguments::bytes_alone;
-use crate::atoms::{text_of, u16_of};
+use crate::arguments::{bytes_alone, two_texts};
+use crate::words::{behind, text_in, u16_in};
 use lines::pieces::words_within;
 use std::alloc::Global;
 use vm_parts::{NonEmptyValue, PayloadOptions, TerminalFailure};
 use wire::{Fault, Items, Text};
 
 /// `{T T}`.
-#[tactic(auto, using(crate::proofs::Pairs::unbraced_blamed, crate::proofs::Pairs::count_blamed, crate::proofs::Pairs::first_blamed, crate::proofs::Pairs::second_blamed))]
+#[tactic(auto, using(crate::proofs::Pairs::unbraced_blamed, crate::proofs::Pairs::count_blamed, crate::proofs::Pairs::texts_blamed))]
 pub fn pair_of(alloc: Global, text: &[u8]) -> Result<(Text, Text), Fault>
     ensures value { IfOk result (IsPair text.now) }
     ensures none { IfErr result (Blames (IsPair text.now)) }
 {
-    let pair = words_within(alloc, text, b'{', b'}')?;
-    let [first, second] = pair.as_slice() else {
+    let words = words_within(alloc, text, b'{', b'}')?;
+    if words.len() != 2 {
         return Err(Fault::Malformed);
-    };
-    let first = text_of(alloc, *first)?;
-    let second = text_of(alloc, *second)?;
+    }
+    let (first, second, _) = two_texts(alloc, words.as_slice())?;
     Ok((first, second))
 }
 
@@ -44,17 +43,19 @@ fn failure_of(alloc: Global, words: &[&[u8]]) -> Result<TerminalFailure, Fault>
     ensures value { IfOk result (IsFailure words.now) }
     ensures none { IfErr result (Blames (IsFailure words.now)) }
 {
-    let [code, message, pairs @ ..] = words else {
-        return Err(Fault::Malformed);
-    };
-    let code = u16_of(*code)?;
-    let message = text_of(alloc, *message)?;
-    let metadata = pairs_of(alloc, pairs)?;
-    Ok(TerminalFailure {
-        code,
-        message,
-        metadata,
-    })
+    let code = u16_in(words, 0)?;
+    let message = text_in(alloc, words, 1)?;
+    match pairs_of(alloc, behind(words, 2)) {
+        Ok(metadata) => Ok(TerminalFailure {
+            code,
+            message,
+            metadata,
+        }),
+        Err(fault) => {
+            drop(message);
+            Err(fault)
+        }
+    }
 }
 
 /// The value that this word and those behind it are.
@@ -64,12 +65,16 @@ fn value_behind(alloc: Global, word: &[u8], others: &[&[u8]]) -> Result<NonEmpty
     ensures none { IfErr result (Blames (IsValueBehind word.now others.now)) }
 {
     if word == b"success".as_slice() {
-        let bytes = bytes_alone(alloc, others)?;
-        return Ok(NonEmptyValue::Success(bytes));
+        return match bytes_alone(alloc, others) {
+            Ok(bytes) => Ok(NonEmptyValue::Success(bytes)),
+            Err(fault) => Err(fault),
+        };
     }
     if word == b"failure".as_slice() {
-        let failure = failure_of(alloc, others)?;
-        return Ok(NonEmptyValue::Failure(failure));
+        return match failure_of(alloc, others) {
+            Ok(failure) => Ok(NonEmptyValue::Failure(failure)),
+            Err(fault) => Err(fault),
+        };
     }
     Err(Fault::Malformed)
 }

@@ -1,11 +1,11 @@
 //! The words of a line by their places, the first at 0.
-ghost use Rattle.std.specs.Prelude.{◌≡◌, drop, IfErr, IfOk};
+ghost use Rattle.std.specs.Prelude.{◌≡◌, drop, IfErr, IfOk, string_bytes};
 ghost use Rattle.lines.specs.Atoms.{IsAtom, IsText};
 ghost use Rattle.lines.specs.Readings.{Blames};
 ghost use Rattle.line_parts.specs.Values.{IsTime};
-ghost use Rattle.line_parts.specs.Words.{text_at};
+ghost use Rattle.line_parts.specs.Words.{IsNumberOf, behind, text_at};
 
-use crate::atoms::{duration_of, shared_of, text_of};
+use crate::atoms::{duration_of, shared_of, string_of, text_of, u16_of, u32_of};
 use bytes::Bytes;
 use std::alloc::Global;
 use std::time::Duration;
@@ -19,6 +19,42 @@ pub fn text_in(alloc: Global, words: &[&[u8]], place: usize) -> Result<Text, Fau
 {
     match words.get(place) {
         Some(word) => text_of(alloc, *word),
+        None => Err(Fault::Malformed),
+    }
+}
+
+/// `T` at this place, as a string.
+#[tactic(auto, using(crate::proofs::Missing::text_blamed_at, crate::proofs::Missing::no_text_at))]
+pub(crate) fn string_in(alloc: Global, words: &[&[u8]], place: usize) -> Result<String, Fault>
+    ensures value { IfOk result (λ string. IsText (text_at place words.now) (string_bytes string)) }
+    ensures none { IfErr result (Blames (IsText (text_at place words.now))) }
+{
+    match words.get(place) {
+        Some(word) => string_of(alloc, *word),
+        None => Err(Fault::Malformed),
+    }
+}
+
+/// `N` of sixteen bits at this place.
+#[tactic(auto, using(crate::proofs::Missing::number_blamed_at, crate::proofs::Missing::no_number_at))]
+pub(crate) fn u16_in(words: &[&[u8]], place: usize) -> Result<u16, Fault>
+    ensures value { IfOk result (IsNumberOf 16 (text_at place words.now)) }
+    ensures none { IfErr result (Blames (IsNumberOf 16 (text_at place words.now))) }
+{
+    match words.get(place) {
+        Some(word) => u16_of(*word),
+        None => Err(Fault::Malformed),
+    }
+}
+
+/// `N` of thirty-two bits at this place.
+#[tactic(auto, using(crate::proofs::Missing::number_blamed_at, crate::proofs::Missing::no_number_at))]
+pub(crate) fn u32_in(words: &[&[u8]], place: usize) -> Result<u32, Fault>
+    ensures value { IfOk result (IsNumberOf 32 (text_at place words.now)) }
+    ensures none { IfErr result (Blames (IsNumberOf 32 (text_at place words.now))) }
+{
+    match words.get(place) {
+        Some(word) => u32_of(*word),
         None => Err(Fault::Malformed),
     }
 }
@@ -52,4 +88,12 @@ pub fn behind<'w, 'a>(words: &'w [&'a [u8]], count: usize) -> &'w [&'a [u8]]
     ensures { result.now ≡ drop count words.now }
 {
     words.get(count..).unwrap_or_default()
+}
+
+/// The words behind the first.
+#[tactic(auto, using(crate::proofs::Places::drop_first))]
+pub(crate) fn but_first<'w, 'a>(words: &'w [&'a [u8]]) -> &'w [&'a [u8]]
+    ensures { result.now ≡ behind words.now }
+{
+    behind(words, 1)
 }

@@ -1,11 +1,8 @@
-use Rattle.std.proofs.Common.{arith}
-use Rattle.std.proofs.lemmas.Grind.{common_steps}
-use Rattle.line_parts.proofs.Commands.{at_count_blamed}
-use Rattle.line_parts.proofs.report.specific_of.Goals.{in_default-via-then-as_slice-lt3, in_default-via-else-as_slice-lt3+else-this-lt4}
+use Rattle.std.proofs.Common.{◌≡◌, ◌∙◌, Err, drop, ap, rules}
+use Rattle.line_parts.proofs.Commands.{at_words_blamed}
 use Rattle.line_parts.proofs.report.specific_of.Goals as goal
 
-pub returns-in_default-clause-none : goal.returns-in_default-clause-none
-returns-in_default-clause-none c = elim c.in_default.branch [
-  | in_default-via-then-as_slice-lt3 w ↦ grind (arith, common_steps, at_count_blamed)
-  | in_default-via-else-as_slice-lt3+else-this-lt4 w ↦ grind (arith, common_steps, at_count_blamed)
-]
+pub returns-in_err-ty-clause-none : goal.returns-in_err-ty-clause-none
+returns-in_err-ty-clause-none c =
+    let is : c.from_residual-in_err-ty.result ≡ Err c.in_err-ty.field-0.0 = search rules in
+    rw is (at_words_blamed c.args.text.now c.in_ok-found.found.items c.behind.result.now c.in_err-ty.field-0.0 c.in_ok-found.ensures.words (c.behind.ensures ∙ ap (drop 1) c.as_slice-words.ensures.value) c.in_err-ty.ensures.none)

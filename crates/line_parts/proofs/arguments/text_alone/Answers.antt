@@ -1,7 +1,0 @@
-use Rattle.std.proofs.Common.{arith}
-use Rattle.line_parts.proofs.Missing.{if_err_map, one_text_blamed}
-use Rattle.line_parts.proofs.arguments.text_alone.Goals as goal
-
-pub returns-in-len1-clause-none : goal.returns-in-len1-clause-none
-returns-in-len1-clause-none c =
-    if_err_map c.text_of.result _ _ (λ fault blames. one_text_blamed c.args.arguments.now _ fault (omega arith) blames) c.text_of.ensures.none
