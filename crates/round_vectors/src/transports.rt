@@ -1,10 +1,11 @@
 // Arguments that are refused, and readers and writers that fail.
 use crate::bench::{Told, V7, assert_ends};
 use std::alloc::Global;
-use std::io::{self, Cursor, ErrorKind, Read, Write};
+use std::io::Cursor;
 use std::process::Abort;
 use std::test::Fail;
 use streams::Plain;
+use vectors::transports::{Breaking, Pipe};
 
 const SCRIPT: &[u8] = b"world input=\"a\"\nround\npiece all\nstep 2\nstore all\n";
 
@@ -62,22 +63,6 @@ fn refused_arguments_read_and_write_nothing(rt: HostRuntime) {
     }
 }
 
-/// Gives its first bytes, and then fails.
-#[derive(Drop)]
-struct Breaking<'a> {
-    front: Cursor<&'a [u8]>,
-}
-
-impl Read for Breaking<'_> {
-    fn read(&mut self, buf: &mut [u8]) -> io::Result<usize> {
-        let n = self.front.read(buf)?;
-        if n == 0 {
-            return Err(io::Error::from(ErrorKind::ConnectionReset));
-        }
-        Ok(n)
-    }
-}
-
 /// A read that fails behind this beginning of the script writes nothing.
 fn assert_broken(rt: &impl Abort, alloc: Global, front: &[u8]) {
     let mut reader = Plain(Breaking {
@@ -98,41 +83,9 @@ fn failed_reads_write_nothing(rt: HostRuntime) -> Result<(), Fail> {
     Ok(())
 }
 
-/// A pipe that takes one byte a call, and breaks once it is full.
-#[derive(Drop)]
-struct Pipe {
-    taken: Vec<u8>,
-    room: usize,
-    is_flushed: bool,
-}
-
-impl Write for Pipe {
-    fn write(&mut self, buf: &[u8]) -> io::Result<usize> {
-        if self.taken.len() >= self.room {
-            return Err(io::Error::from(ErrorKind::BrokenPipe));
-        }
-        let Some(byte) = buf.first() else {
-            return Ok(0);
-        };
-        self.taken.push(*byte)?;
-        Ok(1)
-    }
-
-    fn flush(&mut self) -> io::Result<()> {
-        if self.is_flushed {
-            return Ok(());
-        }
-        Err(io::Error::from(ErrorKind::BrokenPipe))
-    }
-}
-
-/// A run into a pipe with room for this beginning of the report ends so, and leaves it there.
-fn assert_piped(rt: &impl Abort, alloc: Global, front: &str, is_flushed: bool, wanted: Told) {
-    let mut writer = Plain(Pipe {
-        taken: Vec::new(alloc),
-        room: front.len(),
-        is_flushed,
-    });
+/// A run into a pipe with room for this beginning of the report, that can be flushed so often, ends so, and leaves it there.
+fn assert_piped(rt: &impl Abort, alloc: Global, front: &str, flushes: usize, wanted: Told) {
+    let mut writer = Plain(Pipe::new(alloc, front.len(), flushes));
     let mut reader = Plain(Cursor::new(SCRIPT));
     assert_ends(rt, alloc, V7, "sleeper", &mut reader, &mut writer, wanted);
     assert!(rt; writer.0.taken.as_slice() == front.as_bytes());
@@ -142,9 +95,9 @@ fn assert_piped(rt: &impl Abort, alloc: Global, front: &str, is_flushed: bool, w
 fn failed_writes_leave_a_beginning(rt: HostRuntime) -> Result<(), Fail> {
     for room in 0..REPORT.len() {
         let front = REPORT.get(..room).ok_or("no such place")?;
-        assert_piped(&rt, rt.alloc(), front, true, Told::WriteFailed);
+        assert_piped(&rt, rt.alloc(), front, 1, Told::WriteFailed);
     }
-    assert_piped(&rt, rt.alloc(), REPORT, false, Told::WriteFailed);
-    assert_piped(&rt, rt.alloc(), REPORT, true, Told::Reported);
+    assert_piped(&rt, rt.alloc(), REPORT, 0, Told::WriteFailed);
+    assert_piped(&rt, rt.alloc(), REPORT, 1, Told::Reported);
     Ok(())
 }

@@ -2,10 +2,12 @@
 use scripts::exit_status::ExitStatus;
 use scripts::run::run;
 use scripts::run_end::RunEnd;
-use std::io::{self, Cursor, ErrorKind, Read, Write};
+use std::alloc::Global;
+use std::io::{Cursor, ErrorKind};
 use std::process::Abort;
 use std::test::Fail;
-use streams::Plain;
+use streams::{Plain, Sink, Source};
+use vectors::transports::{Breaking, Pipe};
 
 /// How a run ends, as a row tells it.
 #[derive(Clone, Copy, Debug)]
@@ -24,119 +26,102 @@ fn is_told(end: &RunEnd, told: Told) -> bool {
     }
 }
 
-/// The run ends so, and the program with this status.
-fn assert_end(rt: &impl Abort, end: &RunEnd, told: Told, status: ExitStatus, code: u8) {
-    assert!(rt; is_told(end, told), "{end:?} is not {told:?}");
+/// The status of each end, and the process's code.
+fn status_of(told: Told) -> (ExitStatus, u8) {
+    match told {
+        Told::Done => (ExitStatus::Done, 0),
+        _ => (ExitStatus::Failed, 1),
+    }
+}
+
+/// The run ends so, and the program with its status.
+fn assert_ends<R: Source, W: Sink>(
+    rt: &impl Abort,
+    alloc: Global,
+    reader: &mut R,
+    writer: &mut W,
+    told: Told,
+) {
+    let end = run(alloc, reader, writer);
+    assert!(rt; is_told(&end, told), "{end:?} is not {told:?}");
+    let (status, code) = status_of(told);
     assert_eq!(rt; end.status(), status);
     assert_eq!(rt; status.code(), code);
 }
 
+/// The run of what comes from this reader ends so, and writes this.
+fn assert_writes<R: Source>(
+    rt: &impl Abort,
+    alloc: Global,
+    reader: &mut R,
+    transcript: &str,
+    told: Told,
+) {
+    let mut writer = Plain(Vec::new(alloc));
+    assert_ends(rt, alloc, reader, &mut writer, told);
+    assert!(rt; writer.0.as_slice() == transcript.as_bytes());
+}
+
+/// Scripts, and their transcripts.
+static SCRIPTS: [(&[u8], &str); 8] = [
+    (b"", ""),
+    (b"\n", "\n"),
+    (b"   \n", "\n"),
+    (b"state", "none\n"),
+    (b"state\n", "none\n"),
+    (b"\nstate\n\n", "\nnone\n\n"),
+    (b"\xff\nstate\r\n", "bad\nnone\n"),
+    (b"input \"\xff\"\n# \xff\n", "bad\n\n"),
+];
+
 #[test]
-fn each_line_is_answered_once(rt: HostRuntime) -> Result<(), Fail> {
-    let rows = [
-        (b"".as_slice(), ""),
-        (b"\n", "\n"),
-        (b"   \n", "\n"),
-        (b"state", "none\n"),
-        (b"state\n", "none\n"),
-        (b"\nstate\n\n", "\nnone\n\n"),
-        (b"\xff\nstate\r\n", "bad\nnone\n"),
-        (b"input \"\xff\"\n# \xff\n", "bad\n\n"),
-    ];
-    for (script, transcript) in rows {
-        let mut reader = Plain(Cursor::new(script));
-        let mut writer = Plain(Vec::new(rt.alloc()));
-        let end = run(rt.alloc(), &mut reader, &mut writer);
-        assert_end(&rt, &end, Told::Done, ExitStatus::Done, 0);
-        assert!(rt; writer.0.as_slice() == transcript.as_bytes());
-    }
-    Ok(())
-}
-
-/// Gives its first bytes, and then fails.
-#[derive(Drop)]
-struct Breaking<'a> {
-    front: Cursor<&'a [u8]>,
-}
-
-impl Read for Breaking<'_> {
-    fn read(&mut self, buf: &mut [u8]) -> io::Result<usize> {
-        let n = self.front.read(buf)?;
-        if n == 0 {
-            return Err(io::Error::from(io::ErrorKind::ConnectionReset));
-        }
-        Ok(n)
+fn each_line_is_answered_once(rt: HostRuntime) {
+    for (script, transcript) in &SCRIPTS {
+        let mut reader = Plain(Cursor::new(*script));
+        assert_writes(&rt, rt.alloc(), &mut reader, *transcript, Told::Done);
     }
 }
 
 #[test]
-fn failed_read_writes_nothing(rt: HostRuntime) -> Result<(), Fail> {
+fn failed_read_writes_nothing(rt: HostRuntime) {
     let mut reader = Plain(Breaking {
         front: Cursor::new(b"state\n"),
     });
-    let mut writer = Plain(Vec::new(rt.alloc()));
-    let end = run(rt.alloc(), &mut reader, &mut writer);
     let told = Told::ReadFailed(ErrorKind::ConnectionReset);
-    assert_end(&rt, &end, told, ExitStatus::Failed, 1);
-    assert!(rt; writer.0.is_empty());
-    Ok(())
+    assert_writes(&rt, rt.alloc(), &mut reader, "", told);
 }
 
-/// A pipe that takes so many bytes, and so many flushes.
-#[derive(Drop)]
-struct Pipe {
-    taken: Vec<u8>,
+const SCRIPT: &[u8] = b"state\n\ncall\nstate";
+
+const TRANSCRIPT: &str = "none\n\nbad\nnone\n";
+
+/// A run into a pipe with so much room, that can be flushed so often, ends so, and leaves this there.
+fn assert_piped(
+    rt: &impl Abort,
+    alloc: Global,
     room: usize,
     flushes: usize,
-}
-
-impl Write for Pipe {
-    fn write(&mut self, buf: &[u8]) -> io::Result<usize> {
-        if self.taken.len() >= self.room {
-            return Err(io::Error::from(ErrorKind::BrokenPipe));
-        }
-        let Some(byte) = buf.first() else {
-            return Ok(0);
-        };
-        self.taken.push(*byte)?;
-        Ok(1)
-    }
-
-    fn flush(&mut self) -> io::Result<()> {
-        if self.flushes == 0 {
-            return Err(io::Error::from(ErrorKind::BrokenPipe));
-        }
-        self.flushes -= 1;
-        Ok(())
-    }
+    front: &str,
+    told: Told,
+) {
+    let mut reader = Plain(Cursor::new(SCRIPT));
+    let mut writer = Plain(Pipe::new(alloc, room, flushes));
+    assert_ends(rt, alloc, &mut reader, &mut writer, told);
+    assert!(rt; writer.0.taken.as_slice() == front.as_bytes());
 }
 
 #[test]
 fn failed_writes_leave_a_beginning(rt: HostRuntime) -> Result<(), Fail> {
-    let script = b"state\n\ncall\nstate";
-    let transcript = b"none\n\nbad\nnone\n";
     let broken = Told::WriteFailed(ErrorKind::BrokenPipe);
-    let (done, failed) = (ExitStatus::Done, ExitStatus::Failed);
-    let mut rows = Vec::new(rt.alloc());
-    for room in 0..transcript.len() {
-        rows.push((room, 4, room, broken, failed, 1))?;
+    for room in 0..TRANSCRIPT.len() {
+        let front = TRANSCRIPT.get(..room).ok_or("no such place")?;
+        assert_piped(&rt, rt.alloc(), room, 4, front, broken);
     }
-    rows.push((100, 0, 5, broken, failed, 1))?;
-    rows.push((100, 1, 6, broken, failed, 1))?;
-    rows.push((100, 2, 10, broken, failed, 1))?;
-    rows.push((100, 3, 15, broken, failed, 1))?;
-    rows.push((100, 4, 15, Told::Done, done, 0))?;
-    for (room, flushes, count, told, status, code) in rows {
-        let mut reader = Plain(Cursor::new(script));
-        let mut writer = Plain(Pipe {
-            taken: Vec::new(rt.alloc()),
-            room,
-            flushes,
-        });
-        let end = run(rt.alloc(), &mut reader, &mut writer);
-        assert_end(&rt, &end, told, status, code);
-        let front = transcript.get(..count).ok_or("no such place")?;
-        assert_eq!(rt; writer.0.taken.as_slice(), front);
+    // Each answer is flushed.
+    for (flushes, count) in [(0, 5), (1, 6), (2, 10), (3, 15)] {
+        let front = TRANSCRIPT.get(..count).ok_or("no such place")?;
+        assert_piped(&rt, rt.alloc(), 100, flushes, front, broken);
     }
+    assert_piped(&rt, rt.alloc(), 100, 4, TRANSCRIPT, Told::Done);
     Ok(())
 }

@@ -12,6 +12,7 @@ use vectors::frames::{
     COMPLETION_1, END, ERROR_INPUT_CLOSED, INPUT_TILL, OUTPUT_EMPTY, SLEEP_TO_1000, SLEEP_TO_2024,
     START_1, START_2, START_3, SUSPENSION_ON_1, TYPE_MISMATCH, UNCOMPLETED,
 };
+use vectors::transports::Pipe;
 
 /// The sleeper's first attempt, which is suspended.
 const FIRST: &[&[u8]] = &[START_1, INPUT_TILL];
@@ -207,55 +208,17 @@ fn failed_reads_write_nothing(rt: HostRuntime) -> Result<(), Fail> {
     reset
 }
 
-/// A pipe that takes one byte a call, is interrupted before each call, and breaks once it is full.
-#[derive(Drop)]
-struct Pipe {
-    taken: Vec<u8>,
-    room: usize,
-    is_interrupted: bool,
-    is_flushed: bool,
-}
-
-impl Write for Pipe {
-    fn write(&mut self, buf: &[u8]) -> io::Result<usize> {
-        self.is_interrupted = !self.is_interrupted;
-        if self.is_interrupted {
-            return Err(io::Error::from(ErrorKind::Interrupted));
-        }
-        if self.taken.len() >= self.room {
-            return Err(io::Error::from(ErrorKind::BrokenPipe));
-        }
-        let Some(byte) = buf.first() else {
-            return Ok(0);
-        };
-        self.taken.push(*byte)?;
-        Ok(1)
-    }
-
-    fn flush(&mut self) -> io::Result<()> {
-        if self.is_flushed {
-            return Ok(());
-        }
-        Err(io::Error::from(ErrorKind::BrokenPipe))
-    }
-}
-
-/// The sleeper's last run into a pipe with so much room ends so, and a beginning of what it writes is in it.
+/// The sleeper's last run into a pipe with so much room, that can be flushed so often, ends so, and this is in it.
 fn assert_piped(
     rt: &impl Abort,
     alloc: Global,
     input: &[u8],
     wanted: &[u8],
-    is_flushed: bool,
+    flushes: usize,
     told: Told,
 ) {
     let mut reader = Plain(Cursor::new(input));
-    let mut writer = Plain(Pipe {
-        taken: Vec::new(alloc),
-        room: wanted.len(),
-        is_interrupted: false,
-        is_flushed,
-    });
+    let mut writer = Plain(Pipe::new(alloc, wanted.len(), flushes));
     assert_ends(rt, alloc, V7, "sleeper", &mut reader, &mut writer, told);
     assert!(rt; writer.0.taken.as_slice() == wanted);
 }
@@ -265,10 +228,10 @@ fn assert_pipes(rt: &impl Abort, alloc: Global, input: &[u8], wanted: &[u8]) -> 
     let broken = Told::WriteFailed(ErrorKind::BrokenPipe);
     for room in 0..wanted.len() {
         let front = wanted.get(..room).ok_or("no such place")?;
-        assert_piped(rt, alloc, input, front, true, broken);
+        assert_piped(rt, alloc, input, front, 1, broken);
     }
-    assert_piped(rt, alloc, input, wanted, true, Told::Ended);
-    assert_piped(rt, alloc, input, wanted, false, broken);
+    assert_piped(rt, alloc, input, wanted, 1, Told::Ended);
+    assert_piped(rt, alloc, input, wanted, 0, broken);
     Ok(())
 }
 
