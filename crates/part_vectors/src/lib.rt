@@ -4,8 +4,6 @@
 #[cfg(test)]
 mod delays;
 #[cfg(test)]
-mod found;
-#[cfg(test)]
 mod parts;
 #[cfg(test)]
 mod policies;

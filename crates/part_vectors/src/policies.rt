@@ -1,5 +1,4 @@
 // What policies say of failures: bounds, pauses, defaults.
-use crate::found::found;
 use retries::{EntryRetryInfo, Fraction, NextRetry, OnMaxAttempts, RetryPolicy};
 use std::process::Abort;
 use std::test::Fail;
@@ -41,7 +40,7 @@ fn copy_holds(
 fn delays_grow_until_a_bound(rt: HostRuntime) -> Result<(), Fail> {
     let policy = RetryPolicy::exponential(
         Duration::from_millis(125),
-        found(Fraction::new(2, 1), "a fraction")?,
+        Fraction::new(2, 1).ok_or("a fraction")?,
         None,
         Some(Duration::from_millis(750)),
         Some(Duration::from_secs(10)),
@@ -105,7 +104,7 @@ fn does_exponential_pause(factor: Fraction, on_max_attempts: OnMaxAttempts) -> (
 #[test]
 fn some_policies_pause(rt: HostRuntime) -> Result<(), Fail> {
     assert!(rt; OnMaxAttempts::default() == OnMaxAttempts::FailAsTerminal);
-    let factor = found(Fraction::new(2, 1), "a fraction")?;
+    let factor = Fraction::new(2, 1).ok_or("a fraction")?;
     let pauses = [
         does_fixed_pause(OnMaxAttempts::FailAsTerminal),
         does_fixed_pause(OnMaxAttempts::Pause),

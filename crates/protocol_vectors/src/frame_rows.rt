@@ -147,24 +147,13 @@ pub fn bad_lines() -> &'static str {
 }
 
 fn halves_of(row: &str) -> Result<(&str, &str), Fail> {
-    match row.split_once(" => ") {
-        Some((line, hex)) => Ok((line, hex)),
-        None => Err(Fail::from("no =>")),
-    }
+    Ok(row.split_once(" => ").ok_or("no =>")?)
 }
 
 /// The line of a row, and its bytes.
 pub fn parts_of(alloc: Global, row: &str) -> Result<(&str, Vec<u8>), Fail> {
     let (line, hex) = halves_of(row)?;
     Ok((line, bytes_of(alloc, hex.as_bytes())?))
-}
-
-/// What was looked for, where it is there.
-pub fn found<T>(value: Option<T>, what: &'static str) -> Result<T, Fail> {
-    match value {
-        Some(value) => Ok(value),
-        None => Err(Fail::from(what)),
-    }
 }
 
 /// Fails unless the row holds.

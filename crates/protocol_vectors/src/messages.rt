@@ -1,7 +1,7 @@
 // Streams and messages whose bytes were written out by hand from the layout; and that each call succeeds where there is memory.
 use crate::deep_frames::{DEPTH, deep_body, deep_frame};
 use crate::faults::says;
-use crate::frame_rows::{expect, found};
+use crate::frame_rows::expect;
 use crate::reading::{encoded, first_frame, sent_in};
 use bytes::Bytes;
 use journal_attempt::{Future, FutureKind, FutureNode};
@@ -168,7 +168,7 @@ fn waits_for_the_longest_body(rt: HostRuntime) -> Result<(), Fail> {
 /// The one frame of a stream.
 fn frame_of(alloc: Global, stream: Bytes) -> Result<RawMessage, Fail> {
     let length = stream.len();
-    let raw = found(sent_in(alloc, stream).ok().flatten(), "no whole frame")?;
+    let raw = sent_in(alloc, stream)?.ok_or("no whole frame")?;
     // In front of a body stand its type and its length.
     if raw.body.len().wrapping_add(10) == length {
         Ok(raw)

@@ -1,5 +1,4 @@
 // Frames and messages, read and written: what several tests do, each with one thing that it lets go of.
-use crate::frame_rows::found;
 use bytes::Bytes;
 use journal_errors::Error;
 use journal_messages::{Encoder, Message, RawMessage};
@@ -24,7 +23,7 @@ pub fn frame_in(alloc: Global, stream: Bytes) -> Result<Option<RawMessage>, Faul
 
 /// The first frame of a stream, which has to be whole.
 pub fn whole_in(alloc: Global, stream: Bytes) -> Result<RawMessage, Fail> {
-    found(frame_in(alloc, stream)?, "no whole frame")
+    Ok(frame_in(alloc, stream)?.ok_or("no whole frame")?)
 }
 
 fn first_sent(decoder: &mut Decoder, stream: Bytes) -> Result<Option<RawMessage>, Error> {

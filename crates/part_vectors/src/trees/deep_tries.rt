@@ -1,5 +1,4 @@
 //! Tries of deep trees, and what is sent of them.
-use crate::found::found;
 use crate::trees::deep::deep;
 use crate::trees::rows::{arrive, map, mapped};
 use await_trees::{FutureKind, UnresolvedFuture};
@@ -84,7 +83,7 @@ fn assert_waits_and_wakes(
     tree: &UnresolvedFuture,
 ) -> Result<(), Fail> {
     map(alloc, results, "17 1")?;
-    let left = found(asked(alloc, results, tree)?, "it is awake")?;
+    let left = asked(alloc, results, tree)?.ok_or("it is awake")?;
     assert!(rt; left.handle == Some(17));
     // Each node is its kind and four counts, and the innermost lists one completion.
     assert!(rt; left.measures == [1_000_000, 33_000_004, 1_000_000]);

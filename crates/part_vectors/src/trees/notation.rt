@@ -1,6 +1,5 @@
 //! What rows write: ids and what arrives. Trees are written as in scripts, and so are handles; the first of a row is 11, since
 //! handle 1 is the cancel signal's.
-use crate::found::found;
 use bytes::Bytes;
 use journal_values::{Failure, Notification, NotificationId, NotificationResult};
 use lines::atoms::number_of;
@@ -10,7 +9,7 @@ use wire::{Items, Text};
 
 /// The number of a word.
 pub fn number(word: &str) -> Result<u32, Fail> {
-    let number = found(number_of(word.as_bytes()), "no number")?;
+    let number = number_of(word.as_bytes()).ok_or("no number")?;
     if number <= u32::MAX as u64 {
         Ok(number as u32)
     } else {
@@ -24,7 +23,7 @@ pub fn id(alloc: Global, word: &str) -> Result<NotificationId, Fail> {
         return Ok(NotificationId::SignalId(number(word)?));
     }
     if let Some(name) = word.strip_prefix("\"") {
-        let name = found(name.strip_suffix("\""), "a name without end")?;
+        let name = name.strip_suffix("\"").ok_or("a name without end")?;
         return Ok(NotificationId::SignalName(Text::from_str(alloc, name)?));
     }
     Ok(NotificationId::CompletionId(number(word)?))
@@ -51,7 +50,7 @@ pub fn arrival(alloc: Global, word: &str) -> Result<Notification, Fail> {
             result: failure(alloc),
         });
     }
-    let word = found(word.strip_prefix("s"), "nothing that arrives")?;
+    let word = word.strip_prefix("s").ok_or("nothing that arrives")?;
     match word.split_once("=") {
         None => Ok(Notification {
             id: id(alloc, word)?,

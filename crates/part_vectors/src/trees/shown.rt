@@ -1,5 +1,4 @@
 //! What rows expect, as it is written: what is left of a tree, its handles, and the future that is sent of it.
-use crate::found::found;
 use await_trees::{Label, Node, UnresolvedFuture};
 use await_tries::Residue;
 use frame_lines::value::Value;
@@ -38,7 +37,8 @@ fn push_children(pieces: &mut Vec<Piece>, kids: &[usize]) -> Result<(), AllocErr
 /// The numbers of a node's children.
 fn kids_of<'a>(left: &'a Residue, node: &Node) -> Result<&'a [usize], Fail> {
     let end = node.first.wrapping_add(node.count);
-    found(left.kids().get(node.first..end), "no such children")
+    let kids = left.kids().get(node.first..end);
+    Ok(kids.ok_or("no such children")?)
 }
 
 fn show_node(
@@ -47,7 +47,7 @@ fn show_node(
     pieces: &mut Vec<Piece>,
     number: usize,
 ) -> Result<(), Fail> {
-    let node = found(left.nodes().get(number), "no such node")?;
+    let node = left.nodes().get(number).ok_or("no such node")?;
     match node.label {
         Label::Leaf(handle) => Ok(write!(text, "{handle}")?),
         Label::Inner(kind) => {
