@@ -8,7 +8,7 @@ use Rattle.vm_types.specs.declared.command_type.CommandType.TheVariants as comma
 use Rattle.lines.specs.Pieces.{AreWordsWithin}
 use Rattle.lines.specs.Readings.{Blames}
 use Rattle.lines.proofs.Once.{words_within_once}
-use Rattle.line_parts.specs.Reports.{IsCommand, IsCommandAt, IsCommandName, IsType, type_name}
+use Rattle.line_parts.specs.Reports.{AreTypeAndName, IsCommand, IsCommandAt, IsCommandName, IsType, type_name}
 use Rattle.line_parts.specs.Words.{IsNumberOf, text_at}
 use Rattle.line_parts.proofs.Finding.{none_named}
 use Rattle.line_parts.proofs.Pairs.{same_at, same_length}
@@ -46,10 +46,6 @@ no_type text fault none = record { nothing = λ bad ty is. go ty is }
     go command.GetInvocationOutput is = at 16 (omega arith) is
     go command.CompleteAwakeable is = at 17 (omega arith) is
     go command.CancelInvocation is = at 18 (omega arith) is
-
--- the words are a type and a name
-abbrev pub AreTypeAndName : List (Bor (List ℕ)) → CommandType × Option (List ℕ) → Type 0
-AreTypeAndName words command = (length words ≡ 2) × IsType (text_at 0 words) command.0 × IsCommandName (text_at 1 words) command.1
 
 pub count_blamed : (words : List (Bor (List ℕ))) (fault : Fault) → length words ≢ 2 → Blames (AreTypeAndName words) fault
 count_blamed words fault other = record { nothing = λ bad command are. other are.0 }

@@ -1,5 +1,5 @@
 -- Words that report no error.
-use Rattle.std.proofs.Common.{get_or, ◌≡◌, ◌≢◌, ℕ, true, false, List, Option, Some, None, codes, drop, sym, subst, ap, ◌∙◌, arith}
+use Rattle.std.proofs.Common.{get_or, ◌≡◌, ◌≢◌, ℕ, false, List, Option, Some, None, codes, drop, sym, subst, ap, ◌∙◌, arith}
 use Rattle.std.specs.Borrow.{Bor}
 use Rattle.wire.specs.declared.fault.Fault.{Fault}
 use Rattle.wire.specs.declared.fault.Fault.TheVariants.{Malformed}
@@ -10,7 +10,7 @@ use Rattle.vm_types.specs.declared.command_type.CommandRelationship.TheVariants 
 use Rattle.lines.specs.Atoms.{IsText}
 use Rattle.lines.specs.Readings.{Blames}
 use Rattle.line_parts.specs.Fields.{IsOptional, are_named, text_behind, texts}
-use Rattle.line_parts.specs.Reports.{AreDetails, IsBehavior, IsCommand, IsCommandAt, IsCommandName, IsError, IsRelated, IsReport, error_names}
+use Rattle.line_parts.specs.Reports.{AreDetails, IsBehavior, IsCommand, IsCommandAt, IsCommandName, IsError, IsRelated, IsRelatedAlone, IsReport, error_names}
 use Rattle.line_parts.specs.Words.{IsNumberOf, text_at}
 use Rattle.line_parts.proofs.Naming.{begins_so, otherwise, same_text}
 
@@ -69,10 +69,6 @@ details_blamed words fault blames = record { nothing = λ bad error is. blames.n
 
 pub error_blamed : (words : List (Bor (List ℕ))) (fault : Fault) → Blames (IsError words) fault → Blames (IsReport words) fault
 error_blamed words fault blames = record { nothing = λ bad report is. blames.nothing bad report.0 is.error }
-
--- the command that it relates to, and no other options than those of an error
-abbrev pub IsRelatedAlone : List (Bor (List ℕ)) → Option CommandRelationship → Type 0
-IsRelatedAlone options related = IsOptional IsRelated (texts (codes "rel=") options) related × (are_named error_names options ≡ true)
 
 pub options_blamed : (options : List (Bor (List ℕ))) (fault : Fault) → are_named error_names options ≡ false → Blames (IsRelatedAlone options) fault
 options_blamed options fault other = record { nothing = λ bad related are. absurd (cc (sym other ∙ are.1)) }

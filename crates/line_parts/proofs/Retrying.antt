@@ -1,5 +1,5 @@
 -- Texts that name no policy.
-use Rattle.std.proofs.Common.{◌≡◌, ◌≢◌, ◌<◌, ◌+◌, ℕ, true, false, List, Some, None, codes, position, take, drop, get_or, ap, sym, subst, ◌∙◌, arith}
+use Rattle.std.proofs.Common.{◌≡◌, ◌≢◌, ◌<◌, ◌+◌, ℕ, false, List, Some, None, codes, position, take, drop, get_or, ap, sym, subst, ◌∙◌, arith}
 use Rattle.std.specs.Borrow.{Bor}
 use Rattle.wire.specs.declared.fault.Fault.{Fault}
 use Rattle.wire.specs.declared.fault.Fault.TheVariants.{Malformed}
@@ -12,7 +12,7 @@ use Rattle.lines.proofs.Once.{Same, words_within_once}
 use Rattle.line_parts.specs.declared.policies.Bounds.{Bounds}
 use Rattle.line_parts.specs.declared.policies.Growth.{Growth}
 use Rattle.line_parts.specs.Fields.{IsOptional, IsRequired, are_named, text_behind, texts}
-use Rattle.line_parts.specs.Policies.{AreBounds, IsExponential, IsFixed, IsFraction, IsPolicy, exponential_names, fixed_names, is_slash}
+use Rattle.line_parts.specs.Policies.{AreBounds, AreGrowth, IsExponential, IsFixed, IsFraction, IsPolicy, exponential_names, fixed_names, is_slash}
 use Rattle.line_parts.specs.Values.{HasFlag, IsTime, without}
 use Rattle.line_parts.specs.Words.{IsNumberOf}
 use Rattle.line_parts.proofs.Naming.{begins_so, otherwise, same_text}
@@ -75,11 +75,6 @@ fixed_others text ws others fault are but other = record {
 
 pub growth_unbracketed : (text : List ℕ) (fault : Fault) → Blames (AreWordsWithin 40 41 text) fault → Blames (IsExponential text) fault
 growth_unbracketed text fault blames = record { nothing = λ bad growth is. blames.nothing bad is.words is.are_words }
-
--- what the brackets hold, by their words
-abbrev pub AreGrowth : List (Bor (List ℕ)) → Growth → Type 0
-AreGrowth words growth =
-    IsRequired IsTime (texts (codes "initial=") words) growth.initial × IsRequired IsFraction (texts (codes "factor=") words) growth.factor × AreBounds words growth.bounds × (are_named exponential_names (without (codes "pause") words) ≡ true)
 
 pub initial_blamed : (words : List (Bor (List ℕ))) (fault : Fault) → Blames (IsRequired IsTime (texts (codes "initial=") words)) fault → Blames (AreGrowth words) fault
 initial_blamed words fault blames = record { nothing = λ bad growth are. blames.nothing bad growth.initial are.0 }

@@ -1,5 +1,5 @@
 -- Words that name no invocation.
-use Rattle.std.proofs.Common.{◌≡◌, ℕ, List, codes, drop, sym, ◌∙◌}
+use Rattle.std.proofs.Common.{◌≡◌, ℕ, List, codes, drop}
 use Rattle.std.specs.Borrow.{Bor}
 use Rattle.wire.specs.declared.fault.Fault.{Fault}
 use Rattle.wire.specs.declared.fault.Fault.TheVariants.{Malformed}

@@ -44,6 +44,14 @@ pub record IsFixed (text : List ℕ) (bounds : Bounds) : Type 0 where
   pub are_bounds : AreBounds words bounds
   pub only : are_named fixed_names (without (codes "pause") words) ≡ true
 
+-- `initial=D factor=N/N [interval=D] [attempts=N] [max=D] [pause]`, and nothing else
+abbrev pub AreGrowth : List (Bor (List ℕ)) → Growth → Type 0
+AreGrowth words growth =
+    IsRequired IsTime (texts (codes "initial=") words) growth.initial
+    × IsRequired IsFraction (texts (codes "factor=") words) growth.factor
+    × AreBounds words growth.bounds
+    × (are_named exponential_names (without (codes "pause") words) ≡ true)
+
 -- the first delay in the brackets, its factor and the bounds, and nothing else
 pub record IsExponential (text : List ℕ) (growth : Growth) : Type 0 where
   pub words : List (Bor (List ℕ))

@@ -80,6 +80,10 @@ unfoldable pub IsCommandName : List ℕ → Option (List ℕ) → Type 0
 IsCommandName text None = text ≡ codes "-"
 IsCommandName text (Some name) = IsText text name
 
+-- the words are a type and a name, and nothing else
+abbrev pub AreTypeAndName : List (Bor (List ℕ)) → CommandType × Option (List ℕ) → Type 0
+AreTypeAndName words command = (length words ≡ 2) × IsType (text_at 0 words) command.0 × IsCommandName (text_at 1 words) command.1
+
 -- the words in the brackets name this type and this name
 pub record IsCommand (text : List ℕ) (command : CommandType × Option (List ℕ)) : Type 0 where
   pub words : List (Bor (List ℕ))
@@ -106,6 +110,10 @@ IsRelated text (relationship.Specific index ty name) = (command : List ℕ) × (
 -- the names of an error's options
 abbrev pub error_names : List (List ℕ)
 error_names = codes "stack=" ∷ codes "behaviour=" ∷ codes "delay=" ∷ codes "rel=" ∷ []
+
+-- the command that an error relates to, among options that are no others than an error's
+abbrev pub IsRelatedAlone : List (Bor (List ℕ)) → Option CommandRelationship → Type 0
+IsRelatedAlone options related = IsOptional IsRelated (texts (codes "rel=") options) related × (are_named error_names options ≡ true)
 
 -- what the options of an error say of it
 pub record AreDetails (words : List (Bor (List ℕ))) (error : Error) : Type 0 where

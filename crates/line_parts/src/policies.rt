@@ -1,11 +1,10 @@
 //! Policies of retries: `infinite`, `none`, `fixed(..)` or `exp(..)`.
-ghost use Rattle.std.specs.Prelude.{◌≡◌, ◌<◌, ◌==◌, true, codes, length, position, IfErr, IfOk, IfSome};
+ghost use Rattle.std.specs.Prelude.{◌≡◌, ◌<◌, ◌==◌, codes, length, position, IfErr, IfOk, IfSome};
 ghost use Rattle.retries.specs.Policies.{is_pause};
 ghost use Rattle.retries.specs.declared.policy.RetryPolicy.TheVariants as policy;
 ghost use Rattle.lines.specs.Readings.{Blames};
 ghost use Rattle.line_parts.specs.Fields.{IsOptional, IsRequired, IsSet, are_named, texts};
-ghost use Rattle.line_parts.specs.declared.policies.Growth.{Growth};
-ghost use Rattle.line_parts.specs.Policies.{AreBounds, IsExponential, IsFixed, IsFraction, IsPolicy, exponential_names, fixed_names, is_slash};
+ghost use Rattle.line_parts.specs.Policies.{AreBounds, AreGrowth, IsExponential, IsFixed, IsFraction, IsPolicy, exponential_names, fixed_names, is_slash};
 ghost use Rattle.line_parts.specs.Values.{IsTime, without};
 ghost use Rattle.line_parts.specs.Words.{IsNumberOf};
 
@@ -164,8 +163,8 @@ fn fixed_of(alloc: Global, text: &[u8]) -> Result<Bounds, Fault>
 /// `initial=D factor=N/N [interval=D] [attempts=N] [max=D] [pause]` alone.
 #[tactic(auto, using(crate::proofs::Retrying::initial_blamed, crate::proofs::Retrying::factor_blamed, crate::proofs::Retrying::growth_bounds, crate::proofs::Retrying::growth_others))]
 fn growth_among(alloc: Global, words: &[&[u8]]) -> Result<Growth, Fault>
-    ensures value { IfOk result (λ growth. IsRequired IsTime (texts (codes "initial=") words.now) growth.initial × IsRequired IsFraction (texts (codes "factor=") words.now) growth.factor × AreBounds words.now growth.bounds × (are_named exponential_names (without (codes "pause") words.now) ≡ true)) }
-    ensures none { IfErr result (Blames (λ (growth : Growth). IsRequired IsTime (texts (codes "initial=") words.now) growth.initial × IsRequired IsFraction (texts (codes "factor=") words.now) growth.factor × AreBounds words.now growth.bounds × (are_named exponential_names (without (codes "pause") words.now) ≡ true))) }
+    ensures value { IfOk result (AreGrowth words.now) }
+    ensures none { IfErr result (Blames (AreGrowth words.now)) }
 {
     let initial = initial_in(words)?;
     let factor = factor_in(words)?;

@@ -1,14 +1,11 @@
 //! The words behind `error`: what the handler's runner reports.
-ghost use Rattle.std.specs.Prelude.{◌≡◌, ℕ, List, [], Option, IfErr, IfOk, codes, length, string_bytes, true};
+ghost use Rattle.std.specs.Prelude.{◌≡◌, [], IfErr, IfOk, codes, string_bytes};
 ghost use Rattle.journal_errors.specs.declared.error.ErrorBehavior.TheVariants as behavior;
-ghost use Rattle.vm_types.specs.declared.command_type.CommandRelationship.{CommandRelationship};
-ghost use Rattle.vm_types.specs.declared.command_type.CommandType.{CommandType};
 ghost use Rattle.lines.specs.Atoms.{IsText};
 ghost use Rattle.lines.specs.Readings.{Blames};
 ghost use Rattle.line_parts.specs.Fields.{IsOptional, IsSet, are_named, texts};
-ghost use Rattle.line_parts.specs.Reports.{AreDetails, IsBehavior, IsCommand, IsCommandAt, IsCommandName, IsError, IsRelated, IsReport, IsType, delay_or, error_names, reported, stack_or, type_name};
+ghost use Rattle.line_parts.specs.Reports.{AreDetails, AreTypeAndName, IsBehavior, IsCommand, IsCommandAt, IsCommandName, IsError, IsRelated, IsRelatedAlone, IsReport, IsType, delay_or, error_names, reported, stack_or, type_name};
 ghost use Rattle.line_parts.specs.Values.{IsTime};
-ghost use Rattle.line_parts.specs.Words.{text_at};
 
 use crate::arguments::optional_duration;
 use crate::atoms::{string_of, text_of};
@@ -126,8 +123,8 @@ fn optional_of(alloc: Global, text: &[u8]) -> Result<Option<Text>, Fault>
 /// `TYPE NAME` alone.
 #[tactic(auto, using(crate::proofs::Commands::count_blamed, crate::proofs::Commands::type_blamed, crate::proofs::Commands::name_blamed))]
 fn type_and_name(alloc: Global, words: &[&[u8]]) -> Result<(CommandType, Option<Text>), Fault>
-    ensures value { IfOk result (λ found. (length words.now ≡ 2) × IsType (text_at 0 words.now) found.0 × IsCommandName (text_at 1 words.now) found.1) }
-    ensures none { IfErr result (Blames (λ (found : CommandType × Option (List ℕ)). (length words.now ≡ 2) × IsType (text_at 0 words.now) found.0 × IsCommandName (text_at 1 words.now) found.1)) }
+    ensures value { IfOk result (AreTypeAndName words.now) }
+    ensures none { IfErr result (Blames (AreTypeAndName words.now)) }
 {
     let [ty, name] = words else {
         return Err(Fault::Malformed);
@@ -309,8 +306,8 @@ fn relationship_alone(
     alloc: Global,
     options: &[&[u8]],
 ) -> Result<Option<CommandRelationship>, Fault>
-    ensures value { IfOk result (λ related. IsOptional IsRelated (texts (codes "rel=") options.now) related × (are_named error_names options.now ≡ true)) }
-    ensures none { IfErr result (Blames (λ (related : Option CommandRelationship). IsOptional IsRelated (texts (codes "rel=") options.now) related × (are_named error_names options.now ≡ true))) }
+    ensures value { IfOk result (IsRelatedAlone options.now) }
+    ensures none { IfErr result (Blames (IsRelatedAlone options.now)) }
 {
     if !are_options(options) {
         return Err(Fault::Malformed);
