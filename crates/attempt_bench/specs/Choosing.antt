@@ -30,6 +30,7 @@ bytes_taken (Some (answer.Taken None)) = None
 bytes_taken (Some (answer.Input input)) = None
 bytes_taken (Some (answer.Handle handle)) = None
 bytes_taken (Some (answer.Call handles)) = None
+bytes_taken (Some (answer.CallWithDeadline handles)) = None
 bytes_taken (Some (answer.Send handle)) = None
 bytes_taken (Some (answer.Awakeable awakeable)) = None
 bytes_taken (Some answer.Unit) = None

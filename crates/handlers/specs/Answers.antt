@@ -20,6 +20,7 @@ abbrev pub input_of : Option Answer → List ℕ
 input_of (Some (answer.Input input)) = input.input
 input_of (Some (answer.Handle handle)) = []
 input_of (Some (answer.Call handles)) = []
+input_of (Some (answer.CallWithDeadline handles)) = []
 input_of (Some (answer.Send handle)) = []
 input_of (Some (answer.Awakeable awakeable)) = []
 input_of (Some answer.Unit) = []
@@ -34,6 +35,7 @@ abbrev pub handle_of : Option Answer → NotificationHandle
 handle_of (Some (answer.Handle handle)) = handle
 handle_of (Some (answer.Input input)) = record { 0 = 0 }
 handle_of (Some (answer.Call handles)) = record { 0 = 0 }
+handle_of (Some (answer.CallWithDeadline handles)) = record { 0 = 0 }
 handle_of (Some (answer.Send handle)) = record { 0 = 0 }
 handle_of (Some (answer.Awakeable awakeable)) = record { 0 = 0 }
 handle_of (Some answer.Unit) = record { 0 = 0 }
@@ -46,6 +48,7 @@ handle_of None = record { 0 = 0 }
 -- the handle of a call's result; none is 0
 abbrev pub call_handle_of : Option Answer → NotificationHandle
 call_handle_of (Some (answer.Call handles)) = handles.call_notification_handle
+call_handle_of (Some (answer.CallWithDeadline handles)) = handles.call_notification_handle
 call_handle_of (Some (answer.Input input)) = record { 0 = 0 }
 call_handle_of (Some (answer.Handle handle)) = record { 0 = 0 }
 call_handle_of (Some (answer.Send handle)) = record { 0 = 0 }
@@ -57,12 +60,28 @@ call_handle_of (Some (answer.Taken taken)) = record { 0 = 0 }
 call_handle_of (Some (answer.Completed is)) = record { 0 = 0 }
 call_handle_of None = record { 0 = 0 }
 
+-- the handle of a call's deadline; none is 0
+abbrev pub deadline_handle_of : Option Answer → NotificationHandle
+deadline_handle_of (Some (answer.CallWithDeadline handles)) = handles.deadline_notification_handle
+deadline_handle_of (Some (answer.Call handles)) = record { 0 = 0 }
+deadline_handle_of (Some (answer.Input input)) = record { 0 = 0 }
+deadline_handle_of (Some (answer.Handle handle)) = record { 0 = 0 }
+deadline_handle_of (Some (answer.Send handle)) = record { 0 = 0 }
+deadline_handle_of (Some (answer.Awakeable awakeable)) = record { 0 = 0 }
+deadline_handle_of (Some answer.Unit) = record { 0 = 0 }
+deadline_handle_of (Some answer.Awake) = record { 0 = 0 }
+deadline_handle_of (Some answer.Cancelled) = record { 0 = 0 }
+deadline_handle_of (Some (answer.Taken taken)) = record { 0 = 0 }
+deadline_handle_of (Some (answer.Completed is)) = record { 0 = 0 }
+deadline_handle_of None = record { 0 = 0 }
+
 -- the answer says that a result is there
 abbrev pub is_completed : Option Answer → Bool
 is_completed (Some (answer.Completed is)) = is
 is_completed (Some (answer.Input input)) = false
 is_completed (Some (answer.Handle handle)) = false
 is_completed (Some (answer.Call handles)) = false
+is_completed (Some (answer.CallWithDeadline handles)) = false
 is_completed (Some (answer.Send handle)) = false
 is_completed (Some (answer.Awakeable awakeable)) = false
 is_completed (Some answer.Unit) = false
@@ -86,6 +105,7 @@ output_of (Some (answer.Taken None)) = non_empty.Success []
 output_of (Some (answer.Input input)) = non_empty.Success []
 output_of (Some (answer.Handle handle)) = non_empty.Success []
 output_of (Some (answer.Call handles)) = non_empty.Success []
+output_of (Some (answer.CallWithDeadline handles)) = non_empty.Success []
 output_of (Some (answer.Send handle)) = non_empty.Success []
 output_of (Some (answer.Awakeable awakeable)) = non_empty.Success []
 output_of (Some answer.Unit) = non_empty.Success []
@@ -100,6 +120,7 @@ is_cancelled (Some answer.Cancelled) = true
 is_cancelled (Some (answer.Handle handle)) = false
 is_cancelled (Some (answer.Input input)) = false
 is_cancelled (Some (answer.Call handles)) = false
+is_cancelled (Some (answer.CallWithDeadline handles)) = false
 is_cancelled (Some (answer.Send handle)) = false
 is_cancelled (Some (answer.Awakeable awakeable)) = false
 is_cancelled (Some answer.Unit) = false

@@ -1,5 +1,6 @@
 -- Calls of other handlers, and what a handler awaits two results by.
 use Rattle.std.specs.Prelude.{ℕ, List, [], ◌∷◌, None}
+use Rattle.std.specs.declared.time.Duration.{Duration}
 use Rattle.vm_types.specs.declared.steps.Step.{Step}
 use Rattle.vm_types.specs.declared.steps.Step.TheVariants as step
 use Rattle.await_trees.specs.declared.handle.NotificationHandle.{NotificationHandle}
@@ -16,6 +17,10 @@ target_of service handler =
 -- the call of a service's handler with an input
 abbrev pub call_of : List ℕ → List ℕ → List ℕ → Step
 call_of service handler input = step.Call (target_of service handler) input None stable
+
+-- the same with a deadline, since the Unix epoch
+abbrev pub call_until : List ℕ → List ℕ → List ℕ → Duration → Step
+call_until service handler input time = step.CallWithDeadline (target_of service handler) input time None stable
 
 -- two handles, to be awaited together
 abbrev pub both : NotificationHandle → NotificationHandle → List UnresolvedFuture

@@ -34,6 +34,7 @@ count_of (Some (answer.Taken None)) = 0
 count_of (Some (answer.Input input)) = 0
 count_of (Some (answer.Handle handle)) = 0
 count_of (Some (answer.Call handles)) = 0
+count_of (Some (answer.CallWithDeadline handles)) = 0
 count_of (Some (answer.Send handle)) = 0
 count_of (Some (answer.Awakeable awakeable)) = 0
 count_of (Some answer.Unit) = 0

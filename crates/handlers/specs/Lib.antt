@@ -5,4 +5,5 @@ pub mod Sleeper
 pub mod Race
 pub mod Parent
 pub mod Counter
+pub mod Deadline
 pub mod Named

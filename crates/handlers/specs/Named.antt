@@ -7,6 +7,7 @@ use Rattle.handlers.specs.declared.named.Named.{Named}
 use Rattle.handlers.specs.declared.named.Named.TheVariants as named
 use Rattle.handlers.specs.Charge.{charge_step}
 use Rattle.handlers.specs.Counter.{counter_step}
+use Rattle.handlers.specs.Deadline.{deadline_step}
 use Rattle.handlers.specs.Parent.{parent_step}
 use Rattle.handlers.specs.Race.{race_step}
 use Rattle.handlers.specs.Sleeper.{sleeper_step}
@@ -17,6 +18,7 @@ step_of (named.Sleeper sleeper) = sleeper_step
 step_of (named.Race race) = race_step
 step_of (named.Parent parent) = parent_step
 step_of (named.Counter counter) = counter_step
+step_of (named.Deadline deadline) = deadline_step
 step_of (named.Charge charge) = charge_step
 
 -- what the handler of this name does next, where its attempts execute nothing outside
@@ -26,6 +28,7 @@ step_named name =
     else if pointwise nat_eq name (codes "race") then Some race_step
     else if pointwise nat_eq name (codes "parent") then Some parent_step
     else if pointwise nat_eq name (codes "counter") then Some counter_step
+    else if pointwise nat_eq name (codes "deadline") then Some deadline_step
     else None
 
 -- what the handler of this name does next in a round, which can execute a run

@@ -1,6 +1,6 @@
 //! What handlers read from their answers, and what they do when they are cancelled.
 ghost use Rattle.std.specs.Prelude.{◌≡◌, slice_get, IfOk};
-ghost use Rattle.handlers.specs.Answers.{call_handle_of, cancelled_output, handle_of, input_of, is_cancelled, is_completed, output_of, output_of_value};
+ghost use Rattle.handlers.specs.Answers.{call_handle_of, cancelled_output, deadline_handle_of, handle_of, input_of, is_cancelled, is_completed, output_of, output_of_value};
 
 use bytes::Bytes;
 use std::alloc::{AllocError, Global};
@@ -35,6 +35,17 @@ pub fn call_handle_at(answers: &[Answer], place: usize) -> NotificationHandle
 {
     match answers.get(place) {
         Some(Answer::Call(handles)) => handles.call_notification_handle,
+        Some(Answer::CallWithDeadline(handles)) => handles.call_notification_handle,
+        _ => NotificationHandle(0),
+    }
+}
+
+/// The handle of the deadline of the call that was answered at this place.
+pub fn deadline_handle_at(answers: &[Answer], place: usize) -> NotificationHandle
+    ensures { result ≡ deadline_handle_of (slice_get answers.now place) }
+{
+    match answers.get(place) {
+        Some(Answer::CallWithDeadline(handles)) => handles.deadline_notification_handle,
         _ => NotificationHandle(0),
     }
 }

@@ -1,17 +1,18 @@
 //! Calls of other handlers, and what a handler awaits two results by.
 ghost use Rattle.std.specs.Prelude.{◌≡◌, IfOk};
-ghost use Rattle.handlers.specs.Calls.{both, call_of};
+ghost use Rattle.handlers.specs.Calls.{both, call_of, call_until, target_of};
 
 use bytes::Bytes;
 use std::alloc::{AllocError, Global};
+use std::time::Duration;
 use vm_parts::{Boxed, NotificationHandle, PayloadOptions, Step, Target, UnresolvedFuture};
 use wire::{Items, Text};
 
-/// The call of a service's handler, without a key.
-pub fn call(alloc: Global, service: &str, handler: &str, input: Bytes) -> Result<Step, AllocError>
-    ensures { IfOk result (λ step. step ≡ call_of service.now handler.now input) }
+/// A service's handler, without a key.
+fn target(alloc: Global, service: &str, handler: &str) -> Result<Target, AllocError>
+    ensures { IfOk result (λ target. target ≡ target_of service.now handler.now) }
 {
-    let target = Target {
+    Ok(Target {
         service: Text::from_str(alloc, service)?,
         handler: Text::from_str(alloc, handler)?,
         key: None,
@@ -19,10 +20,37 @@ pub fn call(alloc: Global, service: &str, handler: &str, input: Bytes) -> Result
         scope: None,
         limit_key: None,
         headers: Items::new(alloc),
-    };
+    })
+}
+
+/// The call of a service's handler, without a key.
+pub fn call(alloc: Global, service: &str, handler: &str, input: Bytes) -> Result<Step, AllocError>
+    ensures { IfOk result (λ step. step ≡ call_of service.now handler.now input) }
+{
+    let target = target(alloc, service, handler)?;
     Ok(Step::Call {
         target: Boxed::new(alloc, target)?,
         input,
+        name: None,
+        options: PayloadOptions::stable_serialization(),
+    })
+}
+
+/// The same with a deadline, since the Unix epoch.
+pub fn call_until(
+    alloc: Global,
+    service: &str,
+    handler: &str,
+    input: Bytes,
+    time: Duration,
+) -> Result<Step, AllocError>
+    ensures { IfOk result (λ step. step ≡ call_until service.now handler.now input time) }
+{
+    let target = target(alloc, service, handler)?;
+    Ok(Step::CallWithDeadline {
+        target: Boxed::new(alloc, target)?,
+        input,
+        wake_up_time_since_unix_epoch: time,
         name: None,
         options: PayloadOptions::stable_serialization(),
     })

@@ -5,6 +5,7 @@ pub mod answers;
 pub mod calls;
 pub mod charge;
 pub mod counter;
+pub mod deadline;
 pub mod named;
 pub mod parent;
 pub mod race;

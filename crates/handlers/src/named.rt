@@ -4,6 +4,7 @@ ghost use Rattle.handlers.specs.Named.{step_of, step_named, step_in_rounds};
 
 use crate::charge::Charge;
 use crate::counter::Counter;
+use crate::deadline::Deadline;
 use crate::parent::Parent;
 use crate::race::Race;
 use crate::sleeper::Sleeper;
@@ -18,6 +19,7 @@ pub enum Named {
     Race(Race),
     Parent(Parent),
     Counter(Counter),
+    Deadline(Deadline),
     Charge(Charge),
 }
 
@@ -31,6 +33,7 @@ impl Named {
             "race" => Some(Named::Race(Race { alloc })),
             "parent" => Some(Named::Parent(Parent { alloc })),
             "counter" => Some(Named::Counter(Counter { alloc })),
+            "deadline" => Some(Named::Deadline(Deadline { alloc })),
             _ => None,
         }
     }
@@ -55,6 +58,7 @@ impl Handler for Named {
             Named::Race(race) => race.next(answers),
             Named::Parent(parent) => parent.next(answers),
             Named::Counter(counter) => counter.next(answers),
+            Named::Deadline(deadline) => deadline.next(answers),
             Named::Charge(charge) => charge.next(answers),
         }
     }

@@ -3,3 +3,5 @@ pub mod Cancelling
 pub mod Cuts
 pub mod Failing
 pub mod Feeds
+pub mod Fresh
+pub mod Several

@@ -4,8 +4,6 @@ use Rattle.std.proofs.Common.{Global}
 use Rattle.std.specs.declared.string.String.{String}
 use Rattle.journal_errors.specs.declared.error.Error.{Error}
 use Rattle.journal_errors.specs.declared.faults.NamedFault.TheVariants as fault
-use Rattle.vm_types.specs.declared.options.JournalReplay.{JournalReplay}
-use Rattle.vm_types.specs.declared.options.JournalReplay.TheVariants.{Enabled, Disabled}
 use Rattle.vm_types.specs.declared.types.AwaitResponse.{AwaitResponse}
 use Rattle.vm_types.specs.declared.types.AwakeableHandle.{AwakeableHandle}
 use Rattle.await_trees.specs.declared.handle.NotificationHandle.{NotificationHandle}
@@ -19,11 +17,13 @@ use Rattle.vm_awaits.specs.Awaits.{Awaits}
 use Rattle.vm_awaits.specs.Cancels.{AwaitsWhole}
 use Rattle.vm_asks.specs.Asks.{run_command}
 use Rattle.vm_machine.specs.Commands.{CanBeRead, Fits, answered_by, commanded, knows_next}
+use Rattle.vm_machine.specs.Several.{AllFit, MakesAll, commanded_before}
 use Rattle.vm_machine.specs.Outcomes.{Outcome, flattened, refused}
 use Rattle.vm_machine.specs.Proposals.{Proposes}
 use Rattle.vm_asks.specs.declared.state_read.StateRead.{StateRead}
 use Rattle.vm_machine.specs.Reads.{ReadCanBeRead, read_step}
 use Rattle.vm_machine.specs.Signals.{awakeable_step}
+use Rattle.vm_machine.specs.Skips.{skips_replay}
 use Rattle.await_trees.specs.Tree.{tree_of}
 use Rattle.invocation_vm.specs.Views.{View, Calls, CallsBy}
 
@@ -38,6 +38,23 @@ CallsFor f c r old new = Calls (λ v. answered_by f (commanded c v)) r old new �
 -- A call that has a command and answers nothing.
 abbrev pub CallsUnit : Command → Result Unit Error → View → View → Type 0
 CallsUnit c r old new = CallsFor (λ _. tt {0}) c r old new
+
+-- a result with this of its answer
+abbrev pub result_by : {A B : Type 0} → (A → B) → Result A Error → Result B Error
+result_by f (Ok a) = Ok (f a)
+result_by f (Err e) = Err e
+
+-- One of several commands of a call, with these behind it: what it wrote can be read back, and all handles from its first on fit.
+abbrev pub CallsBefore : Command → List Command → Result NotificationHandle Error → View → View → Type 0
+CallsBefore c cs r old new = Calls (commanded_before c cs) r old new × OnOk r (CanBeRead c.message old.machine) × IfOk r (AllFit c cs)
+
+-- A call that has a command and these behind it, each made by a call of its own: it is answered by its first handle, and its handles fit.
+abbrev pub CallsAll : Command → List Command → Result NotificationHandle Error → View → View → Type 0
+CallsAll c cs r old new = MakesAll c cs r old.machine new.machine × (new.undecoded ≡ old.undecoded) × IfOk r (AllFit c cs)
+
+-- A call that has a command and these behind it, answered by this of its first handle.
+abbrev pub CallsAllFor : {A : Type 0} → (NotificationHandle → A) → Command → List Command → Result A Error → View → View → Type 0
+CallsAllFor f c cs r old new = (given : Result NotificationHandle Error) × MakesAll c cs given old.machine new.machine × (new.undecoded ≡ old.undecoded) × (r ≡ result_by f given)
 
 -- A state read: what it wrote can be read back.
 abbrev pub CallsRead : StateRead → Result NotificationHandle Error → View → View → Type 0
@@ -54,16 +71,6 @@ CallsRun name r old new = CallsFor (run_handle (knows_next old.machine)) (run_co
 -- What executing a run came to is told.
 abbrev pub CallsProposal : NotificationHandle → RunExitResult → RetryPolicy → Result Unit Error → View → View → Type 0
 CallsProposal handle exit policy r old new = CallsBy (Proposes handle exit policy) r old new
-
--- a result with this of its answer
-abbrev pub result_by : {A B : Type 0} → (A → B) → Result A Error → Result B Error
-result_by f (Ok a) = Ok (f a)
-result_by f (Err e) = Err e
-
--- recorded commands are skipped
-abbrev pub skips_replay : JournalReplay → Bool
-skips_replay Enabled = false
-skips_replay Disabled = true
 
 -- An awakeable is made, where recorded commands are replayed.
 abbrev pub new_awakeable_step : Machine → Outcome AwakeableHandle

@@ -1,18 +1,19 @@
 //! `CoreVM`: the VM over a decoder and a machine.
-ghost use Rattle.std.specs.Prelude.{◌≡◌, [], IfOk, is_some};
+ghost use Rattle.std.specs.Prelude.{◌≡◌, ◌∷◌, [], IfOk, is_some};
 ghost use Rattle.std.specs.List.{concat};
 ghost use Rattle.vm_parts.specs.Outboxes.{WholeFrames, WholeStream, len_of};
-ghost use Rattle.vm_asks.specs.Asks.{ask_of, call_handles, send_handle};
+ghost use Rattle.vm_asks.specs.Asks.{AnswerFits, all_ids, ask_of, call_handles, deadline_handles, send_handle};
 ghost use Rattle.vm_asks.specs.Requests.{ids_of};
 ghost use Rattle.vm_awaits.specs.Cancels.{Cancels};
 ghost use Rattle.vm_machine.specs.Outcomes.{Lives};
 ghost use Rattle.vm_parts.specs.Tracked.{invocation_ids};
-ghost use Rattle.invocation_vm.specs.Calls.{CallsAwait, CallsCommand, CallsFor, CallsRead, CallsTry, CallsUnit, run_handle};
+ghost use Rattle.invocation_vm.specs.Calls.{CallsAll, CallsAllFor, CallsAwait, CallsBefore, CallsCommand, CallsFor, CallsRead, CallsTry, CallsUnit, run_handle};
 ghost use Rattle.invocation_vm.specs.Seen.{seen};
 ghost use Rattle.invocation_vm.specs.Views.{Calls};
 
 use crate::shared::{
-    both_handles, id_handle, make_awakeable, name_text, run_handle, sends_cancels, unanswered,
+    answered_so, both_handles, id_handle, make_awakeable, name_text, run_handle, sends_cancels,
+    three_handles, unanswered,
 };
 use crate::versions::{response_head, version_in};
 use crate::vm::VM;
@@ -29,9 +30,10 @@ use vm_awaits::{Awaited, await_tree, drop_cancel, flatten};
 use vm_inputs::close_input;
 use vm_machine::Machine;
 use vm_parts::{
-    AttachInvocationTarget, AwaitResponse, AwakeableHandle, CallHandle, CommandRelationship, Input,
-    NonEmptyValue, NotificationHandle, PayloadOptions, ResponseHead, SendHandle, State, StateKey,
-    Step, Target, TrackedCall, UnresolvedFuture, VMOptions, VMResult, Value,
+    AttachInvocationTarget, AwaitResponse, AwakeableHandle, CallHandle, CommandRelationship,
+    DeadlineCallHandle, Input, NonEmptyValue, NotificationHandle, PayloadOptions, ResponseHead,
+    SendHandle, State, StateKey, Step, Target, TrackedCall, UnresolvedFuture, VMOptions, VMResult,
+    Value,
 };
 use wire::Text;
 
@@ -70,7 +72,7 @@ impl fmt::Debug for CoreVM {
     }
 }
 
-#[tactic(auto, using(crate::proofs::Calls::does_called, crate::proofs::Calls::does_failed, crate::proofs::Calls::does_one, crate::proofs::Calls::does_none, crate::proofs::Calls::settles_fits, crate::proofs::Calls::settles_sent, crate::proofs::Calls::called_by, crate::proofs::Calls::sent_by, crate::proofs::Calls::fits_both))]
+#[tactic(auto, using(crate::proofs::Calls::does_called, crate::proofs::Calls::does_failed, crate::proofs::Calls::does_one, crate::proofs::Calls::does_none, crate::proofs::Calls::settles_fits, crate::proofs::Calls::settles_sent, crate::proofs::Calls::called_by, crate::proofs::Calls::sent_by, crate::proofs::Calls::fits_both, crate::proofs::Several::settles_all, crate::proofs::Several::makes_both, crate::proofs::Several::makes_none, crate::proofs::Several::fits_three))]
 impl CoreVM {
     /// The version of the journal protocol that the VM was made for.
     pub fn version(&self) -> Version
@@ -105,7 +107,8 @@ impl CoreVM {
 
     /// What a step asks for.
     pub fn ask_of(&self, step: Step) -> Ask
-        ensures { result ≡ ask_of (seen self.now).machine.version step }
+        ensures ask { result ≡ ask_of (seen self.now).machine.version step }
+        ensures fits { AnswerFits result }
     {
         asks::ask_of(self.machine.alloc, self.machine.version, step)
     }
@@ -115,6 +118,42 @@ impl CoreVM {
         ensures { CallsCommand command result (seen self.old) (seen self.new) }
     {
         self.call(&mut command)
+    }
+
+    /// The first of two commands of a call: what both need is looked for before.
+    fn call_before(&mut self, first: &mut Command, second: &Command) -> VMResult<NotificationHandle>
+        ensures { CallsBefore first.old (second.now ∷ []) result (seen self.old) (seen self.new) }
+    {
+        if let Err(error) = self.machine.live() {
+            return Err(error);
+        }
+        let before = self.machine.counters;
+        let given = self.machine.command_before(first, second);
+        self.machine.settle(before, given)
+    }
+
+    fn call_both(
+        &mut self,
+        first: &mut Command,
+        second: &mut Command,
+    ) -> VMResult<NotificationHandle>
+        ensures { CallsAll first.old (second.old ∷ []) result (seen self.old) (seen self.new) }
+    {
+        match self.call_before(first, second) {
+            Ok(handle) => answered_so(handle, self.call(second)),
+            Err(error) => Err(error),
+        }
+    }
+
+    /// A call that has two commands: it is answered by the first one's handle.
+    pub fn commands(
+        &mut self,
+        mut first: Command,
+        mut second: Command,
+    ) -> VMResult<NotificationHandle>
+        ensures { CallsAll first (second ∷ []) result (seen self.old) (seen self.new) }
+    {
+        self.call_both(&mut first, &mut second)
     }
 
     /// A state read.
@@ -142,6 +181,14 @@ impl CoreVM {
         ensures { CallsFor call_handles command result (seen self.old) (seen self.new) }
     {
         both_handles(self.command(command))
+    }
+
+    /// A call of another handler with a deadline.
+    fn deadline_call_of(&mut self, call: Command, deadline: Command) -> VMResult<DeadlineCallHandle>
+        requires { all_ids call (deadline ∷ []) ≡ 3 }
+        ensures { CallsAllFor deadline_handles call (deadline ∷ []) result (seen self.old) (seen self.new) }
+    {
+        three_handles(self.commands(call, deadline))
     }
 
     /// A call whose result nobody waits for.
@@ -362,6 +409,22 @@ impl VM for CoreVM {
         let version = self.machine.version;
         let name = name_text(alloc, name);
         self.call_of(asks::call(alloc, target, input, name, options, version))
+    }
+
+    fn sys_call_with_deadline(
+        &mut self,
+        target: Target,
+        input: Bytes,
+        wake_up_time_since_unix_epoch: Duration,
+        name: Option<String>,
+        options: PayloadOptions,
+    ) -> VMResult<DeadlineCallHandle> {
+        let alloc = self.machine.alloc;
+        let version = self.machine.version;
+        let name = name_text(alloc, name);
+        let call = asks::call(alloc, target, input, name, options, version);
+        let deadline = asks::sleep(Text::empty(alloc), wake_up_time_since_unix_epoch);
+        self.deadline_call_of(call, deadline)
     }
 
     fn sys_send(

@@ -1,19 +1,21 @@
 //! What the calls share that have a command, what is checked of the call that makes an awakeable, and of an await.
 ghost use Rattle.std.specs.Prelude.{◌≡◌, ◌+◌, ◌<◌, ◌^◌, IfOk};
-ghost use Rattle.vm_asks.specs.Asks.{call_handles, send_handle};
+ghost use Rattle.vm_asks.specs.Asks.{call_handles, deadline_handles, send_handle};
 ghost use Rattle.vm_awaits.specs.Cancels.{sends_cancels};
 ghost use Rattle.vm_machine.specs.Outcomes.{Gives};
-ghost use Rattle.invocation_vm.specs.Calls.{name_or_empty, new_awakeable_step, result_by, run_handle, skips_replay};
+ghost use Rattle.invocation_vm.specs.Calls.{name_or_empty, new_awakeable_step, result_by, run_handle};
+ghost use Rattle.vm_machine.specs.Several.{answered_so};
 
 use journal_errors::NamedFault;
 use runs::RunHandle;
 use std::alloc::Global;
-use vm_asks::asks::{call_handles, send_handle};
+use vm_asks::asks::{call_handles, deadline_handles, send_handle};
 use vm_awaits::Awaited;
 use vm_machine::fault::refuse;
+use vm_machine::skips::skips_replay;
 use vm_machine::{Fault, Machine};
 use vm_parts::{
-    AwaitResponse, AwakeableHandle, CallHandle, JournalReplay, NotificationHandle, SendHandle,
+    AwaitResponse, AwakeableHandle, CallHandle, DeadlineCallHandle, NotificationHandle, SendHandle,
     VMResult,
 };
 use wire::Text;
@@ -48,6 +50,30 @@ pub(crate) fn both_handles(given: VMResult<NotificationHandle>) -> VMResult<Call
     }
 }
 
+/// The answer to a call with a deadline: its three handles.
+pub(crate) fn three_handles(given: VMResult<NotificationHandle>) -> VMResult<DeadlineCallHandle>
+    requires { IfOk given (λ handle. handle.0 + 2 < 2 ^ 32) }
+    ensures { result ≡ result_by deadline_handles given }
+{
+    match given {
+        Ok(handle) => Ok(deadline_handles(handle)),
+        Err(error) => Err(error),
+    }
+}
+
+/// What a call of several commands is answered: the handle of its first, where the others were made.
+pub(crate) fn answered_so(
+    handle: NotificationHandle,
+    given: VMResult<NotificationHandle>,
+) -> VMResult<NotificationHandle>
+    ensures { result ≡ answered_so handle given }
+{
+    match given {
+        Ok(_) => Ok(handle),
+        Err(error) => Err(error),
+    }
+}
+
 /// The answer to a call whose result nobody waits for.
 pub(crate) fn id_handle(given: VMResult<NotificationHandle>) -> VMResult<SendHandle>
     ensures { result ≡ result_by send_handle given }
@@ -66,12 +92,6 @@ pub(crate) fn run_handle(replayed: bool, given: VMResult<NotificationHandle>) ->
         Ok(handle) => Ok(RunHandle { replayed, handle }),
         Err(error) => Err(error),
     }
-}
-
-fn skips_replay(option: JournalReplay) -> bool
-    ensures { result ≡ skips_replay option }
-{
-    matches!(option, JournalReplay::Disabled)
 }
 
 pub(crate) fn make_awakeable(machine: &mut Machine) -> Result<AwakeableHandle, Fault>

@@ -1,15 +1,17 @@
 //! The calls of a VM, each with what it does to the view of it.
-ghost use Rattle.std.specs.Prelude.{◌≡◌, ◌/◌, [], IfOk, OnErr, None, Ok, true, string_bytes, codes};
+ghost use Rattle.std.specs.Prelude.{◌≡◌, ◌/◌, [], IfOk, OnOk, OnErr, None, Ok, true, string_bytes, codes, ◌∷◌};
 ghost use Rattle.std.specs.Duration.{as_nanos};
-ghost use Rattle.vm_asks.specs.Asks.{attach_invocation_command, call_command, call_handles, cancel_invocation_command, clear_all_state_command, clear_state_command, complete_awakeable_command, complete_promise_command, complete_signal_command, get_invocation_output_command, get_promise_command, millis_of, output_command, peek_promise_command, send_command, send_handle, set_state_command, sleep_command};
+ghost use Rattle.vm_asks.specs.Asks.{attach_invocation_command, call_command, call_handles, cancel_invocation_command, clear_all_state_command, clear_state_command, complete_awakeable_command, complete_promise_command, complete_signal_command, deadline_handles, get_invocation_output_command, get_promise_command, millis_of, output_command, peek_promise_command, send_command, send_handle, set_state_command, sleep_command};
 ghost use Rattle.vm_machine.specs.Takes.{is_completed, take_step};
 ghost use Rattle.vm_machine.specs.Queries.{IsReadyAt, last_index, state_of};
 ghost use Rattle.vm_machine.specs.Inputs.{end_step, input_step};
 ghost use Rattle.vm_machine.specs.declared.phase.Phase.TheVariants.{Closed};
 ghost use Rattle.vm_machine.specs.Phases.{is_waiting};
 ghost use Rattle.vm_machine.specs.Signals.{signal_step};
+ghost use Rattle.vm_machine.specs.Skips.{skips_replay};
+ghost use Rattle.vm_asks.specs.Carried.{AreBelow, all_carried};
 ghost use Rattle.vm_asks.specs.declared.state_read.StateRead.TheVariants as reads;
-ghost use Rattle.invocation_vm.specs.Calls.{CallsCommand, CallsFlatAwait, CallsFor, CallsProposal, CallsRead, CallsRun, CallsUnit, name_or_empty, new_awakeable_step};
+ghost use Rattle.invocation_vm.specs.Calls.{CallsAllFor, CallsCommand, CallsFlatAwait, CallsFor, CallsProposal, CallsRead, CallsRun, CallsUnit, name_or_empty, new_awakeable_step};
 ghost use Rattle.invocation_vm.specs.Making.{Makes, response_head, version_in};
 ghost use Rattle.invocation_vm.specs.Views.{View, Calls, Leaves, TakesOutput, after_closing, after_error, after_input, brought};
 
@@ -20,9 +22,9 @@ use runs::{RunExitResult, RunHandle};
 use std::alloc::{AllocError, Global};
 use std::time::Duration;
 use vm_parts::{
-    AttachInvocationTarget, AwaitResponse, AwakeableHandle, CallHandle, CommandRelationship, Input,
-    NonEmptyValue, NotificationHandle, PayloadOptions, ResponseHead, SendHandle, State, Target,
-    UnresolvedFuture, VMOptions, VMResult, Value,
+    AttachInvocationTarget, AwaitResponse, AwakeableHandle, CallHandle, CommandRelationship,
+    DeadlineCallHandle, Input, NonEmptyValue, NotificationHandle, PayloadOptions, ResponseHead,
+    SendHandle, State, Target, UnresolvedFuture, VMOptions, VMResult, Value,
 };
 
 /// One attempt of an invocation: the bytes of its journal come in, the handler's calls are answered, and the bytes
@@ -84,9 +86,11 @@ pub trait VM: Sized {
     fn take_notification(&mut self, handle: NotificationHandle) -> VMResult<Option<Value>>
         ensures { Calls (take_step handle.0) result (view self.old) (view self.new) };
 
-    /// What the handler was called with; its first call.
+    /// What the handler was called with; its first call. Where the options disable replay, the recorded commands behind the input
+    /// are dropped: each has to be readable, they are counted, and the completion ids of later calls are past all that they carry.
     fn sys_input(&mut self) -> VMResult<Input>
-        ensures { Calls input_step result (view self.old) (view self.new) };
+        ensures does { Calls input_step result (view self.old) (view self.new) }
+        ensures fresh { skips_replay (view self.old).machine.options.journal_replay ≡ true → OnOk result (AreBelow (view self.new).machine.counters.completion (all_carried (view self.old).machine.commands)) };
 
     /// A sleep to a time since the Unix epoch, in whole ms, rounded down. The present time has no effect.
     fn sys_sleep(
@@ -125,6 +129,19 @@ pub trait VM: Sized {
         options: PayloadOptions,
     ) -> VMResult<CallHandle>
         ensures { CallsFor call_handles (call_command target input (name_or_empty name) options (view self.old).machine.version) result (view self.old) (view self.new) };
+
+    /// As `sys_call`, and behind it a sleep to a time since the Unix epoch, in whole ms, rounded down, without a name: its handle is the
+    /// third. What both commands need is looked for before the first is made. A time that no `u64` holds is refused. Where the second
+    /// is refused, or no memory is found for it, the first was made.
+    fn sys_call_with_deadline(
+        &mut self,
+        target: Target,
+        input: Bytes,
+        wake_up_time_since_unix_epoch: Duration,
+        name: Option<String>,
+        options: PayloadOptions,
+    ) -> VMResult<DeadlineCallHandle>
+        ensures { CallsAllFor deadline_handles (call_command target input (name_or_empty name) options (view self.old).machine.version) (sleep_command (as_nanos wake_up_time_since_unix_epoch / 1_000_000) [] ∷ []) result (view self.old) (view self.new) };
 
     /// As `sys_call`, but nobody waits for the result; the handler is called at once, or at a time, in ms since the Unix epoch
     /// rounded down. A time that no `u64` holds is refused.

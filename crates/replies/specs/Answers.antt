@@ -7,12 +7,17 @@ use Rattle.vm_types.specs.declared.steps.Answer.{Answer}
 use Rattle.vm_types.specs.declared.steps.Answer.TheVariants as answer
 use Rattle.vm_types.specs.declared.types.AwakeableHandle.{AwakeableHandle}
 use Rattle.vm_types.specs.declared.types.CallHandle.{CallHandle}
+use Rattle.vm_types.specs.declared.types.DeadlineCallHandle.{DeadlineCallHandle}
 use Rattle.vm_types.specs.declared.values.Value.{Value}
 use Rattle.replies.specs.Texts.{flag_text, input_text, value_text}
 
 -- the handles of a call: the invocation's id, and the result
 abbrev pub handles_text : CallHandle → List ℕ
 handles_text handles = decimal handles.invocation_id_notification_handle.0 ++ codes " " ++ decimal handles.call_notification_handle.0
+
+-- the handles of a call with a deadline: the invocation's id, the result, and the deadline
+abbrev pub deadline_text : DeadlineCallHandle → List ℕ
+deadline_text handles = decimal handles.invocation_id_notification_handle.0 ++ codes " " ++ decimal handles.call_notification_handle.0 ++ codes " " ++ decimal handles.deadline_notification_handle.0
 
 -- the handle of an awakeable, and its id
 abbrev pub awakeable_text : AwakeableHandle → List ℕ
@@ -32,6 +37,7 @@ abbrev pub answer_text : Answer → List ℕ
 answer_text (answer.Input input) = input_text input
 answer_text (answer.Handle handle) = decimal handle.0
 answer_text (answer.Call handles) = handles_text handles
+answer_text (answer.CallWithDeadline handles) = deadline_text handles
 answer_text (answer.Send handles) = decimal handles.invocation_id_notification_handle.0
 answer_text (answer.Awakeable made) = awakeable_text made
 answer_text answer.Unit = []

@@ -1,13 +1,15 @@
 //! The texts of what a handler's calls answered.
 ghost use Rattle.std.specs.Prelude.{◌≡◌, ◌++◌, codes, OnOk};
 ghost use Rattle.std.specs.Fmt.{decimal};
-ghost use Rattle.replies.specs.Answers.{answer_text, awakeable_text, handles_text, run_text, taken_text};
+ghost use Rattle.replies.specs.Answers.{answer_text, awakeable_text, deadline_text, handles_text, run_text, taken_text};
 
 use crate::shown::Shown;
 use lines::line::Line;
 use runs::RunHandle;
 use std::alloc::AllocError;
-use vm_parts::{Answer, AwakeableHandle, CallHandle, NotificationHandle, Value};
+use vm_parts::{
+    Answer, AwakeableHandle, CallHandle, DeadlineCallHandle, NotificationHandle, Value,
+};
 
 impl Shown for NotificationHandle {
     ghost text = { λ handle. decimal handle.0 };
@@ -24,6 +26,18 @@ impl Shown for CallHandle {
         self.invocation_id_notification_handle.show(line)?;
         line.word(" ")?;
         self.call_notification_handle.show(line)
+    }
+}
+
+impl Shown for DeadlineCallHandle {
+    ghost text = { deadline_text };
+
+    fn show(&self, line: &mut Line) -> Result<(), AllocError> {
+        self.invocation_id_notification_handle.show(line)?;
+        line.word(" ")?;
+        self.call_notification_handle.show(line)?;
+        line.word(" ")?;
+        self.deadline_notification_handle.show(line)
     }
 }
 
@@ -68,6 +82,7 @@ impl Shown for Answer {
             Answer::Input(input) => input.show(line),
             Answer::Handle(handle) => handle.show(line),
             Answer::Call(handles) => handles.show(line),
+            Answer::CallWithDeadline(handles) => handles.show(line),
             Answer::Send(handles) => handles.invocation_id_notification_handle.show(line),
             Answer::Awakeable(awakeable) => awakeable.show(line),
             Answer::Unit => Ok(()),

@@ -35,6 +35,7 @@ unfoldable pub answer_word : Answer → List ℕ
 answer_word (answer.Input input) = codes "input"
 answer_word (answer.Handle handle) = codes "handle"
 answer_word (answer.Call handles) = codes "handles"
+answer_word (answer.CallWithDeadline handles) = codes "deadline"
 answer_word (answer.Send handle) = codes "handle"
 answer_word (answer.Awakeable made) = codes "awakeable"
 answer_word answer.Unit = codes "unit"
@@ -97,6 +98,7 @@ fault_name round_fault.WrongKind = codes "WrongKind"
 fault_name round_fault.RunIsProposed = codes "RunIsProposed"
 fault_name round_fault.Memory = codes "Memory"
 fault_name round_fault.JournalFull = codes "JournalFull"
+fault_name round_fault.BadJournal = codes "BadJournal"
 
 -- the report of rounds that a fault has stopped
 abbrev pub fault_text : RoundFault → List ℕ

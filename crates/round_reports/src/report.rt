@@ -25,6 +25,7 @@ fn answer_word(answer: &Answer) -> &'static str
         Answer::Input(_) => "input",
         Answer::Handle(_) | Answer::Send(_) => "handle",
         Answer::Call(_) => "handles",
+        Answer::CallWithDeadline(_) => "deadline",
         Answer::Awakeable(_) => "awakeable",
         Answer::Unit => "unit",
         Answer::Awake => "awake",
@@ -231,6 +232,7 @@ fn fault_name(fault: RoundFault) -> &'static str
         RoundFault::RunIsProposed => "RunIsProposed",
         RoundFault::Memory => "Memory",
         RoundFault::JournalFull => "JournalFull",
+        RoundFault::BadJournal => "BadJournal",
     }
 }
 

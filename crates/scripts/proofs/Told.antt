@@ -13,7 +13,10 @@ use Rattle.runs.specs.declared.types.RunHandle.{RunHandle}
 use Rattle.vm_machine.specs.declared.machine.Machine.{Machine}
 use Rattle.vm_machine.specs.Outcomes.{Does, Outcome, called}
 use Rattle.invocation_vm.specs.declared.core_vm.CoreVM.{CoreVM}
-use Rattle.invocation_vm.specs.Calls.{CallsFlatAwait, CallsProposal, CallsRun}
+use Rattle.vm_asks.specs.declared.asks.AnswerKind.{AnswerKind}
+use Rattle.vm_asks.specs.declared.asks.Command.{Command}
+use Rattle.vm_asks.specs.Asks.{answer_by}
+use Rattle.invocation_vm.specs.Calls.{CallsAll, CallsFlatAwait, CallsProposal, CallsRun}
 use Rattle.invocation_vm.specs.Views.{View, Leaves, TakesOutput}
 use Rattle.replies.specs.declared.reply.Reply.{Reply}
 use Rattle.replies.specs.declared.reply.Reply.TheVariants as reply
@@ -29,6 +32,9 @@ answers f step given answer old new does undecoded told = record { given = given
 
 pub awaits : (future : UnresolvedFuture) (given : Result AwaitResponse Error) (answer : Reply) (old new : View) → CallsFlatAwait future given old new → answer ≡ reply_of reply.Awaited given → Tells reply.Awaited (CallsFlatAwait future) answer old new
 awaits future given answer old new calls told = record { given = given; calls = calls; told = told }
+
+pub tells_all : (kind : AnswerKind) (c : Command) (cs : List Command) (given : Result NotificationHandle Error) (said : Reply) (old new : View) → CallsAll c cs given old new → said ≡ reply_of (λ handle. reply.Answer (answer_by kind handle)) given → Tells (λ handle. reply.Answer (answer_by kind handle)) (CallsAll c cs) said old new
+tells_all kind c cs given said old new calls told = record { given = given; calls = calls; told = told }
 
 pub runs : (name : List ℕ) (given : Result RunHandle Error) (answer : Reply) (old new : View) → CallsRun name given old new → answer ≡ reply_of reply.Run given → Tells reply.Run (CallsRun name) answer old new
 runs name given answer old new calls told = record { given = given; calls = calls; told = told }

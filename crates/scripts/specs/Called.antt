@@ -1,5 +1,5 @@
 -- The call of the VM that a line's call is: one row a call, and one row a kind of what a handler's steps ask for.
-use Rattle.std.specs.Prelude.{[], ◌≡◌, ℕ, Bool, List, Result, Ok, Err, IfOk}
+use Rattle.std.specs.Prelude.{[], ◌∷◌, ◌≡◌, ℕ, Bool, List, Result, Ok, Err, IfOk}
 use Rattle.std.specs.declared.alloc.AllocError.{AllocError}
 use Rattle.journal_errors.specs.declared.error.Error.{Error}
 use Rattle.journal_messages.specs.declared.message.RawMessage.{RawMessage}
@@ -11,7 +11,7 @@ use Rattle.vm_types.specs.declared.values.ResponseHead.{ResponseHead}
 use Rattle.vm_asks.specs.declared.asks.Ask.{Ask}
 use Rattle.vm_asks.specs.declared.asks.Ask.TheVariants as ask
 use Rattle.vm_machine.specs.declared.machine.Machine.{Machine}
-use Rattle.vm_asks.specs.Asks.{ask_of, command_answer}
+use Rattle.vm_asks.specs.Asks.{answer_by, ask_of, command_answer}
 use Rattle.vm_machine.specs.Takes.{is_completed, take_step}
 use Rattle.vm_machine.specs.Queries.{IsReadyAt, last_index, state_of}
 use Rattle.vm_machine.specs.Commands.{commanded}
@@ -19,7 +19,7 @@ use Rattle.vm_machine.specs.Inputs.{end_step, input_step}
 use Rattle.vm_machine.specs.Outcomes.{Outcome}
 use Rattle.vm_machine.specs.Reads.{read_step}
 use Rattle.vm_machine.specs.Signals.{signal_step}
-use Rattle.invocation_vm.specs.Calls.{CallsFlatAwait, CallsProposal, CallsRun, new_awakeable_step}
+use Rattle.invocation_vm.specs.Calls.{CallsAll, CallsFlatAwait, CallsProposal, CallsRun, new_awakeable_step}
 use Rattle.invocation_vm.specs.Making.{response_head}
 use Rattle.invocation_vm.specs.Views.{View, Calls, Leaves, TakesOutput, after_closing, after_error, after_input, brought}
 use Rattle.requests.specs.declared.request.Call.{Call}
@@ -76,6 +76,7 @@ pub record TellsReady (machine : Machine) (answer : Reply) : Type 0 where
 -- what the call does that is asked for
 abbrev pub DoneAsAsked : Ask → Reply → View → View → Type 0
 DoneAsAsked (ask.Command c) told old new = Answers (λ handle. reply.Answer (command_answer c.message handle)) (commanded c) told old new
+DoneAsAsked (ask.Commands kind first second) told old new = Tells (λ handle. reply.Answer (answer_by kind handle)) (CallsAll first (second ∷ [])) told old new
 DoneAsAsked ask.Awakeable told old new = Answers (λ made. reply.Answer (answer.Awakeable made)) new_awakeable_step told old new
 DoneAsAsked (ask.Read r) told old new = Answers (λ handle. reply.Answer (answer.Handle handle)) (read_step r) told old new
 DoneAsAsked (ask.Signal name) told old new = Answers (λ handle. reply.Answer (answer.Handle handle)) (signal_step name) told old new

@@ -1,11 +1,12 @@
 //! What a line asks for, done.
-ghost use Rattle.std.specs.Prelude.{◌≡◌, None, codes};
-ghost use Rattle.vm_asks.specs.Asks.{command_answer};
+ghost use Rattle.std.specs.Prelude.{◌≡◌, ◌∷◌, [], None, codes};
+ghost use Rattle.vm_asks.specs.Asks.{AnswerFits, AnswerTakes, all_ids, answer_by, command_answer};
 ghost use Rattle.vm_machine.specs.Commands.{commanded};
 ghost use Rattle.vm_types.specs.declared.steps.Answer.TheVariants as answer;
+ghost use Rattle.invocation_vm.specs.Calls.{CallsAll};
 ghost use Rattle.invocation_vm.specs.Making.{version_in};
 ghost use Rattle.invocation_vm.specs.Seen.{seen};
-ghost use Rattle.scripts.specs.Called.{Answers, Called, DoneAsAsked, StepDone, reply_of, reply_or_memory};
+ghost use Rattle.scripts.specs.Called.{Answers, Called, DoneAsAsked, StepDone, Tells, reply_of, reply_or_memory};
 ghost use Rattle.requests.specs.ContentTypes.{found};
 ghost use Rattle.replies.specs.declared.reply.Reply.TheVariants as reply;
 ghost use Rattle.scripts.specs.Performed.{Made, Performed};
@@ -19,7 +20,7 @@ use replies::Reply;
 use requests::content_type::ContentType;
 use requests::request::{Call, Request};
 use std::alloc::{AllocError, Global};
-use vm_asks::asks::command_answer;
+use vm_asks::asks::{AnswerKind, command_answer};
 use vm_asks::{Ask, Command};
 use vm_parts::{Answer, Step};
 
@@ -135,14 +136,28 @@ fn carry(vm: &mut CoreVM, command: Command) -> Reply
     }
 }
 
+/// Makes a call that has two commands.
+#[tactic(auto, using(crate::proofs::Told::tells_all, vm_machine::proofs::Answering::several_fit))]
+fn carry_both(vm: &mut CoreVM, kind: AnswerKind, first: Command, second: Command) -> Reply
+    requires { AnswerTakes kind (all_ids first (second ∷ [])) }
+    ensures { Tells (λ handle. reply.Answer (answer_by kind handle)) (CallsAll first (second ∷ [])) result (seen vm.old) (seen vm.new) }
+{
+    match vm.commands(first, second) {
+        Ok(handle) => Reply::Answer(command_answer(kind, handle)),
+        Err(error) => Reply::Refused(error),
+    }
+}
+
 /// Makes the call that is asked for.
 #[tactic(auto, using(crate::proofs::Told::answers, crate::proofs::Told::awaits))]
 #[inline(always)]
 fn perform_ask(vm: &mut CoreVM, ask: Ask) -> Reply
+    requires { AnswerFits ask }
     ensures { DoneAsAsked ask result (seen vm.old) (seen vm.new) }
 {
     match ask {
         Ask::Command(command) => carry(vm, command),
+        Ask::Commands(kind, first, second) => carry_both(vm, kind, first, second),
         Ask::Awakeable => awakeable(vm.sys_awakeable()),
         Ask::Read(read) => handle(vm.read(read)),
         Ask::Signal(name) => handle(vm.create_signal_handle(name.into_string())),

@@ -1,5 +1,5 @@
 -- What each step of a handler asks of the machine: one table over steps. A command is given without its numbers.
-use Rattle.std.specs.Prelude.{ℕ, zero, suc, ◌+◌, ◌<◌, ◌^◌, ◌/◌, Bool, true, false, ◌&&◌, not, nat_lt, min, if◌then◌else◌, List, [], ◌∷◌, Option, Some, None}
+use Rattle.std.specs.Prelude.{ℕ, zero, suc, ◌+◌, ◌<◌, ◌≤◌, ◌^◌, ◌/◌, Bool, true, false, ◌&&◌, not, nat_lt, min, if◌then◌else◌, List, [], ◌∷◌, Option, Some, None}
 use Rattle.std.specs.Duration.{as_nanos}
 use Rattle.std.specs.Option.{option_or}
 use Rattle.std.specs.declared.time.Duration.{Duration}
@@ -22,6 +22,7 @@ use Rattle.vm_types.specs.declared.steps.Answer.TheVariants as answer
 use Rattle.vm_types.specs.declared.steps.Step.{Step}
 use Rattle.vm_types.specs.declared.steps.Step.TheVariants as step
 use Rattle.vm_types.specs.declared.types.CallHandle.{CallHandle}
+use Rattle.vm_types.specs.declared.types.DeadlineCallHandle.{DeadlineCallHandle}
 use Rattle.await_trees.specs.declared.handle.NotificationHandle.{NotificationHandle}
 use Rattle.vm_types.specs.declared.types.SendHandle.{SendHandle}
 use Rattle.vm_types.specs.declared.values.NonEmptyValue.{NonEmptyValue}
@@ -239,6 +240,7 @@ ask_of version (step.StateClearAll name) = ask.Command (clear_all_state_command 
 ask_of version (step.StateGet key name options) = ask.Read (reads.Value key (name_in name))
 ask_of version (step.StateGetKeys name) = ask.Read (reads.Keys (name_in name))
 ask_of version (step.Call target input name options) = ask.Command (call_command target input (name_in name) options version)
+ask_of version (step.CallWithDeadline target input time name options) = ask.Commands kind.CallWithDeadline (call_command target input (name_in name) options version) (sleep_command (as_nanos time / 1000000) [])
 ask_of version (step.Send target input time name options) = ask.Command (send_command target input (millis_of time) (name_in name) options version)
 ask_of version step.Awakeable = ask.Awakeable
 ask_of version (step.Signal name) = ask.Signal name
@@ -272,6 +274,10 @@ answer_kind m = kind_by_ids (ids_of m)
 abbrev pub call_handles : NotificationHandle → CallHandle
 call_handles handle = record { invocation_id_notification_handle = handle; call_notification_handle = record { 0 = handle.0 + 1 } }
 
+-- the three handles of a call with a deadline
+abbrev pub deadline_handles : NotificationHandle → DeadlineCallHandle
+deadline_handles handle = record { invocation_id_notification_handle = handle; call_notification_handle = record { 0 = handle.0 + 1 }; deadline_notification_handle = record { 0 = handle.0 + 2 } }
+
 -- the handle of a send
 abbrev pub send_handle : NotificationHandle → SendHandle
 send_handle handle = record { invocation_id_notification_handle = handle }
@@ -281,13 +287,43 @@ abbrev pub answer_by : AnswerKind → NotificationHandle → Answer
 answer_by kind.Unit handle = answer.Unit
 answer_by kind.Handle handle = answer.Handle handle
 answer_by kind.Call handle = answer.Call (call_handles handle)
+answer_by kind.CallWithDeadline handle = answer.CallWithDeadline (deadline_handles handle)
 answer_by kind.Send handle = answer.Send (send_handle handle)
 
 -- the answer of a command, by its first handle
 abbrev pub command_answer : Message → NotificationHandle → Answer
 command_answer m handle = answer_by (answer_kind m) handle
 
--- both handles of a call are there
+-- all handles of a call are there
 abbrev pub HandlesFit : AnswerKind → NotificationHandle → Type 0
 HandlesFit kind.Call handle = handle.0 + 1 < 2 ^ 32
+HandlesFit kind.CallWithDeadline handle = handle.0 + 2 < 2 ^ 32
 HandlesFit other handle = Unit {0}
+
+-- ---- several commands
+
+-- how many completion ids a command takes and those behind it, with a handle for each
+abbrev pub all_ids : Command → List Command → ℕ
+all_ids c [] = ids_of c.message
+all_ids c (b ∷ bs) = ids_of c.message + all_ids b bs
+
+-- why arguments refuse a command or one of those behind it: the first reason
+abbrev pub any_refusal : Command → List Command → Option NamedFault
+any_refusal c [] = c.refusal
+any_refusal c (b ∷ bs) = option_or c.refusal (any_refusal b bs)
+
+-- it is so of a command and of each of those behind it
+abbrev pub EachIs : (Command → Type 0) → Command → List Command → Type 0
+EachIs P c [] = P c
+EachIs P c (b ∷ bs) = P c × EachIs P b bs
+
+-- an answer of this kind has no more handles than so many
+abbrev pub AnswerTakes : AnswerKind → ℕ → Type 0
+AnswerTakes kind.Call handles = 2 ≤ handles
+AnswerTakes kind.CallWithDeadline handles = 3 ≤ handles
+AnswerTakes other handles = Unit {0}
+
+-- several commands have the handles that their call is answered by
+abbrev pub AnswerFits : Ask → Type 0
+AnswerFits (ask.Commands kind first second) = AnswerTakes kind (all_ids first (second ∷ []))
+AnswerFits a = Unit {0}

@@ -1,3 +1,4 @@
 pub mod Asks
+pub mod Carried
 pub mod Requests
 pub mod StateReads

@@ -2,7 +2,7 @@
 ghost use Rattle.std.specs.Prelude.{◌≡◌, ◌+◌, ◌<◌, ◌^◌, ◌/◌, min};
 ghost use Rattle.std.specs.Duration.{as_nanos};
 ghost use Rattle.std.specs.Option.{option_copied};
-ghost use Rattle.vm_asks.specs.Asks.{HandlesFit, allowed, answer_by, answer_kind, ask_of, attach_invocation_command, call_command, call_handles, cancel_invocation_command, clear_all_state_command, clear_state_command, complete_awakeable_command, complete_promise_command, complete_signal_command, early_fault, empty_fault, get_invocation_output_command, get_promise_command, has_metadata, millis_of, name_in, output_command, peek_promise_command, request_of, run_command, scope_fault, scope_of, send_command, send_handle, set_state_command, signal_result, sleep_command, target_fault, time_fault, value_fault};
+ghost use Rattle.vm_asks.specs.Asks.{AnswerFits, HandlesFit, allowed, answer_by, answer_kind, ask_of, attach_invocation_command, call_command, call_handles, cancel_invocation_command, clear_all_state_command, clear_state_command, complete_awakeable_command, complete_promise_command, complete_signal_command, deadline_handles, early_fault, empty_fault, get_invocation_output_command, get_promise_command, has_metadata, millis_of, name_in, output_command, peek_promise_command, request_of, run_command, scope_fault, scope_of, send_command, send_handle, set_state_command, signal_result, sleep_command, target_fault, time_fault, value_fault};
 ghost use Rattle.vm_asks.specs.Requests.{ids_of};
 
 use crate::request;
@@ -20,8 +20,8 @@ use journal_values::ValueOrFailure;
 use std::alloc::Global;
 use std::time::Duration;
 use vm_parts::{
-    Answer, AttachInvocationTarget, CallHandle, NonEmptyValue, NotificationHandle, PayloadOptions,
-    SendHandle, StateKey, Step, Target, UnresolvedFuture,
+    Answer, AttachInvocationTarget, CallHandle, DeadlineCallHandle, NonEmptyValue,
+    NotificationHandle, PayloadOptions, SendHandle, StateKey, Step, Target, UnresolvedFuture,
 };
 use vm_types::values::write_value;
 use wire::Text;
@@ -52,6 +52,8 @@ impl Drop for Command {
 #[derive(Drop)]
 pub enum Ask {
     Command(Command),
+    /// Two commands, the second behind the first, and how the call is answered, by the first one's handle.
+    Commands(AnswerKind, Command, Command),
     /// A read of the state.
     Read(StateRead),
     Awakeable,
@@ -420,7 +422,8 @@ pub fn get_invocation_output(target: AttachInvocationTarget, version: Version) -
 
 /// What a step asks for, in an attempt of this version.
 pub fn ask_of(alloc: Global, version: Version, step: Step) -> Ask
-    ensures { result ≡ ask_of version step }
+    ensures ask { result ≡ ask_of version step }
+    ensures fits { AnswerFits result }
 {
     match step {
         Step::Sleep {
@@ -452,6 +455,19 @@ pub fn ask_of(alloc: Global, version: Version, step: Step) -> Ask
         } => {
             let name = name_in(alloc, name);
             Ask::Command(call(alloc, target.into_inner(), input, name, options, version))
+        }
+        Step::CallWithDeadline {
+            target,
+            input,
+            wake_up_time_since_unix_epoch,
+            name,
+            options,
+        } => {
+            let name = name_in(alloc, name);
+            let target = target.into_inner();
+            let call = call(alloc, target, input, name, options, version);
+            let deadline = sleep(Text::empty(alloc), wake_up_time_since_unix_epoch);
+            Ask::Commands(AnswerKind::CallWithDeadline, call, deadline)
         }
         Step::Send {
             target,
@@ -509,6 +525,8 @@ pub enum AnswerKind {
     Handle,
     /// By two handles: the invocation's id, and the result.
     Call,
+    /// By three handles: those of a call, and the deadline's.
+    CallWithDeadline,
     /// By the handle of the invocation's id.
     Send,
 }
@@ -543,6 +561,18 @@ pub fn call_handles(handle: NotificationHandle) -> CallHandle
     }
 }
 
+/// The three handles of a call with a deadline.
+pub fn deadline_handles(handle: NotificationHandle) -> DeadlineCallHandle
+    requires { handle.0 + 2 < 2 ^ 32 }
+    ensures { result ≡ deadline_handles handle }
+{
+    DeadlineCallHandle {
+        invocation_id_notification_handle: handle,
+        call_notification_handle: NotificationHandle(handle.0 + 1),
+        deadline_notification_handle: NotificationHandle(handle.0 + 2),
+    }
+}
+
 /// The handle of a send.
 pub fn send_handle(handle: NotificationHandle) -> SendHandle
     ensures { result ≡ send_handle handle }
@@ -561,6 +591,7 @@ pub fn command_answer(kind: AnswerKind, handle: NotificationHandle) -> Answer
         AnswerKind::Unit => Answer::Unit,
         AnswerKind::Handle => Answer::Handle(handle),
         AnswerKind::Call => Answer::Call(call_handles(handle)),
+        AnswerKind::CallWithDeadline => Answer::CallWithDeadline(deadline_handles(handle)),
         AnswerKind::Send => Answer::Send(send_handle(handle)),
     }
 }

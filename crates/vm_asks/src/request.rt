@@ -1,5 +1,6 @@
 //! What a message asks for as a command: how errors show it, and its numbers. One table over messages for all calls.
-ghost use Rattle.std.specs.Prelude.{◌≡◌, ◌<◌, ◌+◌, ◌^◌, IfOk};
+ghost use Rattle.std.specs.Prelude.{◌≡◌, ◌<◌, ◌+◌, ◌^◌, max, IfOk};
+ghost use Rattle.vm_asks.specs.Carried.{carried, past};
 ghost use Rattle.vm_asks.specs.Requests.{ids_of, is_cancelled_with, name_of, shown_type, with_ids};
 
 use journal_errors::MessageType;
@@ -41,7 +42,8 @@ pub fn name_of(alloc: Global, message: &Message) -> Result<Text, AllocError>
 
 /// How many completion ids the command takes, with a handle for each.
 pub fn ids_of(message: &Message) -> u32
-    ensures { result ≡ ids_of message.now }
+    ensures ids { result ≡ ids_of message.now }
+    ensures few { result < 3 }
 {
     match message {
         Message::Call(_) => 2,
@@ -103,5 +105,37 @@ pub fn is_cancelled_with(option: ImplicitCancellationOption, message: &Message) 
             Message::OneWayCall(_),
         ) => cancel_children_one_way_calls,
         _ => false,
+    }
+}
+
+/// The completion id that is next past this one, where `next` was.
+fn past_id(next: u64, id: u32) -> u64
+    ensures { result ≡ max next (id + 1) }
+{
+    next.max(u64::from(id) + 1)
+}
+
+/// The completion id that is next past those that a command carries, where `next` was.
+pub fn past(next: u64, command: &Message) -> u64
+    ensures { result ≡ past next (carried command.now) }
+{
+    match command {
+        Message::Sleep(command) => past_id(next, command.result_completion_id),
+        Message::GetLazyState(command) => past_id(next, command.result_completion_id),
+        Message::GetLazyStateKeys(command) => past_id(next, command.result_completion_id),
+        Message::Call(command) => {
+            let next = past_id(next, command.request.invocation_id_notification_idx);
+            past_id(next, command.result_completion_id)
+        }
+        Message::OneWayCall(command) => {
+            past_id(next, command.request.invocation_id_notification_idx)
+        }
+        Message::GetPromise(command) => past_id(next, command.result_completion_id),
+        Message::PeekPromise(command) => past_id(next, command.result_completion_id),
+        Message::CompletePromise(command) => past_id(next, command.result_completion_id),
+        Message::Run(command) => past_id(next, command.result_completion_id),
+        Message::AttachInvocation(command) => past_id(next, command.result_completion_id),
+        Message::GetInvocationOutput(command) => past_id(next, command.result_completion_id),
+        _ => next,
     }
 }

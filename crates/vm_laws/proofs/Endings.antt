@@ -1,6 +1,6 @@
 -- Each event writes at most one terminal message, and nothing behind it.
 use Rattle.std.proofs.Common.{◌≡◌, ℕ, Bool, true, false, List, [], ◌∷◌, ◌++◌, Option, Some, None, length, map, refl, sym, ap, subst, ⊎_elim, ◌∙◌}
-use Rattle.std.specs.Prelude.{if◌then◌else◌, ◌||◌, ◌&&◌, ◌==◌, nat_le, nat_lt, not, is_some, Result, Ok, Err}
+use Rattle.std.specs.Prelude.{if◌then◌else◌, ◌||◌, ◌&&◌, ◌==◌, nat_le, nat_lt, not, is_some, drop, Result, Ok, Err}
 use Rattle.std.proofs.lemmas.List.{append-nil}
 use Rattle.journal_errors.specs.declared.error.Error.{Error}
 use Rattle.journal_errors.specs.declared.faults.NamedFault.{NamedFault}
@@ -38,7 +38,11 @@ use Rattle.await_trees.specs.declared.handle.NotificationHandle.{NotificationHan
 use Rattle.vm_types.specs.declared.values.Value.{Value}
 use Rattle.vm_parts.specs.Deliveries.{id_at, present_for, taken_by}
 use Rattle.vm_types.specs.Values.{value_of}
+use Rattle.vm_parts.specs.declared.context.Counters.{Counters}
 use Rattle.vm_parts.specs.Counting.{missing, missing_signals}
+use Rattle.vm_types.specs.declared.values.Input.{Input}
+use Rattle.vm_asks.specs.Carried.{past_all}
+use Rattle.vm_machine.specs.Skips.{counters_past, skipped, skips_replay}
 use Rattle.vm_machine.specs.declared.machine.Machine.{Machine}
 use Rattle.vm_machine.specs.declared.phase.Phase.{Phase}
 use Rattle.vm_machine.specs.declared.phase.Phase.TheVariants.{WaitingStart, WaitingReplayEntries, Replaying, Processing, Closed}
@@ -47,10 +51,11 @@ use Rattle.vm_types.specs.declared.steps.Step.{Step}
 use Rattle.vm_types.specs.declared.steps.Step.TheVariants as step
 use Rattle.vm_asks.specs.declared.asks.Ask.{Ask}
 use Rattle.vm_asks.specs.declared.asks.Ask.TheVariants as ask
+use Rattle.vm_asks.specs.declared.asks.AnswerKind.{AnswerKind}
 use Rattle.vm_asks.specs.declared.asks.Command.{Command}
-use Rattle.vm_asks.specs.Asks.{ask_of}
+use Rattle.vm_asks.specs.Asks.{EachIs, any_refusal, ask_of}
 use Rattle.vm_machine.specs.Takes.{result_taken, take_step, taken_at, value_noted, value_taken}
-use Rattle.vm_machine.specs.Inputs.{acknowledged, acknowledged_by, acknowledgement_step, close_step, closed_at, counted_entry, end_at, end_step, ended, enqueued, entries_in, entry_step, input_at, input_counted, input_read, input_step, malformed_step, message_step, notification_step, queued, start_step, started, started_with}
+use Rattle.vm_machine.specs.Inputs.{acknowledged, acknowledged_by, acknowledgement_step, close_step, closed_at, counted_entry, end_at, end_step, ended, enqueued, entries_in, entry_step, input_at, input_by, input_counted, input_numbered, input_past, input_read, input_step, malformed_step, message_step, notification_step, queued, start_step, started, started_with}
 use Rattle.vm_machine.specs.Reports.{is_retry, related_to, report_step}
 use Rattle.journal_values.specs.declared.notification.NotificationResult.{NotificationResult}
 use Rattle.vm_parts.specs.declared.context.Known.{Known}
@@ -63,6 +68,7 @@ use Rattle.vm_machine.specs.Reads.{own_result, read_back, read_counted, read_pop
 use Rattle.vm_asks.specs.StateReads.{eager_type, keys_form, lazy_type, name_read, own_form, recorded_as, recorded_type, result_in, value_form}
 use Rattle.vm_machine.specs.Signals.{awakeable_counted, awakeable_step, signal_counted, signal_step}
 use Rattle.vm_machine.specs.Commands.{entered, written, ignores_payloads, phase_after, popped, popped_from, compared, replayed, carried_out, prepared, counted, issued, commanded, commanded_unless, about_next, handed_out}
+use Rattle.vm_machine.specs.Several.{commanded_before, foreseen, foreseen_unless, missing_for, numbers_left}
 use Rattle.vm_laws.specs.Endings.{EndsOnce, EventWrites, Writes, is_over, is_terminal}
 use Rattle.vm_machine.specs.Outcomes.{Outcome, Done, Failed, ◌>>=◌, CalledBy, about_last, called, called_at, failed, refused, ruled}
 use Rattle.vm_machine.specs.Phases.{is_closed, is_processing, is_replaying, is_running, state_fault}
@@ -254,11 +260,13 @@ issued_writes m unstable v command = called_writes v (issued m unstable v) (issu
 -- what a step asks for ends nothing by itself
 abbrev pub GoesOn : Ask → Type 0
 GoesOn (ask.Command c) = is_terminal c.message ≡ false
+GoesOn (ask.Commands kind first second) = EachIs (λ c. is_terminal c.message ≡ false) first (second ∷ [])
 GoesOn _ = Unit {0}
 
 pub asks_go_on : (version : Version) (s : Step) → GoesOn (ask_of version s)
 asks_go_on version (step.StateGet key name options) = tt
 asks_go_on version (step.StateGetKeys name) = tt
+asks_go_on version (step.CallWithDeadline target input time name options) = (refl, refl)
 asks_go_on version step.Awakeable = tt
 asks_go_on version (step.Signal name) = tt
 asks_go_on version (step.Await future) = tt
@@ -271,12 +279,37 @@ asks_go_on version s = refl
 pub asked_commands_go_on : (version : Version) (s : Step) (c : Command) → ask_of version s ≡ ask.Command c → is_terminal c.message ≡ false
 asked_commands_go_on version s c is = subst GoesOn is (asks_go_on version s)
 
+-- and each of several
+pub asked_several_go_on : (version : Version) (s : Step) (kind : AnswerKind) (first second : Command) → ask_of version s ≡ ask.Commands kind first second → (is_terminal first.message ≡ false) × (is_terminal second.message ≡ false)
+asked_several_go_on version s kind first second is = subst GoesOn is (asks_go_on version s)
+
 commanded_at : (refusal : Option NamedFault) (m : Message) (unstable : Bool) (v : Machine) → is_terminal m ≡ false → v.failure ≡ None → Event v (commanded_unless refusal m unstable v)
 commanded_at (Some name) m unstable v command live = same v
 commanded_at None m unstable v command live = issued_event m unstable v command live
 
 pub commanded_event : (c : Command) (v : Machine) → is_terminal c.message ≡ false → v.failure ≡ None → Event v (commanded c v)
 commanded_event c v command live = commanded_at c.refusal c.message c.unstable v command live
+
+-- one of several commands
+foreseen_event : (c : Command) (cs : List Command) (v : Machine) → is_terminal c.message ≡ false → v.failure ≡ None → Event v (foreseen c cs v >>= λ _ w. commanded c w)
+unfolding foreseen
+foreseen_event c cs v command live = by_refusal (any_refusal c cs)
+  where
+    by_numbers : (o : Option NamedFault) → Event v (numbers_left o c v >>= λ _ w. commanded c w)
+    by_numbers (Some name) = same v
+    by_numbers None = commanded_event c v command live
+
+    by_running : (b : Bool) → Event v ((if b then numbers_left (missing_for c cs v.counters) c v else (let w = entered (shown_type c.message) (name_of c.message) v in Failed (about_last (state_fault v.phase) w) w)) >>= λ _ w. commanded c w)
+    by_running true = by_numbers (missing_for c cs v.counters)
+    by_running false = record { output = refl; closed = refl; failure = refl }
+
+    by_refusal : (o : Option NamedFault) → Event v (foreseen_unless o c cs v >>= λ _ w. commanded c w)
+    by_refusal (Some name) = same v
+    by_refusal None = by_running (is_running v.phase)
+
+pub before_event : (c : Command) (cs : List Command) (v : Machine) → is_terminal c.message ≡ false → v.failure ≡ None → Event v (commanded_before c cs v)
+before_event c [] v command live = commanded_event c v command live
+before_event c (b ∷ bs) v command live = foreseen_event c (b ∷ bs) v command live
 
 -- ---- awakeables, named signals and reported errors
 
@@ -539,10 +572,26 @@ input_counted_so None v c =
     let u = entered type.InputCommand [] v in
     then_read v (popped type.InputCommand u) (popped_quiet type.InputCommand v u (record { output = refl; closed = refl; failure = refl }) c)
 
+numbered_so : (r : Result Counters NamedFault) (v : Machine) → is_closed v.phase ≡ false → Quiet v (input_numbered r v)
+numbered_so (Err name) v c = same v
+numbered_so (Ok counters) v c = then_skipped (input_counted None v) (input_counted_so None v c)
+  where
+    then_skipped : (o : Outcome Input) → Quiet v o → Quiet v (o >>= λ input w. Done input (skipped counters w))
+    then_skipped (Done input w) s = record { output = s.output; closed = sym c; failure = s.failure }
+    then_skipped (Failed e w) s = s
+
+past_so : (o : Option ℕ) (v : Machine) → is_closed v.phase ≡ false → Quiet v (input_past o v)
+past_so None v c = record { output = refl; closed = refl; failure = refl }
+past_so (Some id) v c = numbered_so (counters_past (length (drop 1 v.commands)) id v.counters) v c
+
+input_by_so : (b : Bool) (v : Machine) → is_closed v.phase ≡ false → Quiet v (input_by b v)
+input_by_so false v c = input_counted_so (missing 0 0 0 v.counters) v c
+input_by_so true v c = past_so (past_all v.counters.completion (drop 1 v.commands)) v c
+
 input_so : (p : Phase) (v : Machine) → v.phase ≡ p → Quiet v (input_at p v)
 input_so WaitingStart v e = record { output = refl; closed = refl; failure = refl }
 input_so WaitingReplayEntries v e = record { output = refl; closed = refl; failure = refl }
-input_so Replaying v e = input_counted_so (missing 0 0 0 v.counters) v (ap is_closed e)
+input_so Replaying v e = input_by_so (skips_replay v.options.journal_replay) v (ap is_closed e)
 input_so Processing v e = record { output = refl; closed = refl; failure = refl }
 input_so Closed v e = record { output = refl; closed = refl; failure = refl }
 

@@ -16,6 +16,7 @@ use Rattle.vm_types.specs.declared.command_type.CommandRelationship.{CommandRela
 use Rattle.vm_types.specs.declared.options.VMOptions.{VMOptions}
 use Rattle.vm_types.specs.declared.types.AwaitResponse.{AwaitResponse}
 use Rattle.vm_types.specs.declared.types.AwakeableHandle.{AwakeableHandle}
+use Rattle.vm_types.specs.declared.types.DeadlineCallHandle.{DeadlineCallHandle}
 use Rattle.await_trees.specs.declared.handle.NotificationHandle.{NotificationHandle}
 use Rattle.await_trees.specs.declared.tree.UnresolvedFuture.{UnresolvedFuture}
 use Rattle.await_trees.specs.Tree.{Tree, tree_of}
@@ -23,24 +24,26 @@ use Rattle.vm_types.specs.declared.values.Input.{Input}
 use Rattle.vm_types.specs.declared.values.Value.{Value}
 use Rattle.vm_machine.specs.declared.machine.Machine.{Machine}
 use Rattle.vm_asks.specs.declared.asks.Command.{Command}
-use Rattle.vm_asks.specs.Asks.{cancel_invocation_command}
+use Rattle.vm_asks.specs.Asks.{EachIs, cancel_invocation_command, deadline_handles}
 use Rattle.vm_awaits.specs.Awaits.{Awaits}
 use Rattle.vm_awaits.specs.Cancels.{AwaitsWhole, Cancels, FinishesIf, Onward, SendsCancel, cancel_taken, sends_cancels}
 use Rattle.vm_parts.specs.Tracked.{invocation_ids}
 use Rattle.vm_machine.specs.Commands.{answered_by, commanded}
+use Rattle.vm_machine.specs.Several.{BehindFirst, MakesAll, MakesOne, commanded_before}
 use Rattle.vm_laws.specs.Endings.{EndsIf, EndsOnce, EventWrites, Writes, is_over, is_terminal}
 use Rattle.vm_machine.specs.Takes.{take_step}
 use Rattle.vm_machine.specs.Inputs.{close_step, end_step, input_step, malformed_step, message_step}
 use Rattle.vm_machine.specs.Signals.{awakeable_step, signal_step}
 use Rattle.vm_machine.specs.Outcomes.{CalledBy, Does, DoesBy, Done, Failed, IsStarved, Outcome, called, refused}
 use Rattle.vm_machine.specs.Reports.{report_step}
-use Rattle.vm_laws.proofs.Endings.{answered, awaited_writes, awakeable_writes, signal_writes, read_writes, called_writes, close_writes, end_writes, input_writes, commanded_event, malformed_writes, message_writes, nothing_behind, proposed_write, report_writes, same, take_writes, writes_nothing}
+use Rattle.vm_laws.proofs.Endings.{answered, awaited_writes, awakeable_writes, signal_writes, read_writes, before_event, called_writes, close_writes, end_writes, input_writes, commanded_event, malformed_writes, message_writes, nothing_behind, proposed_write, report_writes, same, take_writes, writes_nothing}
 use Rattle.vm_asks.specs.declared.state_read.StateRead.{StateRead}
 use Rattle.vm_machine.specs.Reads.{read_step}
 use Rattle.retries.specs.declared.policy.RetryPolicy.{RetryPolicy}
 use Rattle.runs.specs.declared.types.RunExitResult.{RunExitResult}
 use Rattle.vm_machine.specs.Proposals.{Proposes}
-use Rattle.invocation_vm.specs.Calls.{CallsCommand, CallsFlatAwait, CallsFor, CallsProposal, CallsRead, new_awakeable_step, skips_replay}
+use Rattle.invocation_vm.specs.Calls.{CallsCommand, CallsFlatAwait, CallsFor, CallsProposal, CallsRead, new_awakeable_step, CallsAllFor}
+use Rattle.vm_machine.specs.Skips.{skips_replay}
 use Rattle.vm_laws.specs.Outputs.{EndsOnceAfter, StaysSo}
 use Rattle.invocation_vm.specs.Frames.{Tail, Rest, Garbage, frames_of}
 use Rattle.invocation_vm.specs.Making.{made}
@@ -167,6 +170,26 @@ end_stays r old new c = calls_stay end_step r old new (end_writes old.machine) c
 
 pub take_stays : (handle : ℕ) (r : Result (Option Value) Error) (old new : View) → Calls (take_step handle) r old new → StaysSo old new
 take_stays handle r old new c = calls_stay (take_step handle) r old new (take_writes handle old.machine) c
+
+-- ---- several commands
+
+one_writes : (c : Command) (cs : List Command) (r : Result NotificationHandle Error) (v w : Machine) → is_terminal c.message ≡ false → MakesOne c cs r v w → Writes v w
+one_writes c cs r v w goes h = does_writes (called (commanded_before c cs v) v) r v w (called_writes v (commanded_before c cs v) (λ live. before_event c cs v goes live)) h.0
+
+first_writes : (Next : Result NotificationHandle Error → Machine → Machine → Type 0) (first r : Result NotificationHandle Error) (v mid w : Machine) → Writes v mid → ((given : Result NotificationHandle Error) → Next given mid w → Writes mid w) → BehindFirst Next first r mid w → Writes v w
+first_writes Next (Ok handle) r v mid w first more on = writes_then v mid w first (more on.0 on.1)
+first_writes Next (Err e) r v mid w first more on = subst (Writes v) (sym on.1) first
+
+-- the whole call
+pub all_writes : (c : Command) (cs : List Command) (r : Result NotificationHandle Error) (v w : Machine) → EachIs (λ x. is_terminal x.message ≡ false) c cs → MakesAll c cs r v w → Writes v w
+all_writes c [] r v w goes h = one_writes c [] r v w goes h
+all_writes c (b ∷ bs) r v w goes (first, mid, one, on) = first_writes (MakesAll b bs) first r v mid w (one_writes c (b ∷ bs) first v mid goes.0 one) (λ given. all_writes b bs given mid w goes.1) on
+
+pub several_stay : {A : Type 0} (f : NotificationHandle → A) (c : Command) (cs : List Command) (r : Result A Error) (old new : View) → EachIs (λ x. is_terminal x.message ≡ false) c cs → CallsAllFor f c cs r old new → StaysSo old new
+several_stay f c cs r old new goes (given, made, same, is) = stays old new (all_writes c cs given old.machine new.machine goes made)
+
+pub deadlines_stay : (call deadline : Command) (r : Result DeadlineCallHandle Error) (old new : View) → is_terminal call.message ≡ false → is_terminal deadline.message ≡ false → CallsAllFor deadline_handles call (deadline ∷ []) r old new → StaysSo old new
+deadlines_stay call deadline r old new first second h = several_stay deadline_handles call (deadline ∷ []) r old new (first, second) h
 
 -- ---- awaits
 

@@ -13,6 +13,7 @@ ghost use Rattle.vm_types.specs.declared.command_type.CommandRelationship.{Comma
 ghost use Rattle.journal_errors.specs.declared.version.Version.{Version};
 ghost use Rattle.vm_types.specs.declared.steps.Step.{Step};
 ghost use Rattle.vm_asks.specs.declared.asks.Ask.TheVariants as ask;
+ghost use Rattle.vm_asks.specs.declared.asks.AnswerKind.{AnswerKind};
 ghost use Rattle.vm_asks.specs.declared.asks.Command.{Command};
 ghost use Rattle.vm_asks.specs.Asks.{ask_of};
 ghost use Rattle.vm_machine.specs.Takes.{take_step};
@@ -84,9 +85,10 @@ pub fn acknowledgements_bring_what_was_proposed()
 {}
 
 /// What a step asks for is no terminal message.
-#[tactic(auto, using(crate::proofs::Endings::asked_commands_go_on))]
+#[tactic(auto, using(crate::proofs::Endings::asked_commands_go_on, crate::proofs::Endings::asked_several_go_on))]
 pub fn commands_end_nothing()
-    ensures { (version : Version) (s : Step) (c : Command) → ask_of version s ≡ ask.Command c → is_terminal c.message ≡ false }
+    ensures several { (version : Version) (s : Step) (kind : AnswerKind) (first second : Command) → ask_of version s ≡ ask.Commands kind first second → (is_terminal first.message ≡ false) × (is_terminal second.message ≡ false) }
+    ensures one { (version : Version) (s : Step) (c : Command) → ask_of version s ≡ ask.Command c → is_terminal c.message ≡ false }
 {}
 
 /// A replayed command writes nothing, and the next recorded command is popped only where it is header-equal to the

@@ -1,5 +1,5 @@
 //! Laws of a VM over any list of its calls.
-ghost use Rattle.std.specs.Prelude.{◌≡◌, ◌<◌, ◌^◌, ℕ, false, List, [], ◌++◌, Option, Some, Result, Ok, Err};
+ghost use Rattle.std.specs.Prelude.{◌≡◌, ◌<◌, ◌^◌, ℕ, false, List, [], ◌∷◌, ◌++◌, Option, Some, Result, Ok, Err};
 ghost use Rattle.std.proofs.Common.{Global};
 ghost use Rattle.std.specs.declared.alloc.AllocError.{AllocError};
 ghost use Rattle.journal_errors.specs.declared.error.Error.{Error};
@@ -10,6 +10,7 @@ ghost use Rattle.vm_types.specs.declared.options.VMOptions.{VMOptions};
 ghost use Rattle.vm_types.specs.declared.types.AwaitResponse.{AwaitResponse};
 ghost use Rattle.vm_types.specs.declared.types.AwakeableHandle.{AwakeableHandle};
 ghost use Rattle.vm_types.specs.declared.types.CallHandle.{CallHandle};
+ghost use Rattle.vm_types.specs.declared.types.DeadlineCallHandle.{DeadlineCallHandle};
 ghost use Rattle.await_trees.specs.declared.handle.NotificationHandle.{NotificationHandle};
 ghost use Rattle.vm_types.specs.declared.types.SendHandle.{SendHandle};
 ghost use Rattle.retries.specs.declared.policy.RetryPolicy.{RetryPolicy};
@@ -20,14 +21,14 @@ ghost use Rattle.vm_types.specs.declared.values.Input.{Input};
 ghost use Rattle.vm_types.specs.declared.values.Value.{Value};
 ghost use Rattle.vm_machine.specs.declared.machine.Machine.{Machine};
 ghost use Rattle.vm_asks.specs.declared.asks.Command.{Command};
-ghost use Rattle.vm_asks.specs.Asks.{call_handles, send_handle, sleep_command};
+ghost use Rattle.vm_asks.specs.Asks.{call_handles, deadline_handles, send_handle, sleep_command};
 ghost use Rattle.vm_machine.specs.Takes.{take_step};
 ghost use Rattle.vm_laws.specs.Endings.{is_terminal};
 ghost use Rattle.vm_machine.specs.Inputs.{end_step, input_step};
 ghost use Rattle.vm_machine.specs.Outcomes.{IsStarved, Outcome};
 ghost use Rattle.vm_machine.specs.Signals.{signal_step};
 ghost use Rattle.vm_asks.specs.declared.state_read.StateRead.{StateRead};
-ghost use Rattle.invocation_vm.specs.Calls.{CallsCommand, CallsFlatAwait, CallsFor, CallsProposal, CallsRead, CallsRun, CallsUnit, new_awakeable_step};
+ghost use Rattle.invocation_vm.specs.Calls.{CallsAllFor, CallsCommand, CallsFlatAwait, CallsFor, CallsProposal, CallsRead, CallsRun, CallsUnit, new_awakeable_step};
 ghost use Rattle.vm_laws.specs.Outputs.{EndsOnceAfter, StaysSo};
 ghost use Rattle.invocation_vm.specs.Making.{made};
 ghost use Rattle.vm_laws.specs.Sleeps.{MaySleep, sleeping};
@@ -48,6 +49,7 @@ pub fn all_output_ends_once()
     ensures commands { (c : Command) (r : Result NotificationHandle Error) (old new : View) → is_terminal c.message ≡ false → CallsCommand c r old new → StaysSo old new }
     ensures unanswered { (c : Command) (r : Result Unit Error) (old new : View) → is_terminal c.message ≡ false → CallsUnit c r old new → StaysSo old new }
     ensures calls { (c : Command) (r : Result CallHandle Error) (old new : View) → is_terminal c.message ≡ false → CallsFor call_handles c r old new → StaysSo old new }
+    ensures deadlines { (call deadline : Command) (r : Result DeadlineCallHandle Error) (old new : View) → is_terminal call.message ≡ false → is_terminal deadline.message ≡ false → CallsAllFor deadline_handles call (deadline ∷ []) r old new → StaysSo old new }
     ensures sends { (c : Command) (r : Result SendHandle Error) (old new : View) → is_terminal c.message ≡ false → CallsFor send_handle c r old new → StaysSo old new }
     ensures runs { (name : List ℕ) (r : Result RunHandle Error) (old new : View) → CallsRun name r old new → StaysSo old new }
     ensures proposals { (handle : NotificationHandle) (exit : RunExitResult) (policy : RetryPolicy) (r : Result Unit Error) (old new : View) → CallsProposal handle exit policy r old new → StaysSo old new }

@@ -1,5 +1,5 @@
 -- What comes to a machine: messages, the closing of the input, and a handler that reads its input.
-use Rattle.std.specs.Prelude.{◌≡◌, ◌⊎◌, ℕ, ◌-◌, Bool, true, false, ◌&&◌, ◌==◌, if◌then◌else◌, nat_lt, nat_le, List, [], ◌∷◌, ◌++◌, find, Option, Some, None, Result, Ok, Err, IsErr}
+use Rattle.std.specs.Prelude.{◌≡◌, ◌⊎◌, ℕ, ◌-◌, Bool, true, false, ◌&&◌, ◌==◌, if◌then◌else◌, nat_lt, nat_le, List, [], ◌∷◌, ◌++◌, length, drop, find, Option, Some, None, Result, Ok, Err, IsErr}
 use Rattle.std.specs.List.{list_all}
 use Rattle.std.specs.Str.{is_utf8}
 use Rattle.std.specs.declared.alloc.AllocError.{AllocError}
@@ -35,6 +35,8 @@ use Rattle.vm_machine.specs.declared.phase.Phase.TheVariants.{WaitingStart, Wait
 use Rattle.vm_machine.specs.Outcomes.{Outcome, Done, Failed, ◌>>=◌, refused, about_last, ruled, failed, starved}
 use Rattle.vm_machine.specs.Commands.{entered, about_next, popped}
 use Rattle.vm_machine.specs.Phases.{state_fault}
+use Rattle.vm_machine.specs.Skips.{counters_past, skipped, skips_replay}
+use Rattle.vm_asks.specs.Carried.{past_all}
 use Rattle.journal_errors.specs.Versions.{is_from_v6, is_from_v7}
 
 -- ---- Start
@@ -200,12 +202,27 @@ input_counted (Some name) v = Failed (about_next name type.InputCommand [] v) v
 input_counted None v =
     popped type.InputCommand (entered type.InputCommand [] v) >>= λ raw w. input_read (input_in raw.body) w
 
+-- the input is read and the commands behind it are dropped, by the counters that this leaves
+abbrev pub input_numbered : Result Counters NamedFault → Machine → Outcome Input
+input_numbered (Err name) v = Failed (about_next name type.InputCommand [] v) v
+input_numbered (Ok counters) v = input_counted None v >>= λ input w. Done input (skipped counters w)
+
+-- the same, by the completion id that is next past those that the dropped commands carry; each of them has to be readable
+abbrev pub input_past : Option ℕ → Machine → Outcome Input
+input_past None v = let w = entered type.InputCommand [] v in Failed (about_last fault.BadMessage w) w
+input_past (Some id) v = input_numbered (counters_past (length (drop 1 v.commands)) id v.counters) v
+
+-- the input is read, by whether the commands behind it are skipped
+abbrev pub input_by : Bool → Machine → Outcome Input
+input_by false v = input_counted (missing 0 0 0 v.counters) v
+input_by true v = input_past (past_all v.counters.completion (drop 1 v.commands)) v
+
 -- the handler reads its input in this phase
 abbrev pub input_at : Phase → Machine → Outcome Input
-input_at Replaying v = input_counted (missing 0 0 0 v.counters) v
+input_at Replaying v = input_by (skips_replay v.options.journal_replay) v
 input_at phase v = let w = entered type.InputCommand [] v in Failed (about_last (state_fault phase) w) w
 
--- The handler reads its input: it pops the first recorded command.
+-- The handler reads its input: it pops the first recorded command, and drops the others where they aren't replayed.
 unfoldable pub input_step : Machine → Outcome Input
 input_step v = input_at v.phase v
 

@@ -7,5 +7,7 @@ pub mod Proposals
 pub mod Queries
 pub mod Reads
 pub mod Reports
+pub mod Several
 pub mod Signals
+pub mod Skips
 pub mod Takes

@@ -1,13 +1,18 @@
 //! The first call of a handler, which reads its input, and the last, which ends it.
-ghost use Rattle.std.specs.Prelude.{◌≡◌, IfOk, OnErr, false};
+ghost use Rattle.std.specs.Prelude.{◌≡◌, IfOk, OnErr, None, false, drop, []};
+ghost use Rattle.vm_asks.specs.Carried.{past_all};
 ghost use Rattle.vm_parts.specs.Counting.{missing};
 ghost use Rattle.vm_machine.specs.Outcomes.{Gives};
 ghost use Rattle.vm_machine.specs.Phases.{is_closed};
-ghost use Rattle.vm_machine.specs.Inputs.{input_of, input_counted, input_step, end_step};
+ghost use Rattle.vm_machine.specs.declared.fault.Fault.TheVariants.{Refused};
+ghost use Rattle.vm_machine.specs.Commands.{about_next};
+ghost use Rattle.journal_errors.specs.declared.types.MessageType.TheVariants as type;
+ghost use Rattle.vm_machine.specs.Inputs.{input_of, input_counted, input_past, input_step, end_step};
 
 use crate::fault::{Fault, refuse};
 use crate::machine::Machine;
 use crate::phase::Phase;
+use crate::skips::{counters_past, skips_replay};
 use journal_attempt::InputCommand;
 use journal_errors::{Error, MessageType, NamedFault, RelatedCommand};
 use journal_messages::Message;
@@ -43,17 +48,22 @@ fn input_of(start: &StartInfo, command: InputCommand) -> Result<Input, AllocErro
 }
 
 impl Machine {
-    fn pop_input(&mut self) -> Result<Input, Fault>
-        ensures { Gives (input_counted (missing 0 0 0 self.old.counters) self.old) result self.old self.new }
+    /// Refuses the input for want of a number, as the command that comes next.
+    fn refuse_input(&self, fault: NamedFault) -> Fault
+        ensures { result ≡ Refused (about_next fault type.InputCommand [] self.now) }
     {
-        if let Some(fault) = self.counters.missing(0, 0, 0) {
-            let related = RelatedCommand {
-                index: self.counters.next_index(),
-                ty: MessageType::InputCommand,
-                name: Text::empty(self.alloc),
-            };
-            return Err(Fault::Refused(Error::named(fault, Some(related))));
-        }
+        let related = RelatedCommand {
+            index: self.counters.next_index(),
+            ty: MessageType::InputCommand,
+            name: Text::empty(self.alloc),
+        };
+        Fault::Refused(Error::named(fault, Some(related)))
+    }
+
+    /// Pops the input, whose command index is left.
+    fn pop_input(&mut self) -> Result<Input, Fault>
+        ensures { Gives (input_counted None self.old) result self.old self.new }
+    {
         self.enter(MessageType::InputCommand, Text::empty(self.alloc));
         let raw = self.pop(MessageType::InputCommand)?;
         match raw.read_input(self.alloc) {
@@ -63,6 +73,33 @@ impl Machine {
                 NamedFault::BadMessage,
             )?)),
         }
+    }
+
+    /// Reads the input where recorded commands are replayed.
+    fn replay_input(&mut self) -> Result<Input, Fault>
+        ensures { Gives (input_counted (missing 0 0 0 self.old.counters) self.old) result self.old self.new }
+    {
+        if let Some(fault) = self.counters.missing(0, 0, 0) {
+            return Err(self.refuse_input(fault));
+        }
+        self.pop_input()
+    }
+
+    /// Reads the input and drops the recorded commands behind it.
+    fn skip_input(&mut self) -> Result<Input, Fault>
+        ensures { Gives (input_past (past_all self.old.counters.completion (drop 1 self.old.commands)) self.old) result self.old self.new }
+    {
+        let Some(next) = self.next_past()? else {
+            self.enter(MessageType::InputCommand, Text::empty(self.alloc));
+            return Err(Fault::Refused(self.about_last(NamedFault::BadMessage)?));
+        };
+        let counters = match counters_past(self.dropped(), next, &self.counters) {
+            Ok(counters) => counters,
+            Err(fault) => return Err(self.refuse_input(fault)),
+        };
+        let input = self.pop_input()?;
+        self.skip(counters);
+        Ok(input)
     }
 
     /// The handler reads its input.
@@ -75,7 +112,10 @@ impl Machine {
             self.enter(MessageType::InputCommand, Text::empty(self.alloc));
             return Err(Fault::Refused(self.about_last(fault)?));
         }
-        self.pop_input()
+        if skips_replay(self.options.journal_replay) {
+            return self.skip_input();
+        }
+        self.replay_input()
     }
 
     /// The handler ends.

@@ -11,7 +11,9 @@ pub mod queries;
 pub mod reads;
 pub mod report;
 pub mod settle;
+pub mod several;
 pub mod signals;
+pub mod skips;
 pub mod takes;
 
 pub use fault::{Fault, refuse};

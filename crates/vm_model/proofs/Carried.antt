@@ -1,5 +1,6 @@
 -- No completion id has two results where each came once, for an id that a used command carries: an eager read has an id of its own.
 use Rattle.std.proofs.Common.{◌≡◌, ◌⊎◌, ◌<◌, ◌≤◌, ℕ, zero, suc, ◌+◌, Bool, true, false, cond, ◌||◌, ◌&&◌, List, [], ◌∷◌, ◌++◌, length, Option, Some, None, refl, sym, ap, ◌∙◌, subst, inl, inr, ⊎_elim, append_assoc, append-nil, length-append, arith}
+use native.Mathlib.Nat.{add-zero}
 use Rattle.std.specs.Prelude.{◌==◌, nat_eq, if◌then◌else◌, Result, Ok, Err}
 use Rattle.std.specs.Cmp.Lexicographic.{pointwise}
 use Rattle.std.proofs.lemmas.Bool.{eqb-true}
@@ -36,21 +37,27 @@ use Rattle.vm_parts.specs.Tracked.{id_of_result, id_of_value, invocation_ids, no
 use Rattle.vm_types.specs.Values.{value_of}
 use Rattle.vm_asks.specs.declared.asks.Ask.{Ask}
 use Rattle.vm_asks.specs.declared.asks.Ask.TheVariants as ask
+use Rattle.vm_asks.specs.declared.asks.AnswerKind.{AnswerKind}
 use Rattle.vm_asks.specs.declared.asks.Command.{Command}
 use Rattle.vm_asks.specs.declared.state_read.StateRead.{StateRead}
 use Rattle.vm_asks.specs.declared.state_read.StateRead.TheVariants as reads
-use Rattle.vm_asks.specs.Asks.{ask_of, cancel_invocation_command}
+use Rattle.vm_asks.specs.Asks.{answer_by, ask_of, cancel_invocation_command}
 use Rattle.vm_asks.specs.StateReads.{eager_form, eager_type, lazy_form, lazy_type, read_as, read_by, recorded_as, result_in}
 use Rattle.vm_asks.specs.Requests.{ids_of, with_ids}
-use Rattle.invocation_vm.specs.Calls.{skips_replay}
-use Rattle.vm_model.specs.Calls.{Derived, Demand, Meaning, Move, Setup, Usage, asked, awaited, awakeable_made, awaiting, cancel_sent, cancel_taken, cancelled, cancelling, commanding, id_awaited, id_read, is_awake, is_cancelled_in, making_awakeable, numbered, reading, ready_in, result_taken, signal_made, value_noted, value_taken}
+use Rattle.vm_machine.specs.Skips.{skips_replay}
+use Rattle.vm_model.specs.Calls.{Derived, Demand, Meaning, Move, Setup, Usage, asked, awaited, awakeable_made, awaiting, cancel_sent, cancel_taken, cancelled, cancelling, commanding, id_awaited, id_read, is_awake, is_cancelled_in, making_awakeable, numbered, reading, ready_in, result_taken, signal_made, value_noted, value_taken, Turn, behind_command, refused_before, turn_after}
+use Rattle.vm_machine.specs.Commands.{ignores_payloads}
 use Rattle.vm_model.specs.Calls.Demand.{Exactly, Reads}
 use Rattle.vm_model.specs.Calls.Move.{Answers, Needs, Awaits, Ends, Refuses}
 use Rattle.vm_model.specs.Calls.Usage.{Used, Read, Taken}
-use Rattle.vm_model.specs.Carried.{AreCarried, ComeOnce, carried, is_among, is_carried, read_carries}
+use Rattle.vm_asks.specs.Carried.{carried}
+use Rattle.vm_model.specs.Carried.{AreCarried, ComeOnce, is_among, is_carried, read_carries}
 use Rattle.vm_model.specs.Deliveries.{HasNoTwo, deliveries}
 use Rattle.vm_model.specs.Moves.{Point, after, brought, command_used, found, move_at, moved, next, reads_as, start, uses_arrival, uses_command}
-use Rattle.vm_model.specs.Uses.{arrivals_in}
+use Rattle.vm_model.specs.Uses.{arrivals_in, needed_for}
+use Rattle.vm_model.proofs.Parts.{IsOfOne, next_keeps, next_turn, turn_splits}
+use Rattle.vm_model.proofs.Parted.{PartMove, WasUsed, part_moves}
+use Rattle.vm_model.proofs.Parted.PartMove.{More, Last}
 use Rattle.vm_model.proofs.Results.{results_behind}
 use Rattle.vm_model.proofs.Runs.{and_then_some, none_some}
 use Rattle.vm_model.proofs.Uses.{arrivals_used}
@@ -204,11 +211,11 @@ Claim i first past old new used =
     ((new ≡ old) × (is_carried i used ≡ false))
     ⊎ ((first ≤ i) × (i < past) × ((new ≡ old) ⊎ ((new ≡ suc old) × (is_carried i used ≡ false))))
 
-record Between (i : ℕ) (p q : Point) : Type 0 where
+record Between (i : ℕ) (p q : Point) (first past : ℕ) : Type 0 where
   used : List RawMessage
   left : p.left ≡ used ++ q.left
-  ordered : p.derived.counters.completion ≤ q.derived.counters.completion
-  claim : Claim i p.derived.counters.completion q.derived.counters.completion (reads_at i p.derived.usage) (reads_at i q.derived.usage) used
+  ordered : first ≤ past
+  claim : Claim i first past (reads_at i p.derived.usage) (reads_at i q.derived.usage) used
 
 none_carried : (i : ℕ) (us vs : List RawMessage) → is_carried i us ≡ false → is_carried i vs ≡ false → is_carried i (us ++ vs) ≡ false
 none_carried i [] vs x y = y
@@ -319,15 +326,16 @@ module _ (i : ℕ) where
   result_none handle (Some id) None d = (refl, omega arith)
   result_none handle None o d = (refl, omega arith)
 
-  asked_none : (s : Setup) (a : Ask) (d : Derived) → ReadsNone i d (asked s a d)
-  asked_none s (ask.Command c) d = commanding_none s c c.refusal d
-  asked_none s (ask.Read r) d = reading_none r (missing 1 0 1 d.counters) d
-  asked_none s ask.Awakeable d = making_none s (skips_replay s.options.journal_replay) d
-  asked_none s (ask.Signal name) d = signal_none name (missing_signals 0 1 d.counters) d
-  asked_none s (ask.Await future) d = awaited_none s (is_cancelled_in s d) future d
-  asked_none s (ask.Take handle) d = result_none handle (id_at handle.0 d.handles) (present_for s.options.signal_delivery (id_at handle.0 d.handles) (ready_in s d)) d
-  asked_none s (ask.Completed handle) d = (refl, omega arith)
-  asked_none s ask.End d = tt
+  asked_none : (s : Setup) (a : Ask) (d : Derived) → IsOfOne a → ReadsNone i d (asked s a d)
+  asked_none s (ask.Command c) d one = commanding_none s c c.refusal d
+  asked_none s (ask.Commands kind first second) d one = absurd one
+  asked_none s (ask.Read r) d one = reading_none r (missing 1 0 1 d.counters) d
+  asked_none s ask.Awakeable d one = making_none s (skips_replay s.options.journal_replay) d
+  asked_none s (ask.Signal name) d one = signal_none name (missing_signals 0 1 d.counters) d
+  asked_none s (ask.Await future) d one = awaited_none s (is_cancelled_in s d) future d
+  asked_none s (ask.Take handle) d one = result_none handle (id_at handle.0 d.handles) (present_for s.options.signal_delivery (id_at handle.0 d.handles) (ready_in s d)) d
+  asked_none s (ask.Completed handle) d one = (refl, omega arith)
+  asked_none s ask.End d one = tt
 
 -- ---- a recorded command
 
@@ -410,20 +418,25 @@ module _ (i : ℕ) (p : Point) (raw : RawMessage) where
   alone : (b : Bool) → read_carries i (message_in raw.ty raw.body) ≡ b → is_carried i (raw ∷ []) ≡ (b || false)
   alone b e = ap (λ t. t || false) e
 
-  -- what a recorded command and its result claim
-  claimed : (demand : Demand) (result : Option NotificationResult) (e : Derived) → found demand raw ≡ Ok result → reads_at i e.usage ≡ old → IsOwn id e.counters.completion demand → Claim i id e.counters.completion old (reads_at i (brought id result e).usage) (raw ∷ [])
+  -- what a recorded command claims that carries the ids from this one on
+  exact_claimed : (first past at : ℕ) (command : Message) (ignore : Bool) (result : Option NotificationResult) (e : Derived) → found (Exactly command ignore) raw ≡ Ok result → reads_at i e.usage ≡ old → IsOwn first past (Exactly command ignore) → Claim i first past old (reads_at i (brought at result e).usage) (raw ∷ [])
   unfolding reads_at
-  claimed (Exactly command ignore) result e is none own =
+  exact_claimed first past at command ignore result e is none own =
       let x = exact command ignore raw result is in
-      let quiet : reads_at i (brought id result e).usage ≡ old = ap (λ o. reads_at i (brought id o e).usage) x.none ∙ none in
+      let quiet : reads_at i (brought at result e).usage ≡ old = ap (λ o. reads_at i (brought at o e).usage) x.none ∙ none in
       by_test (is_among i (carried command)) refl (x.same i) quiet
     where
-      by_test : (b : Bool) → is_among i (carried command) ≡ b → read_carries i (message_in raw.ty raw.body) ≡ is_among i (carried command) → reads_at i (brought id result e).usage ≡ old → Claim i id e.counters.completion old (reads_at i (brought id result e).usage) (raw ∷ [])
+      by_test : (b : Bool) → is_among i (carried command) ≡ b → read_carries i (message_in raw.ty raw.body) ≡ is_among i (carried command) → reads_at i (brought at result e).usage ≡ old → Claim i first past old (reads_at i (brought at result e).usage) (raw ∷ [])
       by_test true t same quiet =
-          let h = carried_given id own.0 i (ap (λ c. is_among i (carried c)) (sym own.1) ∙ t) in
+          let h = carried_given first own.0 i (ap (λ c. is_among i (carried c)) (sym own.1) ∙ t) in
           let n = own.2 in
           inr (h.0, omega (arith, h.1, n), inl quiet)
       by_test false t same quiet = inl (quiet, alone false (same ∙ t))
+
+  -- what a recorded command and its result claim
+  claimed : (demand : Demand) (result : Option NotificationResult) (e : Derived) → found demand raw ≡ Ok result → reads_at i e.usage ≡ old → IsOwn id e.counters.completion demand → Claim i id e.counters.completion old (reads_at i (brought id result e).usage) (raw ∷ [])
+  unfolding reads_at
+  claimed (Exactly command ignore) result e is none own = exact_claimed id e.counters.completion id command ignore result e is none own
   claimed (Reads r number) result e is none own = subst (λ n. Claim i id n old (reads_at i (brought id result e).usage) (raw ∷ [])) (sym own.1) (by_form (read_brings r number raw result is))
     where
       here : (result ≡ None) → (b : Bool) → (id == i) ≡ b → read_carries i (message_in raw.ty raw.body) ≡ (b || false) → Claim i id (id + 1) old (reads_at i (brought id result e).usage) (raw ∷ [])
@@ -447,41 +460,154 @@ same_counter at None d = refl
 same_counter at (Some x) d = refl
 
 module _ (i : ℕ) (p q : Point) where
-  command_between : (demand : Demand) (gives : List Answer) (e : Derived) (c : RawMessage) (left : List RawMessage) (o : Result (Option NotificationResult) NamedFault) → found demand c ≡ o → p.left ≡ c ∷ left → reads_at i e.usage ≡ reads_at i p.derived.usage → IsOwn p.derived.counters.completion e.counters.completion demand → command_used o demand gives e left p ≡ Some q → Between i p q
+  command_between : (demand : Demand) (gives : List Answer) (e : Derived) (c : RawMessage) (left : List RawMessage) (o : Result (Option NotificationResult) NamedFault) → found demand c ≡ o → p.left ≡ c ∷ left → reads_at i e.usage ≡ reads_at i p.derived.usage → IsOwn p.derived.counters.completion e.counters.completion demand → command_used o demand gives e left p ≡ Some q → Between i p q p.derived.counters.completion q.derived.counters.completion
   command_between demand gives e c left (Err name) is at none own m = none_some m
   command_between demand gives e c left (Ok result) is at none own m =
       let same = same_counter p.derived.counters.completion result e in
       let more = grows i p c demand e own in
-      subst (Between i p) (same_Some _ q m) (record {
+      subst (λ z. Between i p z p.derived.counters.completion z.derived.counters.completion) (same_Some _ q m) (record {
         used = c ∷ [];
         left = at;
         ordered = rw same more;
         claim = rw same (claimed i p c demand result e is none own);
       })
 
-  uses_between : (demand : Demand) (gives : List Answer) (e : Derived) (left : List RawMessage) → p.left ≡ left → reads_at i e.usage ≡ reads_at i p.derived.usage → IsOwn p.derived.counters.completion e.counters.completion demand → uses_command demand gives e left p ≡ Some q → Between i p q
+  uses_between : (demand : Demand) (gives : List Answer) (e : Derived) (left : List RawMessage) → p.left ≡ left → reads_at i e.usage ≡ reads_at i p.derived.usage → IsOwn p.derived.counters.completion e.counters.completion demand → uses_command demand gives e left p ≡ Some q → Between i p q p.derived.counters.completion q.derived.counters.completion
   uses_between demand gives e [] at none own m = none_some m
   uses_between demand gives e (c ∷ left) at none own m = command_between demand gives e c left (found demand c) refl at none own m
 
-  arrival_between : (queue : List Notification) → uses_arrival queue p ≡ Some q → Between i p q
+  arrival_between : (queue : List Notification) → uses_arrival queue p ≡ Some q → Between i p q p.derived.counters.completion q.derived.counters.completion
   unfolding reads_at
   arrival_between [] m = none_some m
-  arrival_between (n ∷ queue) m = subst (Between i p) (same_Some _ q m) (record { used = []; left = refl; ordered = omega arith; claim = inl (refl, refl) })
+  arrival_between (n ∷ queue) m = subst (λ z. Between i p z p.derived.counters.completion z.derived.counters.completion) (same_Some _ q m) (record { used = []; left = refl; ordered = omega arith; claim = inl (refl, refl) })
 
-  moved_between : (mv : Move) → ReadsNone i p.derived mv → moved mv p ≡ Some q → Between i p q
-  moved_between (Answers gives e) h m = subst (Between i p) (same_Some _ q m) (record { used = []; left = refl; ordered = h.1; claim = inl (h.0, refl) })
+  moved_between : (mv : Move) → ReadsNone i p.derived mv → moved mv p ≡ Some q → Between i p q p.derived.counters.completion q.derived.counters.completion
+  moved_between (Answers gives e) h m = subst (λ z. Between i p z p.derived.counters.completion z.derived.counters.completion) (same_Some _ q m) (record { used = []; left = refl; ordered = h.1; claim = inl (h.0, refl) })
   moved_between (Needs demand gives e) h m = uses_between demand gives e p.left refl h.0 h.1 m
   moved_between Awaits h m = arrival_between p.queue m
   moved_between Ends h m = none_some m
   moved_between (Refuses name) h m = none_some m
 
+-- ---- a call with several commands
+
+-- how many completion ids the first so many of some commands take
+ids_made : ℕ → Command → List Command → ℕ
+ids_made zero c cs = 0
+ids_made (suc n) c [] = 0
+ids_made (suc n) c (b ∷ bs) = ids_of c.message + ids_made n b bs
+
+-- and those of what is asked for
+made_ids : ℕ → Ask → ℕ
+made_ids n (ask.Commands kind first second) = ids_made n first (second ∷ [])
+made_ids n a = 0
+
+no_ids : (a : Ask) → made_ids 0 a ≡ 0
+unfolding made_ids ids_made
+no_ids (ask.Commands kind first second) = refl
+no_ids a = refl
+
+none_of_one : (n : ℕ) (a : Ask) → IsOfOne a → made_ids n a ≡ 0
+unfolding made_ids
+none_of_one n (ask.Commands kind first second) one = absurd one
+none_of_one n a one = refl
+
+-- the id that comes next where so many are made
+turn_id : (s : Setup) (n : ℕ) (c : Command) (cs : List Command) (d : Derived) → (turn_after s n c cs d).before.counters.completion ≡ d.counters.completion + ids_made n c cs
+unfolding ids_made
+turn_id s zero c cs d = sym (add-zero d.counters.completion)
+turn_id s (suc n) c [] d = sym (add-zero d.counters.completion)
+turn_id s (suc n) c (b ∷ bs) d = let x = turn_id s n b bs (behind_command s c d) in omega (arith, x)
+
+-- The completion id that comes next, behind those of the commands that were made of a call with several.
+next_id : Setup → Meaning → Point → ℕ
+next_id s m p = p.derived.counters.completion + made_ids p.derived.parts (ask_of s.version (m p.answers))
+
+-- none of them are made but of a call that asks for several
+abbrev RestsAt : Ask → ℕ → Type 0
+RestsAt (ask.Commands kind first second) n = Unit {0}
+RestsAt a n = n ≡ 0
+
+rests_none : (a : Ask) (n : ℕ) → n ≡ 0 → RestsAt a n
+rests_none (ask.Commands kind first second) n none = tt
+rests_none a n none = none
+
+rests_one : (a : Ask) (n : ℕ) → IsOfOne a → RestsAt a n → n ≡ 0
+rests_one (ask.Commands kind first second) n one h = absurd one
+rests_one (ask.Command c) n one h = h
+rests_one (ask.Read r) n one h = h
+rests_one ask.Awakeable n one h = h
+rests_one (ask.Signal name) n one h = h
+rests_one (ask.Await future) n one h = h
+rests_one (ask.Take handle) n one h = h
+rests_one (ask.Completed handle) n one h = h
+rests_one ask.End n one h = h
+
+module _ (i : ℕ) (s : Setup) (m : Meaning) (p q : Point) where
+  abbrev Rests : Point → Type 0
+  Rests z = RestsAt (ask_of s.version (m z.answers)) z.derived.parts
+
+  -- a move, and whether parts of a call are made behind it
+  abbrev Goes : Type 0
+  Goes = Between i p q (next_id s m p) (next_id s m q) × Rests q
+
+  plain_goes : IsOfOne (ask_of s.version (m p.answers)) → Rests p → next s m p ≡ Some q → Goes
+  unfolding next_id
+  plain_goes one rests e =
+      let none : q.derived.parts ≡ 0 = next_keeps s m p q one e ∙ rests_one (ask_of s.version (m p.answers)) p.derived.parts one rests in
+      let here : next_id s m p ≡ p.derived.counters.completion = ap (λ n. p.derived.counters.completion + n) (none_of_one p.derived.parts (ask_of s.version (m p.answers)) one) ∙ add-zero p.derived.counters.completion in
+      let there : next_id s m q ≡ q.derived.counters.completion = ap (λ n. q.derived.counters.completion + n) (ap (λ n. made_ids n (ask_of s.version (m q.answers))) none ∙ no_ids (ask_of s.version (m q.answers))) ∙ add-zero q.derived.counters.completion in (
+        subst (λ (x : ℕ × ℕ). Between i p q x.0 x.1) (λ j. (sym here j, sym there j)) (moved_between i p q (move_at s m p) (asked_none i s (ask_of s.version (m p.answers)) p.derived one) e),
+        rests_none (ask_of s.version (m q.answers)) q.derived.parts none,
+      )
+
+  used_between : (first past : ℕ) (c : Command) (gives : List Answer) (e : Derived) → WasUsed (needed_for s first c) gives e p q → past ≡ first + ids_of c.message → reads_at i e.usage ≡ reads_at i p.derived.usage → Between i p q first past
+  used_between first past c gives e u is same =
+      record {
+        used = u.used ∷ [];
+        left = u.left;
+        ordered = omega (arith, is);
+        claim = subst (λ (z : Derived). Claim i first past (reads_at i p.derived.usage) (reads_at i z.usage) (u.used ∷ [])) (sym u.derived) (exact_claimed i p u.used first past 0 (with_ids first c.message) (ignores_payloads s.options.non_determinism_checks c.unstable) None e u.stands same (c.message, refl, is));
+      }
+
+  part_goes : (kind : AnswerKind) (first second : Command) → ask_of s.version (m p.answers) ≡ ask.Commands kind first second → PartMove s kind (turn_after s p.derived.parts first (second ∷ []) p.derived) p q → Goes
+  unfolding next_id made_ids reads_at
+  part_goes kind first second is (More b bs more u) =
+      let n = p.derived.parts in
+      let t = turn_after s n first (second ∷ []) p.derived in
+      let asks : ask_of s.version (m q.answers) ≡ ask.Commands kind first second = ap (λ l. ask_of s.version (m l)) (u.answers ∙ append-nil p.answers) ∙ is in
+      let parts : q.derived.parts ≡ suc n = ap (λ e. e.parts) u.derived in
+      let next = next_turn s n first (second ∷ []) p.derived b bs more in
+      let here : next_id s m p ≡ t.before.counters.completion = ap (λ a. p.derived.counters.completion + made_ids n a) is ∙ sym (turn_id s n first (second ∷ []) p.derived) in
+      let there : next_id s m q ≡ t.before.counters.completion + ids_of t.command.message =
+      (λ j. (u.derived j).counters.completion + made_ids (parts j) (asks j)) ∙ sym (turn_id s (suc n) first (second ∷ []) p.derived) ∙ ap (λ (x : Turn). x.before.counters.completion) next in (
+        subst (λ (x : ℕ × ℕ). Between i p q x.0 x.1) (λ j. (sym here j, sym there j)) (used_between t.before.counters.completion (t.before.counters.completion + ids_of t.command.message) t.command [] (record p.derived { parts = suc n }) u refl refl),
+        subst (λ a. RestsAt a q.derived.parts) (sym asks) tt,
+      )
+  part_goes kind first second is (Last none u) =
+      let n = p.derived.parts in
+      let t = turn_after s n first (second ∷ []) p.derived in
+      let a = answer_by kind (record { 0 = p.derived.counters.handle }) in
+      let parts : q.derived.parts ≡ 0 = ap (λ e. e.parts) u.derived in
+      let here : next_id s m p ≡ t.before.counters.completion = ap (λ a. p.derived.counters.completion + made_ids n a) is ∙ sym (turn_id s n first (second ∷ []) p.derived) in
+      let there : next_id s m q ≡ t.before.counters.completion + ids_of t.command.message =
+      ap (λ n. q.derived.counters.completion + n) (ap (λ n. made_ids n (ask_of s.version (m q.answers))) parts ∙ no_ids (ask_of s.version (m q.answers))) ∙ add-zero q.derived.counters.completion ∙ ap (λ e. e.counters.completion) u.derived in (
+        subst (λ (x : ℕ × ℕ). Between i p q x.0 x.1) (λ j. (sym here j, sym there j)) (used_between t.before.counters.completion (t.before.counters.completion + ids_of t.command.message) t.command (a ∷ []) (record (behind_command s t.command t.before) { parts = 0 }) u refl (ap (reads_at i) (turn_splits s n first (second ∷ []) p.derived).usage)),
+        rests_none (ask_of s.version (m q.answers)) q.derived.parts parts,
+      )
+
+  next_goes : (a : Ask) → ask_of s.version (m p.answers) ≡ a → Rests p → next s m p ≡ Some q → Goes
+  next_goes (ask.Commands kind first second) is rests e =
+      let t = turn_after s p.derived.parts first (second ∷ []) p.derived in
+      part_goes kind first second is (part_moves s kind (refused_before t.command t.behind t.before.counters) t p q (subst (λ a. moved (asked s a p.derived) p ≡ Some q) is e))
+  next_goes a is rests e = plain_goes (subst IsOfOne (sym is) tt) rests e
+
 -- ---- so many moves
 
-between_here : (i : ℕ) (p : Point) → Between i p p
-between_here i p = record { used = []; left = refl; ordered = omega arith; claim = inl (refl, refl) }
+between_here : (i : ℕ) (p : Point) (first : ℕ) → Between i p p first first
+between_here i p first = record { used = []; left = refl; ordered = omega arith; claim = inl (refl, refl) }
 
-between_join : (i : ℕ) (p r q : Point) → Between i p r → Between i r q → Between i p q
-between_join i p r q a b =
+between_join : (i : ℕ) (p r q : Point) (first mid past : ℕ) → Between i p r first mid → Between i r q mid past → Between i p q first past
+between_join i p r q first mid past a b =
     let x = a.ordered in
     let y = b.ordered in
     record {
@@ -491,11 +617,13 @@ between_join i p r q a b =
       claim = claims_join i _ _ _ _ _ _ a.used b.used x y a.claim b.claim;
     }
 
-after_between : (i : ℕ) (s : Setup) (m : Meaning) (n : ℕ) (p q : Point) → after s m n p ≡ Some q → Between i p q
-after_between i s m zero p q e = subst (Between i p) (same_Some _ q e) (between_here i p)
-after_between i s m (suc n) p q e =
+after_between : (i : ℕ) (s : Setup) (m : Meaning) (n : ℕ) (p q : Point) → RestsAt (ask_of s.version (m p.answers)) p.derived.parts → after s m n p ≡ Some q → Between i p q (next_id s m p) (next_id s m q) × RestsAt (ask_of s.version (m q.answers)) q.derived.parts
+after_between i s m zero p q rests e = subst (λ z. Between i p z (next_id s m p) (next_id s m z) × RestsAt (ask_of s.version (m z.answers)) z.derived.parts) (same_Some _ q e) (between_here i p (next_id s m p), rests)
+after_between i s m (suc n) p q rests e =
     let x = and_then_some (next s m p) (after s m n) q e in
-    between_join i p x.0 q (moved_between i p x.0 (move_at s m p) (asked_none i s (ask_of s.version (m p.answers)) p.derived) x.1) (after_between i s m n x.0 q x.2)
+    let one = next_goes i s m p x.0 (ask_of s.version (m p.answers)) refl rests x.1 in
+    let more = after_between i s m n x.0 q one.1 x.2 in
+    (between_join i p x.0 q (next_id s m p) (next_id s m x.0) (next_id s m q) one.0 more.0, more.1)
 
 -- of two points of a run one comes first
 meets : (s : Setup) (m : Meaning) (n k : ℕ) (z p q : Point) → after s m n z ≡ Some p → after s m k z ≡ Some q → ((j : ℕ) × (after s m j p ≡ Some q)) ⊎ ((j : ℕ) × (after s m j q ≡ Some p))
@@ -516,6 +644,12 @@ module _ (s : Setup) (m : Meaning) (input : InputCommand) (ns : List Notificatio
   abbrev begun : Point
   begun = start s input ns cs
 
+  first_rests : RestsAt (ask_of s.version (m begun.answers)) begun.derived.parts
+  first_rests = rests_none (ask_of s.version (m begun.answers)) 0 refl
+
+  rests_there : (n : ℕ) (p : Point) → after s m n begun ≡ Some p → RestsAt (ask_of s.version (m p.answers)) p.derived.parts
+  rests_there n p e = (after_between 0 s m n begun p first_rests e).1
+
   -- all that came for an id
   total : (n : ℕ) (p : Point) → after s m n begun ≡ Some p → (i : ℕ) → length (deliveries (CompletionId i) p.derived.usage) + length (results_of (CompletionId i) p.queue) ≡ reads_at i p.derived.usage + length (results_of (CompletionId i) ns)
   total n p e i =
@@ -528,7 +662,7 @@ module _ (s : Setup) (m : Meaning) (input : InputCommand) (ns : List Notificatio
     at_end : (n : ℕ) (p : Point) → after s m n begun ≡ Some p → p.left ≡ [] → HasNoTwo p
     unfolding reads_at
     at_end n p e spent i =
-        let b = after_between i s m n begun p e in
+        let b = (after_between i s m n begun p first_rests e).0 in
         let sum = total n p e i in
         let all : b.used ≡ cs = sym (append-nil b.used) ∙ ap (λ l. b.used ++ l) (sym spent) ∙ sym b.left in
         by_claim b.used _ _ b.claim sum (once i) (λ (none : is_carried i b.used ≡ false). ap length (carry i (ap (is_carried i) (sym all) ∙ none)))
@@ -542,8 +676,8 @@ module _ (s : Setup) (m : Meaning) (input : InputCommand) (ns : List Notificatio
         by_claim used first past (inr (a, b, inr c)) sum one none = let x = c.0 in let y = none c.1 in omega (arith, x, y, sum)
 
     -- fewer came before
-    before_end : (n k : ℕ) (p q : Point) → after s m n begun ≡ Some p → after s m k begun ≡ Some q → (i : ℕ) → Between i p q → length (deliveries (CompletionId i) q.derived.usage) + length (results_of (CompletionId i) q.queue) ≤ 1 → length (deliveries (CompletionId i) p.derived.usage) + length (results_of (CompletionId i) p.queue) ≤ 1
-    before_end n k p q e f i b two =
+    before_end : (n k : ℕ) (p q : Point) → after s m n begun ≡ Some p → after s m k begun ≡ Some q → (i first past : ℕ) → Between i p q first past → length (deliveries (CompletionId i) q.derived.usage) + length (results_of (CompletionId i) q.queue) ≤ 1 → length (deliveries (CompletionId i) p.derived.usage) + length (results_of (CompletionId i) p.queue) ≤ 1
+    before_end n k p q e f i first past b two =
         let x = total n p e i in
         let y = total k q f i in
         let z = fewer b.used _ _ (reads_at i p.derived.usage) (reads_at i q.derived.usage) b.claim in
@@ -556,8 +690,8 @@ module _ (s : Setup) (m : Meaning) (input : InputCommand) (ns : List Notificatio
 
     come_once : (n k : ℕ) (p q : Point) → after s m n begun ≡ Some p → after s m k begun ≡ Some q → q.left ≡ [] → HasNoTwo p
     come_once n k p q e f spent = ⊎_elim
-        (λ (x : (j : ℕ) × (after s m j p ≡ Some q)). λ i. before_end n k p q e f i (after_between i s m x.0 p q x.1) (at_end k q f spent i))
-        (λ (x : (j : ℕ) × (after s m j q ≡ Some p)). let b = after_between 0 s m x.0 q p x.1 in at_end n p e (nothing_behind b.used p.left (sym spent ∙ b.left)))
+        (λ (x : (j : ℕ) × (after s m j p ≡ Some q)). λ i. before_end n k p q e f i (next_id s m p) (next_id s m q) (after_between i s m x.0 p q (rests_there n p e) x.1).0 (at_end k q f spent i))
+        (λ (x : (j : ℕ) × (after s m j q ≡ Some p)). let b = (after_between 0 s m x.0 q p (rests_there k q f) x.1).0 in at_end n p e (nothing_behind b.used p.left (sym spent ∙ b.left)))
         (meets s m n k begun p q e f)
 
 -- Where some point of a run uses all recorded commands, each completion came once, and its id is one that they carry, no

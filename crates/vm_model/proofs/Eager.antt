@@ -29,17 +29,19 @@ use Rattle.vm_parts.specs.Tracked.{id_of_result, id_of_value, invocation_ids, no
 use Rattle.vm_types.specs.Values.{value_of}
 use Rattle.vm_asks.specs.declared.asks.Ask.{Ask}
 use Rattle.vm_asks.specs.declared.asks.Ask.TheVariants as ask
+use Rattle.vm_asks.specs.declared.asks.AnswerKind.{AnswerKind}
 use Rattle.vm_asks.specs.declared.asks.Command.{Command}
 use Rattle.vm_asks.specs.declared.state_read.StateRead.{StateRead}
-use Rattle.vm_asks.specs.Asks.{ask_of}
+use Rattle.vm_asks.specs.Asks.{EachIs, ask_of}
 use Rattle.vm_asks.specs.Requests.{ids_of}
 use Rattle.vm_machine.proofs.Numbering.{same_type}
-use Rattle.invocation_vm.specs.Calls.{skips_replay}
-use Rattle.vm_model.specs.Calls.{Setup, Meaning, Derived, Move, asked, awaited, awakeable_made, awaiting, cancel_sent, cancelled, cancelling, commanding, id_awaited, id_read, is_awake, is_cancelled_in, making_awakeable, numbered, reading, ready_in, result_taken, signal_made, value_noted, value_taken}
+use Rattle.vm_machine.specs.Skips.{skips_replay}
+use Rattle.vm_model.specs.Calls.{Setup, Meaning, Derived, Move, asked, awaited, awakeable_made, awaiting, cancel_sent, cancelled, cancelling, commanding, id_awaited, id_read, is_awake, is_cancelled_in, making_awakeable, numbered, reading, ready_in, result_taken, signal_made, value_noted, value_taken, Turn, part, part_unless, refused_before, turn_after}
 use Rattle.vm_model.specs.Calls.Move.{Answers, Needs, Awaits, Ends, Refuses}
 use Rattle.vm_model.specs.Histories.{EagerFrom, Fits, Honest, IsTrueOf, Knowledge, Made, recorded_value}
 use Rattle.vm_model.specs.Journal.{messages_in, read_before}
 use Rattle.vm_model.specs.Moves.{Point, changed_by, longer, move_at, next, said_of, supplied, supply}
+use Rattle.vm_model.proofs.Parts.{turn_is}
 use Rattle.vm_model.proofs.Runs.{next_spent}
 use Rattle.vm_model.proofs.Said.{Says, next_says}
 use Rattle.vm_model.proofs.States.{changed_by-append}
@@ -86,13 +88,18 @@ PlainMove Awaits = Unit {0}
 PlainMove Ends = Unit {0}
 PlainMove (Refuses name) = Unit {0}
 
+abbrev IsLazy : Command → Type 0
+IsLazy c = is_eager (type_of c.message) ≡ false
+
 abbrev PlainAsk : Ask → Type 0
-PlainAsk (ask.Command c) = is_eager (type_of c.message) ≡ false
+PlainAsk (ask.Command c) = IsLazy c
+PlainAsk (ask.Commands kind first second) = EachIs IsLazy first (second ∷ [])
 PlainAsk a = Unit {0}
 
 steps_plain : (version : Version) (s : Step) → PlainAsk (ask_of version s)
 steps_plain version (step.StateGet key name options) = tt
 steps_plain version (step.StateGetKeys name) = tt
+steps_plain version (step.CallWithDeadline target input time name options) = (refl, refl)
 steps_plain version step.Awakeable = tt
 steps_plain version (step.Signal name) = tt
 steps_plain version (step.Await future) = tt
@@ -108,6 +115,14 @@ numbered_plain s c None d h = ap is_eager (same_type d.counters.completion c.mes
 commanding_plain : (s : Setup) (c : Command) (o : Option NamedFault) (d : Derived) → is_eager (type_of c.message) ≡ false → PlainMove (commanding s c o d)
 commanding_plain s c (Some fault) d h = tt
 commanding_plain s c None d h = numbered_plain s c (missing (ids_of c.message) 0 (ids_of c.message) d.counters) d h
+
+part_plain : (s : Setup) (kind : AnswerKind) (c : Command) (cs : List Command) (before d : Derived) → IsLazy c → PlainMove (part s kind c cs before d)
+part_plain s kind c [] before d h = ap is_eager (same_type before.counters.completion c.message) ∙ h
+part_plain s kind c (b ∷ bs) before d h = ap is_eager (same_type before.counters.completion c.message) ∙ h
+
+turn_plain : (s : Setup) (kind : AnswerKind) (o : Option NamedFault) (t : Turn) (d : Derived) → IsLazy t.command → PlainMove (part_unless o s kind t d)
+turn_plain s kind (Some fault) t d h = tt
+turn_plain s kind None t d h = part_plain s kind t.command t.behind t.before d h
 
 reading_plain : (r : StateRead) (o : Option NamedFault) (d : Derived) → PlainMove (reading r o d)
 reading_plain r (Some fault) d = tt
@@ -168,6 +183,9 @@ result_plain handle None o d = tt
 
 asked_plain : (s : Setup) (a : Ask) (d : Derived) → PlainAsk a → PlainMove (asked s a d)
 asked_plain s (ask.Command c) d h = commanding_plain s c c.refusal d h
+asked_plain s (ask.Commands kind first second) d h =
+    let t = turn_after s d.parts first (second ∷ []) d in
+    turn_plain s kind (refused_before t.command t.behind t.before.counters) t d (turn_is IsLazy s d.parts first (second ∷ []) d h)
 asked_plain s (ask.Read r) d h = reading_plain r (missing 1 0 1 d.counters) d
 asked_plain s ask.Awakeable d h = making_plain s (skips_replay s.options.journal_replay) d
 asked_plain s (ask.Signal name) d h = signal_plain name (missing_signals 0 1 d.counters) d

@@ -18,10 +18,10 @@ use Rattle.vm_model.proofs.Eager.{eager_made, said_made}
 use Rattle.vm_model.proofs.Lasting.{Lasting, commands-append, honest_lasts, notifications-append, whole_lasts}
 use Rattle.vm_model.proofs.Runs.{made_after, made_front, made_later, made_spent}
 
-head_same : (a b : RawMessage) (xs ys : List RawMessage) → a ∷ xs ≡ b ∷ ys → a ≡ b
+pub head_same : (a b : RawMessage) (xs ys : List RawMessage) → a ∷ xs ≡ b ∷ ys → a ≡ b
 head_same a b xs ys e = cc
 
-tail_same : (a b : RawMessage) (xs ys : List RawMessage) → a ∷ xs ≡ b ∷ ys → xs ≡ ys
+pub tail_same : (a b : RawMessage) (xs ys : List RawMessage) → a ∷ xs ≡ b ∷ ys → xs ≡ ys
 tail_same a b xs ys e = cc
 
 -- an honest round leaves a journal that one run made, where what was handed out lasts

@@ -7,6 +7,7 @@ pub mod Eager
 pub mod Attempts
 pub mod Lasting
 pub mod Honesty
+pub mod GoingOn
 pub mod Once
 pub mod Order
 pub mod Compared
@@ -17,8 +18,11 @@ pub mod Took
 pub mod Trees
 pub mod Staying
 pub mod Cancels
+pub mod Parts
+pub mod Parted
 pub mod Sums
 pub mod Uses
+pub mod Rests
 pub mod Carried
 pub mod Rows
 pub mod Refusals

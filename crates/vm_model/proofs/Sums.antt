@@ -21,15 +21,17 @@ use Rattle.vm_parts.specs.Tracked.{id_of_result, id_of_value, invocation_ids, no
 use Rattle.vm_types.specs.Values.{value_of}
 use Rattle.vm_asks.specs.declared.asks.Ask.{Ask}
 use Rattle.vm_asks.specs.declared.asks.Ask.TheVariants as ask
+use Rattle.vm_asks.specs.declared.asks.AnswerKind.{AnswerKind}
 use Rattle.vm_asks.specs.declared.asks.Command.{Command}
 use Rattle.vm_asks.specs.declared.state_read.StateRead.{StateRead}
-use Rattle.vm_asks.specs.Asks.{ask_of}
+use Rattle.vm_asks.specs.Asks.{all_ids, ask_of}
 use Rattle.vm_asks.specs.Requests.{ids_of}
-use Rattle.invocation_vm.specs.Calls.{skips_replay}
-use Rattle.vm_model.specs.Calls.{Setup, Meaning, Derived, Demand, Move, asked, awaited, awakeable_made, awaiting, call_of, cancel_sent, cancel_taken, cancelled, cancelling, commanding, counted, id_awaited, id_read, is_awake, is_cancelled_in, making_awakeable, numbered, reading, ready_in, result_taken, signal_made, value_noted, value_taken}
+use Rattle.vm_machine.specs.Skips.{skips_replay}
+use Rattle.vm_model.specs.Calls.{Setup, Meaning, Derived, Demand, Move, asked, awaited, awakeable_made, awaiting, call_of, cancel_sent, cancel_taken, cancelled, cancelling, commanding, counted, id_awaited, id_read, is_awake, is_cancelled_in, making_awakeable, numbered, reading, ready_in, result_taken, signal_made, value_noted, value_taken, Turn, part, part_unless, refused_before, turn_after}
 use Rattle.vm_model.specs.Calls.Move.{Answers, Needs, Awaits, Ends, Refuses}
 use Rattle.vm_model.specs.Moves.{Point, after, brought, command_used, move_at, moved, next, found, start, uses_arrival, uses_command}
 use Rattle.vm_model.specs.Sums.{calls_after, calls_for, completion_ids, completion_ids_in, handles, signal_ids, signal_ids_in, handles_in, total}
+use Rattle.vm_model.proofs.Parts.{Splits, turn_splits}
 use Rattle.vm_model.proofs.Runs.{and_then_some, none_some}
 
 -- so many numbers were given
@@ -50,6 +52,9 @@ GivenAfter ids signals numbers d Awaits = Unit {0}
 GivenAfter ids signals numbers d Ends = Unit {0}
 GivenAfter ids signals numbers d (Refuses name) = Unit {0}
 
+pub nothing_given : (d e : Derived) → e.counters ≡ d.counters → Given 0 0 0 d e
+nothing_given d e is = record { completion = ap (λ c. c.completion) is ∙ sym (add-zero d.counters.completion); signal = ap (λ c. c.signal) is ∙ sym (add-zero d.counters.signal); handle = ap (λ c. c.handle) is ∙ sym (add-zero d.counters.handle) }
+
 counted_given : (ids : ℕ) (d : Derived) (tracked : List TrackedCall) → Given ids 0 ids d (record (counted ids d) { tracked = tracked })
 counted_given ids d tracked = record { completion = refl; signal = sym (add-zero d.counters.signal); handle = refl }
 
@@ -60,6 +65,15 @@ numbered_given s c None d = inl (_, refl, counted_given (ids_of c.message) d _)
 commanding_given : (s : Setup) (c : Command) (o : Option NamedFault) (d : Derived) → GivenAfter (ids_of c.message) 0 (ids_of c.message) d (commanding s c o d)
 commanding_given s c (Some fault) d = tt
 commanding_given s c None d = numbered_given s c (missing (ids_of c.message) 0 (ids_of c.message) d.counters) d
+
+-- with the last command of several the numbers of all are given
+part_given : (s : Setup) (kind : AnswerKind) (c : Command) (cs : List Command) (d : Derived) (b : Command) (bs : List Command) (before : Derived) → Splits s d c cs (record { command = b; behind = bs; before = before }) → GivenAfter (all_ids c cs) 0 (all_ids c cs) d (part s kind b bs before d)
+part_given s kind c cs d b [] before g = inl (_, refl, record { completion = g.completion; signal = g.signal ∙ sym (add-zero d.counters.signal); handle = g.handle })
+part_given s kind c cs d b (x ∷ xs) before g = inr (refl, nothing_given d (record d { parts = suc d.parts }) refl)
+
+turn_given : (s : Setup) (kind : AnswerKind) (o : Option NamedFault) (c : Command) (cs : List Command) (d : Derived) (t : Turn) → Splits s d c cs t → GivenAfter (all_ids c cs) 0 (all_ids c cs) d (part_unless o s kind t d)
+turn_given s kind (Some fault) c cs d t g = tt
+turn_given s kind None c cs d t g = part_given s kind c cs d t.command t.behind t.before g
 
 reading_given : (r : StateRead) (o : Option NamedFault) (d : Derived) → GivenAfter 1 0 1 d (reading r o d)
 reading_given r (Some fault) d = tt
@@ -76,9 +90,6 @@ making_given s false d = awakeable_given s (missing_signals 1 1 d.counters) d
 signal_given : (name : List ℕ) (o : Option NamedFault) (d : Derived) → GivenAfter 0 0 1 d (signal_made name o d)
 signal_given name (Some fault) d = tt
 signal_given name None d = inl (_, refl, record { completion = sym (add-zero d.counters.completion); signal = sym (add-zero d.counters.signal); handle = refl })
-
-pub nothing_given : (d e : Derived) → e.counters ≡ d.counters → Given 0 0 0 d e
-nothing_given d e is = record { completion = ap (λ c. c.completion) is ∙ sym (add-zero d.counters.completion); signal = ap (λ c. c.signal) is ∙ sym (add-zero d.counters.signal); handle = ap (λ c. c.handle) is ∙ sym (add-zero d.counters.handle) }
 
 awaiting_given : (b : Bool) (d : Derived) → GivenAfter 0 0 0 d (awaiting b d)
 awaiting_given true d = inl (_, refl, nothing_given d d refl)
@@ -128,6 +139,9 @@ result_given handle None o d = inl (_, refl, nothing_given d d refl)
 
 asked_given : (s : Setup) (a : Ask) (d : Derived) → GivenAfter (completion_ids_in a) (signal_ids_in a) (handles_in a) d (asked s a d)
 asked_given s (ask.Command c) d = commanding_given s c c.refusal d
+asked_given s (ask.Commands kind first second) d =
+    let t = turn_after s d.parts first (second ∷ []) d in
+    turn_given s kind (refused_before t.command t.behind t.before.counters) first (second ∷ []) d t (turn_splits s d.parts first (second ∷ []) d)
 asked_given s (ask.Read r) d = reading_given r (missing 1 0 1 d.counters) d
 asked_given s ask.Awakeable d = making_given s (skips_replay s.options.journal_replay) d
 asked_given s (ask.Signal name) d = signal_given name (missing_signals 0 1 d.counters) d

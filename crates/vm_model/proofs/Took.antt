@@ -22,16 +22,18 @@ use Rattle.vm_parts.specs.Tracked.{id_of_result, id_of_value, invocation_ids, no
 use Rattle.vm_types.specs.Values.{value_of}
 use Rattle.vm_asks.specs.declared.asks.Ask.{Ask}
 use Rattle.vm_asks.specs.declared.asks.Ask.TheVariants as ask
+use Rattle.vm_asks.specs.declared.asks.AnswerKind.{AnswerKind}
 use Rattle.vm_asks.specs.declared.asks.Command.{Command}
 use Rattle.vm_asks.specs.declared.state_read.StateRead.{StateRead}
 use Rattle.vm_asks.specs.Asks.{ask_of}
 use Rattle.vm_asks.specs.Requests.{ids_of}
-use Rattle.invocation_vm.specs.Calls.{skips_replay}
-use Rattle.vm_model.specs.Calls.{Setup, Meaning, Derived, Demand, Move, asked, awaited, awakeable_made, awaiting, call_of, cancel_sent, cancel_taken, cancelled, cancelling, commanding, id_awaited, id_read, is_awake, is_cancelled_in, making_awakeable, numbered, reading, ready_in, result_taken, signal_made, value_noted, value_taken}
+use Rattle.vm_machine.specs.Skips.{skips_replay}
+use Rattle.vm_model.specs.Calls.{Setup, Meaning, Derived, Demand, Move, asked, awaited, awakeable_made, awaiting, call_of, cancel_sent, cancel_taken, cancelled, cancelling, commanding, id_awaited, id_read, is_awake, is_cancelled_in, making_awakeable, numbered, reading, ready_in, result_taken, signal_made, value_noted, value_taken, Turn, part, part_unless, refused_before, turn_after}
 use Rattle.vm_model.specs.Calls.Move.{Answers, Needs, Awaits, Ends, Refuses}
 use Rattle.vm_model.specs.Moves.{Point, after, brought, command_used, move_at, moved, next, found, start, uses_arrival, uses_command}
 use Rattle.vm_model.specs.Deliveries.{EachTookAResult, TakeIsAnswered, next_taken}
 use Rattle.vm_model.proofs.Cancelling.{both_parts}
+use Rattle.vm_model.proofs.Parts.{turn_splits}
 use Rattle.vm_model.proofs.Results.{present_next}
 use Rattle.vm_model.proofs.Runs.{and_then_some, none_some}
 
@@ -53,6 +55,14 @@ numbered_took s c None d h = h
 commanding_took : (s : Setup) (c : Command) (o : Option NamedFault) (d : Derived) → Took s d → TookAfter s (commanding s c o d)
 commanding_took s c (Some fault) d h = tt
 commanding_took s c None d h = numbered_took s c (missing (ids_of c.message) 0 (ids_of c.message) d.counters) d h
+
+part_took : (s : Setup) (kind : AnswerKind) (c : Command) (cs : List Command) (before d : Derived) → Took s before → Took s d → TookAfter s (part s kind c cs before d)
+part_took s kind c [] before d h k = h
+part_took s kind c (b ∷ bs) before d h k = k
+
+turn_took : (s : Setup) (kind : AnswerKind) (o : Option NamedFault) (t : Turn) (d : Derived) → t.before.usage ≡ d.usage → Took s d → TookAfter s (part_unless o s kind t d)
+turn_took s kind (Some fault) t d same h = tt
+turn_took s kind None t d same h = part_took s kind t.command t.behind t.before d (subst (EachTookAResult s.options.signal_delivery) (sym same) h) h
 
 reading_took : (s : Setup) (r : StateRead) (o : Option NamedFault) (d : Derived) → Took s d → TookAfter s (reading r o d)
 reading_took s r (Some fault) d h = tt
@@ -118,6 +128,9 @@ result_took s handle None o d is h = h
 
 asked_took : (s : Setup) (a : Ask) (d : Derived) → Took s d → TookAfter s (asked s a d)
 asked_took s (ask.Command c) d h = commanding_took s c c.refusal d h
+asked_took s (ask.Commands kind first second) d h =
+    let t = turn_after s d.parts first (second ∷ []) d in
+    turn_took s kind (refused_before t.command t.behind t.before.counters) t d (turn_splits s d.parts first (second ∷ []) d).usage h
 asked_took s (ask.Read r) d h = reading_took s r (missing 1 0 1 d.counters) d h
 asked_took s ask.Awakeable d h = making_took s (skips_replay s.options.journal_replay) d h
 asked_took s (ask.Signal name) d h = signal_took s name (missing_signals 0 1 d.counters) d h

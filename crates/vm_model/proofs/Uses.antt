@@ -1,7 +1,7 @@
 -- What a run used of its journal, and what its handles stand for.
 use Rattle.std.proofs.Common.{◌≡◌, ◌⊎◌, ◌<◌, ◌≤◌, ℕ, zero, suc, ◌+◌, Bool, true, false, cond, List, [], ◌∷◌, ◌++◌, length, Option, Some, None, refl, sym, ap, ◌∙◌, subst, inl, inr, ⊎_elim, append_assoc, append-nil, length-append, arith}
 use native.Mathlib.Nat.{add-zero}
-use Rattle.std.specs.Prelude.{◌==◌, if◌then◌else◌, Result, Ok, Err}
+use Rattle.std.specs.Prelude.{◌==◌, if◌then◌else◌, take, Result, Ok, Err}
 use Rattle.std.specs.List.{AllByRecursion}
 use Rattle.std.proofs.lemmas.Bool.{eq-eqb, eqb-true}
 use Rattle.std.proofs.lemmas.Option.{same_Some}
@@ -34,22 +34,26 @@ use Rattle.vm_parts.specs.Tracked.{id_of_value, noted}
 use Rattle.vm_types.specs.Values.{value_of}
 use Rattle.vm_asks.specs.declared.asks.Ask.{Ask}
 use Rattle.vm_asks.specs.declared.asks.Ask.TheVariants as ask
+use Rattle.vm_asks.specs.declared.asks.AnswerKind.{AnswerKind}
 use Rattle.vm_asks.specs.declared.asks.Command.{Command}
 use Rattle.vm_asks.specs.declared.state_read.StateRead.{StateRead}
-use Rattle.vm_asks.specs.Asks.{ask_of}
+use Rattle.vm_asks.specs.Asks.{all_ids, answer_by, ask_of}
 use Rattle.vm_machine.specs.Commands.{mapped_from}
 use Rattle.vm_asks.specs.Requests.{ids_of}
-use Rattle.invocation_vm.specs.Calls.{skips_replay}
-use Rattle.vm_model.specs.Calls.{Setup, Meaning, Derived, Demand, Move, asked, awaited, awakeable_made, awaiting, cancel_taken, commanding, is_awake, is_cancelled_in, making_awakeable, numbered, reading, ready_in, result_taken, signal_made, value_noted, value_taken}
+use Rattle.vm_machine.specs.Skips.{skips_replay}
+use Rattle.vm_model.specs.Calls.{Setup, Meaning, Derived, Demand, Move, asked, awaited, awakeable_made, awaiting, cancel_taken, commanding, is_awake, is_cancelled_in, making_awakeable, numbered, reading, ready_in, result_taken, signal_made, value_noted, value_taken, Turn, behind_command, refused_before, turn_after}
 use Rattle.vm_model.specs.Calls.Demand.{Exactly, Reads}
 use Rattle.vm_model.specs.Calls.Move.{Answers, Needs, Awaits, Ends, Refuses}
 use Rattle.vm_model.specs.Moves.{Point, after, brought, command_used, found, move_at, moved, next, reads_as, start, uses_arrival, uses_command}
 use Rattle.vm_model.specs.Histories.{IsAwaiting, behind}
-use Rattle.vm_model.specs.Sums.{calls_after, calls_for, completion_ids, handles, handles_in, signal_ids}
-use Rattle.vm_model.specs.Uses.{AreSentBy, IsGiven, IsSentBy, IsSentFor, StandFor, Stands, WasTaken, arrivals_in, cancels_needed, given_for, ids_from, ids_given, item, needed, needed_by}
+use Rattle.vm_model.specs.Sums.{calls_after, calls_for, completion_ids, completion_ids_in, handles, handles_in, signal_ids, signal_ids_in}
+use Rattle.vm_model.specs.Uses.{AreSentBy, IsGiven, IsSentBy, IsSentFor, StandFor, Stands, WasTaken, all_needed, arrivals_in, cancels_needed, given_for, ids_from, ids_given, item, needed, needed_by, needed_for}
 use Rattle.vm_model.proofs.Cancelling.{CancelMove, Sent, cancel_demand, cancel_move}
 use Rattle.vm_model.proofs.Cancelling.CancelMove.{Arrives, Learns, Sends, Finishes}
 use Rattle.vm_model.proofs.Cancels.{cancelled_ends}
+use Rattle.vm_model.proofs.Parts.{IsOfOne, next_keeps, next_turn, turn_apart, turn_splits}
+use Rattle.vm_model.proofs.Parted.{PartMove, WasUsed, part_moves}
+use Rattle.vm_model.proofs.Parted.PartMove.{More, Last}
 use Rattle.vm_model.proofs.Runs.{and_then_some, none_some}
 use Rattle.vm_model.proofs.Sums.{Given, GivenAfter, GivenBy, brought_given, call_given, nothing_given, taken_counters}
 
@@ -121,6 +125,7 @@ ids_count (suc n) id = ap suc (ids_count n (id + 1))
 -- as many ids are given as handles
 given_count : (completion signal : ℕ) (a : Ask) → length (given_for completion signal a) ≡ handles_in a
 given_count completion signal (ask.Command c) = ids_count (ids_of c.message) completion
+given_count completion signal (ask.Commands kind first second) = ids_count (all_ids first (second ∷ [])) completion
 given_count completion signal (ask.Read r) = refl
 given_count completion signal ask.Awakeable = refl
 given_count completion signal (ask.Signal name) = refl
@@ -312,13 +317,15 @@ result_uses s handle (Some id) (Some result) d = value_uses s handle id (value_o
 result_uses s handle (Some id) None d = record { one = (_, refl); needs = refl; change = no_change (ask.Take handle) (answer.Taken None ∷ []) d; usage = refl }
 result_uses s handle None o d = record { one = (_, refl); needs = refl; change = no_change (ask.Take handle) (answer.Taken None ∷ []) d; usage = refl }
 
--- no await of a cancelled handler is asked for
+-- neither an await of a cancelled handler nor several commands are asked for
 abbrev IsUncancelled : Setup → Ask → Derived → Type 0
 IsUncancelled s (ask.Await future) d = is_cancelled_in s d ≡ false
+IsUncancelled s (ask.Commands kind first second) d = ⊥
 IsUncancelled s a d = Unit {0}
 
 asked_uses : (s : Setup) (a : Ask) (d : Derived) → IsUncancelled s a d → UsesAfter s a d (asked s a d)
 asked_uses s (ask.Command c) d h = commanding_uses s c c.refusal d
+asked_uses s (ask.Commands kind first second) d h = absurd h
 asked_uses s (ask.Read r) d h = reading_uses s r (missing 1 0 1 d.counters) d
 asked_uses s ask.Awakeable d h = making_uses s (skips_replay s.options.journal_replay) d
 asked_uses s (ask.Signal name) d h = signal_uses s name (missing_signals 0 1 d.counters) d
@@ -327,14 +334,24 @@ asked_uses s (ask.Take handle) d h = result_uses s handle (id_at handle.0 d.hand
 asked_uses s (ask.Completed handle) d h = record { one = (_, refl); needs = refl; change = no_change (ask.Completed handle) _ d; usage = refl }
 asked_uses s ask.End d h = tt
 
--- a step is an await of a cancelled handler or not
-await_or_other : (s : Setup) (d : Derived) (st : Step) → IsUncancelled s (ask_of s.version st) d ⊎ ((future : UnresolvedFuture) × (st ≡ step.Await future) × (is_cancelled_in s d ≡ true))
+-- what is asked for is several commands
+abbrev AsksSeveral : Ask → Type 0
+AsksSeveral a = (kind : AnswerKind) × (first : Command) × (second : Command) × (a ≡ ask.Commands kind first second)
+
+-- a step is an await of a cancelled handler, or asks for several commands, or neither
+await_or_other : (s : Setup) (d : Derived) (st : Step) → IsUncancelled s (ask_of s.version st) d ⊎ (((future : UnresolvedFuture) × (st ≡ step.Await future) × (is_cancelled_in s d ≡ true)) ⊎ AsksSeveral (ask_of s.version st))
 await_or_other s d (step.Await future) = by_test (is_cancelled_in s d) refl
   where
-    by_test : (b : Bool) → is_cancelled_in s d ≡ b → (is_cancelled_in s d ≡ false) ⊎ ((other : UnresolvedFuture) × (step.Await future ≡ step.Await other) × (is_cancelled_in s d ≡ true))
-    by_test true is = inr (future, refl, is)
+    by_test : (b : Bool) → is_cancelled_in s d ≡ b → (is_cancelled_in s d ≡ false) ⊎ (((other : UnresolvedFuture) × (step.Await future ≡ step.Await other) × (is_cancelled_in s d ≡ true)) ⊎ AsksSeveral (ask.Await future))
+    by_test true is = inr (inl (future, refl, is))
     by_test false is = inl is
+await_or_other s d (step.CallWithDeadline target input time name options) = inr (inr (_, _, _, refl))
 await_or_other s d st = inl tt
+
+-- what asks for several commands doesn't ask for one or none
+uncancelled_one : (s : Setup) (a : Ask) (d : Derived) → IsUncancelled s a d → IsOfOne a
+uncancelled_one s (ask.Commands kind first second) d h = h
+uncancelled_one s a d h = tt
 
 -- ---- recorded commands
 
@@ -384,11 +401,12 @@ record Unanswered (p r : Point) : Type 0 where
   numbers : Given 0 0 0 p.derived r.derived
   handles : r.derived.handles ≡ p.derived.handles
 
--- a call was answered; or none was; or an await of a cancelled handler used a cancel command
+-- A call was answered; or none was; or an await of a cancelled handler used a cancel command; or a call with several commands used one.
 data Moves (s : Setup) (m : Meaning) (p r : Point) : Type 0 where
-  Calls : OneCall s m p r → Moves s m p r
-  Waits : Unanswered p r → Moves s m p r
-  Cancels : (future : UnresolvedFuture) (id : List ℕ) → IsAwaiting m p future → is_cancelled_in s p.derived ≡ true → Sent s id p r → Moves s m p r
+  Calls : OneCall s m p r → r.derived.parts ≡ p.derived.parts → Moves s m p r
+  Waits : Unanswered p r → r.derived.parts ≡ p.derived.parts → Moves s m p r
+  Cancels : (future : UnresolvedFuture) (id : List ℕ) → IsAwaiting m p future → is_cancelled_in s p.derived ≡ true → Sent s id p r → r.derived.parts ≡ p.derived.parts → Moves s m p r
+  Parts : (kind : AnswerKind) (first second : Command) → ask_of s.version (m p.answers) ≡ ask.Commands kind first second → PartMove s kind (turn_after s p.derived.parts first (second ∷ []) p.derived) p r → Moves s m p r
 
 brought_same : (id : ℕ) (result : Option NotificationResult) (d : Derived) → (arrivals_in (brought id result d).usage ≡ arrivals_in d.usage) × ((brought id result d).handles ≡ d.handles)
 brought_same id None d = (refl, refl)
@@ -452,8 +470,8 @@ module _ (s : Setup) (m : Meaning) (p r : Point) where
         handles = ap (λ z. z.derived.handles) (sym now);
       }
 
-  moves_are : (mv : Move) → GivenAfter (completion_ids s.version (m p.answers)) (signal_ids s.version (m p.answers)) (handles s.version (m p.answers)) p.derived mv → UsesAfter s A p.derived mv → moved mv p ≡ Some r → Moves s m p r
-  moves_are (Answers gives e) g u moves =
+  moves_are : (mv : Move) → r.derived.parts ≡ p.derived.parts → GivenAfter (completion_ids s.version (m p.answers)) (signal_ids s.version (m p.answers)) (handles s.version (m p.answers)) p.derived mv → UsesAfter s A p.derived mv → moved mv p ≡ Some r → Moves s m p r
+  moves_are (Answers gives e) keeps g u moves =
       let now = same_Some _ r moves in
       let one = one_given _ _ _ p.derived gives e u.one g in
       Calls (record {
@@ -466,14 +484,14 @@ module _ (s : Setup) (m : Meaning) (p r : Point) where
         usage = ap (λ z. arrivals_in z.derived.usage) (sym now) ∙ u.usage;
         change = subst (λ (x : List Answer × List Mapping). Change A (given_for p.derived.counters.completion p.derived.counters.signal A) x.0 p.derived x.1) (λ i. (one.1 i, ap (λ z. z.derived.handles) now i)) u.change;
         numbers = subst (λ z. Numbers z.derived) now one.2;
-      })
-  moves_are (Needs demand gives e) g u moves = Calls (uses_moves demand gives e p.left refl (one_given _ _ _ p.derived gives e u.one g) u moves)
-  moves_are Awaits g u moves = Waits (arrival_moves p.queue refl moves)
-  moves_are Ends g u moves = none_some moves
-  moves_are (Refuses name) g u moves = none_some moves
+      }) keeps
+  moves_are (Needs demand gives e) keeps g u moves = Calls (uses_moves demand gives e p.left refl (one_given _ _ _ p.derived gives e u.one g) u moves) keeps
+  moves_are Awaits keeps g u moves = Waits (arrival_moves p.queue refl moves) keeps
+  moves_are Ends keeps g u moves = none_some moves
+  moves_are (Refuses name) keeps g u moves = none_some moves
 
-  cancel_moves : (future : UnresolvedFuture) → IsAwaiting m p future → is_cancelled_in s p.derived ≡ true → CancelMove s p r → Moves s m p r
-  cancel_moves future at cancelled (Arrives handle handles n queue first none is now) = Waits (record {
+  cancel_moves : (future : UnresolvedFuture) → IsAwaiting m p future → is_cancelled_in s p.derived ≡ true → r.derived.parts ≡ p.derived.parts → CancelMove s p r → Moves s m p r
+  cancel_moves future at cancelled keeps (Arrives handle handles n queue first none is now) = Waits (record {
     answers = ap (λ z. z.answers) (sym now);
     left = ap (λ z. z.left) (sym now);
     came = n ∷ [];
@@ -481,8 +499,8 @@ module _ (s : Setup) (m : Meaning) (p r : Point) where
     usage = ap (λ z. arrivals_in z.derived.usage) (sym now);
     numbers = nothing_given p.derived r.derived (ap (λ z. z.derived.counters) (sym now));
     handles = ap (λ z. z.derived.handles) (sym now);
-  })
-  cancel_moves future at cancelled (Learns handle handles id first is now) = Waits (record {
+  }) keeps
+  cancel_moves future at cancelled keeps (Learns handle handles id first is now) = Waits (record {
     answers = ap (λ z. z.answers) (sym now);
     left = ap (λ z. z.left) (sym now);
     came = [];
@@ -490,9 +508,9 @@ module _ (s : Setup) (m : Meaning) (p r : Point) where
     usage = ap (λ z. arrivals_in z.derived.usage) (sym now) ∙ sym (append-nil (arrivals_in p.derived.usage));
     numbers = nothing_given p.derived r.derived (ap (λ z. z.derived.counters) (sym now));
     handles = ap (λ z. z.derived.handles) (sym now);
-  })
-  cancel_moves future at cancelled (Sends id ids known is sent) = Cancels future id at cancelled sent
-  cancel_moves future at cancelled (Finishes known is now) =
+  }) keeps
+  cancel_moves future at cancelled keeps (Sends id ids known is sent) = Cancels future id at cancelled sent keeps
+  cancel_moves future at cancelled keeps (Finishes known is now) =
       let o = id_at 1 p.derived.handles in
       let e : Derived = record p.derived { tracked = [] } in
       let gives = answer.Cancelled ∷ [] in
@@ -509,13 +527,21 @@ module _ (s : Setup) (m : Meaning) (p r : Point) where
         usage = ap (λ z. arrivals_in z.derived.usage) (sym now) ∙ taken_arrivals o e;
         change = subst (λ st. Change (ask_of s.version st) (ids st) gives p.derived r.derived.handles) (sym at) (subst (Change (ask.Await future) [] gives p.derived) (sym held) (no_change (ask.Await future) gives p.derived));
         numbers = subst (λ st. Given (completion_ids s.version st) (signal_ids s.version st) (handles s.version st) p.derived r.derived) (sym at) (nothing_given p.derived r.derived counters);
-      })
+      }) keeps
 
   next_moves : next s m p ≡ Some r → Moves s m p r
   next_moves e =
       ⊎_elim
-      (λ (h : IsUncancelled s A p.derived). moves_are (move_at s m p) (call_given s (m p.answers) p.derived) (asked_uses s A p.derived h) e)
-      (λ (h : (future : UnresolvedFuture) × IsAwaiting m p future × (is_cancelled_in s p.derived ≡ true)). cancel_moves h.0 h.1 h.2 (cancel_move s m p r h.0 h.1 h.2 e))
+      (λ (h : IsUncancelled s A p.derived). moves_are (move_at s m p) (next_keeps s m p r (uncancelled_one s A p.derived h) e) (call_given s (m p.answers) p.derived) (asked_uses s A p.derived h) e)
+      (λ (x : ((future : UnresolvedFuture) × IsAwaiting m p future × (is_cancelled_in s p.derived ≡ true)) ⊎ AsksSeveral A).
+      ⊎_elim
+      (λ (h : (future : UnresolvedFuture) × IsAwaiting m p future × (is_cancelled_in s p.derived ≡ true)).
+      let one : IsOfOne A = subst (λ st. IsOfOne (ask_of s.version st)) (sym h.1) tt in
+      cancel_moves h.0 h.1 h.2 (next_keeps s m p r one e) (cancel_move s m p r h.0 h.1 h.2 e))
+      (λ (h : AsksSeveral A).
+      let t = turn_after s p.derived.parts h.1 (h.2 ∷ []) p.derived in
+      Parts h.0 h.1 h.2 h.3 (part_moves s h.0 (refused_before t.command t.behind t.before.counters) t p r (subst (λ a. moved (asked s a p.derived) p ≡ Some r) h.3 e)))
+      x)
       (await_or_other s p.derived (m p.answers))
 
 -- ---- so many moves
@@ -528,10 +554,11 @@ record Stood (m : Meaning) (completions signals : ℕ) (given : List Notificatio
   all : AllGiven given d.handles
   held : Held m given answers d.handles
 
--- These commands stand for what the calls with these answers need, and for the cancel commands of the call that comes next.
-abbrev Accounts : Setup → Meaning → ℕ → List Answer → List Answer → Step → List RawMessage → Type 0
-Accounts s m completions before gained st used =
-    (cancels : List (List (List ℕ))) × (sent : List (List ℕ)) × AreSentBy gained cancels × IsSentFor st sent × StandFor (needed s completions (calls_after m before gained) cancels ++ cancels_needed s sent) used
+-- These commands stand for what the calls with these answers need, for the cancel commands of the call that comes next, and for what it
+-- needs of these.
+abbrev Accounts : Setup → Meaning → ℕ → List Answer → List Answer → Step → List Demand → List RawMessage → Type 0
+Accounts s m completions before gained st next used =
+    (cancels : List (List (List ℕ))) × (sent : List (List ℕ)) × AreSentBy gained cancels × IsSentFor st sent × StandFor (needed s completions (calls_after m before gained) cancels ++ (cancels_needed s sent ++ next)) used
 
 -- a call may send the cancel signal to none
 none_by : (a : Answer) → IsSentBy a []
@@ -544,28 +571,32 @@ none_for (step.Await future) = tt
 none_for st = refl
 
 -- a call that sends no cancel signal is answered
-call_accounts : (s : Setup) (m : Meaning) (completions : ℕ) (before : List Answer) (a : Answer) (gained : List Answer) (st : Step) (us vs : List RawMessage) → StandFor (needed_by s (1 + completions) (ask_of s.version (m before))) us → Accounts s m (completions + completion_ids s.version (m before)) (before ++ a ∷ []) gained st vs
-    → Accounts s m completions before (a ∷ gained) st (us ++ vs)
-call_accounts s m completions before a gained st us vs own (cancels, sent, by, for, stand) =
+call_accounts : (s : Setup) (m : Meaning) (completions : ℕ) (before : List Answer) (a : Answer) (gained : List Answer) (st : Step) (next : List Demand) (us vs : List RawMessage) → StandFor (needed_by s (1 + completions) (ask_of s.version (m before))) us → Accounts s m (completions + completion_ids s.version (m before)) (before ++ a ∷ []) gained st next vs
+    → Accounts s m completions before (a ∷ gained) st next (us ++ vs)
+call_accounts s m completions before a gained st next us vs own (cancels, sent, by, for, stand) =
     let first = needed_by s (1 + completions) (ask_of s.version (m before)) in
     let others = needed s (completions + completion_ids s.version (m before)) (calls_after m (before ++ a ∷ []) gained) cancels in
-    ([] ∷ cancels, sent, (none_by a, by), for, subst (λ l. StandFor l (us ++ vs)) (sym (append_assoc first others (cancels_needed s sent))) (stand_both first (others ++ cancels_needed s sent) us vs own stand))
+    ([] ∷ cancels, sent, (none_by a, by), for, subst (λ l. StandFor l (us ++ vs)) (sym (append_assoc first others (cancels_needed s sent ++ next))) (stand_both first (others ++ (cancels_needed s sent ++ next)) us vs own stand))
 
 -- an await sends the cancel signal once more before
-cancel_accounts : (s : Setup) (m : Meaning) (completions : ℕ) (before gained : List Answer) (future : UnresolvedFuture) (st : Step) (id : List ℕ) (c : RawMessage) (used : List RawMessage) → m before ≡ step.Await future → (gained ≡ [] → st ≡ step.Await future) → ((a : Answer) (more : List Answer) → gained ≡ a ∷ more → a ≡ answer.Cancelled) → Stands (cancel_demand s id) c
-    → Accounts s m completions before gained st used → Accounts s m completions before gained st (c ∷ used)
-cancel_accounts s m completions before [] future st id c used at next cancelled stands (cancels, sent, by, for, stand) = (cancels, id ∷ sent, by, subst (λ x. IsSentFor x (id ∷ sent)) (sym (next refl)) tt, (stands, stand))
-cancel_accounts s m completions before (a ∷ gained) future st id c used at next cancelled stands ([], sent, by, for, stand) = absurd by
-cancel_accounts s m completions before (a ∷ gained) future st id c used at next cancelled stands (others ∷ cancels, sent, (one, by), for, stand) =
+cancel_accounts : (s : Setup) (m : Meaning) (completions : ℕ) (before gained : List Answer) (future : UnresolvedFuture) (st : Step) (next : List Demand) (id : List ℕ) (c : RawMessage) (used : List RawMessage) → m before ≡ step.Await future → (gained ≡ [] → st ≡ step.Await future) → ((a : Answer) (more : List Answer) → gained ≡ a ∷ more → a ≡ answer.Cancelled) → Stands (cancel_demand s id) c
+    → Accounts s m completions before gained st next used → Accounts s m completions before gained st next (c ∷ used)
+cancel_accounts s m completions before [] future st demands id c used at next cancelled stands (cancels, sent, by, for, stand) = (cancels, id ∷ sent, by, subst (λ x. IsSentFor x (id ∷ sent)) (sym (next refl)) tt, (stands, stand))
+cancel_accounts s m completions before (a ∷ gained) future st demands id c used at next cancelled stands ([], sent, by, for, stand) = absurd by
+cancel_accounts s m completions before (a ∷ gained) future st demands id c used at next cancelled stands (others ∷ cancels, sent, (one, by), for, stand) =
     let more = needed s (completions + completion_ids s.version (m before)) (calls_after m (before ++ a ∷ []) gained) cancels in
     let own = λ (x : Step). needed_by s (1 + completions) (ask_of s.version x) in
-    let stand' : StandFor ((cancels_needed s others ++ more) ++ cancels_needed s sent) used = subst (λ x. StandFor ((own x ++ (cancels_needed s others ++ more)) ++ cancels_needed s sent) used) at stand in (
+    let stand' : StandFor ((cancels_needed s others ++ more) ++ (cancels_needed s sent ++ demands)) used = subst (λ x. StandFor ((own x ++ (cancels_needed s others ++ more)) ++ (cancels_needed s sent ++ demands)) used) at stand in (
       (id ∷ others) ∷ cancels,
       sent,
       (subst (λ x. IsSentBy x (id ∷ others)) (sym (cancelled a gained refl)) tt, by),
       for,
-      subst (λ x. StandFor ((own x ++ (cancels_needed s (id ∷ others) ++ more)) ++ cancels_needed s sent) (c ∷ used)) (sym at) (stands, stand'),
+      subst (λ x. StandFor ((own x ++ (cancels_needed s (id ∷ others) ++ more)) ++ (cancels_needed s sent ++ demands)) (c ∷ used)) (sym at) (stands, stand'),
     )
+
+-- what is needed of the call that comes next for as many of its commands as are made
+abbrev next_needed : Setup → Meaning → Point → List Demand
+next_needed s m q = take q.derived.parts (needed_by s q.derived.counters.completion (ask_of s.version (m q.answers)))
 
 -- what was used between two points, and what the handles stand for
 record Used (s : Setup) (m : Meaning) (completions signals : ℕ) (given : List NotificationId) (p q : Point) : Type 0 where
@@ -573,20 +604,20 @@ record Used (s : Setup) (m : Meaning) (completions signals : ℕ) (given : List 
   answers : q.answers ≡ p.answers ++ gained
   used : List RawMessage
   left : p.left ≡ used ++ q.left
-  accounts : Accounts s m completions p.answers gained (m q.answers) used
+  accounts : Accounts s m completions p.answers gained (m q.answers) (next_needed s m q) used
   came : List Notification
   queue : p.queue ≡ came ++ q.queue
   usage : arrivals_in q.derived.usage ≡ arrivals_in p.derived.usage ++ came
   all : AllGiven (given ++ ids_given s.version completions signals (calls_after m p.answers gained)) q.derived.handles
   held : Held m (given ++ ids_given s.version completions signals (calls_after m p.answers gained)) q.answers q.derived.handles
 
-used_none : (s : Setup) (m : Meaning) (completions signals : ℕ) (given : List NotificationId) (p : Point) → Stood m completions signals given p.answers p.derived → Used s m completions signals given p p
-used_none s m completions signals given p h = record {
+used_none : (s : Setup) (m : Meaning) (completions signals : ℕ) (given : List NotificationId) (p : Point) → p.derived.parts ≡ 0 → Stood m completions signals given p.answers p.derived → Used s m completions signals given p p
+used_none s m completions signals given p rests h = record {
   gained = [];
   answers = sym (append-nil p.answers);
   used = [];
   left = refl;
-  accounts = ([], [], refl, none_for (m p.answers), tt);
+  accounts = ([], [], refl, none_for (m p.answers), subst (λ n. StandFor (take n (needed_by s p.derived.counters.completion (ask_of s.version (m p.answers)))) []) (sym rests) tt);
   came = [];
   queue = refl;
   usage = sym (append-nil (arrivals_in p.derived.usage));
@@ -625,7 +656,7 @@ module _ (s : Setup) (m : Meaning) (completions signals : ℕ) (given : List Not
   used_call q o t =
       let steps = calls_after m r.answers t.gained in
       let same : steps ≡ calls_after m (p.answers ++ o.given ∷ []) t.gained = ap (λ l. calls_after m l t.gained) o.answers in
-      let accounts = subst (λ l. Accounts s m (completions + completion_ids s.version (m p.answers)) l t.gained (m q.answers) t.used) o.answers t.accounts in
+      let accounts = subst (λ l. Accounts s m (completions + completion_ids s.version (m p.answers)) l t.gained (m q.answers) (next_needed s m q) t.used) o.answers t.accounts in
       let all = subst (λ l. AllGiven l q.derived.handles) (append_assoc given more (ids_given s.version (completions + completion_ids s.version (m p.answers)) (signals + signal_ids s.version (m p.answers)) steps)) t.all in
       let held = subst (λ l. Held m l q.answers q.derived.handles) (append_assoc given more (ids_given s.version (completions + completion_ids s.version (m p.answers)) (signals + signal_ids s.version (m p.answers)) steps)) t.held in
       record {
@@ -633,7 +664,7 @@ module _ (s : Setup) (m : Meaning) (completions signals : ℕ) (given : List Not
         answers = t.answers ∙ ap (λ l. l ++ t.gained) o.answers ∙ append_assoc p.answers (o.given ∷ []) t.gained;
         used = o.used ++ t.used;
         left = o.left ∙ ap (λ l. o.used ++ l) t.left ∙ sym (append_assoc o.used t.used q.left);
-        accounts = call_accounts s m completions p.answers o.given t.gained (m q.answers) o.used t.used (subst (λ k. StandFor (needed_by s k call) o.used) h.completion o.stand) accounts;
+        accounts = call_accounts s m completions p.answers o.given t.gained (m q.answers) (next_needed s m q) o.used t.used (subst (λ k. StandFor (needed_by s k call) o.used) h.completion o.stand) accounts;
         came = t.came;
         queue = sym o.queue ∙ t.queue;
         usage = t.usage ∙ ap (λ l. l ++ t.came) o.usage;
@@ -666,7 +697,7 @@ module _ (s : Setup) (m : Meaning) (completions signals : ℕ) (given : List Not
         answers = t.answers ∙ ap (λ l. l ++ t.gained) o.answers;
         used = t.used;
         left = sym o.left ∙ t.left;
-        accounts = subst (λ l. Accounts s m completions l t.gained (m q.answers) t.used) o.answers t.accounts;
+        accounts = subst (λ l. Accounts s m completions l t.gained (m q.answers) (next_needed s m q) t.used) o.answers t.accounts;
         came = o.came ++ t.came;
         queue = o.queue ∙ ap (λ l. o.came ++ l) t.queue ∙ sym (append_assoc o.came t.came q.queue);
         usage = t.usage ∙ ap (λ l. l ++ t.came) o.usage ∙ append_assoc (arrivals_in p.derived.usage) o.came t.came;
@@ -683,11 +714,11 @@ module _ (s : Setup) (m : Meaning) (completions signals : ℕ) (given : List Not
         answers = answers;
         used = o.used ∷ t.used;
         left = o.left ∙ ap (λ l. o.used ∷ l) t.left;
-        accounts = cancel_accounts s m completions p.answers t.gained future (m q.answers) id o.used t.used at
+        accounts = cancel_accounts s m completions p.answers t.gained future (m q.answers) (next_needed s m q) id o.used t.used at
             (λ none. ap m (answers ∙ ap (λ l. p.answers ++ l) none ∙ append-nil p.answers) ∙ at)
             (λ a more is. cancelled a more (answers ∙ ap (λ l. p.answers ++ l) is))
             (found_stands (cancel_demand s id) o.used None o.stands)
-            (subst (λ l. Accounts s m completions l t.gained (m q.answers) t.used) o.answers t.accounts);
+            (subst (λ l. Accounts s m completions l t.gained (m q.answers) (next_needed s m q) t.used) o.answers t.accounts);
         came = t.came;
         queue = sym o.queue ∙ t.queue;
         usage = t.usage ∙ ap (λ us. arrivals_in us ++ t.came) o.usage;
@@ -695,18 +726,164 @@ module _ (s : Setup) (m : Meaning) (completions signals : ℕ) (given : List Not
         held = subst (λ l. Held m (given ++ ids_given s.version completions signals l) q.answers q.derived.handles) same t.held;
       }
 
-after_used : (s : Setup) (m : Meaning) (n completions signals : ℕ) (given : List NotificationId) (p q : Point) → Stood m completions signals given p.answers p.derived → after s m n p ≡ Some q → Used s m completions signals given p q
-after_used s m zero completions signals given p q h e = subst (λ z. Used s m completions signals given p z) (same_Some _ q e) (used_none s m completions signals given p h)
-after_used s m (suc n) completions signals given p q h e =
-    let x = and_then_some (next s m p) (after s m n) q e in
-    by_move x.0 (next_moves s m p x.0 x.1) (λ c g l k. after_used s m n c g l x.0 q k x.2)
+-- ---- a call with several commands
+
+-- From a point at which a call with several commands begins, it has made so many of them.
+record HasMade (s : Setup) (m : Meaning) (first second : Command) (p r : Point) : Type 0 where
+  answers : r.answers ≡ p.answers
+  used : List RawMessage
+  left : p.left ≡ used ++ r.left
+  queue : r.queue ≡ p.queue
+  derived : r.derived ≡ record p.derived { parts = r.derived.parts }
+  demands : List Demand
+  stand : StandFor demands used
+  count : length demands ≡ r.derived.parts
+  all : demands ++ (let t = turn_after s r.derived.parts first (second ∷ []) p.derived in all_needed s t.before.counters.completion t.command t.behind) ≡ all_needed s p.derived.counters.completion first (second ∷ [])
+
+made_none : (s : Setup) (m : Meaning) (first second : Command) (p : Point) → p.derived.parts ≡ 0 → HasMade s m first second p p
+made_none s m first second p rests = record {
+  answers = refl;
+  used = [];
+  left = refl;
+  queue = refl;
+  derived = refl;
+  demands = [];
+  stand = tt;
+  count = sym rests;
+  all = ap (λ n. let t = turn_after s n first (second ∷ []) p.derived in all_needed s t.before.counters.completion t.command t.behind) rests;
+}
+
+-- the turn by the point that the call begins at
+turn_from : (s : Setup) (m : Meaning) (first second : Command) (p r : Point) → HasMade s m first second p r → turn_after s r.derived.parts first (second ∷ []) r.derived ≡ (let t = turn_after s r.derived.parts first (second ∷ []) p.derived in record { command = t.command; behind = t.behind; before = record t.before { parts = r.derived.parts } })
+turn_from s m first second p r h = ap (turn_after s r.derived.parts first (second ∷ [])) h.derived ∙ turn_apart s r.derived.parts first (second ∷ []) p.derived r.derived.parts
+
+take_front : {A : Type 0} (xs ys : List A) → take (length xs) (xs ++ ys) ≡ xs
+take_front [] ys = refl
+take_front (x ∷ xs) ys = ap (λ l. x ∷ l) (take_front xs ys)
+
+module _ (s : Setup) (m : Meaning) (kind : AnswerKind) (first second : Command) (p : Point) (is : ask_of s.version (m p.answers) ≡ ask.Commands kind first second) where
+  abbrev turn : ℕ → Turn
+  turn n = turn_after s n first (second ∷ []) p.derived
+
+  -- one more
+  made_more : (r q : Point) (h : HasMade s m first second p r) (b : Command) (bs : List Command) → (turn r.derived.parts).behind ≡ b ∷ bs
+      → WasUsed (needed_for s (turn r.derived.parts).before.counters.completion (turn r.derived.parts).command) [] (record r.derived { parts = suc r.derived.parts }) r q → HasMade s m first second p q
+  made_more r q h b bs more u =
+      let n = r.derived.parts in
+      let t = turn n in
+      let d = needed_for s t.before.counters.completion t.command in
+      let parts : q.derived.parts ≡ suc n = ap (λ e. e.parts) u.derived in
+      let next : turn (suc n) ≡ record { command = b; behind = bs; before = behind_command s t.command t.before } = next_turn s n first (second ∷ []) p.derived b bs more in
+      let rest : all_needed s t.before.counters.completion t.command t.behind ≡ d ∷ (let x = turn q.derived.parts in all_needed s x.before.counters.completion x.command x.behind) =
+      ap (all_needed s t.before.counters.completion t.command) more ∙ ap (λ (x : Turn). d ∷ all_needed s x.before.counters.completion x.command x.behind) (sym (ap turn parts ∙ next)) in
+      let counts = h.count in
+      let longer : length (h.demands ++ d ∷ []) ≡ length h.demands + 1 = length-append h.demands (d ∷ []) in
+      record {
+        answers = u.answers ∙ append-nil r.answers ∙ h.answers;
+        used = h.used ++ u.used ∷ [];
+        left = h.left ∙ ap (λ l. h.used ++ l) u.left ∙ sym (append_assoc h.used (u.used ∷ []) q.left);
+        queue = u.queue ∙ h.queue;
+        derived = u.derived ∙ (λ i. record (h.derived i) { parts = sym parts i });
+        demands = h.demands ++ d ∷ [];
+        stand = stand_both h.demands (d ∷ []) h.used (u.used ∷ []) h.stand (found_stands d u.used None u.stands, tt);
+        count = omega (arith, counts, longer, parts);
+        all = append_assoc h.demands (d ∷ []) _ ∙ ap (λ l. h.demands ++ l) (sym rest) ∙ h.all;
+      }
+
+  -- with the last the call is answered
+  made_last : (r q : Point) (h : HasMade s m first second p r) → (turn r.derived.parts).behind ≡ []
+      → WasUsed (needed_for s (turn r.derived.parts).before.counters.completion (turn r.derived.parts).command) (answer_by kind (record { 0 = r.derived.counters.handle }) ∷ []) (record (behind_command s (turn r.derived.parts).command (turn r.derived.parts).before) { parts = 0 }) r q → OneCall s m p q
+  made_last r q h none u =
+      let t = turn r.derived.parts in
+      let d = needed_for s t.before.counters.completion t.command in
+      let a = answer_by kind (record { 0 = r.derived.counters.handle }) in
+      let g = turn_splits s r.derived.parts first (second ∷ []) p.derived in
+      let ids = all_ids first (second ∷ []) in
+      let own : all_needed s t.before.counters.completion t.command t.behind ≡ d ∷ [] = ap (all_needed s t.before.counters.completion t.command) none in
+      let own_ids : all_ids t.command t.behind ≡ ids_of t.command.message = ap (all_ids t.command) none in
+      let gc = g.completion in
+      let gh = g.handle in
+      let last : q.derived.handles ≡ p.derived.handles ++ mapped_from ids p.derived.counters.handle p.derived.counters.completion =
+      ap (λ e. e.handles) u.derived ∙ ap (λ n. t.before.handles ++ mapped_from n t.before.counters.handle t.before.counters.completion) (sym own_ids) ∙ g.handles in
+      let c1 : q.derived.counters.completion ≡ t.before.counters.completion + ids_of t.command.message = ap (λ e. e.counters.completion) u.derived in
+      let h1 : q.derived.counters.handle ≡ t.before.counters.handle + ids_of t.command.message = ap (λ e. e.counters.handle) u.derived in
+      record {
+        given = a;
+        answers = u.answers ∙ ap (λ l. l ++ a ∷ []) h.answers;
+        used = h.used ++ u.used ∷ [];
+        left = h.left ∙ ap (λ l. h.used ++ l) u.left ∙ sym (append_assoc h.used (u.used ∷ []) q.left);
+        stand = subst (λ x. StandFor (needed_by s p.derived.counters.completion x) (h.used ++ u.used ∷ [])) (sym is)
+            (subst (λ l. StandFor l (h.used ++ u.used ∷ [])) (ap (λ l. h.demands ++ l) (sym own) ∙ h.all) (stand_both h.demands (d ∷ []) h.used (u.used ∷ []) h.stand (found_stands d u.used None u.stands, tt)));
+        queue = u.queue ∙ h.queue;
+        usage = ap (λ e. arrivals_in e.usage) u.derived ∙ ap arrivals_in g.usage;
+        change = subst (λ x. Change x (given_for p.derived.counters.completion p.derived.counters.signal x) (a ∷ []) p.derived q.derived.handles) (sym is) (inl (last ∙ ap (λ l. p.derived.handles ++ l) (mapped_ids ids p.derived.counters.handle p.derived.counters.completion)));
+        numbers = subst (λ x. Given (completion_ids_in x) (signal_ids_in x) (handles_in x) p.derived q.derived) (sym is) (record {
+          completion = omega (arith, c1, own_ids, gc);
+          signal = ap (λ e. e.counters.signal) u.derived ∙ g.signal ∙ sym (add-zero p.derived.counters.signal);
+          handle = omega (arith, h1, own_ids, gh);
+        });
+      }
+
+  -- here it stands
+  used_within : (completions signals : ℕ) (given : List NotificationId) (q : Point) → Stood m completions signals given p.answers p.derived → HasMade s m first second p q → Used s m completions signals given p q
+  used_within completions signals given q h b =
+      let counters : q.derived.counters ≡ p.derived.counters = ap (λ e. e.counters) b.derived in
+      let asks : ask_of s.version (m q.answers) ≡ ask.Commands kind first second = ap (λ l. ask_of s.version (m l)) b.answers ∙ is in
+      let made : next_needed s m q ≡ b.demands =
+      (λ i. take (sym b.count i) (needed_by s (counters i).completion (asks i))) ∙ ap (take (length b.demands)) (sym b.all) ∙ take_front b.demands _ in
+      let held : q.derived.handles ≡ p.derived.handles = ap (λ e. e.handles) b.derived in
+      record {
+        gained = [];
+        answers = b.answers ∙ sym (append-nil p.answers);
+        used = b.used;
+        left = b.left;
+        accounts = ([], [], refl, none_for (m q.answers), subst (λ l. StandFor l b.used) (sym made) b.stand);
+        came = [];
+        queue = sym b.queue;
+        usage = ap (λ e. arrivals_in e.usage) b.derived ∙ sym (append-nil (arrivals_in p.derived.usage));
+        all = subst (λ (x : List NotificationId × List Mapping). AllGiven x.0 x.1) (λ i. (sym (append-nil given) i, sym held i)) h.all;
+        held = subst (λ (x : List NotificationId × List Answer × List Mapping). Held m x.0 x.1 x.2) (λ i. (sym (append-nil given) i, sym b.answers i, sym held i)) h.held;
+      }
+
+-- A run stands at a point, or a call with several commands that begins there has made some of them.
+data StandsAt (s : Setup) (m : Meaning) (p r : Point) : Type 0 where
+  Here : p ≡ r → StandsAt s m p r
+  Within : (kind : AnswerKind) (first second : Command) → ask_of s.version (m p.answers) ≡ ask.Commands kind first second → HasMade s m first second p r → StandsAt s m p r
+
+after_used : (s : Setup) (m : Meaning) (n completions signals : ℕ) (given : List NotificationId) (p r q : Point) → p.derived.parts ≡ 0 → Stood m completions signals given p.answers p.derived → StandsAt s m p r → after s m n r ≡ Some q → Used s m completions signals given p q
+after_used s m zero completions signals given p r q rests h (Here same) e = subst (λ z. Used s m completions signals given p z) (same ∙ same_Some _ q e) (used_none s m completions signals given p rests h)
+after_used s m zero completions signals given p r q rests h (Within kind first second is made) e = subst (λ z. Used s m completions signals given p z) (same_Some _ q e) (used_within s m kind first second p is completions signals given r h made)
+after_used s m (suc n) completions signals given p r q rests h (Here same) e =
+    let x = and_then_some (next s m p) (after s m n) q (ap (λ z. after s m (suc n) z) same ∙ e) in
+    by_move x.0 (next_moves s m p x.0 x.1) (λ c g l to rests k at. after_used s m n c g l to x.0 q rests k at x.2)
   where
-    by_move : (r : Point) → Moves s m p r → ((c g : ℕ) (l : List NotificationId) → Stood m c g l r.answers r.derived → Used s m c g l r q) → Used s m completions signals given p q
-    by_move r (Calls o) ih = used_call s m completions signals given p r h q o (ih _ _ _ (stood_on s m completions signals given p r h o))
-    by_move r (Waits o) ih = used_unanswered s m completions signals given p r h q o (ih completions signals given (stood_still s m completions signals given p r h o.answers o.numbers o.handles))
-    by_move r (Cancels future id at cancelled o) ih =
-        used_cancel s m completions signals given p r h q future id at o (λ a more is. (cancelled_ends s m future (suc n) p q a more at cancelled e is).answered)
-        (ih completions signals given (stood_still s m completions signals given p r h o.answers o.numbers o.handles))
+    by_part : (kind : AnswerKind) (first second : Command) (z : Point) → ask_of s.version (m p.answers) ≡ ask.Commands kind first second → PartMove s kind (turn_after s p.derived.parts first (second ∷ []) p.derived) p z
+        → ((c g : ℕ) (l : List NotificationId) (to : Point) → to.derived.parts ≡ 0 → Stood m c g l to.answers to.derived → StandsAt s m to z → Used s m c g l to q) → Used s m completions signals given p q
+    by_part kind first second z is (More b bs more u) ih = ih completions signals given p rests h (Within kind first second is (made_more s m kind first second p is p z (made_none s m first second p rests) b bs more u))
+    by_part kind first second z is (Last none u) ih =
+        let o = made_last s m kind first second p is p z (made_none s m first second p rests) none u in
+        used_call s m completions signals given p z h q o (ih _ _ _ z (ap (λ e. e.parts) u.derived) (stood_on s m completions signals given p z h o) (Here refl))
+
+    by_move : (z : Point) → Moves s m p z → ((c g : ℕ) (l : List NotificationId) (to : Point) → to.derived.parts ≡ 0 → Stood m c g l to.answers to.derived → StandsAt s m to z → Used s m c g l to q) → Used s m completions signals given p q
+    by_move z (Calls o keeps) ih = used_call s m completions signals given p z h q o (ih _ _ _ z (keeps ∙ rests) (stood_on s m completions signals given p z h o) (Here refl))
+    by_move z (Waits o keeps) ih = used_unanswered s m completions signals given p z h q o (ih completions signals given z (keeps ∙ rests) (stood_still s m completions signals given p z h o.answers o.numbers o.handles) (Here refl))
+    by_move z (Cancels future id at cancelled o keeps) ih =
+        used_cancel s m completions signals given p z h q future id at o (λ a more is. (cancelled_ends s m future (suc n) p q a more at cancelled (ap (λ z. after s m (suc n) z) same ∙ e) is).answered)
+        (ih completions signals given z (keeps ∙ rests) (stood_still s m completions signals given p z h o.answers o.numbers o.handles) (Here refl))
+    by_move z (Parts kind first second is moves) ih = by_part kind first second z is moves ih
+after_used s m (suc n) completions signals given p r q rests h (Within kind first second is made) e =
+    let x = and_then_some (next s m r) (after s m n) q e in
+    let asks : ask_of s.version (m r.answers) ≡ ask.Commands kind first second = ap (λ l. ask_of s.version (m l)) made.answers ∙ is in
+    let t = turn_after s r.derived.parts first (second ∷ []) r.derived in
+    by_part x.0 (subst (λ y. PartMove s kind y r x.0) (turn_from s m first second p r made) (part_moves s kind (refused_before t.command t.behind t.before.counters) t r x.0 (subst (λ a. moved (asked s a r.derived) r ≡ Some x.0) asks x.1)))
+    (λ c g l to rests k at. after_used s m n c g l to x.0 q rests k at x.2)
+  where
+    by_part : (z : Point) → PartMove s kind (let t = turn_after s r.derived.parts first (second ∷ []) p.derived in record { command = t.command; behind = t.behind; before = record t.before { parts = r.derived.parts } }) r z
+        → ((c g : ℕ) (l : List NotificationId) (to : Point) → to.derived.parts ≡ 0 → Stood m c g l to.answers to.derived → StandsAt s m to z → Used s m c g l to q) → Used s m completions signals given p q
+    by_part z (More b bs more u) ih = ih completions signals given p rests h (Within kind first second is (made_more s m kind first second p is r z made b bs more u))
+    by_part z (Last none u) ih =
+        let o = made_last s m kind first second p is r z made none u in
+        used_call s m completions signals given p z h q o (ih _ _ _ z (ap (λ e. e.parts) u.derived) (stood_on s m completions signals given p z h o) (Here refl))
 
 -- ---- the laws
 
@@ -714,15 +891,15 @@ first_stood : (s : Setup) (m : Meaning) (input : InputCommand) (ns : List Notifi
 first_stood s m input ns cs = record { completion = refl; signal = refl; handle = refl; all = (inl (refl, refl), tt); held = λ k id e. absurd (cc) }
 
 pub commands_used : (s : Setup) (m : Meaning) (n : ℕ) (input : InputCommand) (ns : List Notification) (cs : List RawMessage) (q : Point) → after s m n (start s input ns cs) ≡ Some q
-    → (used : List RawMessage) × (cancels : List (List (List ℕ))) × (sent : List (List ℕ)) × (cs ≡ used ++ q.left) × AreSentBy (behind q.answers) cancels × IsSentFor (m q.answers) sent × StandFor (needed s 0 (calls_for m q.answers) cancels ++ cancels_needed s sent) used
+    → (used : List RawMessage) × (cancels : List (List (List ℕ))) × (sent : List (List ℕ)) × (cs ≡ used ++ q.left) × AreSentBy (behind q.answers) cancels × IsSentFor (m q.answers) sent × StandFor (needed s 0 (calls_for m q.answers) cancels ++ (cancels_needed s sent ++ next_needed s m q)) used
 commands_used s m n input ns cs q e =
-    let u = after_used s m n 0 0 [] (start s input ns cs) q (first_stood s m input ns cs) e in
+    let u = after_used s m n 0 0 [] (start s input ns cs) (start s input ns cs) q refl (first_stood s m input ns cs) (Here refl) e in
     let a = u.accounts in
-    (u.used, a.0, a.1, u.left, subst (λ l. AreSentBy (behind l) a.0) (sym u.answers) a.2, a.3, subst (λ l. StandFor (needed s 0 (calls_for m l) a.0 ++ cancels_needed s a.1) u.used) (sym u.answers) a.4)
+    (u.used, a.0, a.1, u.left, subst (λ l. AreSentBy (behind l) a.0) (sym u.answers) a.2, a.3, subst (λ l. StandFor (needed s 0 (calls_for m l) a.0 ++ (cancels_needed s a.1 ++ next_needed s m q)) u.used) (sym u.answers) a.4)
 
 pub arrivals_used : (s : Setup) (m : Meaning) (n : ℕ) (input : InputCommand) (ns : List Notification) (cs : List RawMessage) (q : Point) → after s m n (start s input ns cs) ≡ Some q → ns ≡ arrivals_in q.derived.usage ++ q.queue
 arrivals_used s m n input ns cs q e =
-    let u = after_used s m n 0 0 [] (start s input ns cs) q (first_stood s m input ns cs) e in
+    let u = after_used s m n 0 0 [] (start s input ns cs) (start s input ns cs) q refl (first_stood s m input ns cs) (Here refl) e in
     u.queue ∙ ap (λ l. l ++ q.queue) (sym u.usage)
 
 given_at : (given : List NotificationId) (ms : List Mapping) (handle : ℕ) (id : NotificationId) → AllGiven given ms → id_at handle ms ≡ Some id → IsGiven given handle id
@@ -735,10 +912,10 @@ given_at given (x ∷ ms) handle id h e = by_test (x.handle == handle) refl e (g
 
 pub handles_stand : (s : Setup) (m : Meaning) (n : ℕ) (input : InputCommand) (ns : List Notification) (cs : List RawMessage) (q : Point) → after s m n (start s input ns cs) ≡ Some q → (handle : ℕ) (id : NotificationId) → id_at handle q.derived.handles ≡ Some id → IsGiven (ids_given s.version 0 0 (calls_for m q.answers)) handle id
 handles_stand s m n input ns cs q e handle id is =
-    let u = after_used s m n 0 0 [] (start s input ns cs) q (first_stood s m input ns cs) e in
+    let u = after_used s m n 0 0 [] (start s input ns cs) (start s input ns cs) q refl (first_stood s m input ns cs) (Here refl) e in
     given_at (ids_given s.version 0 0 (calls_for m q.answers)) q.derived.handles handle id (subst (λ l. AllGiven (ids_given s.version 0 0 (calls_for m l)) q.derived.handles) (sym u.answers) u.all) is
 
 pub handles_stay : (s : Setup) (m : Meaning) (n : ℕ) (input : InputCommand) (ns : List Notification) (cs : List RawMessage) (q : Point) → after s m n (start s input ns cs) ≡ Some q → (k : ℕ) (id : NotificationId) → item k (ids_given s.version 0 0 (calls_for m q.answers)) ≡ Some id → (id_at (17 + k) q.derived.handles ≡ Some id) ⊎ WasTaken m (17 + k) q.answers
 handles_stay s m n input ns cs q e k id is =
-    let u = after_used s m n 0 0 [] (start s input ns cs) q (first_stood s m input ns cs) e in
+    let u = after_used s m n 0 0 [] (start s input ns cs) (start s input ns cs) q refl (first_stood s m input ns cs) (Here refl) e in
     u.held k id (ap (λ l. item k (ids_given s.version 0 0 (calls_for m l))) (sym u.answers) ∙ is)

@@ -1,5 +1,5 @@
 -- What comes of each step of a handler, from what is known so far: one row a kind of what steps ask for.
-use Rattle.std.specs.Prelude.{ℕ, ◌+◌, ◌==◌, Bool, true, false, ◌&&◌, cond, List, [], ◌∷◌, ◌++◌, Option, Some, None, is_some}
+use Rattle.std.specs.Prelude.{ℕ, zero, suc, ◌+◌, ◌==◌, Bool, true, false, ◌&&◌, cond, List, [], ◌∷◌, ◌++◌, Option, Some, None, is_some}
 use Rattle.journal_errors.specs.declared.faults.NamedFault.{NamedFault}
 use Rattle.journal_errors.specs.declared.faults.NamedFault.TheVariants as fault
 use Rattle.journal_messages.specs.declared.message.Message.{Message}
@@ -8,6 +8,7 @@ use Rattle.journal_values.specs.declared.notification.NotificationId.{Notificati
 use Rattle.journal_values.specs.declared.notification.NotificationId.TheVariants.{SignalId, SignalName}
 use Rattle.journal_values.specs.declared.notification.NotificationResult.{NotificationResult}
 use Rattle.journal_errors.specs.declared.version.Version.{Version}
+use Rattle.std.specs.Option.{option_or}
 use Rattle.vm_parts.specs.declared.async_results.Mapping.{Mapping}
 use Rattle.vm_parts.specs.declared.context.Counters.{Counters}
 use Rattle.vm_parts.specs.declared.context.StartInfo.{StartInfo}
@@ -32,13 +33,15 @@ use Rattle.vm_parts.specs.Tracked.{id_of_result, id_of_value, invocation_ids, no
 use Rattle.vm_types.specs.Values.{value_of}
 use Rattle.vm_asks.specs.declared.asks.Ask.{Ask}
 use Rattle.vm_asks.specs.declared.asks.Ask.TheVariants as ask
+use Rattle.vm_asks.specs.declared.asks.AnswerKind.{AnswerKind}
 use Rattle.vm_asks.specs.declared.asks.Command.{Command}
 use Rattle.vm_asks.specs.declared.state_read.StateRead.{StateRead}
-use Rattle.vm_asks.specs.Asks.{ask_of, cancel_invocation_command, command_answer}
+use Rattle.vm_asks.specs.Asks.{answer_by, any_refusal, ask_of, cancel_invocation_command, command_answer}
 use Rattle.vm_machine.specs.Commands.{given_on, ignores_payloads, mapped_from}
 use Rattle.vm_asks.specs.Requests.{ids_of, tracked_after, with_ids}
+use Rattle.vm_machine.specs.Several.{missing_for}
 use Rattle.vm_machine.specs.Signals.{awakeable_id}
-use Rattle.invocation_vm.specs.Calls.{skips_replay}
+use Rattle.vm_machine.specs.Skips.{skips_replay}
 
 -- What stays the same over all attempts of an invocation, as a handler is told it.
 pub record Identity : Type 0 where
@@ -72,13 +75,14 @@ pub data Usage : Type 0 where
   Read : ℕ → NotificationResult → Usage
   Taken : NotificationId → Usage
 
--- The next numbers, the id that each handle stands for, what was used and taken, the newest first, and the calls whose invocations
--- are cancelled with the handler's.
+-- The next numbers, the id that each handle stands for, what was used and taken, the newest first, the calls whose invocations
+-- are cancelled with the handler's, and how many commands were made of a call that has several and isn't answered yet.
 pub record Derived : Type 0 where
   pub counters : Counters
   pub handles : List Mapping
   pub usage : List Usage
   pub tracked : List TrackedCall
+  pub parts : ℕ
 
 -- the results that are ready: those that were used or read, and not taken
 abbrev pub ready_after : SignalDelivery → List Usage → Ready
@@ -141,10 +145,14 @@ demand_of s c d = Exactly (with_ids d.counters.completion c.message) (ignores_pa
 abbrev pub answer_of : Command → Derived → Answer
 answer_of c d = command_answer c.message (record { 0 = d.counters.handle })
 
+-- what follows behind a command: it is counted and given its numbers, and tracked where its invocation is cancelled with the handler's
+abbrev pub behind_command : Setup → Command → Derived → Derived
+behind_command s c d = record (counted (ids_of c.message) d) { tracked = tracked_after s.options.implicit_cancellation c.message d.counters.handle d.tracked }
+
 -- a call with a command, by the first kind of number that is missing
 abbrev pub numbered : Setup → Command → Option NamedFault → Derived → Move
 numbered s c (Some name) d = Refuses name
-numbered s c None d = Needs (demand_of s c d) (answer_of c d ∷ []) (record (counted (ids_of c.message) d) { tracked = tracked_after s.options.implicit_cancellation c.message d.counters.handle d.tracked })
+numbered s c None d = Needs (demand_of s c d) (answer_of c d ∷ []) (behind_command s c d)
 
 -- a call with a command, where its numbers are left
 abbrev pub requested : Setup → Command → Derived → Move
@@ -154,6 +162,47 @@ requested s c d = numbered s c (missing (ids_of c.message) 0 (ids_of c.message) 
 abbrev pub commanding : Setup → Command → Option NamedFault → Derived → Move
 commanding s c (Some name) d = Refuses name
 commanding s c None d = requested s c d
+
+-- ---- calls with several commands
+
+-- Why a command isn't made that has these behind it, where the next numbers are these: the first reason that there is for all of them, of
+-- arguments and then of numbers, and then its own.
+abbrev pub refused_before : Command → List Command → Counters → Option NamedFault
+refused_before c [] k = option_or c.refusal (missing (ids_of c.message) 0 (ids_of c.message) k)
+refused_before c (b ∷ bs) k = option_or (option_or (any_refusal c (b ∷ bs)) (missing_for c (b ∷ bs) k)) (option_or c.refusal (missing (ids_of c.message) 0 (ids_of c.message) k))
+
+-- where a call with several commands stands: the command that comes next, those behind it, and what follows behind those before it
+pub record Turn : Type 0 where
+  pub command : Command
+  pub behind : List Command
+  pub before : Derived
+
+-- where it stands once so many of them are made; the last stays
+abbrev pub turn_after : Setup → ℕ → Command → List Command → Derived → Turn
+turn_after s zero c behind d = record { command = c; behind = behind; before = d }
+turn_after s (suc n) c [] d = record { command = c; behind = []; before = d }
+turn_after s (suc n) c (b ∷ bs) d = turn_after s n b bs (behind_command s c d)
+
+-- A command of such a call is needed. With the last the call is answered, and so the numbers of all are given; before, one part more of it is
+-- made, and nothing else.
+abbrev pub part : Setup → AnswerKind → Command → List Command → Derived → Derived → Move
+part s kind c [] before d = Needs (demand_of s c before) (answer_by kind (record { 0 = d.counters.handle }) ∷ []) (record (behind_command s c before) { parts = 0 })
+part s kind c (b ∷ bs) before d = Needs (demand_of s c before) [] (record d { parts = suc d.parts })
+
+-- the same, unless it is refused
+abbrev pub part_unless : Option NamedFault → Setup → AnswerKind → Turn → Derived → Move
+part_unless (Some name) s kind t d = Refuses name
+part_unless None s kind t d = part s kind t.command t.behind t.before d
+
+-- the next command of such a call
+abbrev pub turn_taken : Setup → AnswerKind → Turn → Derived → Move
+turn_taken s kind t d = part_unless (refused_before t.command t.behind t.before.counters) s kind t d
+
+-- a call with several commands
+abbrev pub calling : Setup → AnswerKind → Command → List Command → Derived → Move
+calling s kind c behind d = turn_taken s kind (turn_after s d.parts c behind d) d
+
+-- ---- state reads
 
 -- a state read, by the first kind of number that is missing
 abbrev pub reading : StateRead → Option NamedFault → Derived → Move
@@ -263,6 +312,7 @@ taking s handle id d = result_taken handle id (present_for s.options.signal_deli
 -- what comes of what a step asks for
 abbrev pub asked : Setup → Ask → Derived → Move
 asked s (ask.Command c) d = commanding s c c.refusal d
+asked s (ask.Commands kind first second) d = calling s kind first (second ∷ []) d
 asked s (ask.Read r) d = reading r (missing 1 0 1 d.counters) d
 asked s ask.Awakeable d = making_awakeable s (skips_replay s.options.journal_replay) d
 asked s (ask.Signal name) d = signal_made name (missing_signals 0 1 d.counters) d

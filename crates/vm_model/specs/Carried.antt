@@ -3,26 +3,11 @@ use Rattle.std.specs.Prelude.{◌≡◌, ◌≤◌, ◌==◌, ℕ, Bool, false, 
 use Rattle.std.specs.List.{list_any}
 use Rattle.arrivals.specs.Results.{results_of}
 use Rattle.journal_messages.specs.declared.message.Message.{Message}
-use Rattle.journal_messages.specs.declared.message.Message.TheVariants as message
 use Rattle.journal_messages.specs.declared.message.RawMessage.{RawMessage}
 use Rattle.journal_messages.specs.Reading.{message_in}
 use Rattle.journal_values.specs.declared.notification.Notification.{Notification}
 use Rattle.journal_values.specs.declared.notification.NotificationId.TheVariants.{CompletionId}
-
--- the completion ids that a command carries; an eager read has its result in itself and carries none
-abbrev pub carried : Message → List ℕ
-carried (message.Sleep c) = c.result_completion_id ∷ []
-carried (message.GetLazyState c) = c.result_completion_id ∷ []
-carried (message.GetLazyStateKeys c) = c.result_completion_id ∷ []
-carried (message.Call c) = c.request.invocation_id_notification_idx ∷ c.result_completion_id ∷ []
-carried (message.OneWayCall c) = c.request.invocation_id_notification_idx ∷ []
-carried (message.GetPromise c) = c.result_completion_id ∷ []
-carried (message.PeekPromise c) = c.result_completion_id ∷ []
-carried (message.CompletePromise c) = c.result_completion_id ∷ []
-carried (message.Run c) = c.result_completion_id ∷ []
-carried (message.AttachInvocation c) = c.result_completion_id ∷ []
-carried (message.GetInvocationOutput c) = c.result_completion_id ∷ []
-carried m = []
+use Rattle.vm_asks.specs.Carried.{carried}
 
 -- the id is one of these
 abbrev pub is_among : ℕ → List ℕ → Bool

@@ -128,6 +128,7 @@ first_derived = record {
   handles = no_results.handles;
   usage = [];
   tracked = [];
+  parts = 0;
 }
 
 -- the point after the input, which is the journal's first command

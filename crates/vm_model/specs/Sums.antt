@@ -4,7 +4,7 @@ use Rattle.vm_types.specs.declared.steps.Answer.{Answer}
 use Rattle.vm_types.specs.declared.steps.Step.{Step}
 use Rattle.vm_asks.specs.declared.asks.Ask.{Ask}
 use Rattle.vm_asks.specs.declared.asks.Ask.TheVariants as ask
-use Rattle.vm_asks.specs.Asks.{ask_of}
+use Rattle.vm_asks.specs.Asks.{all_ids, ask_of}
 use Rattle.vm_asks.specs.Requests.{ids_of}
 use Rattle.journal_errors.specs.declared.version.Version.{Version}
 use Rattle.vm_model.specs.Calls.{Meaning}
@@ -12,6 +12,7 @@ use Rattle.vm_model.specs.Calls.{Meaning}
 -- how many completion ids are asked for
 abbrev pub completion_ids_in : Ask → ℕ
 completion_ids_in (ask.Command c) = ids_of c.message
+completion_ids_in (ask.Commands kind first second) = all_ids first (second ∷ [])
 completion_ids_in (ask.Read r) = 1
 completion_ids_in a = 0
 
@@ -23,6 +24,7 @@ signal_ids_in a = 0
 -- how many handles are asked for
 abbrev pub handles_in : Ask → ℕ
 handles_in (ask.Command c) = ids_of c.message
+handles_in (ask.Commands kind first second) = all_ids first (second ∷ [])
 handles_in (ask.Read r) = 1
 handles_in ask.Awakeable = 1
 handles_in (ask.Signal name) = 1

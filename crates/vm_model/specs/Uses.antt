@@ -18,7 +18,8 @@ use Rattle.vm_types.specs.declared.steps.Step.TheVariants as step
 use Rattle.vm_types.specs.declared.values.Value.{Value}
 use Rattle.vm_asks.specs.declared.asks.Ask.{Ask}
 use Rattle.vm_asks.specs.declared.asks.Ask.TheVariants as ask
-use Rattle.vm_asks.specs.Asks.{ask_of, cancel_invocation_command}
+use Rattle.vm_asks.specs.declared.asks.Command.{Command}
+use Rattle.vm_asks.specs.Asks.{all_ids, ask_of, cancel_invocation_command}
 use Rattle.vm_machine.specs.Commands.{ignores_payloads}
 use Rattle.vm_asks.specs.StateReads.{recorded_as}
 use Rattle.vm_asks.specs.Requests.{ids_of, with_ids}
@@ -29,9 +30,19 @@ use Rattle.vm_model.specs.Sums.{completion_ids, signal_ids}
 
 -- ---- recorded commands
 
+-- what a command needs recorded, where this is the next completion id
+abbrev pub needed_for : Setup → ℕ → Command → Demand
+needed_for s id c = Exactly (with_ids id c.message) (ignores_payloads s.options.non_determinism_checks c.unstable)
+
+-- and what it needs with those behind it
+abbrev pub all_needed : Setup → ℕ → Command → List Command → List Demand
+all_needed s id c [] = needed_for s id c ∷ []
+all_needed s id c (b ∷ bs) = needed_for s id c ∷ all_needed s (id + ids_of c.message) b bs
+
 -- what is needed recorded, where this is the next completion id
 abbrev pub needed_by : Setup → ℕ → Ask → List Demand
-needed_by s id (ask.Command c) = Exactly (with_ids id c.message) (ignores_payloads s.options.non_determinism_checks c.unstable) ∷ []
+needed_by s id (ask.Command c) = needed_for s id c ∷ []
+needed_by s id (ask.Commands kind first second) = all_needed s id first (second ∷ [])
 needed_by s id (ask.Read r) = Reads r id ∷ []
 needed_by s id a = []
 
@@ -94,6 +105,7 @@ ids_from (suc n) id = CompletionId id ∷ ids_from n (id + 1)
 -- the ids that are given, where these are the next completion id and the next signal id
 abbrev pub given_for : ℕ → ℕ → Ask → List NotificationId
 given_for completion signal (ask.Command c) = ids_from (ids_of c.message) completion
+given_for completion signal (ask.Commands kind first second) = ids_from (all_ids first (second ∷ [])) completion
 given_for completion signal (ask.Read r) = CompletionId completion ∷ []
 given_for completion signal ask.Awakeable = SignalId signal ∷ []
 given_for completion signal (ask.Signal name) = SignalName name ∷ []

@@ -1,5 +1,6 @@
 //! Laws of what a run used of its journal, and of what its handles stand for.
-ghost use Rattle.std.specs.Prelude.{◌≡◌, ◌⊎◌, ◌+◌, ◌++◌, [], List, ℕ, Some};
+ghost use Rattle.std.specs.Prelude.{◌≡◌, ◌⊎◌, ◌+◌, ◌++◌, [], List, ℕ, Some, take};
+ghost use Rattle.vm_asks.specs.Asks.{ask_of};
 ghost use Rattle.journal_attempt.specs.declared.commands.InputCommand.{InputCommand};
 ghost use Rattle.journal_messages.specs.declared.message.RawMessage.{RawMessage};
 ghost use Rattle.journal_values.specs.declared.notification.Notification.{Notification};
@@ -12,15 +13,17 @@ ghost use Rattle.vm_model.specs.Histories.{Handed, Made, behind};
 ghost use Rattle.vm_model.specs.Moves.{Point, after, start};
 ghost use Rattle.vm_model.specs.Sums.{calls_for};
 ghost use Rattle.vm_model.specs.Deliveries.{HasNoTwo};
-ghost use Rattle.vm_model.specs.Uses.{AreSentBy, IsGiven, IsSentFor, StandFor, WasTaken, arrivals_in, cancels_needed, ids_given, item, needed};
+ghost use Rattle.vm_model.specs.Uses.{AreSentBy, IsGiven, IsSentFor, StandFor, WasTaken, arrivals_in, cancels_needed, ids_given, item, needed, needed_by};
 
 /// Both lists of a journal are used from the front. The recorded commands are those that were used and those that are left; each
 /// used one stands for what its call needs, by its type and header, and the calls follow from the answers alone. An await that is
 /// answered Cancelled needs a cancel command for each invocation to which it sends the cancel signal, and an await that comes next
-/// may have sent it to some. The arrivals are those that awaits used and those that wait.
+/// may have sent it to some; a call with several commands that comes next may have used the first of what it needs. The arrivals are
+/// those that awaits used and those that wait.
 pub fn lists_are_used()
     ensures commands { (s : Setup) (m : Meaning) (n : ℕ) (input : InputCommand) (ns : List Notification) (cs : List RawMessage) (q : Point) → after s m n (start s input ns cs) ≡ Some q
-        → (used : List RawMessage) × (cancels : List (List (List ℕ))) × (sent : List (List ℕ)) × (cs ≡ used ++ q.left) × AreSentBy (behind q.answers) cancels × IsSentFor (m q.answers) sent × StandFor (needed s 0 (calls_for m q.answers) cancels ++ cancels_needed s sent) used }
+        → (used : List RawMessage) × (cancels : List (List (List ℕ))) × (sent : List (List ℕ)) × (cs ≡ used ++ q.left) × AreSentBy (behind q.answers) cancels × IsSentFor (m q.answers) sent
+        × StandFor (needed s 0 (calls_for m q.answers) cancels ++ (cancels_needed s sent ++ take q.derived.parts (needed_by s q.derived.counters.completion (ask_of s.version (m q.answers))))) used }
     ensures arrivals { (s : Setup) (m : Meaning) (n : ℕ) (input : InputCommand) (ns : List Notification) (cs : List RawMessage) (q : Point) → after s m n (start s input ns cs) ≡ Some q
         → ns ≡ arrivals_in q.derived.usage ++ q.queue }
 {}

@@ -24,7 +24,7 @@ pub use state_key::StateKey;
 pub use tracked::TrackedCalls;
 pub use vm_types::{
     Answer, AttachInvocationTarget, AwaitResponse, AwaitingOnPolicy, AwakeableHandle, Boxed,
-    CANCEL_NOTIFICATION_HANDLE, CallHandle, CommandRelationship, CommandType,
+    CANCEL_NOTIFICATION_HANDLE, CallHandle, CommandRelationship, CommandType, DeadlineCallHandle,
     EphemeralCompletionId, ImplicitCancellationOption, Input, JournalMismatchRetryBehavior,
     JournalReplay, NonDeterministicChecksOption, NonEmptyValue, NotificationHandle, PayloadOptions,
     ResponseHead, SendHandle, SignalDelivery, State, Step, Target, TerminalFailure,

@@ -1,7 +1,7 @@
 -- Each call of an attempt keeps what is kept of it: the input, and all that a step does.
 use Rattle.vm_model.specs.Histories.{Handed}
 use Rattle.std.proofs.Common.{◌≡◌, ◌≢◌, ◌⊎◌, ℕ, Bool, true, false, List, [], ◌∷◌, ◌++◌, Option, Some, None, Result, Ok, Err, refl, sym, ap, ◌∙◌, subst, inl, inr, ⊎_elim, Global}
-use Rattle.std.specs.Prelude.{◌==◌, if◌then◌else◌, is_some, IsSome}
+use Rattle.std.specs.Prelude.{◌==◌, if◌then◌else◌, drop, length, is_some, IsSome}
 use Rattle.journal_attempt.specs.declared.commands.InputCommand.{InputCommand}
 use Rattle.journal_errors.specs.declared.error.Error.{Error}
 use Rattle.journal_errors.specs.declared.faults.NamedFault.{NamedFault}
@@ -24,7 +24,12 @@ use Rattle.vm_machine.specs.declared.machine.Machine.{Machine}
 use Rattle.vm_machine.specs.declared.phase.Phase.{Phase}
 use Rattle.vm_machine.specs.declared.phase.Phase.TheVariants.{WaitingStart, WaitingReplayEntries, Replaying, Processing, Closed}
 use Rattle.vm_machine.specs.Commands.{entered, phase_after, popped, popped_from}
-use Rattle.vm_machine.specs.Inputs.{coverage_of, input_at, input_counted, input_read, input_step}
+use Rattle.vm_machine.specs.Inputs.{coverage_of, input_at, input_by, input_counted, input_numbered, input_past, input_read, input_step}
+use Rattle.vm_machine.specs.Skips.{counters_past, skipped, skips_replay}
+use Rattle.vm_machine.proofs.Skipping.{input_is}
+use Rattle.vm_asks.specs.Carried.{past_all}
+use Rattle.vm_parts.specs.declared.context.Counters.{Counters}
+use Rattle.vm_types.specs.declared.options.JournalReplay.TheVariants.{Enabled}
 use Rattle.vm_machine.specs.Making.{fresh}
 use Rattle.vm_machine.specs.Outcomes.{IsStarved, Outcome, Done, Failed, ◌>>=◌, about_last, called, called_at, settled, ruled, failed}
 use Rattle.vm_machine.specs.Phases.{is_closed, is_running}
@@ -98,6 +103,22 @@ unfolding popped
 counted_silent (Some name) v = refl
 counted_silent None v = popped_silent v.commands v (entered type.InputCommand [] v) refl
 
+skipped_silent : (counters : Counters) (v : Machine) (o : Outcome Input) → Silent v o → Silent v (o >>= λ input w. Done input (skipped counters w))
+skipped_silent counters v (Done input w) is = is
+skipped_silent counters v (Failed e w) is = is
+
+numbered_silent : (r : Result Counters NamedFault) (v : Machine) → Silent v (input_numbered r v)
+numbered_silent (Err name) v = refl
+numbered_silent (Ok counters) v = skipped_silent counters v (input_counted None v) (counted_silent None v)
+
+past_silent : (o : Option ℕ) (v : Machine) → Silent v (input_past o v)
+past_silent None v = refl
+past_silent (Some id) v = numbered_silent (counters_past (length (drop 1 v.commands)) id v.counters) v
+
+by_silent : (b : Bool) (v : Machine) → Silent v (input_by b v)
+by_silent false v = counted_silent (lacking 0 0 0 v.counters) v
+by_silent true v = past_silent (past_all v.counters.completion (drop 1 v.commands)) v
+
 pub input_silent : (v : Machine) → Silent v (input_step v)
 unfolding input_step
 input_silent v = by_phase v.phase
@@ -105,7 +126,7 @@ input_silent v = by_phase v.phase
     by_phase : (ph : Phase) → Silent v (input_at ph v)
     by_phase WaitingStart = refl
     by_phase WaitingReplayEntries = refl
-    by_phase Replaying = counted_silent (lacking 0 0 0 v.counters) v
+    by_phase Replaying = by_silent (skips_replay v.options.journal_replay) v
     by_phase Processing = refl
     by_phase Closed = refl
 
@@ -132,26 +153,27 @@ waits_reads {A} v i w asleep is = by_phase v.phase asleep is
     by_phase Processing a h = absurd (cc)
 
 no_command_reads : {A : Type 0} (s : Setup) (given : StateMap) (aside : Aside) (ns : List Notification) (i : Input) (w : Machine) → input_step (machine_fed s given aside [] ns Replaying) ≡ Done i w → A
-unfolding input_step popped
-no_command_reads s given aside ns i w is = absurd (cc)
+no_command_reads s given aside ns i w is =
+    let r = input_is (machine_fed s given aside [] ns Replaying) i w is in
+    absurd (let z : [] ≡ r.first ∷ r.rest = r.commands in cc)
 
 -- the handler runs, and nothing was written
 abbrev pub Begins : Meaning → Version → VMOptions → Heard → List Answer → Option UnresolvedFuture → List (List ℕ) → View → Type 0
 Begins m version options fed answers waiting taken v = (k : Runs m version options fed answers waiting taken v) × (k.written ≡ []) × (fed.proposed ≡ [])
 
-read_begins : (m : Meaning) (version : Version) (options : VMOptions) (fed : Heard) (nothing : fed.proposed ≡ []) (before : Option UnresolvedFuture) (taken : List (List ℕ)) (v w : View) (b : Begun version options fed v.machine) (h : HasAll (setup_for version options b.start) (record { entries = b.state; coverage = coverage_of b.start.partial }) b.aside b.start.known_entries [] [] b.others v.machine)
+read_begins : (m : Meaning) (version : Version) (options : VMOptions) (fed : Heard) (replays : options.journal_replay ≡ Enabled) (nothing : fed.proposed ≡ []) (before : Option UnresolvedFuture) (taken : List (List ℕ)) (v w : View) (b : Begun version options fed v.machine) (h : HasAll (setup_for version options b.start) (record { entries = b.state; coverage = coverage_of b.start.partial }) b.aside b.start.known_entries [] [] b.others v.machine)
     → (i : Input) → input_step v.machine ≡ Done i w.machine → before ≡ None → Wrote taken v.machine.output [] → (frames_of (bytes_fed fed)).1 ≡ Rest w.undecoded
     → (cs : List RawMessage) → commands_among h.entries ≡ cs → Begins m version options fed (answer.Input i ∷ []) before taken w
-read_begins m version options fed nothing before taken v w b h i is none wrote tail [] e =
+read_begins m version options fed replays nothing before taken v w b h i is none wrote tail [] e =
     let s = setup_for version options b.start in
     let given : StateMap = record { entries = b.state; coverage = coverage_of b.start.partial } in
     no_command_reads s given (missing 0 b.aside) (notifications_among b.others) i w.machine (sym (ap input_step (h.machine ∙ λ j. machine_fed s given (missing 0 b.aside) (e j) (notifications_among b.others) Replaying)) ∙ is)
-read_begins m version options fed nothing before taken v w b h i is none wrote tail (first ∷ rest) e =
+read_begins m version options fed replays nothing before taken v w b h i is none wrote tail (first ∷ rest) e =
     let s = setup_for version options b.start in
     let given : StateMap = record { entries = b.state; coverage = coverage_of b.start.partial } in
     let ns = notifications_among b.others in
     let at : v.machine ≡ machine_fed s given (missing 0 b.aside) (first ∷ rest) ns Replaying = h.machine ∙ λ j. machine_fed s given (missing 0 b.aside) (e j) ns Replaying in
-    by_input (input_read_from first) refl (subst (BeginsOrFails s given (missing 0 b.aside) rest ns (input_read_from first)) (sym (ap input_step at) ∙ is) (input_begins s given (missing 0 b.aside) first rest ns (ap identity_of (sym b.of_start))))
+    by_input (input_read_from first) refl (subst (BeginsOrFails s given (missing 0 b.aside) rest ns (input_read_from first)) (sym (ap input_step at) ∙ is) (input_begins s given (missing 0 b.aside) first rest ns replays (ap identity_of (sym b.of_start))))
   where
     by_input : (o : Option InputCommand) → input_read_from first ≡ o → BeginsOrFails (setup_for version options b.start) (record { entries = b.state; coverage = coverage_of b.start.partial }) (missing 0 b.aside) rest (notifications_among b.others) o (Done i w.machine) → Begins m version options fed (answer.Input i ∷ []) before taken w
     by_input None reads g = absurd g
@@ -186,6 +208,7 @@ read_begins m version options fed nothing before taken v w b h i is none wrote t
             answers = ap (λ x. answer.Input x ∷ []) (sym g.0);
             awaits = subst (StillAwaits m (start s c (arriving fed.proposed all) rest)) (sym none) tt;
             agrees = λ _. agrees;
+            rests = λ _. refl;
             keeps = λ _. (g.1.1.1 ∙ sym (ap (λ kept. kept_after kept all) nothing ∙ kept_none all), none_found fed.proposed all (subst (AllByRecursion AcknowledgesNothing) h.split h.none_acknowledge));
             phase = λ _. inl (agrees_running s (record { entries = b.state; coverage = coverage_of b.start.partial }) [] w.machine (start s c (arriving fed.proposed all) rest) agrees);
             tail = λ _. tail;
@@ -194,14 +217,14 @@ read_begins m version options fed nothing before taken v w b h i is none wrote t
           nothing,
         )
 
-reads_done : (m : Meaning) (version : Version) (options : VMOptions) (fed : Heard) (nothing : fed.proposed ≡ []) (before : Option UnresolvedFuture) (taken : List (List ℕ)) (v w : View) (i : Input) → Comes version options fed v.machine → input_step v.machine ≡ Done i w.machine → before ≡ None → Wrote taken v.machine.output [] → (frames_of (bytes_fed fed)).1 ≡ Rest w.undecoded → Begins m version options fed (answer.Input i ∷ []) before taken w
-reads_done m version options fed nothing before taken v w i comes is none wrote tail =
+reads_done : (m : Meaning) (version : Version) (options : VMOptions) (fed : Heard) (replays : options.journal_replay ≡ Enabled) (nothing : fed.proposed ≡ []) (before : Option UnresolvedFuture) (taken : List (List ℕ)) (v w : View) (i : Input) → Comes version options fed v.machine → input_step v.machine ≡ Done i w.machine → before ≡ None → Wrote taken v.machine.output [] → (frames_of (bytes_fed fed)).1 ≡ Rest w.undecoded → Begins m version options fed (answer.Input i ∷ []) before taken w
+reads_done m version options fed replays nothing before taken v w i comes is none wrote tail =
     ⊎_elim
     (λ (x : (frames_fed fed ≡ []) × ((alloc : Global) × (v.machine ≡ fresh alloc version options))). waits_reads v.machine i w.machine (ap (λ (z : Machine). is_running z.phase) x.1.1) is)
     (λ (b : Begun version options fed v.machine).
     ⊎_elim
     (λ (x : StillWaits (setup_for version options b.start) (record { entries = b.state; coverage = coverage_of b.start.partial }) b.aside b.start.known_entries [] [] b.others v.machine). waits_reads v.machine i w.machine (ap (λ (z : Machine). is_running z.phase) x.machine) is)
-    (λ (x : HasAll (setup_for version options b.start) (record { entries = b.state; coverage = coverage_of b.start.partial }) b.aside b.start.known_entries [] [] b.others v.machine). read_begins m version options fed nothing before taken v w b x i is none wrote tail (commands_among x.entries) refl)
+    (λ (x : HasAll (setup_for version options b.start) (record { entries = b.state; coverage = coverage_of b.start.partial }) b.aside b.start.known_entries [] [] b.others v.machine). read_begins m version options fed replays nothing before taken v w b x i is none wrote tail (commands_among x.entries) refl)
     b.waits)
     comes
 
@@ -219,16 +242,16 @@ runs_answered m version options fed answers before taken v k none =
 -- What is told of a handler that runs is kept by each step, where reading the input gives it, and each call keeps it, by what is asked of
 -- what was fed.
 module _ (R : Reading) (P : Heard → Type 0) (l : Lasts R) (m : Meaning) (version : Version) (options : VMOptions)
-    (reads : (fed : Heard) (answers : List Answer) (waiting : Option UnresolvedFuture) (taken : List (List ℕ)) (v : View) → Begins m version options fed answers waiting taken v → R fed answers waiting taken v)
+    (reads : (fed : Heard) (waiting : Option UnresolvedFuture) (taken : List (List ℕ)) (v w : View) (i : Input) → P fed → fed.proposed ≡ [] → Comes version options fed v.machine → input_step v.machine ≡ Done i w.machine → waiting ≡ None → Wrote taken v.machine.output [] → (frames_of (bytes_fed fed)).1 ≡ Rest w.undecoded → R fed (answer.Input i ∷ []) waiting taken w)
     (answered : (fed : Heard) (answers : List Answer) (waiting : Option UnresolvedFuture) (taken : List (List ℕ)) (v : View) → R fed answers waiting taken v → answers ≢ [])
     (asks : (old : Record) (result : Result Progress Error) (new : Record) → P (heard version old) → R (heard version old) old.answers old.waiting old.taken old.vm → IsLive old.vm.machine → Asks m old result new → KeptBy R version options new) where
   abbrev Kept : Record → Type 0
   Kept = KeptBy R version options
 
-  reads_keep : (old : Record) (result : Result Progress Error) (new : Record) → BeforeInput version options (heard version old) old.answers old.waiting old.taken old.vm → old.vm.machine.failure ≡ None → Reads old result new → Kept new
-  reads_keep old (Ok progress) new b live (stepped, (i, w, does, is)) =
-      subst Kept (sym is) (inr (reads (heard version old) (answer.Input i ∷ []) old.waiting old.taken w (reads_done m version options (heard version old) b.none_proposed old.waiting old.taken old.vm w i (b.comes live) (done_of old.vm.machine (input_step old.vm.machine) i w.machine live does.0) b.waits_not b.wrote (b.tail live ∙ ap Rest (sym does.1)))))
-  reads_keep old (Err e) new b live (w, does, is) =
+  reads_keep : (old : Record) (result : Result Progress Error) (new : Record) → P (heard version old) → BeforeInput version options (heard version old) old.answers old.waiting old.taken old.vm → old.vm.machine.failure ≡ None → Reads old result new → Kept new
+  reads_keep old (Ok progress) new under b live (stepped, (i, w, does, is)) =
+      subst Kept (sym is) (inr (reads (heard version old) old.waiting old.taken old.vm w i under b.none_proposed (b.comes live) (done_of old.vm.machine (input_step old.vm.machine) i w.machine live does.0) b.waits_not b.wrote (b.tail live ∙ ap Rest (sym does.1))))
+  reads_keep old (Err e) new under b live (w, does, is) =
       subst Kept (sym is)
       (⊎_elim
       (λ (x : called (input_step old.vm.machine) old.vm.machine ≡ Failed e w.machine).
@@ -245,7 +268,7 @@ module _ (R : Reading) (P : Heard → Type 0) (l : Lasts R) (m : Meaning) (versi
       ⊎_elim
       (λ (x : (old.answers ≡ []) × Reads old result new).
       ⊎_elim
-      (λ (b : BeforeInput version options (heard version old) old.answers old.waiting old.taken old.vm). reads_keep old result new b live.failure x.1)
+      (λ (b : BeforeInput version options (heard version old) old.answers old.waiting old.taken old.vm). reads_keep old result new under b live.failure x.1)
       (λ (b : R (heard version old) old.answers old.waiting old.taken old.vm). absurd (answered (heard version old) old.answers old.waiting old.taken old.vm b x.0))
       k)
       (λ (x : (old.answers ≢ []) × Asks m old result new).
@@ -276,7 +299,7 @@ module _ (R : Reading) (P : Heard → Type 0) (l : Lasts R) (m : Meaning) (versi
 
 -- the run of a handler is kept by each step
 pub step_keeps : (m : Meaning) (version : Version) (options : VMOptions) (old : Record) (result : Result Progress Error) (new : Record) → Premises m version options (heard version old) → IsKept m version options old → StepDoes m old result new → IsKept m version options new
-step_keeps m version options = steps_keep (Runs m version options) (Premises m version options) (runs_last m version options) m version options (λ fed answers waiting taken v k. k.0) (runs_answered m version options) (asks_keep m version options)
+step_keeps m version options = steps_keep (Runs m version options) (Premises m version options) (runs_last m version options) m version options (λ fed waiting taken v w i p none comes is none_waits wrote tail. (reads_done m version options fed p.replays none waiting taken v w i comes is none_waits wrote tail).0) (runs_answered m version options) (asks_keep m version options)
 
 -- ---- a step that waits
 

@@ -28,7 +28,7 @@ waiting_of handle [] = 0
 waiting_of handle (run ∷ runs) = cond (waits_as handle run) 1 0 + waiting_of handle runs
 
 -- how often a run of this handle can still be handed out, by the handle that is given next
-abbrev ahead_in : NotificationHandle → List PendingRun → ℕ → ℕ
+abbrev pub ahead_in : NotificationHandle → List PendingRun → ℕ → ℕ
 ahead_in handle runs next = waiting_of handle runs + cond (nat_le next handle.0) 1 0
 
 -- the same of a machine

@@ -43,7 +43,7 @@ use Rattle.vm_model.specs.Refusals.{IsRefusedFor}
 use Rattle.vm_model.proofs.Cancelling.{cancelled_same, handle_stays}
 use Rattle.vm_rounds.specs.Agreement.{Answered, Aside, IsSuspended, MovesOn, StillAgrees, awaited_tree, first_or, machine_at}
 use Rattle.vm_rounds.proofs.Leading.{no_move, open_after, state_at}
-use Rattle.vm_rounds.proofs.Waiting.{RefusesAt, TriesTo, Wakes, moves_behind, quiet_move, tracked_more, tries_to, uses}
+use Rattle.vm_rounds.proofs.Waiting.{RefusesAt, TriesTo, Wakes, moves_behind, parts_more, quiet_move, tracked_more, tries_to, uses}
 
 -- ---- what wakes
 
@@ -114,6 +114,7 @@ module _ (s : Setup) (m : Meaning) (given : StateMap) (written : List RawMessage
     pub left : q.left ≡ p.left
     pub is : m q.answers ≡ step.Await future
     pub two : HasNoTwo q
+    pub rests : p.derived.parts ≡ 0 → q.derived.parts ≡ 0
 
   -- the cancel signal is there, and all ids are known
   pub record IsGathered (p : Point) (w : Machine) : Type 0 where
@@ -133,10 +134,10 @@ module _ (s : Setup) (m : Meaning) (given : StateMap) (written : List RawMessage
   PartTo p (Failed e w) = RefusesAt s m given p (v p) e w
 
   stays_there : (p : Point) → m p.answers ≡ step.Await future → HasNoTwo p → Reached p p
-  stays_there p is two = record { moves = no_move s m given p; left = refl; is = is; two = two }
+  stays_there p is two = record { moves = no_move s m given p; left = refl; is = is; two = two; rests = λ none. none }
 
   one_behind : (p q r : Point) → Reached p q → Reached q r → Reached p r
-  one_behind p q r a b = record { moves = moves_behind s m given p q r [] [] a.moves b.moves; left = b.left ∙ a.left; is = b.is; two = b.two }
+  one_behind p q r a b = record { moves = moves_behind s m given p q r [] [] a.moves b.moves; left = b.left ∙ a.left; is = b.is; two = b.two; rests = λ none. b.rests (a.rests none) }
 
   still_behind : (input : Bool) (p q : Point) → Reached p q → (w : Machine) → StillAgrees input s m given written q (v q) w → StillAgrees input s m given written p (v p) w
   still_behind input p q a w h = record {
@@ -150,7 +151,7 @@ module _ (s : Setup) (m : Meaning) (given : StateMap) (written : List RawMessage
   }
 
   part_behind : (p q : Point) → Reached p q → (o : Outcome (Result AwaitResponse Error)) → PartTo q o → PartTo p o
-  part_behind p q a (Done (Ok AnyCompleted) w) h = record { at = h.at; made = h.made; none_before = h.none_before; moves = moves_behind s m given p q h.at (answer.Awake ∷ []) h.made a.moves h.moves; agrees = h.agrees; kept = h.kept; output = h.output }
+  part_behind p q a (Done (Ok AnyCompleted) w) h = record { at = h.at; made = h.made; none_before = h.none_before; moves = moves_behind s m given p q h.at (answer.Awake ∷ []) h.made a.moves h.moves; agrees = h.agrees; kept = h.kept; output = h.output; rests = λ none. h.rests (a.rests none) }
   part_behind p q a (Done (Ok CancelSignalReceived) w) h = record { at = h.at; reached = one_behind p q h.at a h.reached; machine = h.machine; is_cancelled = h.is_cancelled; known = h.known }
   part_behind p q a (Done (Ok (WaitingExternalProgress input run)) w) h = still_behind input p q a w h
   part_behind p q a (Done (Ok (ExecuteRun run)) w) h = still_behind false p q a w h
@@ -181,6 +182,7 @@ module _ (s : Setup) (m : Meaning) (given : StateMap) (written : List RawMessage
         agrees = record { aside = aside; machine = λ i. machine_at s given (sym (append-nil written) i) aside to; identity = identity };
         kept = refl;
         output = sym (append-nil aside.output);
+        rests = λ none. none;
       }
 
   -- ---- where the cancel signal ends no await
@@ -190,7 +192,7 @@ module _ (s : Setup) (m : Meaning) (given : StateMap) (written : List RawMessage
     at n = uses n p.queue p
 
     reached_at : (n : ℕ) (w : Machine) (t : Tree) (asks : (i : ℕ) → i ≤ length p.queue → tree_wakes s t (arrivals_used (take i p.queue) p.derived) ≡ false → (call_of s (m p.answers) (arrivals_used (take i p.queue) p.derived) ≡ Awaits) × (awaited_tree s future (arrivals_used (take i p.queue) p.derived) ≡ t)) → (x : Wakes s m given written aside p future identity is queued two t asks w) → Reached p (at x.count)
-    reached_at n w t asks x = record { moves = record { moves = x.count; run = x.run; answers = sym (append-nil p.answers) }; left = refl; is = is; two = two_used p x.count two }
+    reached_at n w t asks x = record { moves = record { moves = x.count; run = x.run; answers = sym (append-nil p.answers) }; left = refl; is = is; two = two_used p x.count two; rests = λ none. parts_more (take x.count p.queue) p.derived ∙ none }
 
     none_cancelled : ends_awaits s.options.implicit_cancellation ≡ false → (d : Derived) → is_cancelled_in s d ≡ false
     none_cancelled never d = ap (λ b. b && is_some (present_in s 1 d)) never
@@ -278,6 +280,7 @@ module _ (s : Setup) (m : Meaning) (given : StateMap) (written : List RawMessage
               left = refl;
               is = ap m (append-nil q.answers) ∙ is;
               two = two;
+              rests = λ none. none;
             };
             machine = refl;
             is_cancelled = cancelled_same s q.derived d refl refl so;

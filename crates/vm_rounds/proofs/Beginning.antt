@@ -1,5 +1,5 @@
 -- A machine that has the whole journal reads its input and agrees with the first point.
-use Rattle.std.proofs.Common.{◌≡◌, Bool, true, false, List, [], ◌∷◌, Option, Some, None, refl, sym, ap}
+use Rattle.std.proofs.Common.{◌≡◌, Bool, true, false, List, [], ◌∷◌, Option, Some, None, refl, sym, ap, subst}
 use Rattle.std.specs.Prelude.{◌==◌, if◌then◌else◌}
 use Rattle.journal_attempt.specs.declared.commands.InputCommand.{InputCommand}
 use Rattle.journal_errors.specs.declared.faults.NamedFault.TheVariants as fault
@@ -9,10 +9,12 @@ use Rattle.journal_errors.specs.declared.types.MessageType.TheVariants as type
 use Rattle.journal_messages.specs.Reading.{input_in}
 use Rattle.journal_errors.specs.Types.{type_number}
 use Rattle.vm_parts.specs.declared.context.StateMap.{StateMap}
+use Rattle.vm_types.specs.declared.options.JournalReplay.TheVariants.{Enabled}
 use Rattle.vm_machine.specs.declared.machine.Machine.{Machine}
 use Rattle.vm_machine.specs.declared.phase.Phase.TheVariants.{Replaying}
 use Rattle.vm_machine.specs.Commands.{entered, phase_after, popped}
-use Rattle.vm_machine.specs.Inputs.{input_read, input_step}
+use Rattle.vm_machine.specs.Inputs.{input_by, input_read, input_step}
+use Rattle.vm_machine.specs.Skips.{skips_replay}
 use Rattle.vm_machine.specs.Outcomes.{Done, Failed, ◌>>=◌, about_last}
 use Rattle.vm_model.specs.Calls.{Setup, identity_of}
 use Rattle.vm_model.specs.Journal.{input_read_from}
@@ -28,10 +30,11 @@ reads_input : (s : Setup) (given : StateMap) (aside : Aside) (rest : List RawMes
 reads_input s given aside rest ns identity (Some c) = (ap (λ i. told_input i c) (sym identity), (record { aside = record aside { beside = record { last = record { ty = type.InputCommand; name = [] }; runs = [] }; proposals = [] }; machine = refl; identity = identity }, (refl, refl)))
 reads_input s given aside rest ns identity None = tt
 
--- the input of a machine that has the whole journal
-pub input_begins : (s : Setup) (given : StateMap) (aside : Aside) (first : RawMessage) (rest : List RawMessage) (ns : List Notification) → s.identity ≡ identity_of aside.start → BeginsOrFails s given aside rest ns (input_read_from first) (input_step (machine_fed s given aside (first ∷ rest) ns Replaying))
+-- the input of a machine that has the whole journal, where recorded commands are replayed
+pub input_begins : (s : Setup) (given : StateMap) (aside : Aside) (first : RawMessage) (rest : List RawMessage) (ns : List Notification) → s.options.journal_replay ≡ Enabled → s.identity ≡ identity_of aside.start → BeginsOrFails s given aside rest ns (input_read_from first) (input_step (machine_fed s given aside (first ∷ rest) ns Replaying))
 unfolding input_step popped
-input_begins s given aside first rest ns identity = by_test (type_number first.ty == type_number type.InputCommand)
+input_begins s given aside first rest ns replays identity =
+    subst (λ b. BeginsOrFails s given aside rest ns (input_read_from first) (input_by b (machine_fed s given aside (first ∷ rest) ns Replaying))) (sym (ap skips_replay replays)) (by_test (type_number first.ty == type_number type.InputCommand))
   where
     w : Machine
     w = popped_first s given aside rest ns

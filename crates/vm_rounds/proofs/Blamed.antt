@@ -27,7 +27,7 @@ use Rattle.vm_steps.specs.Record.{Record, Said, all_said, heard}
 use Rattle.vm_steps.specs.Stepping.{CloseDoes, Closes, FeedDoes, Feeds, Takes, fresh_record, kept, kept_at, with_vm}
 use Rattle.vm_rounds.specs.Told.{BeforeInput, Came, HasCome, bytes_fed, frames_fed}
 use Rattle.vm_rounds.specs.Blames.{BadFrame, Blame, BlamedAt, FailsAt, IsBlamed, IsShort, Place}
-use Rattle.vm_rounds.specs.Blames.Blame.{Memory, Frame, NoFrame, ClosedEarly, NoInput, Call, RunResult}
+use Rattle.vm_rounds.specs.Blames.Blame.{Memory, Frame, NoFrame, ClosedEarly, NoInput, NoSkip, Call, RunResult}
 use Rattle.vm_rounds.proofs.Blaming.{frames_fit}
 use Rattle.vm_rounds.proofs.Pieces.{fed_frames}
 use Rattle.vm_rounds.proofs.Placing.{bad_frame, come_keeps, come_stands, place_all}
@@ -163,6 +163,7 @@ closed_blame m version options fed said answers e (Frame x) = Frame x
 closed_blame m version options fed said answers e (NoFrame x y) = NoFrame x y
 closed_blame m version options fed said answers e (ClosedEarly x y z) = ClosedEarly refl y z
 closed_blame m version options fed said answers e (NoInput x) = NoInput x
+closed_blame m version options fed said answers e (NoSkip x) = NoSkip x
 closed_blame m version options fed said answers e (Call x) = Call x
 closed_blame m version options fed said answers e (RunResult x) = RunResult x
 

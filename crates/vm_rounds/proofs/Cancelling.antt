@@ -26,7 +26,7 @@ use Rattle.vm_types.specs.Options.{ends_awaits}
 use Rattle.vm_parts.specs.Tracked.{invocation_ids, unresolved, without_first_call}
 use Rattle.vm_asks.specs.declared.asks.Command.{Command}
 use Rattle.vm_machine.specs.declared.machine.Machine.{Machine}
-use Rattle.vm_asks.specs.Asks.{cancel_invocation_command, command_answer}
+use Rattle.vm_asks.specs.Asks.{ask_of, cancel_invocation_command, command_answer}
 use Rattle.vm_awaits.specs.Awaits.{Awaits, AwaitsAt}
 use Rattle.vm_awaits.specs.Cancels.{AwaitsWhole, Cancels, Onward, SendsCancel, cancel_taken}
 use Rattle.vm_machine.specs.Commands.{CanBeRead, commanded}
@@ -40,27 +40,18 @@ use Rattle.vm_model.specs.Moves.{Point, command_used, found, longer, move_at, mo
 use Rattle.vm_model.specs.Histories.{Handed, Made}
 use Rattle.vm_model.specs.Refusals.{IsRefusedFor}
 use Rattle.vm_model.proofs.Cancelling.{Sent, cancelled_same, sends_unless}
-use Rattle.vm_model.proofs.Runs.{made_add}
-use Rattle.vm_rounds.specs.Agreement.{Answered, Aside, Follows, IsCutShort, IsRefused, MovesOn, command_frames, machine_at}
+use Rattle.vm_rounds.specs.Agreement.{Answered, Aside, Follows, IsCutShort, IsRefused, MakesMany, MovesOn, command_frames, machine_at}
 use Rattle.vm_steps.specs.declared.progress.Reply.{Reply}
 use Rattle.vm_steps.specs.Steps.{Awaited, IfDone, await_reply}
+use Rattle.vm_model.proofs.Parts.{taken_keeps}
 use Rattle.vm_rounds.proofs.Awaiting.{IsGathered, PartTo, part_to}
+use Rattle.vm_rounds.proofs.Behind.{answered_behind, either_behind, settled_done, settled_failed}
 use Rattle.vm_rounds.proofs.Commanding.{LeadsOn, commands_follow}
-use Rattle.vm_rounds.proofs.Leading.{Leads, error_written, made_or_spent, no_move, one_move, same_rule, state_at, with_beside, with_frames}
+use Rattle.vm_rounds.proofs.Leading.{Leads, error_written, no_move, one_move, same_rule, state_at, with_beside, with_frames}
 use Rattle.vm_rounds.proofs.Requesting.{runs_at}
 use Rattle.vm_rounds.proofs.Waiting.{RefusesAt, quiet_move}
 
 -- ---- outcomes
-
--- a call that was done, whose machine hadn't failed
-settled_done : {A : Type 0} (o : Outcome A) (a : A) (w : Machine) → settled o ≡ Done a w → o ≡ Done a w
-settled_done (Done b x) a w h = h
-settled_done (Failed e x) a w h = absurd (cc)
-
--- a call that failed
-settled_failed : {A : Type 0} (o : Outcome A) (e : Error) (w : Machine) → settled o ≡ Failed e w → (f : Error) × (x : Machine) × (o ≡ Failed f x) × (e ≡ ruled x f) × (w ≡ failed (ruled x f) x)
-settled_failed (Done b x) e w h = absurd (cc)
-settled_failed (Failed f x) e w h = (f, x, refl, cc, cc)
 
 if_done : {A : Type 0} (o : Outcome A) (P : Type 0) → P → IfDone o P
 if_done (Done a w) P h = h
@@ -77,12 +68,6 @@ ok_in d (Err e) = d
 err_in : Error → Result (Result AwaitResponse Error) Error → Error
 err_in d (Ok a) = d
 err_in d (Err e) = e
-
--- ---- frames of commands
-
-frames_both : (made more : List RawMessage) → command_frames (made ++ more) ≡ command_frames made ++ command_frames more
-frames_both [] more = refl
-frames_both (c ∷ made) more = ap (λ l. command_frames (c ∷ []) ++ l) (frames_both made more)
 
 -- ---- one cancel command
 
@@ -135,22 +120,26 @@ module _ (s : Setup) (p : Point) (id : List ℕ) where
   demand = model.demand_of s (cancel_invocation_command id) p.derived
 
   used_same : (o : Result (Option NotificationResult) NamedFault) (left whole : List RawMessage) (q : Point) → command_used o demand (command_answer (cancel_invocation_command id).message (record { 0 = p.derived.counters.handle }) ∷ []) (record (model.counted 0 bare.derived) { tracked = [] }) left (record bare { left = whole }) ≡ Some q
-      → (command_used o demand [] (record (model.counted 0 p.derived) { tracked = without_first_call p.derived.tracked }) left (record p { left = whole }) ≡ Some (back q)) × (q.derived.tracked ≡ [])
+      → (command_used o demand [] (record (model.counted 0 p.derived) { tracked = without_first_call p.derived.tracked }) left (record p { left = whole }) ≡ Some (back q)) × (q.derived.tracked ≡ []) × (q.derived.parts ≡ p.derived.parts)
   used_same (Err name) left whole q h = not_some q h
   used_same (Ok None) left whole q h =
       let e = some_same _ q h in
-      (ap (λ (x : Point). Some (back x)) e, ap (λ (x : Point). x.derived.tracked) (sym e))
+      (ap (λ (x : Point). Some (back x)) e, ap (λ (x : Point). x.derived.tracked) (sym e), ap (λ (x : Point). x.derived.parts) (sym e))
   used_same (Ok (Some result)) left whole q h =
       let e = some_same _ q h in
-      (ap (λ (x : Point). Some (back x)) e, ap (λ (x : Point). x.derived.tracked) (sym e))
+      (ap (λ (x : Point). Some (back x)) e, ap (λ (x : Point). x.derived.tracked) (sym e), ap (λ (x : Point). x.derived.parts) (sym e))
 
-  moves_same : (o : Option NamedFault) (whole : List RawMessage) (q : Point) → moved (alone o) (record bare { left = whole }) ≡ Some q → (moved (within o) (record p { left = whole }) ≡ Some (back q)) × (q.derived.tracked ≡ [])
+  moves_same : (o : Option NamedFault) (whole : List RawMessage) (q : Point) → moved (alone o) (record bare { left = whole }) ≡ Some q → (moved (within o) (record p { left = whole }) ≡ Some (back q)) × (q.derived.tracked ≡ []) × (q.derived.parts ≡ p.derived.parts)
   unfolding demand
   moves_same (Some name) whole q h = not_some q h
   moves_same None [] q h = not_some q h
   moves_same None (c ∷ left) q h = used_same (found demand c) left (c ∷ left) q h
 
 module _ (s : Setup) (m : Meaning) (given : StateMap) (future : UnresolvedFuture) where
+  -- an await may make more than one command
+  many_there : (p : Point) → m p.answers ≡ step.Await future → MakesMany (ask_of s.version (m p.answers))
+  many_there p is = subst (λ st. MakesMany (ask_of s.version st)) (sym is) tt
+
   -- the machine at a point, where no call is tracked any more
   abbrev cleared : List RawMessage → Aside → Point → Machine
   cleared written aside p = record (machine_at s given written aside p) { tracked = [] }
@@ -172,6 +161,7 @@ module _ (s : Setup) (m : Meaning) (given : StateMap) (future : UnresolvedFuture
     pub output : beside.output ≡ aside.output ++ command_frames made
     pub start : beside.start ≡ aside.start
     pub kept : beside.proposals ≡ aside.proposals
+    pub rests : p.derived.parts ≡ 0 → at.derived.parts ≡ 0
     pub cancelling : Cancelling at ids
 
   abbrev SentTo : List RawMessage → Aside → Point → List (List ℕ) → Result NotificationHandle Error → Machine → Type 0
@@ -226,6 +216,7 @@ module _ (s : Setup) (m : Meaning) (given : StateMap) (future : UnresolvedFuture
           output = refl;
           start = refl;
           kept = refl;
+          rests = λ none. (moves_same s p id lacks (p.left ++ brought) q e).2 ∙ none;
           cancelling = record {
             is = ap m (append-nil p.answers) ∙ c.is;
             is_cancelled = cancelled_same s p.derived r.derived sent.handles sent.usage c.is_cancelled;
@@ -269,7 +260,7 @@ module _ (s : Setup) (m : Meaning) (given : StateMap) (future : UnresolvedFuture
         let refusal = failed_so f.0 f.1 (moved (alone s p id lacks) (longer brought (bare s p id))) refl
         (subst (λ (x : Outcome NotificationHandle). Leads s given written aside (bare s p id) (alone s p id lacks) p.left brought (λ a. command_answer command.message a ∷ []) (moved (alone s p id lacks) (longer brought (bare s p id))) x) f.2 g) in
         inl (subst (λ (z : Error × Machine). IsRefused s m given p v z.0 z.1) (λ i. (sym f.3 i, sym f.4 i)) refusal))
-        (λ (x : IsStarved v e w). inr (record { at = p; made = []; none_before = inl refl; moves = no_move s m given p; future = future; awaits = c.is; error = x.error; output = x.output ∙ sym (append-nil aside.output); failure = x.failure ∙ ap Some (sym x.error) }))
+        (λ (x : IsStarved v e w). inr (record { at = p; made = []; none_before = inl refl; moves = no_move s m given p; many = many_there p c.is; error = x.error; output = x.output ∙ sym (append-nil aside.output); failure = x.failure ∙ ap Some (sym x.error) }))
         does
 
   -- ---- all of them
@@ -283,72 +274,13 @@ module _ (s : Setup) (m : Meaning) (given : StateMap) (future : UnresolvedFuture
   CancelsTo written aside p (Ok (Err e)) w = ⊥
   CancelsTo written aside p (Err e) w = IsRefused s m given p (cleared written aside p) e w ⊎ IsCutShort s m given p (cleared written aside p) e w
 
-  -- some commands, and what comes behind them
-  abbrev moves_on : (p q r : Point) (gives : List Answer) (made more : List RawMessage) → MovesOn s m given p [] made q → MovesOn s m given q gives more r → MovesOn s m given p gives (made ++ more) r
-  moves_on p q r gives made more a b = record {
-    moves = a.moves + b.moves;
-    run = made_add s m (Handed given) a.moves b.moves p made q more r a.run b.run;
-    answers = b.answers ∙ ap (λ l. l ++ gives) (a.answers ∙ append-nil p.answers);
-  }
-
-  refused_behind : (p q : Point) (made : List RawMessage) (v u : Machine) → MovesOn s m given p [] made q → u.output ≡ v.output ++ command_frames made → u.version ≡ v.version → u.options ≡ v.options → (e : Error) (w : Machine) → IsRefused s m given q u e w → IsRefused s m given p v e w
-  refused_behind p q made v u a output version options e w h =
-      let moves = moves_on p q h.at [] made h.made a h.moves in
-      let frame = encoding (message.Error (error_message e)) ∷ [] in
-      record {
-        at = h.at;
-        made = made ++ h.made;
-        none_before = made_or_spent s m (Handed given) moves.moves p (made ++ h.made) h.at moves.run;
-        moves = moves;
-        why = h.why;
-        reason = h.reason;
-        related = h.related;
-        error = h.error ∙ same_rule v u (named_error h.why h.related) version options;
-        output = h.output ∙ ap (λ l. l ++ (command_frames h.made ++ frame)) output ∙ append_assoc v.output (command_frames made) (command_frames h.made ++ frame) ∙ ap (λ l. v.output ++ l) (sym (append_assoc (command_frames made) (command_frames h.made) frame) ∙ ap (λ l. l ++ frame) (sym (frames_both made h.made)));
-        failure = h.failure;
-      }
-
-  cut_behind : (p q : Point) (made : List RawMessage) (v u : Machine) → MovesOn s m given p [] made q → u.output ≡ v.output ++ command_frames made → (e : Error) (w : Machine) → IsCutShort s m given q u e w → IsCutShort s m given p v e w
-  cut_behind p q made v u a output e w h =
-      let moves = moves_on p q h.at [] made h.made a h.moves in
-      record {
-        at = h.at;
-        made = made ++ h.made;
-        none_before = made_or_spent s m (Handed given) moves.moves p (made ++ h.made) h.at moves.run;
-        moves = moves;
-        future = h.future;
-        awaits = h.awaits;
-        error = h.error;
-        output = h.output ∙ ap (λ l. l ++ command_frames h.made) output ∙ append_assoc v.output (command_frames made) (command_frames h.made) ∙ ap (λ l. v.output ++ l) (sym (frames_both made h.made));
-        failure = h.failure;
-      }
-
-  either_behind : (p q : Point) (made : List RawMessage) (v u : Machine) → MovesOn s m given p [] made q → u.output ≡ v.output ++ command_frames made → u.version ≡ v.version → u.options ≡ v.options → (e : Error) (w : Machine) → IsRefused s m given q u e w ⊎ IsCutShort s m given q u e w → IsRefused s m given p v e w ⊎ IsCutShort s m given p v e w
-  either_behind p q made v u a output version options e w h = ⊎_elim
-      (λ (x : IsRefused s m given q u e w). inl (refused_behind p q made v u a output version options e w x))
-      (λ (x : IsCutShort s m given q u e w). inr (cut_behind p q made v u a output e w x))
-      h
-
-  answered_behind : (written : List RawMessage) (p q : Point) (made : List RawMessage) (v u : Machine) → MovesOn s m given p [] made q → u.output ≡ v.output ++ command_frames made → u.proposals ≡ v.proposals → (a : Answer) (w : Machine) → Answered s m given (written ++ made) q u a w → Answered s m given written p v a w
-  answered_behind written p q made v u moved_to output kept a w h =
-      let moves = moves_on p q h.at (a ∷ []) made h.made moved_to h.moves in
-      record {
-        at = h.at;
-        made = made ++ h.made;
-        none_before = made_or_spent s m (Handed given) moves.moves p (made ++ h.made) h.at moves.run;
-        moves = moves;
-        agrees = record { aside = h.agrees.aside; machine = h.agrees.machine ∙ (λ i. machine_at s given (append_assoc written made h.made i) h.agrees.aside h.at); identity = h.agrees.identity };
-        kept = h.kept ∙ kept;
-        output = h.output ∙ ap (λ l. l ++ command_frames h.made) output ∙ append_assoc v.output (command_frames made) (command_frames h.made) ∙ ap (λ l. v.output ++ l) (sym (frames_both made h.made));
-      }
-
   cancels_behind : (written : List RawMessage) (aside : Aside) (p : Point) (ids : List (List ℕ)) (mid : Machine) (x : HasSent written aside p ids mid) (r : Result (Result AwaitResponse Error) Error) (w : Machine) → CancelsTo (written ++ x.made) x.beside x.at r w → CancelsTo written aside p r w
-  cancels_behind written aside p ids mid x (Ok (Ok CancelSignalReceived)) w h = answered_behind written p x.at x.made (cleared written aside p) (cleared (written ++ x.made) x.beside x.at) x.moves x.output x.kept answer.Cancelled w h
+  cancels_behind written aside p ids mid x (Ok (Ok CancelSignalReceived)) w h = answered_behind s m given written p x.at x.made (cleared written aside p) (cleared (written ++ x.made) x.beside x.at) x.moves x.output x.kept answer.Cancelled w h (λ none. h.rests (x.rests none))
   cancels_behind written aside p ids mid x (Ok (Ok AnyCompleted)) w h = absurd h
   cancels_behind written aside p ids mid x (Ok (Ok (WaitingExternalProgress input run))) w h = absurd h
   cancels_behind written aside p ids mid x (Ok (Ok (ExecuteRun run))) w h = absurd h
   cancels_behind written aside p ids mid x (Ok (Err e)) w h = absurd h
-  cancels_behind written aside p ids mid x (Err e) w h = either_behind p x.at x.made (cleared written aside p) (cleared (written ++ x.made) x.beside x.at) x.moves x.output refl refl e w h
+  cancels_behind written aside p ids mid x (Err e) w h = either_behind s m given p x.at x.made (cleared written aside p) (cleared (written ++ x.made) x.beside x.at) x.moves x.output refl refl e w h
 
   -- the last: the await is answered, and one result of the cancel handle is taken
   module _ (written : List RawMessage) (aside : Aside) (identity : s.identity ≡ identity_of aside.start) (p : Point) (c : Cancelling p []) where
@@ -383,6 +315,7 @@ module _ (s : Setup) (m : Meaning) (given : StateMap) (future : UnresolvedFuture
           agrees = record { aside = aside; machine = there ∙ (λ i. machine_at s given (sym (append-nil written) i) aside to); identity = identity };
           kept = ap (λ (x : Machine). x.proposals) there;
           output = ap (λ (x : Machine). x.output) there ∙ sym (append-nil aside.output);
+          rests = λ none. taken_keeps (id_at 1 p.derived.handles) (record p.derived { tracked = [] }) ∙ none;
         }
 
   cancels_to : (ids : List (List ℕ)) (written : List RawMessage) (aside : Aside) → s.identity ≡ identity_of aside.start → (p : Point) → Cancelling p ids → (r : Result (Result AwaitResponse Error) Error) (w : Machine) → Cancels ids r (cleared written aside p) w → CancelsTo written aside p r w
@@ -431,7 +364,7 @@ module _ (s : Setup) (m : Meaning) (given : StateMap) (written : List RawMessage
       (λ (x : CalledBy (Awaits (tree_of future) here) here (Failed e mid)).
       let f = settled_failed x.0 e mid (sym x.2) in
       inl (subst (λ (z : Error × Machine). IsRefused s m given p here z.0 z.1) (λ i. (sym f.3 i, sym f.4 i)) (refusal f.0 f.1 (subst Part f.2 (part_so x.0 x.1)))))
-      (λ (x : IsStarved here e mid). inr (record { at = p; made = []; none_before = inl refl; moves = no_move s m given p; future = future; awaits = is; error = x.error; output = x.output ∙ sym (append-nil aside.output); failure = x.failure ∙ ap Some (sym x.error) }))
+      (λ (x : IsStarved here e mid). inr (record { at = p; made = []; none_before = inl refl; moves = no_move s m given p; many = subst (λ st. MakesMany (ask_of s.version st)) (sym is) tt; error = x.error; output = x.output ∙ sym (append-nil aside.output); failure = x.failure ∙ ap Some (sym x.error) }))
       does
 
   -- the cancel signals are sent
@@ -453,7 +386,9 @@ module _ (s : Setup) (m : Meaning) (given : StateMap) (written : List RawMessage
       x = first_done (Ok CancelSignalReceived) mid does
 
       by_answer : (a : Result AwaitResponse Error) → CancelsTo s m given future written aside x.at (Ok a) w → Follows s m given written p here (Done (await_reply a) w)
-      by_answer (Ok CancelSignalReceived) h = answered_behind s m given future written p x.at [] here (cleared s m given future written aside x.at) x.reached.moves (sym (append-nil aside.output)) refl answer.Cancelled w (subst (λ l. Answered s m given l x.at (cleared s m given future written aside x.at) answer.Cancelled w) (sym (append-nil written)) h)
+      by_answer (Ok CancelSignalReceived) h =
+          let g = subst (λ l. Answered s m given l x.at (cleared s m given future written aside x.at) answer.Cancelled w) (sym (append-nil written)) h in
+          answered_behind s m given written p x.at [] here (cleared s m given future written aside x.at) x.reached.moves (sym (append-nil aside.output)) refl answer.Cancelled w g (λ none. g.rests (x.reached.rests none))
       by_answer (Ok AnyCompleted) h = absurd h
       by_answer (Ok (WaitingExternalProgress input run)) h = absurd h
       by_answer (Ok (ExecuteRun run)) h = absurd h
@@ -468,7 +403,7 @@ module _ (s : Setup) (m : Meaning) (given : StateMap) (written : List RawMessage
   failed_as e w (Ok (Err d), mid, does, fin) = absurd (let z : Err e ≡ Ok (Err d) = fin.0 in cc)
   failed_as e w (Ok (Ok CancelSignalReceived), mid, does, fin) =
       let x : IsGathered s m given written aside future identity queued p mid = first_done (Ok CancelSignalReceived) mid does in
-      either_behind s m given future p x.at [] here (cleared s m given future written aside x.at) x.reached.moves (sym (append-nil aside.output)) refl refl e w (whole_cancels mid (Err e) w x fin)
+      either_behind s m given p x.at [] here (cleared s m given future written aside x.at) x.reached.moves (sym (append-nil aside.output)) refl refl e w (whole_cancels mid (Err e) w x fin)
 
   -- an await does what its moves lead to
   pub awaits_follow : (o : Outcome Reply) → Awaited future here o → Follows s m given written p here o

@@ -1,8 +1,9 @@
 -- What a step keeps of why an attempt failed, and what its error is.
 use Rattle.vm_model.specs.Histories.{Handed}
 use Rattle.std.proofs.Common.{◌≡◌, ◌≢◌, ◌⊎◌, ◌+◌, Bool, true, false, List, [], ◌∷◌, ◌++◌, Option, Some, None, Result, Ok, Err, refl, sym, ap, ◌∙◌, subst, inl, inr, ⊎_elim, append-nil, Global}
-use Rattle.std.specs.Prelude.{◌==◌, if◌then◌else◌, unwrap_or}
+use Rattle.std.specs.Prelude.{◌==◌, ℕ, ◌≤◌, length, drop, if◌then◌else◌, unwrap_or}
 use Rattle.std.proofs.lemmas.Option.{same_Some}
+use Rattle.std.specs.Result.{result_err}
 use Rattle.journal_attempt.specs.declared.commands.InputCommand.{InputCommand}
 use Rattle.journal_errors.specs.declared.error.Error.{Error}
 use Rattle.journal_errors.specs.declared.faults.NamedFault.{NamedFault}
@@ -21,7 +22,15 @@ use Rattle.vm_machine.specs.declared.machine.Machine.{Machine}
 use Rattle.vm_machine.specs.declared.phase.Phase.{Phase}
 use Rattle.vm_machine.specs.declared.phase.Phase.TheVariants.{WaitingStart, WaitingReplayEntries, Replaying, Processing, Closed}
 use Rattle.vm_machine.specs.Commands.{entered, phase_after, popped, popped_from}
-use Rattle.vm_machine.specs.Inputs.{coverage_of, input_at, input_counted, input_read, input_step}
+use Rattle.vm_machine.specs.Inputs.{coverage_of, input_at, input_by, input_counted, input_numbered, input_past, input_read, input_step}
+use Rattle.vm_machine.specs.Skips.{counters_past, skipped, skips_replay}
+use Rattle.vm_machine.proofs.Skipping.{counted_is, past_handle, popped_input}
+use Rattle.vm_asks.specs.Carried.{past_all}
+use Rattle.vm_parts.specs.declared.context.Counters.{Counters}
+use Rattle.vm_parts.specs.Counting.{fresh_counters}
+use Rattle.vm_types.specs.declared.options.JournalReplay.{JournalReplay}
+use Rattle.vm_types.specs.declared.options.JournalReplay.TheVariants.{Enabled, Disabled}
+use Rattle.vm_types.specs.declared.values.Input.{Input}
 use Rattle.vm_machine.specs.Making.{fresh}
 use Rattle.vm_machine.specs.Outcomes.{DoesBy, IsStarved, Outcome, Done, Failed, ◌>>=◌, about_last, called, called_at, failed, ruled, settled}
 use Rattle.vm_machine.specs.Phases.{is_closed, is_running}
@@ -35,8 +44,8 @@ use Rattle.vm_steps.specs.declared.progress.Progress.TheVariants as progress
 use Rattle.vm_steps.specs.declared.progress.Reply.{Reply}
 use Rattle.vm_steps.specs.declared.progress.Reply.TheVariants as reply
 use Rattle.vm_rounds.specs.Agreement.{IsCutShort, IsRefused}
-use Rattle.vm_rounds.specs.Blames.{Blame, BlamedAt, IfError, IsBlamed, LacksInput, RefusedCall, first_input}
-use Rattle.vm_rounds.specs.Blames.Blame.{Memory, NoInput, Call}
+use Rattle.vm_rounds.specs.Blames.{Blame, BlamedAt, CannotSkip, IfError, IsBlamed, LacksInput, RefusedCall, first_input, skip_fault}
+use Rattle.vm_rounds.specs.Blames.Blame.{Memory, NoInput, NoSkip, Call}
 use Rattle.vm_rounds.specs.Journals.{BeginsOrFails, HasAll, StillWaits, commands_among, machine_fed, missing, notifications_among, setup_for}
 use Rattle.vm_steps.specs.Record.{Record, Said, all_said, heard}
 use Rattle.vm_steps.specs.Stepping.{Advances, Asks, LacksMemory, Reads, StepAt, StepDoes, StepFrom, StepUnless, step_asked, future_in, progress_of}
@@ -44,8 +53,7 @@ use Rattle.vm_steps.specs.Stepping as stepping
 use Rattle.vm_steps.specs.Steps.{Performs}
 use Rattle.vm_rounds.specs.Told.{BeforeInput, Begun, Came, Comes, HasCome, IsKeptUnder, IsLive, Premises, Runs, begun, frames_fed, handed_out}
 use Rattle.vm_rounds.proofs.Advanced.{runs_of}
-use Rattle.vm_rounds.proofs.Ahead.{Fewer, fewer_same}
-use Rattle.vm_rounds.proofs.Beginning.{input_begins}
+use Rattle.vm_rounds.proofs.Ahead.{Fewer, ahead, ahead_in, fewer_same}
 use Rattle.vm_rounds.proofs.Blamed.{alive_blamed, over_blamed}
 use Rattle.vm_rounds.proofs.Following.{agreeing_follows}
 use Rattle.vm_rounds.proofs.Sending.{IsLeft, step_leaves}
@@ -109,6 +117,28 @@ unfolding popped
 counted_opens (Some name) v = tt
 counted_opens None v = popped_opens v.commands v (entered type.InputCommand [] v) refl (fewer_same v)
 
+-- no handle is given, and no run is called, where the commands behind the input are skipped
+skipped_opens : (counters : Counters) (v : Machine) → counters.handle ≡ v.counters.handle → (o : Outcome Input) → input_counted None v ≡ o → Opens v (o >>= λ input w. Done input (skipped counters w))
+skipped_opens counters v handles (Failed e w) is = tt
+skipped_opens counters v handles (Done input w) is =
+    let p = counted_is None v input w is in (
+      ap (λ (x : Machine). x.failure) p.left,
+      refl,
+      λ handle. subst (λ n. n ≤ ahead handle v) (λ i. ahead_in handle (sym (ap (λ (x : Machine). x.runs) p.left) i) (sym handles i)) (fewer_same v handle),
+    )
+
+numbered_opens : (dropped id : ℕ) (v : Machine) (r : Result Counters NamedFault) → counters_past dropped id v.counters ≡ r → Opens v (input_numbered r v)
+numbered_opens dropped id v (Err name) is = tt
+numbered_opens dropped id v (Ok counters) is = skipped_opens counters v (past_handle dropped id v.counters counters is) (input_counted None v) refl
+
+past_opens : (o : Option ℕ) (v : Machine) → Opens v (input_past o v)
+past_opens None v = tt
+past_opens (Some id) v = numbered_opens (length (drop 1 v.commands)) id v (counters_past (length (drop 1 v.commands)) id v.counters) refl
+
+by_opens : (b : Bool) (v : Machine) → Opens v (input_by b v)
+by_opens false v = counted_opens (lacking 0 0 0 v.counters) v
+by_opens true v = past_opens (past_all v.counters.completion (drop 1 v.commands)) v
+
 pub input_opens : (v : Machine) → Opens v (input_step v)
 unfolding input_step
 input_opens v = by_phase v.phase
@@ -116,23 +146,40 @@ input_opens v = by_phase v.phase
     by_phase : (ph : Phase) → Opens v (input_at ph v)
     by_phase WaitingStart = tt
     by_phase WaitingReplayEntries = tt
-    by_phase Replaying = counted_opens (lacking 0 0 0 v.counters) v
+    by_phase Replaying = by_opens (skips_replay v.options.journal_replay) v
     by_phase Processing = tt
     by_phase Closed = tt
 
--- an input that isn't read: the journal has none
+-- an input that isn't read: the first command is none
+counted_lacks : (cs : List RawMessage) (v : Machine) → v.commands ≡ cs → (d : Error) (u : Machine) → input_counted None v ≡ Failed d u → first_input cs ≡ None
+unfolding popped
+counted_lacks cs v at d u h = from cs (subst (λ l. (popped_from l type.InputCommand (entered type.InputCommand [] v) >>= λ raw w. input_read (input_in raw.body) w) ≡ Failed d u) at h)
+  where
+    from : (cs : List RawMessage) → (popped_from cs type.InputCommand (entered type.InputCommand [] v) >>= λ raw w. input_read (input_in raw.body) w) ≡ Failed d u → first_input cs ≡ None
+    from [] h = refl
+    from (raw ∷ rest) h = by_type (type_number raw.ty == type_number type.InputCommand) h
+      where
+        w : Machine
+        w = popped_input rest v
+
+        by_input : (o : Option InputCommand) → input_read o w ≡ Failed d u → o ≡ None
+        by_input None h = refl
+        by_input (Some c) h = absurd (cc)
+
+        by_type : (b : Bool) → ((if b then Done raw w else Failed (about_last fault.CommandTypeMismatch w) w) >>= λ raw x. input_read (input_in raw.body) x) ≡ Failed d u → (if b then input_in raw.body else None) ≡ None
+        by_type true h = by_input (input_in raw.body) h
+        by_type false h = refl
+
+-- recorded commands are skipped
+skips_disabled : (option : JournalReplay) → skips_replay option ≡ true → option ≡ Disabled
+skips_disabled Enabled h = absurd (cc)
+skips_disabled Disabled h = refl
+
+-- an input that isn't read: the journal has none, or its commands can't be skipped
 read_lacks : (version : Version) (options : VMOptions) (fed : Heard) (v : Machine) (b : Begun version options fed v) (h : HasAll (setup_for version options b.start) (record { entries = b.state; coverage = coverage_of b.start.partial }) b.aside b.start.known_entries [] [] b.others v)
-    → (d : Error) (u : Machine) → input_step v ≡ Failed d u → (cs : List RawMessage) → commands_among h.entries ≡ cs → LacksInput (frames_fed fed)
-read_lacks version options fed v b h d u is cs e = record {
-  first = b.first_frame;
-  entries = h.entries;
-  others = h.others;
-  is = b.frames ∙ ap (λ l. b.first_frame ∷ l) h.split;
-  start = b.start;
-  reads = b.reads_start;
-  count = h.count;
-  none = ap first_input e ∙ none_in cs e;
-}
+    → (d : Error) (u : Machine) → input_step v ≡ Failed d u → LacksInput (frames_fed fed) ⊎ CannotSkip options (frames_fed fed)
+unfolding input_step
+read_lacks version options fed v b h d u is = fails (sym (ap input_step h.machine) ∙ is)
   where
     s : Setup
     s = setup_for version options b.start
@@ -140,27 +187,51 @@ read_lacks version options fed v b h d u is cs e = record {
     given : StateMap
     given = record { entries = b.state; coverage = coverage_of b.start.partial }
 
-    none_in : (cs : List RawMessage) → commands_among h.entries ≡ cs → first_input cs ≡ None
-    none_in [] e = refl
-    none_in (first ∷ rest) e =
-        let at : v ≡ machine_fed s given (missing 0 b.aside) (first ∷ rest) (notifications_among b.others) Replaying = h.machine ∙ λ j. machine_fed s given (missing 0 b.aside) (e j) (notifications_among b.others) Replaying in
-        by_input (input_read_from first) refl (subst (BeginsOrFails s given (missing 0 b.aside) rest (notifications_among b.others) (input_read_from first)) (sym (ap input_step at) ∙ is) (input_begins s given (missing 0 b.aside) first rest (notifications_among b.others) (ap identity_of (sym b.of_start))))
-      where
-        by_input : (o : Option InputCommand) → input_read_from first ≡ o → BeginsOrFails s given (missing 0 b.aside) rest (notifications_among b.others) o (Failed d u) → input_read_from first ≡ None
-        by_input None reads g = reads
-        by_input (Some c) reads g = absurd g
+    cs : List RawMessage
+    cs = commands_among h.entries
+
+    x : Machine
+    x = machine_fed s given (missing 0 b.aside) cs (notifications_among b.others) Replaying
+
+    frames : frames_fed fed ≡ b.first_frame ∷ (h.entries ++ h.others)
+    frames = b.frames ∙ ap (λ l. b.first_frame ∷ l) h.split
+
+    lacks : input_counted None x ≡ Failed d u → LacksInput (frames_fed fed) ⊎ CannotSkip options (frames_fed fed)
+    lacks e = inl (record { first = b.first_frame; entries = h.entries; others = h.others; is = frames; start = b.start; reads = b.reads_start; count = h.count; none = counted_lacks cs x refl d u e })
+
+    cannot : skips_replay options.journal_replay ≡ true → (why : NamedFault) → skip_fault (length (drop 1 cs)) (past_all 1 (drop 1 cs)) ≡ Some why → LacksInput (frames_fed fed) ⊎ CannotSkip options (frames_fed fed)
+    cannot skips why reason = inr (record { skips = skips_disabled options.journal_replay skips; first = b.first_frame; entries = h.entries; others = h.others; is = frames; start = b.start; reads = b.reads_start; count = h.count; why = why; reason = reason })
+
+    behind_input : (counters : Counters) (o : Outcome Input) → input_counted None x ≡ o → (o >>= λ input w. Done input (skipped counters w)) ≡ Failed d u → input_counted None x ≡ Failed d u
+    behind_input counters (Done input w) at e = absurd (cc)
+    behind_input counters (Failed f w) at e = at ∙ e
+
+    by_counters : skips_replay options.journal_replay ≡ true → (id : ℕ) → past_all 1 (drop 1 cs) ≡ Some id → (r : Result Counters NamedFault) → counters_past (length (drop 1 cs)) id fresh_counters ≡ r → input_numbered r x ≡ Failed d u → LacksInput (frames_fed fed) ⊎ CannotSkip options (frames_fed fed)
+    by_counters skips id past (Err name) counts e = cannot skips name (ap (skip_fault (length (drop 1 cs))) past ∙ ap result_err counts)
+    by_counters skips id past (Ok counters) counts e = lacks (behind_input counters (input_counted None x) refl e)
+
+    by_past : skips_replay options.journal_replay ≡ true → (o : Option ℕ) → past_all 1 (drop 1 cs) ≡ o → input_past o x ≡ Failed d u → LacksInput (frames_fed fed) ⊎ CannotSkip options (frames_fed fed)
+    by_past skips None past e = cannot skips fault.BadMessage (ap (skip_fault (length (drop 1 cs))) past)
+    by_past skips (Some id) past e = by_counters skips id past (counters_past (length (drop 1 cs)) id fresh_counters) refl e
+
+    by_skip : (b : Bool) → skips_replay options.journal_replay ≡ b → input_by b x ≡ Failed d u → LacksInput (frames_fed fed) ⊎ CannotSkip options (frames_fed fed)
+    by_skip false skips e = lacks e
+    by_skip true skips e = by_past skips (past_all 1 (drop 1 cs)) refl e
+
+    fails : input_step x ≡ Failed d u → LacksInput (frames_fed fed) ⊎ CannotSkip options (frames_fed fed)
+    fails e = by_skip (skips_replay options.journal_replay) refl e
 
 waits_not : {A : Type 0} (v : Machine) → is_running v.phase ≡ true → is_running v.phase ≡ false → A
 waits_not v runs not_yet = absurd (let z : true ≡ false = sym runs ∙ not_yet in cc)
 
-input_lacks : (version : Version) (options : VMOptions) (fed : Heard) (v : Machine) → is_running v.phase ≡ true → (d : Error) (u : Machine) → input_step v ≡ Failed d u → Comes version options fed v → LacksInput (frames_fed fed)
+input_lacks : (version : Version) (options : VMOptions) (fed : Heard) (v : Machine) → is_running v.phase ≡ true → (d : Error) (u : Machine) → input_step v ≡ Failed d u → Comes version options fed v → LacksInput (frames_fed fed) ⊎ CannotSkip options (frames_fed fed)
 input_lacks version options fed v runs d u is =
     ⊎_elim
     (λ (x : (frames_fed fed ≡ []) × ((alloc : Global) × (v ≡ fresh alloc version options))). waits_not v runs (ap (λ (z : Machine). is_running z.phase) x.1.1))
     (λ (b : Begun version options fed v).
     ⊎_elim
     (λ (x : StillWaits (setup_for version options b.start) (record { entries = b.state; coverage = coverage_of b.start.partial }) b.aside b.start.known_entries [] [] b.others v). waits_not v runs (ap (λ (z : Machine). is_running z.phase) x.machine))
-    (λ (x : HasAll (setup_for version options b.start) (record { entries = b.state; coverage = coverage_of b.start.partial }) b.aside b.start.known_entries [] [] b.others v). read_lacks version options fed v b x d u is (commands_among x.entries) refl)
+    (λ (x : HasAll (setup_for version options b.start) (record { entries = b.state; coverage = coverage_of b.start.partial }) b.aside b.start.known_entries [] [] b.others v). read_lacks version options fed v b x d u is)
     b.waits)
 
 reads_blamed : (m : Meaning) (version : Version) (options : VMOptions) (old : Record) (result : Result Progress Error) (new : Record) → BeforeInput version options (heard version old) old.answers old.waiting old.taken old.vm → IsLive old.vm.machine → Reads old result new → IsBlamed m version options new
@@ -172,7 +243,8 @@ reads_blamed m version options old (Err e) new b live (w, does, is) =
     (⊎_elim
     (λ (x : called (input_step old.vm.machine) old.vm.machine ≡ Failed e w.machine).
     let f = called_failed old.vm.machine (input_step old.vm.machine) e w.machine live.failure x in
-    error_blamed m version options _ _ _ _ w.machine e f.0 (NoInput (input_lacks version options (heard version old) old.vm.machine live.phase f.1.0 f.1.1 f.1.2 (b.comes live.failure))))
+    error_blamed m version options _ _ _ _ w.machine e f.0
+    (⊎_elim (λ (y : LacksInput (frames_fed (heard version old))). NoInput y) (λ (y : CannotSkip options (frames_fed (heard version old))). NoSkip y) (input_lacks version options (heard version old) old.vm.machine live.phase f.1.0 f.1.1 f.1.2 (b.comes live.failure))))
     (λ (x : IsStarved old.vm.machine e w.machine). starves m version options old w e live.failure x)
     does.0)
   where
@@ -205,7 +277,7 @@ module _ (m : Meaning) (version : Version) (options : VMOptions) (r : Record) (u
       ⊎_elim
       (λ (x : IsRefused (setup_for version options k.journal.start) m (handed_out k.journal) k.at r.vm.machine e w.machine). inr (refused_call e x))
       (λ (x : IsCutShort (setup_for version options k.journal.start) m (handed_out k.journal) k.at r.vm.machine e w.machine). inl x.error)
-      (agreeing_follows (setup_for version options k.journal.start) m (handed_out k.journal) k.written r.vm.machine k.at (Failed e w.machine) (λ future _. (under.queues, under.once k.journal k.moves k.written k.at k.run)) (k.agrees live) (subst (λ q. Performs q r.vm.machine (Failed e w.machine)) same does) (tt {0}))
+      (agreeing_follows (setup_for version options k.journal.start) m (handed_out k.journal) k.written r.vm.machine k.at (Failed e w.machine) (λ future _. (under.queues, under.once k.journal k.moves k.written k.at k.run)) (k.rests live) (k.agrees live) (subst (λ q. Performs q r.vm.machine (Failed e w.machine)) same does) (tt {0}))
 
 asks_blamed : (m : Meaning) (version : Version) (options : VMOptions) (old : Record) (result : Result Progress Error) (new : Record) → (Premises m version options (heard version old) → Runs m version options (heard version old) old.answers old.waiting old.taken old.vm) → IsLive old.vm.machine → Asks m old result new → IsBlamed m version options new
 asks_blamed m version options old result new runs live (x, w, does, is, made) = subst (IsBlamed m version options) (sym is) (by_reply x (step_leaves (step_asked m old) old.vm.machine live x w.machine does.0.0) does.0.0)

@@ -55,6 +55,7 @@ use Rattle.vm_rounds.proofs.Advanced.{done_of}
 use Rattle.vm_rounds.proofs.Ahead.{Fewer, LivesOn, ended_fewer, fewer_same}
 use Rattle.vm_rounds.proofs.Blamed.{alive_blamed, none_some, over_blamed}
 use Rattle.vm_rounds.proofs.Erring.{error_blamed}
+use Rattle.vm_rounds.proofs.Fresh.{on_still}
 use Rattle.vm_rounds.proofs.Kept.{dead_same}
 use Rattle.vm_rounds.proofs.Lasting.{CameBy, came_last, runs_last}
 use Rattle.vm_rounds.proofs.Placing.{come_stands}
@@ -382,6 +383,7 @@ module _ (version : Version) (options : VMOptions) (fed : Heard) (answers : List
           let frames = c.journal.entries ++ c.journal.others in
           (ap (λ l. l ++ more) k.0 ∙ sym (kept_more fed.proposed more frames k.1), found_more fed.proposed more frames k.1);
       early = λ _. inr processing;
+      fresh = λ skips. on_still (c.journal.first ∷ c.journal.rest) c.written vm.machine after.machine (c.fresh skips) (λ _. refl) (λ _. live);
       phase = λ _. inl live.phase;
       tail = λ _. c.tail live;
     }
@@ -416,6 +418,7 @@ module _ (version : Version) (options : VMOptions) (fed : Heard) (answers : List
             machine = ap (proposed_in handle more (proposal id result)) a.machine;
             identity = a.identity;
           };
+      rests = λ _. k.rests live;
       keeps = λ _.
           let kept = k.keeps live in
           let frames = k.journal.entries ++ k.journal.others in

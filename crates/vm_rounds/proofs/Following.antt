@@ -32,7 +32,7 @@ use Rattle.vm_machine.specs.Inputs.{end_at}
 use Rattle.vm_machine.specs.Outcomes.{Outcome, Done, called, refused, ruled}
 use Rattle.vm_machine.specs.Phases.{state_fault}
 use Rattle.vm_machine.specs.Signals.{awakeable_counted, awakeable_id, awakeable_step, signal_counted, signal_step}
-use Rattle.invocation_vm.specs.Calls.{skips_replay}
+use Rattle.vm_machine.specs.Skips.{skips_replay}
 use Rattle.vm_model.specs.Calls.{Setup, Meaning, Derived, Move, asked, awakeable_made, call_of, making_awakeable, has_result_in, identity_of, ready_in, result_taken, signal_made, taking, value_noted, value_taken}
 use Rattle.vm_model.specs.Calls.Usage.{Taken}
 use Rattle.vm_model.specs.Calls.Move.{Ends}
@@ -49,7 +49,9 @@ use Rattle.vm_rounds.proofs.Leading.{error_written, follows_from, no_move, open_
 use Rattle.vm_rounds.proofs.Own.{AsksCommand, asks_command}
 use Rattle.vm_rounds.proofs.Reading.{reads_follow}
 use Rattle.vm_rounds.proofs.Requesting.{runs_at}
+use Rattle.vm_model.proofs.Parts.{IsOfOne}
 use Rattle.vm_rounds.proofs.Cancelling.{awaits_follow}
+use Rattle.vm_rounds.proofs.Several.{several_follow}
 use Rattle.vm_rounds.proofs.Commanding.{LeadsOn, answers, commands_follow, event_done, refuses, refuses_here}
 
 -- ---- takes
@@ -137,10 +139,10 @@ ends s m given written aside p is (c ∷ left) e =
 
 -- ---- all calls
 
-completes : (s : Setup) (m : Meaning) (given : StateMap) (written : List RawMessage) (aside : Aside) (p : Point) (h : NotificationHandle) → s.identity ≡ identity_of aside.start → move_at s m p ≡ asked s (ask.Completed h) p.derived → Follows s m given written p (machine_at s given written aside p) (completed h (machine_at s given written aside p))
+completes : (s : Setup) (m : Meaning) (given : StateMap) (written : List RawMessage) (aside : Aside) (p : Point) (h : NotificationHandle) → s.identity ≡ identity_of aside.start → IsOfOne (ask_of s.version (m p.answers)) → move_at s m p ≡ asked s (ask.Completed h) p.derived → Follows s m given written p (machine_at s given written aside p) (completed h (machine_at s given written aside p))
 unfolding called
-completes s m given written aside p h identity is =
-    rw (runs_at p.left) (follows_from s m given written aside p answer.Completed (asked s (ask.Completed h) p.derived) (Done (has_result_in s h p.derived) (machine_at s given written aside p)) identity is (answers s given written aside p answer.Completed (has_result_in s h p.derived) p.derived))
+completes s m given written aside p h identity one is =
+    rw (runs_at p.left) (follows_from s m given written aside p answer.Completed (asked s (ask.Completed h) p.derived) (Done (has_result_in s h p.derived) (machine_at s given written aside p)) identity one is (answers s given written aside p answer.Completed (has_result_in s h p.derived) p.derived))
 
 -- the steps that ask for an await, or for the end
 awaits_asked : (version : Version) (st : Step) (future : UnresolvedFuture) → ask_of version st ≡ ask.Await future → st ≡ step.Await future
@@ -160,44 +162,45 @@ abbrev pub IfAwaiting : Setup → Meaning → Point → Type 0
 IfAwaiting s m p = (future : UnresolvedFuture) → IsAwaiting m p future → (s.options.signal_delivery ≡ Queued) × HasNoTwo p
 
 -- what is asked for, in a machine that agrees with a point
-asked_follows : (s : Setup) (m : Meaning) (given : StateMap) (written : List RawMessage) (aside : Aside) (p : Point) → s.identity ≡ identity_of aside.start → IfAwaiting s m p → (a : Ask) → ask_of s.version (m p.answers) ≡ a → AsksCommand a → (o : Outcome Reply) → PerformsBy a (machine_at s given written aside p) o → IfDone o (IsReadable a (machine_at s given written aside p)) → Follows s m given written p (machine_at s given written aside p) o
-asked_follows s m given written aside p identity awaits (ask.Command c) is command o does whole =
+asked_follows : (s : Setup) (m : Meaning) (given : StateMap) (written : List RawMessage) (aside : Aside) (p : Point) → s.identity ≡ identity_of aside.start → IfAwaiting s m p → p.derived.parts ≡ 0 → (a : Ask) → ask_of s.version (m p.answers) ≡ a → AsksCommand a → (o : Outcome Reply) → PerformsBy a (machine_at s given written aside p) o → IfDone o (IsReadable a (machine_at s given written aside p)) → Follows s m given written p (machine_at s given written aside p) o
+asked_follows s m given written aside p identity awaits rests (ask.Command c) is command o does whole =
     let v = machine_at s given written aside p in
     comes_so s m given written aside p (IsReadable (ask.Command c) v) o (carried c v) does
-    (λ (here : IfDone (carried c v) (IsReadable (ask.Command c) v)). follows_from s m given written aside p (command_answer c.message) _ _ identity (ap (λ a. asked s a p.derived) is) (commands_follow s given written aside p c command c.refusal (event_done _ _ s given written aside p _ here))) whole
-asked_follows s m given written aside p identity awaits ask.Awakeable is command o does whole =
+    (λ (here : IfDone (carried c v) (IsReadable (ask.Command c) v)). follows_from s m given written aside p (command_answer c.message) _ _ identity (subst IsOfOne (sym is) tt) (ap (λ a. asked s a p.derived) is) (commands_follow s given written aside p c command c.refusal (event_done _ _ s given written aside p _ here))) whole
+asked_follows s m given written aside p identity awaits rests (ask.Commands kind first second) is command o does whole = several_follow s m given written aside p kind first second identity rests is command o does
+asked_follows s m given written aside p identity awaits rests ask.Awakeable is command o does whole =
     let v = machine_at s given written aside p in
     comes_so s m given written aside p (IsReadable ask.Awakeable v) o (made_awakeable v) does
-    (λ _. follows_from s m given written aside p answer.Awakeable _ _ identity (ap (λ a. asked s a p.derived) is) (makes_awakeable s given written aside p identity (skips_replay s.options.journal_replay))) whole
-asked_follows s m given written aside p identity awaits (ask.Read r) is command o does whole =
+    (λ _. follows_from s m given written aside p answer.Awakeable _ _ identity (subst IsOfOne (sym is) tt) (ap (λ a. asked s a p.derived) is) (makes_awakeable s given written aside p identity (skips_replay s.options.journal_replay))) whole
+asked_follows s m given written aside p identity awaits rests (ask.Read r) is command o does whole =
     let v = machine_at s given written aside p in
     comes_so s m given written aside p (IsReadable (ask.Read r) v) o (read_made r v) does
-    (λ (here : IfDone (read_made r v) (IsReadable (ask.Read r) v)). follows_from s m given written aside p answer.Handle _ _ identity (ap (λ a. asked s a p.derived) is) (reads_follow s given written aside r p (event_done _ _ s given written aside p _ here))) whole
-asked_follows s m given written aside p identity awaits (ask.Signal name) is command o does whole =
+    (λ (here : IfDone (read_made r v) (IsReadable (ask.Read r) v)). follows_from s m given written aside p answer.Handle _ _ identity (subst IsOfOne (sym is) tt) (ap (λ a. asked s a p.derived) is) (reads_follow s given written aside r p (event_done _ _ s given written aside p _ here))) whole
+asked_follows s m given written aside p identity awaits rests (ask.Signal name) is command o does whole =
     let v = machine_at s given written aside p in
     comes_so s m given written aside p (IsReadable (ask.Signal name) v) o (signalled name v) does
-    (λ _. follows_from s m given written aside p answer.Handle _ _ identity (ap (λ a. asked s a p.derived) is) (makes_signal s given written aside p name)) whole
-asked_follows s m given written aside p identity awaits (ask.Await future) is command o does whole =
+    (λ _. follows_from s m given written aside p answer.Handle _ _ identity (subst IsOfOne (sym is) tt) (ap (λ a. asked s a p.derived) is) (makes_signal s given written aside p name)) whole
+asked_follows s m given written aside p identity awaits rests (ask.Await future) is command o does whole =
     let here = awaits_asked s.version (m p.answers) future is in
     let so = awaits future here in
     awaits_follow s m given written aside p future identity here so.0 so.1 o does
-asked_follows s m given written aside p identity awaits (ask.Take h) is command o does whole =
+asked_follows s m given written aside p identity awaits rests (ask.Take h) is command o does whole =
     let v = machine_at s given written aside p in
     comes_so s m given written aside p (IsReadable (ask.Take h) v) o (taken h v) does
-    (λ _. follows_from s m given written aside p answer.Taken _ _ identity (ap (λ a. asked s a p.derived) is) (takes_follow s given written aside p h)) whole
-asked_follows s m given written aside p identity awaits (ask.Completed h) is command o does whole =
+    (λ _. follows_from s m given written aside p answer.Taken _ _ identity (subst IsOfOne (sym is) tt) (ap (λ a. asked s a p.derived) is) (takes_follow s given written aside p h)) whole
+asked_follows s m given written aside p identity awaits rests (ask.Completed h) is command o does whole =
     let v = machine_at s given written aside p in
     comes_so s m given written aside p (IsReadable (ask.Completed h) v) o (completed h v) does
-    (λ _. completes s m given written aside p h identity (ap (λ a. asked s a p.derived) is)) whole
-asked_follows s m given written aside p identity awaits ask.End is command o does whole =
+    (λ _. completes s m given written aside p h identity (subst IsOfOne (sym is) tt) (ap (λ a. asked s a p.derived) is)) whole
+asked_follows s m given written aside p identity awaits rests ask.End is command o does whole =
     let v = machine_at s given written aside p in
     comes_so s m given written aside p (IsReadable ask.End v) o (ended v) does
     (λ _. ends s m given written aside p (end_asked s.version (m p.answers) is) p.left refl) whole
 
 -- In a machine that agrees with a point, the handler's call does what the moves from there lead to.
-call_follows : (s : Setup) (m : Meaning) (given : StateMap) (written : List RawMessage) (aside : Aside) (p : Point) → s.identity ≡ identity_of aside.start → IfAwaiting s m p → (o : Outcome Reply) → Performs (m p.answers) (machine_at s given written aside p) o → IfDone o (ReadsBack (m p.answers) (machine_at s given written aside p)) → Follows s m given written p (machine_at s given written aside p) o
-call_follows s m given written aside p identity awaits = asked_follows s m given written aside p identity awaits (ask_of s.version (m p.answers)) refl (asks_command s.version (m p.answers))
+call_follows : (s : Setup) (m : Meaning) (given : StateMap) (written : List RawMessage) (aside : Aside) (p : Point) → s.identity ≡ identity_of aside.start → IfAwaiting s m p → p.derived.parts ≡ 0 → (o : Outcome Reply) → Performs (m p.answers) (machine_at s given written aside p) o → IfDone o (ReadsBack (m p.answers) (machine_at s given written aside p)) → Follows s m given written p (machine_at s given written aside p) o
+call_follows s m given written aside p identity awaits rests = asked_follows s m given written aside p identity awaits rests (ask_of s.version (m p.answers)) refl (asks_command s.version (m p.answers))
 
-pub agreeing_follows : (s : Setup) (m : Meaning) (given : StateMap) (written : List RawMessage) (v : Machine) (p : Point) (o : Outcome Reply) → IfAwaiting s m p → Agrees s given written v p → Performs (m p.answers) v o → IfDone o (ReadsBack (m p.answers) v) → Follows s m given written p v o
-agreeing_follows s m given written v p o awaits a does whole =
-    rw a.machine (call_follows s m given written a.aside p a.identity awaits o (subst (λ (x : Machine). Performs (m p.answers) x o) a.machine does) (subst (λ (x : Machine). IfDone o (ReadsBack (m p.answers) x)) a.machine whole))
+pub agreeing_follows : (s : Setup) (m : Meaning) (given : StateMap) (written : List RawMessage) (v : Machine) (p : Point) (o : Outcome Reply) → IfAwaiting s m p → p.derived.parts ≡ 0 → Agrees s given written v p → Performs (m p.answers) v o → IfDone o (ReadsBack (m p.answers) v) → Follows s m given written p v o
+agreeing_follows s m given written v p o awaits rests a does whole =
+    rw a.machine (call_follows s m given written a.aside p a.identity awaits rests o (subst (λ (x : Machine). Performs (m p.answers) x o) a.machine does) (subst (λ (x : Machine). IfDone o (ReadsBack (m p.answers) x)) a.machine whole))

@@ -1,6 +1,6 @@
 -- What lasts of a handler that runs: its run is told, and so is what came and was written.
 use Rattle.vm_model.specs.Histories.{Handed}
-use Rattle.std.proofs.Common.{◌≡◌, ℕ, true, List, [], ◌∷◌, ◌++◌, Option, None, sym, ap, ◌∙◌, inl, inr, ⊎_elim}
+use Rattle.std.proofs.Common.{◌≡◌, ℕ, true, List, [], ◌∷◌, ◌++◌, Option, None, refl, sym, ap, ◌∙◌, inl, inr, ⊎_elim}
 use Rattle.std.specs.Prelude.{IsSome}
 use Rattle.std.specs.List.{concat}
 use Rattle.journal_messages.specs.declared.message.RawMessage.{RawMessage}
@@ -28,6 +28,7 @@ use Rattle.vm_rounds.proofs.Quiet.{input_quiet, wrote_quiet}
 use Rattle.vm_rounds.specs.Blames.{FailsAt}
 use Rattle.vm_rounds.proofs.Blaming.{frames_fit}
 use Rattle.vm_rounds.proofs.Staying.{all_stay, no_failure}
+use Rattle.vm_rounds.proofs.Fresh.{all_same, on_over, on_still}
 use Rattle.vm_rounds.proofs.Kept.{Lasts, Reading, not_live}
 use Rattle.vm_rounds.proofs.Written.{takes_wrote}
 
@@ -44,6 +45,7 @@ runs_dead m version options fed to G frames answers waiting taken v w k q dead =
   answers = k.answers;
   awaits = still_awaits m k.at (more_arrivals k.journal G) waiting k.awaits;
   agrees = λ alive. not_failed w.machine dead alive.failure;
+  rests = λ alive. not_failed w.machine dead alive.failure;
   keeps = λ alive. not_failed w.machine dead alive.failure;
   phase = λ alive. not_failed w.machine dead alive;
   tail = λ alive. not_failed w.machine dead alive.failure;
@@ -61,6 +63,7 @@ runs_closed m version options fed answers waiting taken v w k q closed = record 
   answers = k.answers;
   awaits = k.awaits;
   agrees = λ live. not_live w.machine closed live;
+  rests = λ live. not_live w.machine closed live;
   keeps = λ live. not_live w.machine closed live;
   phase = λ alive. inr closed;
   tail = λ live. not_live w.machine closed live;
@@ -83,6 +86,7 @@ runs_takes m version options fed answers waiting taken v f k = record {
   answers = k.answers;
   awaits = k.awaits;
   agrees = λ live. agrees_emptied (setup_for version options k.journal.start) (handed_out k.journal) k.written v.machine k.at (k.agrees (record { failure = live.failure; phase = live.phase }));
+  rests = λ live. k.rests (record { failure = live.failure; phase = live.phase });
   keeps = λ live. k.keeps (record { failure = live.failure; phase = live.phase });
   phase = k.phase;
   tail = λ live. k.tail (record { failure = live.failure; phase = live.phase });
@@ -99,6 +103,7 @@ runs_closes m version options fed answers waiting taken v k = record {
   answers = k.answers;
   awaits = k.awaits;
   agrees = λ live. agrees_closed (setup_for version options k.journal.start) (handed_out k.journal) k.written v.machine k.at (k.agrees (record { failure = live.failure; phase = live.phase }));
+  rests = λ live. k.rests (record { failure = live.failure; phase = live.phase });
   keeps = λ live. k.keeps (record { failure = live.failure; phase = live.phase });
   phase = k.phase;
   tail = λ live. k.tail (record { failure = live.failure; phase = live.phase });
@@ -130,6 +135,7 @@ came_dead version options fed to G frames answers waiting taken v w k q dead = r
   made_for = λ alive. not_failed w.machine dead alive.failure;
   keeps = λ alive. not_failed w.machine dead alive.failure;
   early = λ alive. not_failed w.machine dead alive.failure;
+  fresh = λ skips. on_over (k.journal.first ∷ k.journal.rest) k.written v.machine w.machine (k.fresh skips) (λ alive. not_failed w.machine dead alive.failure);
   phase = λ alive. not_failed w.machine dead alive;
   tail = λ alive. not_failed w.machine dead alive.failure;
 }
@@ -143,6 +149,7 @@ came_closed version options fed answers waiting taken v w k q closed = record {
   made_for = λ live. not_live w.machine closed live;
   keeps = λ live. not_live w.machine closed live;
   early = λ live. not_live w.machine closed live;
+  fresh = λ skips. on_over (k.journal.first ∷ k.journal.rest) k.written v.machine w.machine (k.fresh skips) (λ live. not_live w.machine closed live);
   phase = λ alive. inr closed;
   tail = λ live. not_live w.machine closed live;
 }
@@ -183,6 +190,7 @@ came_fed version options fed answers waiting taken v f k live =
           (λ (none : fed.proposed ≡ []). inl none)
           (λ (at : v.machine.phase ≡ Processing). inr (ap (λ (u : Machine). u.phase) is ∙ all_stay G v.machine live.failure live.phase (ap (λ (u : Machine). u.failure) (sym is) ∙ alive.failure) ∙ at))
           (k.early live);
+      fresh = λ skips. on_still (k.journal.first ∷ k.journal.rest) k.written v.machine w.machine (k.fresh skips) (λ alive. ap (λ (u : Machine). u.counters) (took alive.failure).0.machine ∙ all_same G v.machine) (λ alive. live);
       phase = λ alive. inl (kept_running G v.machine w.machine live (took alive).0.machine alive).0;
       tail = λ alive. (took alive.failure).1;
     }
@@ -196,6 +204,7 @@ came_takes version options fed answers waiting taken v f k = record {
   made_for = λ live. k.made_for (record { failure = live.failure; phase = live.phase });
   keeps = λ live. k.keeps (record { failure = live.failure; phase = live.phase });
   early = λ live. k.early (record { failure = live.failure; phase = live.phase });
+  fresh = λ skips. on_still (k.journal.first ∷ k.journal.rest) k.written v.machine _ (k.fresh skips) (λ live. refl) (λ live. record { failure = live.failure; phase = live.phase });
   phase = k.phase;
   tail = λ live. k.tail (record { failure = live.failure; phase = live.phase });
 }
@@ -209,6 +218,7 @@ came_closes version options fed answers waiting taken v k = record {
   made_for = λ live. k.made_for (record { failure = live.failure; phase = live.phase });
   keeps = λ live. k.keeps (record { failure = live.failure; phase = live.phase });
   early = λ live. k.early (record { failure = live.failure; phase = live.phase });
+  fresh = λ skips. on_still (k.journal.first ∷ k.journal.rest) k.written v.machine _ (k.fresh skips) (λ live. refl) (λ live. record { failure = live.failure; phase = live.phase });
   phase = k.phase;
   tail = λ live. k.tail (record { failure = live.failure; phase = live.phase });
 }

@@ -18,6 +18,8 @@ use Rattle.vm_model.specs.Calls.{Setup, Meaning, Move, identity_of}
 use Rattle.vm_model.specs.Calls.Move.{Answers, Needs, Awaits, Ends, Refuses}
 use Rattle.vm_model.specs.Moves.{Point, longer, move_at, moved, next, supplied, supply, changed_by}
 use Rattle.vm_model.specs.Histories.{Made, Handed, Knowledge}
+use Rattle.vm_asks.specs.Asks.{ask_of}
+use Rattle.vm_model.proofs.Parts.{IsOfOne, next_keeps}
 use Rattle.vm_model.proofs.Runs.{made_spent, next_spent}
 use Rattle.vm_model.specs.Refusals.{IsRefusedFor}
 use Rattle.vm_steps.specs.declared.progress.Reply.TheVariants as reply
@@ -96,10 +98,10 @@ made_or_spent s m K (suc n) p made q (state, r, rest, knows, is, moves, further)
     (none_or_spent s m state p r moves)
 
 -- a call whose outcome is what its move leads to
-pub follows_from : {A : Type 0} (s : Setup) (m : Meaning) (given : StateMap) (written : List RawMessage) (aside : Aside) (p : Point) (gives : A → Answer) (mv : Move) (o : Outcome A) → s.identity ≡ identity_of aside.start → move_at s m p ≡ mv
+pub follows_from : {A : Type 0} (s : Setup) (m : Meaning) (given : StateMap) (written : List RawMessage) (aside : Aside) (p : Point) (gives : A → Answer) (mv : Move) (o : Outcome A) → s.identity ≡ identity_of aside.start → IsOfOne (ask_of s.version (m p.answers)) → move_at s m p ≡ mv
     → Leads s given written aside p mv p.left (supply (state_at given p) mv p.left) (λ a. gives a ∷ []) (moved mv (longer (supply (state_at given p) mv p.left) p)) o → Follows s m given written p (machine_at s given written aside p) (mapped (λ a. reply.Answer (gives a)) (called o (machine_at s given written aside p)))
 unfolding called
-follows_from s m given written aside p gives mv o identity is h = by_cases (moved mv (longer (supply (state_at given p) mv p.left) p)) refl o h
+follows_from s m given written aside p gives mv o identity one is h = by_cases (moved mv (longer (supply (state_at given p) mv p.left) p)) refl o h
   where
     supplies : supplied s m (state_at given p) p ≡ supply (state_at given p) mv p.left
     supplies = ap (λ x. supply (state_at given p) x p.left) is
@@ -117,6 +119,7 @@ follows_from s m given written aside p gives mv o identity is h = by_cases (move
           agrees = record { aside = with_beside g.1.0 (with_frames (supply (state_at given p) mv p.left) aside); machine = g.1.1; identity = identity };
           kept = ap (λ w. w.proposals) g.1.1;
           output = ap (λ w. w.output) g.1.1;
+          rests = λ none. next_keeps s m (longer (supplied s m (state_at given p) p) p) q one (leads (Some q) e) ∙ none;
         }
     by_cases None e (Failed f w) g =
         inl (record {

@@ -5,6 +5,8 @@ pub mod Reading
 pub mod Waiting
 pub mod Commanding
 pub mod Awaiting
+pub mod Behind
+pub mod Several
 pub mod Cancelling
 pub mod Following
 pub mod Arriving
@@ -16,12 +18,15 @@ pub mod Written
 pub mod Ahead
 pub mod Sending
 pub mod Pieces
+pub mod Numbers
+pub mod Fresh
 pub mod Kept
 pub mod Lasting
 pub mod Staying
 pub mod Stepped
 pub mod Advanced
 pub mod Coming
+pub mod Freshly
 pub mod Steady
 pub mod Finishing
 pub mod Under

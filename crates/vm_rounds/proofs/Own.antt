@@ -12,14 +12,14 @@ use Rattle.vm_types.specs.declared.steps.Step.TheVariants as step
 use Rattle.vm_asks.specs.declared.asks.Ask.{Ask}
 use Rattle.vm_asks.specs.declared.asks.Ask.TheVariants as ask
 use Rattle.vm_asks.specs.declared.asks.Command.{Command}
-use Rattle.vm_asks.specs.Asks.{ask_of}
+use Rattle.vm_asks.specs.Asks.{EachIs, ask_of}
 use Rattle.vm_asks.specs.Requests.{with_ids}
 use Rattle.vm_machine.proofs.Numbering.{same_type}
 use Rattle.vm_model.specs.Calls.{Setup, Derived, demand_of}
 use Rattle.vm_model.specs.Journal.{stored_form}
 use Rattle.vm_model.specs.Moves.{found}
 use Rattle.vm_model.proofs.Standing.{command_stands}
-use Rattle.std.specs.Prelude.{List, Option, Some, None, Ok}
+use Rattle.std.specs.Prelude.{List, [], ◌∷◌, Option, Some, None, Ok}
 use Rattle.vm_machine.specs.Commands.{ignores_payloads}
 use Rattle.vm_asks.specs.declared.state_read.StateRead.{StateRead}
 use Rattle.vm_asks.specs.declared.state_read.StateRead.TheVariants as reads
@@ -35,11 +35,13 @@ number_same n = eq-eqb n n refl
 -- what a step asks for is a command
 abbrev pub AsksCommand : Ask → Type 0
 AsksCommand (ask.Command c) = IsCommand c.message
+AsksCommand (ask.Commands kind first second) = EachIs (λ c. IsCommand c.message) first (second ∷ [])
 AsksCommand a = Unit {0}
 
 pub asks_command : (version : Version) (s : Step) → AsksCommand (ask_of version s)
 asks_command version (step.StateGet key name options) = tt
 asks_command version (step.StateGetKeys name) = tt
+asks_command version (step.CallWithDeadline target input time name options) = (refl, refl)
 asks_command version step.Awakeable = tt
 asks_command version (step.Signal name) = tt
 asks_command version (step.Await future) = tt

@@ -310,6 +310,7 @@ running_fed m version options fed answers waiting taken v f k live =
       answers = k.answers;
       awaits = still_awaits m k.at N waiting k.awaits;
       agrees = λ alive. agrees alive.failure;
+      rests = λ _. k.rests live;
       keeps = λ alive. keeps_more fed to G frames k.journal v.machine w.machine live (took alive.failure).0.machine alive.failure (k.keeps live);
       phase = λ alive. inl (agrees_running s given k.written w.machine (later N k.at) (agrees alive));
       tail = λ alive. (took alive.failure).1;

@@ -9,6 +9,7 @@ use Rattle.journal_messages.specs.declared.message.RawMessage.{RawMessage}
 use Rattle.journal_values.specs.declared.notification.Notification.{Notification}
 use Rattle.journal_errors.specs.declared.version.Version.{Version}
 use Rattle.journal_messages.specs.Reading.{notification_in}
+use Rattle.vm_types.specs.declared.options.JournalReplay.TheVariants.{Enabled, Disabled}
 use Rattle.vm_types.specs.declared.options.VMOptions.{VMOptions}
 use Rattle.vm_types.specs.declared.steps.Answer.{Answer}
 use Rattle.vm_machine.specs.declared.machine.Machine.{Machine}
@@ -24,7 +25,7 @@ use Rattle.vm_steps.specs.Heard.{Heard}
 use Rattle.vm_steps.specs.Record.{Said}
 use Rattle.vm_steps.specs.declared.progress.Progress.{Progress}
 use Rattle.vm_rounds.specs.Blames.{RefusedCall, Blame, IfError, IsHonest, IsOwnError, first_input}
-use Rattle.vm_rounds.specs.Blames.Blame.{Memory, Frame, NoFrame, ClosedEarly, NoInput, Call, RunResult}
+use Rattle.vm_rounds.specs.Blames.Blame.{Memory, Frame, NoFrame, ClosedEarly, NoInput, NoSkip, Call, RunResult}
 use Rattle.vm_rounds.specs.Journals.{as_entries, commands_among, is_command, is_notification, notifications_among, notified_by, recorded_by, setup_for, told_by}
 use Rattle.vm_rounds.specs.Told.{Journal, RefusesReplay, arrivals, handed_out}
 use Rattle.vm_rounds.specs.Arrivals.{arriving}
@@ -156,6 +157,7 @@ honest_fails m version options fed said answers e honest (Frame x) = absurd (hon
 honest_fails m version options fed said answers e honest (NoFrame x y) = absurd (honest.whole x)
 honest_fails m version options fed said answers e honest (ClosedEarly x y z) = inr (inl (x, y, z))
 honest_fails m version options fed said answers e honest (NoInput x) = absurd (let h = honest.history x.first x.entries x.others x.start x.is x.reads x.count in no_input (setup_for version options x.start) m h.0 x.entries h.1 x.none)
+honest_fails m version options fed said answers e honest (NoSkip x) = absurd (let z : Enabled ≡ Disabled = sym honest.premises.replays ∙ x.skips in cc)
 honest_fails m version options fed said answers e honest (Call refuses) = ⊎_elim
     (λ (y : e ≡ no_memory). inl y)
     (λ (y : RefusedCall m version options fed answers e). honest_refused m version options fed said answers e honest y y.at.left refl)

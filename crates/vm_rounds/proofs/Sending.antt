@@ -38,7 +38,9 @@ use Rattle.vm_asks.specs.declared.asks.Ask.TheVariants as ask
 use Rattle.vm_machine.specs.declared.machine.Machine.{Machine}
 use Rattle.vm_machine.specs.declared.phase.Phase.{Phase}
 use Rattle.vm_machine.specs.declared.phase.Phase.TheVariants.{WaitingStart, WaitingReplayEntries, Replaying, Processing, Closed}
-use Rattle.vm_asks.specs.Asks.{ask_of, cancel_invocation_command}
+use Rattle.vm_asks.specs.declared.asks.AnswerKind.{AnswerKind}
+use Rattle.vm_asks.specs.declared.asks.Command.{Command}
+use Rattle.vm_asks.specs.Asks.{EachIs, any_refusal, ask_of, cancel_invocation_command}
 use Rattle.vm_awaits.specs.Awaits.{Awaits, AwaitsAt, AwaitsBy, Behind, Ends, EndsBy, Gathers, ReadsId, StaysPending, Tries, id_read, is_cancelled, or_cancelled, pending_on, result_at, said_waiting, says_so, suspended, waiting, with_used, waits_by, waits_on, executed, pending_in_replay}
 use Rattle.vm_awaits.specs.Cancels.{AwaitsWhole, Cancels, FinishesIf, Onward, SendsCancel, cancel_taken, sends_cancels}
 use Rattle.vm_awaits.proofs.Cancelling.{read_known, woken_used}
@@ -58,14 +60,16 @@ use Rattle.vm_machine.specs.Takes.{result_taken, take_step, taken_at, value_note
 use Rattle.vm_machine.specs.Commands.{carried_out, commanded, commanded_unless, compared, counted, entered, ignores_payloads, issued, phase_after, popped, popped_from, prepared, replayed, written, about_next, handed_out}
 use Rattle.vm_machine.specs.Inputs.{end_at, end_step}
 use Rattle.vm_machine.specs.Outcomes.{CalledBy, Does, DoesBy, IsStarved, Outcome, Done, Failed, ◌>>=◌, about_last, called, called_at, failed, refused, ruled, settled}
+use Rattle.vm_machine.specs.Several.{BehindFirst, MakesAll, MakesOne, answered_so, commanded_before, foreseen, foreseen_unless, missing_for, numbers_left}
 use Rattle.vm_machine.proofs.Calling.{called_from}
 use Rattle.vm_machine.specs.Phases.{is_closed, is_processing, is_replaying, is_running, state_fault}
 use Rattle.vm_asks.specs.Requests.{ids_of, name_of, shown_type, with_ids}
 use Rattle.vm_machine.specs.Signals.{awakeable_counted, awakeable_step, name_handed_out, signal_counted, signal_handed_out, signal_step}
-use Rattle.invocation_vm.specs.Calls.{new_awakeable_step, skips_replay}
+use Rattle.invocation_vm.specs.Calls.{new_awakeable_step}
+use Rattle.vm_machine.specs.Skips.{skips_replay}
 use Rattle.vm_steps.specs.declared.progress.Reply.{Reply}
 use Rattle.vm_steps.specs.declared.progress.Reply.TheVariants as reply
-use Rattle.vm_steps.specs.Steps.{Awaited, Performs, PerformsBy, await_reply, mapped}
+use Rattle.vm_steps.specs.Steps.{AllCarried, Awaited, Performs, PerformsBy, await_reply, mapped}
 use Rattle.vm_rounds.specs.Told.{IsLive}
 use Rattle.vm_rounds.proofs.Ahead.{Fewer, HandsOut, executed_fewer, executed_once, fewer_same, fewer_then, given_fewer, handed_since, prepared_fewer}
 
@@ -228,6 +232,29 @@ issues m unstable v is = by_test (is_running v.phase)
 commands : (refusal : Option NamedFault) (m : Message) (unstable : Bool) (v : Machine) → IsCommand m → Happens RunsOn v (commanded_unless refusal m unstable v)
 commands (Some name) m unstable v is = alike v
 commands None m unstable v is = issues m unstable v is
+
+-- ---- several commands
+
+-- one, where all that is needed is looked for before
+foreseen_happens : (c : Command) (cs : List Command) (v : Machine) → IsCommand c.message → Happens RunsOn v (foreseen c cs v >>= λ _ w. commanded c w)
+unfolding foreseen
+foreseen_happens c cs v is = by_refusal (any_refusal c cs)
+  where
+    by_numbers : (o : Option NamedFault) → Happens RunsOn v (numbers_left o c v >>= λ _ w. commanded c w)
+    by_numbers (Some name) = alike v
+    by_numbers None = commands c.refusal c.message c.unstable v is
+
+    by_running : (b : Bool) → Happens RunsOn v ((if b then numbers_left (missing_for c cs v.counters) c v else (let w = entered (shown_type c.message) (name_of c.message) v in Failed (about_last (state_fault v.phase) w) w)) >>= λ _ w. commanded c w)
+    by_running true = by_numbers (missing_for c cs v.counters)
+    by_running false = alike v
+
+    by_refusal : (o : Option NamedFault) → Happens RunsOn v (foreseen_unless o c cs v >>= λ _ w. commanded c w)
+    by_refusal (Some name) = alike v
+    by_refusal None = by_running (is_running v.phase)
+
+before_happens : (c : Command) (cs : List Command) (v : Machine) → IsCommand c.message → Happens RunsOn v (commanded_before c cs v)
+before_happens c [] v is = commands c.refusal c.message c.unstable v is
+before_happens c (b ∷ bs) v is = foreseen_happens c (b ∷ bs) v is
 
 -- ---- state reads
 
@@ -537,6 +564,39 @@ sends_cancel id sent v w live (does, readable) = by_sent sent does
         (λ (x : IsStarved v e w). starving v e w live x)
         h
 
+one_is : (c : Command) (cs : List Command) (r : Result NotificationHandle Error) (v w : Machine) → IsCommand c.message → v.failure ≡ None → MakesOne c cs r v w → SentIs v r w
+one_is c cs r v w is live (does, readable) = by_result r does
+  where
+    leaves : CallLeaves RunsOn v (called (commanded_before c cs v) v)
+    leaves = calling RunsOn v (commanded_before c cs v) live (before_happens c cs v is)
+
+    by_result : (r : Result NotificationHandle Error) → Does (called (commanded_before c cs v) v) r v w → SentIs v r w
+    by_result (Ok handle) h = subst (CallLeaves RunsOn v) h leaves
+    by_result (Err e) h = ⊎_elim
+        (λ (x : called (commanded_before c cs v) v ≡ Failed e w). subst (CallLeaves RunsOn v) x leaves)
+        (λ (x : IsStarved v e w). starving v e w live x)
+        h
+
+-- what comes behind the first
+sent_behind : (handle : NotificationHandle) (v mid : Machine) (r : Result NotificationHandle Error) (w : Machine) → Leaves RunsOn v handle mid → SentIs mid r w → SentIs v (answered_so handle r) w
+sent_behind handle v mid (Ok a) w s h = record { sends = sends_then v mid w s.sends h.sends; failure = h.failure ∙ s.failure; kept = h.kept ∙ s.kept; fewer = fewer_then v mid w s.fewer h.fewer; goes = λ at running. h.goes (s.goes at s.left) running; left = h.left }
+sent_behind handle v mid (Err e) w s h = (sends_then v mid w s.sends h.0, h.1)
+
+-- several commands
+all_are : (c : Command) (cs : List Command) (r : Result NotificationHandle Error) (v w : Machine) → EachIs (λ x. IsCommand x.message) c cs → v.failure ≡ None → MakesAll c cs r v w → SentIs v r w
+all_are c [] r v w is live made = one_is c [] r v w is live made
+all_are c (b ∷ bs) r v w is live (first, mid, makes, on) = by_first (λ given made failure. all_are b bs given mid w is.1 failure made) first (one_is c (b ∷ bs) first v mid is.0 live makes) on
+  where
+    by_first : ((given : Result NotificationHandle Error) → MakesAll b bs given mid w → mid.failure ≡ None → SentIs mid given w) → (first : Result NotificationHandle Error) → SentIs v first mid → BehindFirst (MakesAll b bs) first r mid w → SentIs v r w
+    by_first more (Ok handle) s (given, made, answered) = subst (λ x. SentIs v x w) (sym answered) (sent_behind handle v mid given w s (more given made (s.failure ∙ live)))
+    by_first more (Err e) s (answered, same) = subst (λ (z : Result NotificationHandle Error × Machine). SentIs v z.0 z.1) (λ i. (sym answered i, sym same i)) s
+
+several_leaves : (kind : AnswerKind) (c : Command) (cs : List Command) (v : Machine) → EachIs (λ x. IsCommand x.message) c cs → v.failure ≡ None → (o : Outcome Reply) → AllCarried kind c cs v o → CallLeaves StandsBy v o
+several_leaves kind c cs v is live (Done given w) (handle, made, replied) =
+    let h : Leaves RunsOn v handle w = all_are c cs (Ok handle) v w is live made in
+    subst (λ (x : Reply). Leaves StandsBy v x w) (sym replied) (record { sends = h.sends; failure = h.failure; kept = h.kept; fewer = h.fewer; goes = h.goes; left = h.left })
+several_leaves kind c cs v is live (Failed e w) made = all_are c cs (Err e) v w is live made
+
 cancels : (ids : List (List ℕ)) (r : Result (Result AwaitResponse Error) Error) (v w : Machine) → v.failure ≡ None → is_running v.phase ≡ true → Cancels ids r v w → AwaitIs v r w
 cancels [] r v w live runs (answered, machine) = subst (λ (z : Result (Result AwaitResponse Error) Error × Machine). AwaitIs v z.0 z.1) (λ i. (sym answered i, sym machine i)) (record { sends = stays_sends v (cancel_taken v) (alike v); failure = refl; kept = refl; fewer = fewer_same v; goes = λ at _. at; left = runs })
 cancels (id ∷ ids) r v w live runs (sent, mid, sends, on) = by_sent (cancels ids r mid w) sent (sends_cancel id sent v mid live sends) on
@@ -583,6 +643,7 @@ await_leaves future v live (Failed e w) whole = await_whole (tree_of future) v l
 
 asked_leaves : (a : Ask) (v : Machine) → AsksCommand a → IsLive v → (o : Outcome Reply) → PerformsBy a v o → CallLeaves StandsBy v o
 asked_leaves (ask.Command c) v asks live o does = subst (CallLeaves StandsBy v) (sym does) (mapping RunsOn StandsBy _ v (λ h w runs. runs) (called (commanded c v) v) (calling RunsOn v (commanded c v) live.failure (commands c.refusal c.message c.unstable v asks)))
+asked_leaves (ask.Commands kind first second) v asks live o does = several_leaves kind first (second ∷ []) v asks live.failure o does
 asked_leaves ask.Awakeable v asks live o does = subst (CallLeaves StandsBy v) (sym does) (mapping RunsOn StandsBy _ v (λ h w runs. runs) (called (new_awakeable_step v) v) (calling RunsOn v (new_awakeable_step v) live.failure (new_awakeables (skips_replay v.options.journal_replay) v)))
 asked_leaves (ask.Read r) v asks live o does = subst (CallLeaves StandsBy v) (sym does) (mapping RunsOn StandsBy _ v (λ h w runs. runs) (called (read_step r v) v) (calling RunsOn v (read_step r v) live.failure (state_reads r v)))
 asked_leaves (ask.Signal name) v asks live o does = subst (CallLeaves StandsBy v) (sym does) (mapping RunsOn StandsBy _ v (λ h w runs. runs) (called (signal_step name v) v) (calling RunsOn v (signal_step name v) live.failure (signals name v)))

@@ -33,6 +33,7 @@ use Rattle.vm_machine.specs.declared.machine.Machine.{Machine}
 use Rattle.vm_machine.specs.declared.phase.Phase.TheVariants.{Closed, Processing, Replaying}
 use Rattle.vm_asks.specs.declared.asks.Ask.{Ask}
 use Rattle.vm_asks.specs.declared.asks.Ask.TheVariants as ask
+use Rattle.vm_asks.specs.declared.asks.AnswerKind.{AnswerKind}
 use Rattle.vm_asks.specs.declared.asks.Command.{Command}
 use Rattle.vm_asks.specs.Asks.{ask_of, cancel_invocation_command}
 use Rattle.journal_messages.specs.Commands.{IsCommand}
@@ -42,10 +43,10 @@ use Rattle.vm_machine.specs.Commands.{phase_after}
 use Rattle.vm_machine.specs.Outcomes.{DoesBy, IsStarved, Outcome, Done, Failed}
 use Rattle.vm_machine.specs.Phases.{is_running}
 use Rattle.vm_asks.specs.Requests.{ids_of}
-use Rattle.invocation_vm.specs.Calls.{skips_replay}
+use Rattle.vm_machine.specs.Skips.{skips_replay}
 use Rattle.invocation_vm.specs.Frames.{Rest}
 use Rattle.invocation_vm.specs.Views.{View}
-use Rattle.vm_model.specs.Calls.{Setup, Meaning, Derived, Move, asked as asked_move, awakeable_made, awaiting, call_of, commanding, is_awake, awaited, cancel_sent, cancelled, cancelling, id_awaited, id_read, is_cancelled_in, making_awakeable, numbered, reading, signal_made, ready_in, result_taken, value_noted, value_taken}
+use Rattle.vm_model.specs.Calls.{Setup, Meaning, Derived, Move, Turn, asked as asked_move, awakeable_made, awaiting, call_of, commanding, is_awake, awaited, cancel_sent, cancelled, cancelling, id_awaited, id_read, is_cancelled_in, making_awakeable, numbered, part, part_unless, reading, refused_before, signal_made, ready_in, result_taken, turn_after, value_noted, value_taken}
 use Rattle.vm_model.specs.Calls.Move.{Answers, Needs, Awaits, Ends, Refuses}
 use Rattle.vm_model.specs.Journal.{stored_form}
 use Rattle.vm_model.specs.Moves.{Point, after, and_then, move_at, moved, next, own, start, supplied, supply, uses_arrival}
@@ -63,6 +64,8 @@ use Rattle.vm_steps.specs.Record.{Record, heard}
 use Rattle.vm_steps.specs.Stepping.{Asks, IfWaits, step_asked, asked_from, future_in, progress_of, replied, with_vm}
 use Rattle.vm_steps.specs.Steps.{IfDone, Performs, ReadsBack, StepMade}
 use Rattle.vm_rounds.specs.Told.{IsKept, IsLive, Premises, RefusesReplay, Replays, Runs, Sleeps, StarvesReplay, StillAwaits, Wrote, arrivals, commands_of, handed_out}
+use Rattle.vm_model.proofs.Parts.{IsOfOne, turn_is}
+use Rattle.vm_model.proofs.Rests.{made_keeps}
 use Rattle.vm_rounds.proofs.Following.{agreeing_follows}
 use Rattle.vm_rounds.proofs.Kept.{dead_same, not_live}
 use Rattle.vm_rounds.proofs.Lasting.{runs_last}
@@ -86,6 +89,14 @@ numbered_needs s c None d is = λ state. numbered_is c.message d.counters.comple
 commanding_needs : (s : Setup) (c : Command) (o : Option NamedFault) (d : Derived) → IsCommand c.message → NeedsCommand (commanding s c o d)
 commanding_needs s c (Some fault) d is = tt
 commanding_needs s c None d is = numbered_needs s c (missing (ids_of c.message) 0 (ids_of c.message) d.counters) d is
+
+part_needs : (s : Setup) (kind : AnswerKind) (c : Command) (cs : List Command) (before d : Derived) → IsCommand c.message → NeedsCommand (part s kind c cs before d)
+part_needs s kind c [] before d is = λ state. numbered_is c.message before.counters.completion is
+part_needs s kind c (b ∷ bs) before d is = λ state. numbered_is c.message before.counters.completion is
+
+turn_needs : (s : Setup) (kind : AnswerKind) (o : Option NamedFault) (t : Turn) (d : Derived) → IsCommand t.command.message → NeedsCommand (part_unless o s kind t d)
+turn_needs s kind (Some fault) t d is = tt
+turn_needs s kind None t d is = part_needs s kind t.command t.behind t.before d is
 
 awakeable_needs : (s : Setup) (o : Option NamedFault) (d : Derived) → NeedsCommand (awakeable_made s o d)
 awakeable_needs s (Some fault) d = tt
@@ -146,6 +157,9 @@ result_needs h None o d = tt
 
 asked_needs : (s : Setup) (a : Ask) (d : Derived) → AsksCommand a → NeedsCommand (asked_move s a d)
 asked_needs s (ask.Command c) d is = commanding_needs s c c.refusal d is
+asked_needs s (ask.Commands kind first second) d is =
+    let t = turn_after s d.parts first (second ∷ []) d in
+    turn_needs s kind (refused_before t.command t.behind t.before.counters) t d (turn_is (λ c. IsCommand c.message) s d.parts first (second ∷ []) d is)
 asked_needs s ask.Awakeable d is = making_needs s (skips_replay s.options.journal_replay) d
 asked_needs s (ask.Read r) d is = reading_needs r (missing 1 0 1 d.counters) d
 asked_needs s (ask.Signal name) d is = signal_needs name (missing_signals 0 1 d.counters) d
@@ -192,9 +206,9 @@ made_made s m K (suc n) p made q (state, r, rest, knows, is, moves, further) =
 
 runs_on : (m : Meaning) (version : Version) (options : VMOptions) (fed : Heard) (answers : List Answer) (waiting to_wait : Option UnresolvedFuture) (taken : List (List ℕ)) (v w : View) (k : Runs m version options fed answers waiting taken v) → IsLive v.machine → w.undecoded ≡ v.undecoded
     → (to : Point) (gives : List Answer) (made : List RawMessage) → MovesOn (setup_for version options k.journal.start) m (handed_out k.journal) k.at gives made to → (ms : List Message) → commands_of ms ≡ made → w.machine.output ≡ v.machine.output ++ map encoding ms
-    → StillAwaits m to to_wait → (IsLive w.machine → Agrees (setup_for version options k.journal.start) (handed_out k.journal) (k.written ++ made) w.machine to) → (IsLive w.machine → w.machine.proposals ≡ v.machine.proposals) → (w.machine.failure ≡ None → (is_running w.machine.phase ≡ true) ⊎ (w.machine.phase ≡ Closed))
+    → StillAwaits m to to_wait → (IsLive w.machine → Agrees (setup_for version options k.journal.start) (handed_out k.journal) (k.written ++ made) w.machine to) → (IsLive w.machine → to.derived.parts ≡ 0) → (IsLive w.machine → w.machine.proposals ≡ v.machine.proposals) → (w.machine.failure ≡ None → (is_running w.machine.phase ≡ true) ⊎ (w.machine.phase ≡ Closed))
     → Runs m version options fed (answers ++ gives) to_wait taken w
-runs_on m version options fed answers waiting to_wait taken v w k live und to gives made mo ms commands output awaits agrees kept phase = record {
+runs_on m version options fed answers waiting to_wait taken v w k live und to gives made mo ms commands output awaits agrees rests kept phase = record {
   journal = k.journal;
   written = k.written ++ made;
   wrote = subst (Wrote taken w.machine.output) (ap (λ l. k.written ++ l) commands) (wrote_more taken v.machine.output w.machine.output ms k.written output k.wrote);
@@ -204,6 +218,7 @@ runs_on m version options fed answers waiting to_wait taken v w k live und to gi
   answers = mo.answers ∙ ap (λ l. l ++ gives) k.answers;
   awaits = awaits;
   agrees = agrees;
+  rests = rests;
   keeps = λ alive. let before = k.keeps live in (kept alive ∙ before.0, before.1);
   phase = phase;
   tail = λ alive. k.tail live ∙ ap Rest (sym und);
@@ -257,7 +272,14 @@ module _ (m : Meaning) (version : Version) (options : VMOptions) (r : Record) (k
   answered_keeps : (a : Answer) → Answered s m (handed_out k.journal) k.written k.at r.vm.machine a w.machine → Runs m version options (heard version r) (r.answers ++ a ∷ []) None r.taken w
   answered_keeps a f =
       let made = made_made s m (Handed (handed_out k.journal)) f.moves.moves k.at f.made f.at f.moves.run in
-      runs_on m version options (heard version r) r.answers r.waiting None r.taken r.vm w k live und f.at (a ∷ []) f.made f.moves made.0 made.1.commands (f.output ∙ ap (λ l. r.vm.machine.output ++ l) (sym made.1.frames)) tt (λ _. f.agrees) (λ _. f.kept) (λ _. inl (agrees_running s (handed_out k.journal) (k.written ++ f.made) w.machine f.at f.agrees))
+      runs_on m version options (heard version r) r.answers r.waiting None r.taken r.vm w k live und f.at (a ∷ []) f.made f.moves made.0 made.1.commands (f.output ∙ ap (λ l. r.vm.machine.output ++ l) (sym made.1.frames)) tt (λ _. f.agrees) (λ _. f.rests (k.rests live)) (λ _. f.kept) (λ _. inl (agrees_running s (handed_out k.journal) (k.written ++ f.made) w.machine f.at f.agrees))
+
+  -- an await that waits has made no part of a call
+  waits_rest : (q : Point) → Waits s m (handed_out k.journal) k.at q → q.derived.parts ≡ 0
+  waits_rest q ws =
+      let same : q.answers ≡ k.at.answers = ws.moves.answers ∙ append-nil k.at.answers in
+      let is : m k.at.answers ≡ step.Await ws.future = ap m (sym same) ∙ ws.awaits in
+      made_keeps s m (Handed (handed_out k.journal)) ws.moves.moves k.at [] q (subst (λ st. IsOfOne (ask_of s.version st)) (sym is) tt) same ws.moves.run ∙ k.rests live
 
   no_answer : (waiting : Option UnresolvedFuture) → Runs m version options (heard version r) (r.answers ++ []) waiting r.taken w → Runs m version options (heard version r) r.answers waiting r.taken w
   no_answer waiting = subst (λ l. Runs m version options (heard version r) l waiting r.taken w) (append-nil r.answers)
@@ -267,6 +289,7 @@ module _ (m : Meaning) (version : Version) (options : VMOptions) (r : Record) (k
       no_answer (future_in st)
       (runs_on m version options (heard version r) r.answers r.waiting (future_in st) r.taken r.vm w k live und f.at [] [] f.waits.moves (waiting_on input s (list_any is_executing w.machine.runs) f.left f.at.derived) (no_command_said input s (list_any is_executing w.machine.runs) f.left f.at.derived) f.output (future_awaits m k.at f.at st is f.waits.moves.answers)
       (λ _. subst (λ l. Agrees s (handed_out k.journal) l w.machine f.at) (sym (append-nil k.written)) f.agrees)
+      (λ _. waits_rest f.at f.waits)
       (λ _. f.kept)
       (λ _. inl (agrees_running s (handed_out k.journal) k.written w.machine f.at f.agrees)))
 
@@ -274,12 +297,12 @@ module _ (m : Meaning) (version : Version) (options : VMOptions) (r : Record) (k
   suspended_keeps f =
       no_answer r.waiting
       (runs_on m version options (heard version r) r.answers r.waiting r.waiting r.taken r.vm w k live und f.at [] [] f.waits.moves (message.Suspension (suspended_on f.left f.at.derived) ∷ []) refl f.output (same_awaits m k.at f.at r.waiting f.waits.moves.answers k.awaits)
-      (λ alive. not_live w.machine f.closed alive) (λ alive. not_live w.machine f.closed alive) (λ _. inr f.closed))
+      (λ alive. not_live w.machine f.closed alive) (λ alive. not_live w.machine f.closed alive) (λ alive. not_live w.machine f.closed alive) (λ _. inr f.closed))
 
   ended_keeps : HasEnded m k.at r.vm.machine w.machine → Runs m version options (heard version r) r.answers r.waiting r.taken w
   ended_keeps f =
       no_answer r.waiting
-      (runs_on m version options (heard version r) r.answers r.waiting r.waiting r.taken r.vm w k live und k.at [] [] (no_move s m (handed_out k.journal) k.at) (message.End ∷ []) refl f.output k.awaits (λ alive. not_live w.machine f.closed alive) (λ alive. not_live w.machine f.closed alive) (λ _. inr f.closed))
+      (runs_on m version options (heard version r) r.answers r.waiting r.waiting r.taken r.vm w k live und k.at [] [] (no_move s m (handed_out k.journal) k.at) (message.End ∷ []) refl f.output k.awaits (λ alive. not_live w.machine f.closed alive) (λ alive. not_live w.machine f.closed alive) (λ alive. not_live w.machine f.closed alive) (λ _. inr f.closed))
 
   -- what a call that failed has made is kept
   failed_keeps : (e : Error) (at : Point) (made : List RawMessage) → MovesOn s m (handed_out k.journal) k.at [] made at → (behind : List Message) → commands_of behind ≡ [] → w.machine.output ≡ r.vm.machine.output ++ (command_frames made ++ map encoding behind) → w.machine.failure ≡ Some e → IsKept m version options (with_vm w r)
@@ -290,6 +313,7 @@ module _ (m : Meaning) (version : Version) (options : VMOptions) (r : Record) (k
       inr
       (no_answer r.waiting
       (runs_on m version options (heard version r) r.answers r.waiting r.waiting r.taken r.vm w k live und at [] made mo (ms.0 ++ behind) commands frames (same_awaits m k.at at r.waiting mo.answers k.awaits)
+      (λ alive. absurd (let z : None ≡ Some e = sym alive.failure ∙ failure in cc))
       (λ alive. absurd (let z : None ≡ Some e = sym alive.failure ∙ failure in cc))
       (λ alive. absurd (let z : None ≡ Some e = sym alive.failure ∙ failure in cc))
       (λ none. absurd (let z : None ≡ Some e = sym none ∙ failure in cc))))
@@ -411,8 +435,7 @@ module _ (m : Meaning) (version : Version) (options : VMOptions) (r : Record) (k
     none_before = g.none_before;
     made = run_there c further some g.at g.made g.moves;
     answers = g.moves.answers ∙ append-nil k.at.answers ∙ k.answers;
-    future = g.future;
-    awaits = g.awaits;
+    many = g.many;
     error = g.error;
     output = g.output;
     failure = g.failure;
@@ -458,7 +481,7 @@ asks_keep m version options old result new under k live (x, w, does, is, progres
     let made : StepMade st x old.vm w = subst (λ q. StepMade q x old.vm w) same does in
     subst (IsKept m version options) (sym is)
     (subst (λ q. IsKept m version options (replied old (future_in q) x w)) (sym same)
-    (replied_keeps m version options old k live w made.0.1 (ReadsBack st old.vm.machine) st refl x (Performs st old.vm.machine) (λ o. agreeing_follows s m (handed_out k.journal) k.written old.vm.machine k.at o (λ future _. (under.queues, under.once k.journal k.moves k.written k.at k.run)) (k.agrees live)) made.0.0 made.1))
+    (replied_keeps m version options old k live w made.0.1 (ReadsBack st old.vm.machine) st refl x (Performs st old.vm.machine) (λ o. agreeing_follows s m (handed_out k.journal) k.written old.vm.machine k.at o (λ future _. (under.queues, under.once k.journal k.moves k.written k.at k.run)) (k.rests live) (k.agrees live)) made.0.0 made.1))
 
 -- what a step that waits leaves of the record
 settled_waits : (m : Meaning) (version : Version) (options : VMOptions) (old : Record) (future : Option UnresolvedFuture) (w : View) (x : Result Reply Error) → IfWaits (progress_of x) (Sleeps m version options (heard version old) old.answers old.taken w)
@@ -479,7 +502,7 @@ module _ (m : Meaning) (version : Version) (options : VMOptions) (old : Record) 
   is_next = asks_next m k.at old.answers old.waiting k.answers k.awaits
 
   follows_here : (o : Outcome Reply) → Performs (m k.at.answers) old.vm.machine o → IfDone o (ReadsBack (m k.at.answers) old.vm.machine) → Follows made_here m (handed_out k.journal) k.written k.at old.vm.machine o
-  follows_here o = agreeing_follows made_here m (handed_out k.journal) k.written old.vm.machine k.at o (λ future _. (under.queues, under.once k.journal k.moves k.written k.at k.run)) (k.agrees live)
+  follows_here o = agreeing_follows made_here m (handed_out k.journal) k.written old.vm.machine k.at o (λ future _. (under.queues, under.once k.journal k.moves k.written k.at k.run)) (k.rests live) (k.agrees live)
 
   -- a step waits only where nothing wakes
   pub asks_wait : Asks m old result new → IfWaits result (Sleeps m version options (heard version new) new.answers new.taken new.vm)

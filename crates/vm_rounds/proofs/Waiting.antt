@@ -63,6 +63,11 @@ pub tracked_more : (ns : List Notification) (d : Derived) → (arrivals_used ns 
 tracked_more [] d = refl
 tracked_more (n ∷ ns) d = tracked_more ns (arrival_used n d)
 
+-- nor does how many parts a call has made
+pub parts_more : (ns : List Notification) (d : Derived) → (arrivals_used ns d).parts ≡ d.parts
+parts_more [] d = refl
+parts_more (n ∷ ns) d = parts_more ns (arrival_used n d)
+
 -- the point at which the first n of these arrivals are used
 abbrev pub uses : ℕ → List Notification → Point → Point
 uses n queue p = record p { derived = arrivals_used (take n queue) p.derived; queue = drop n queue }

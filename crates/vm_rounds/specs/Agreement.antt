@@ -25,6 +25,9 @@ use Rattle.await_trees.specs.Wires.{sent}
 use Rattle.await_tries.specs.Await.{AwakeAlike}
 use Rattle.runs.specs.Pending.{is_executing}
 use Rattle.vm_parts.specs.Deliveries.{id_at}
+use Rattle.vm_asks.specs.declared.asks.Ask.{Ask}
+use Rattle.vm_asks.specs.declared.asks.Ask.TheVariants as ask
+use Rattle.vm_asks.specs.Asks.{ask_of}
 use Rattle.vm_types.specs.Options.{ends_awaits}
 use Rattle.vm_parts.specs.Tracked.{unresolved}
 use Rattle.vm_machine.specs.declared.machine.Machine.{Machine}
@@ -102,7 +105,7 @@ pub record MovesOn (s : Setup) (m : Meaning) (given : StateMap) (p : Point) (giv
   pub answers : q.answers ≡ p.answers ++ gives
 
 -- A call was answered: the run moves on by that answer, the machine agrees with where that leads and keeps its proposals, what was made is
--- what was written, and nothing was made, or no recorded command is left there.
+-- what was written, and nothing was made, or no recorded command is left there. No call has made a part there, if none had before.
 pub record Answered (s : Setup) (m : Meaning) (given : StateMap) (written : List RawMessage) (p : Point) (v : Machine) (a : Answer) (w : Machine) : Type 0 where
   pub at : Point
   pub made : List RawMessage
@@ -111,6 +114,7 @@ pub record Answered (s : Setup) (m : Meaning) (given : StateMap) (written : List
   pub agrees : Agrees s given (written ++ made) w at
   pub kept : w.proposals ≡ v.proposals
   pub output : w.output ≡ v.output ++ command_frames made
+  pub rests : p.derived.parts ≡ 0 → at.derived.parts ≡ 0
 
 -- An await waits: no recorded command was left, and with all arrivals used it asks for one more.
 pub record Waits (s : Setup) (m : Meaning) (given : StateMap) (p q : Point) : Type 0 where
@@ -192,14 +196,19 @@ pub record IsRefused (s : Setup) (m : Meaning) (given : StateMap) (p : Point) (v
   pub output : w.output ≡ v.output ++ (command_frames made ++ encoding (message.Error (error_message e)) ∷ [])
   pub failure : w.failure ≡ Some e
 
--- An await found no memory, once it had made these commands, each whole: none, or no recorded one is left.
+-- a call that may make more than one command: an await, and one that asks for several
+abbrev pub MakesMany : Ask → Type 0
+MakesMany (ask.Await future) = Unit {0}
+MakesMany (ask.Commands kind first second) = Unit {0}
+MakesMany a = ⊥
+
+-- A call that may make more than one command found no memory, once it had made these, each whole: none, or no recorded one is left.
 pub record IsCutShort (s : Setup) (m : Meaning) (given : StateMap) (p : Point) (v : Machine) (e : Error) (w : Machine) : Type 0 where
   pub at : Point
   pub made : List RawMessage
   pub none_before : (made ≡ []) ⊎ (at.left ≡ [])
   pub moves : MovesOn s m given p [] made at
-  pub future : UnresolvedFuture
-  pub awaits : IsAwaiting m at future
+  pub many : MakesMany (ask_of s.version (m at.answers))
   pub error : e ≡ no_memory
   pub output : w.output ≡ v.output ++ command_frames made
   pub failure : w.failure ≡ Some e

@@ -1,5 +1,6 @@
 -- Why an attempt failed.
-use Rattle.std.specs.Prelude.{◌≡◌, ◌≢◌, ◌⊎◌, ℕ, ◌+◌, ◌<◌, ◌≤◌, ◌==◌, Bool, true, false, if◌then◌else◌, length, List, [], ◌∷◌, ◌++◌, Option, Some, None, Result, Ok, Err}
+use Rattle.std.specs.Prelude.{◌≡◌, ◌≢◌, ◌⊎◌, ℕ, ◌+◌, ◌<◌, ◌≤◌, ◌==◌, Bool, true, false, if◌then◌else◌, length, drop, List, [], ◌∷◌, ◌++◌, Option, Some, None, Result, Ok, Err}
+use Rattle.std.specs.Result.{result_err}
 use Rattle.journal_attempt.specs.declared.commands.InputCommand.{InputCommand}
 use Rattle.journal_errors.specs.declared.error.Error.{Error}
 use Rattle.journal_errors.specs.declared.error.RelatedCommand.{RelatedCommand}
@@ -21,6 +22,10 @@ use Rattle.std.specs.List.{find}
 use Rattle.journal_errors.specs.Types.{type_number}
 use Rattle.vm_types.specs.declared.options.VMOptions.{VMOptions}
 use Rattle.vm_parts.specs.declared.context.StateMap.{StateMap}
+use Rattle.vm_parts.specs.Counting.{fresh_counters}
+use Rattle.vm_asks.specs.Carried.{past_all}
+use Rattle.vm_machine.specs.Skips.{counters_past}
+use Rattle.vm_types.specs.declared.options.JournalReplay.TheVariants.{Disabled}
 use Rattle.vm_types.specs.declared.steps.Answer.{Answer}
 use Rattle.vm_machine.specs.declared.machine.Machine.{Machine}
 use Rattle.vm_machine.specs.declared.phase.Phase.{Phase}
@@ -166,6 +171,24 @@ pub record LacksInput (frames : List RawMessage) : Type 0 where
   pub count : length entries ≡ start.known_entries
   pub none : first_input (commands_among entries) ≡ None
 
+-- why so many commands behind the input can't be skipped, by the completion id that is next past all that they carry, if they can be read
+abbrev pub skip_fault : ℕ → Option ℕ → Option NamedFault
+skip_fault dropped None = Some fault.BadMessage
+skip_fault dropped (Some id) = result_err (counters_past dropped id fresh_counters)
+
+-- Recorded commands are skipped, and one of those behind the input can't be read, or a kind of number runs out past them.
+pub record CannotSkip (options : VMOptions) (frames : List RawMessage) : Type 0 where
+  pub skips : options.journal_replay ≡ Disabled
+  pub first : RawMessage
+  pub entries : List RawMessage
+  pub others : List RawMessage
+  pub is : frames ≡ first ∷ (entries ++ others)
+  pub start : Start
+  pub reads : start_in first.body ≡ Some start
+  pub count : length entries ≡ start.known_entries
+  pub why : NamedFault
+  pub reason : skip_fault (length (drop 1 (commands_among entries))) (past_all 1 (drop 1 (commands_among entries))) ≡ Some why
+
 -- the handler's call was refused for this reason, at a point with these answers
 pub record RefusedCall (m : Meaning) (version : Version) (options : VMOptions) (fed : Heard) (answers_so_far : List Answer) (e : Error) : Type 0 where
   pub journal : Journal fed
@@ -198,7 +221,7 @@ pub record RefusedResult (version : Version) (options : VMOptions) (told : Optio
 -- ---- why an attempt failed
 
 -- Memory was lacking; a frame was refused, or bytes were no frame; the input was closed while known entries were missing; the
--- journal has no input; the handler's call was refused, or an await found no memory for one of its commands; or the run's result that was
+-- journal has no input, or its commands can't be skipped; the handler's call was refused, or an await found no memory for one of its commands; or the run's result that was
 -- told last was refused, or fails the attempt.
 pub data Blame (m : Meaning) (version : Version) (options : VMOptions) (fed : Heard) (said : Said) (answers : List Answer) (e : Error) : Type 0 where
   Memory : e ≡ no_memory → Blame m version options fed said answers e
@@ -206,6 +229,7 @@ pub data Blame (m : Meaning) (version : Version) (options : VMOptions) (fed : He
   NoFrame : (frames_of (bytes_fed fed)).1 ≡ Garbage → e ≡ ruled_by version options (named_error fault.BadMessage None) → Blame m version options fed said answers e
   ClosedEarly : said.closed ≡ true → IsShort (frames_fed fed) → e ≡ ruled_by version options (named_error fault.InputClosedWhileWaitingEntries None) → Blame m version options fed said answers e
   NoInput : LacksInput (frames_fed fed) → Blame m version options fed said answers e
+  NoSkip : CannotSkip options (frames_fed fed) → Blame m version options fed said answers e
   Call : (Premises m version options fed → (e ≡ no_memory) ⊎ RefusedCall m version options fed answers e) → Blame m version options fed said answers e
   RunResult : RefusedResult version options said.told e → Blame m version options fed said answers e
 

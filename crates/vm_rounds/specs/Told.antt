@@ -1,5 +1,5 @@
 -- What the record of an attempt tells of its handler's run.
-use Rattle.std.specs.Prelude.{◌≡◌, ◌≢◌, ◌⊎◌, ℕ, true, cond, length, List, [], ◌∷◌, ◌++◌, map, Option, Some, None, Result, Ok, Err}
+use Rattle.std.specs.Prelude.{◌≡◌, ◌≢◌, ◌⊎◌, ◌≤◌, ℕ, true, cond, length, List, [], ◌∷◌, ◌++◌, map, Option, Some, None, Result, Ok, Err}
 use Rattle.std.specs.List.{AllByRecursion, concat, flat_map}
 use Rattle.journal_attempt.specs.declared.commands.InputCommand.{InputCommand}
 use Rattle.journal_errors.specs.declared.error.Error.{Error}
@@ -16,7 +16,8 @@ use Rattle.journal_messages.specs.Message.{encoding}
 use Rattle.journal_messages.specs.Reading.{start_in}
 use Rattle.journal_messages.specs.Message.{IsWhole}
 use Rattle.vm_parts.specs.declared.context.StateMap.{StateMap}
-use Rattle.vm_types.specs.declared.options.JournalReplay.TheVariants.{Enabled}
+use Rattle.vm_types.specs.declared.options.JournalReplay.TheVariants.{Enabled, Disabled}
+use Rattle.vm_asks.specs.Carried.{AreBelow, AreFrom, AreGreater, all_carried}
 use Rattle.vm_types.specs.declared.options.SignalDelivery.TheVariants.{Queued}
 use Rattle.vm_types.specs.declared.options.VMOptions.{VMOptions}
 use Rattle.vm_types.specs.declared.steps.Step.TheVariants as step
@@ -40,7 +41,8 @@ use Rattle.vm_machine.specs.Outcomes.{IsStarved, ruled}
 use Rattle.vm_steps.specs.declared.progress.Fed.{Fed}
 use Rattle.vm_steps.specs.declared.progress.Progress.{Progress}
 use Rattle.vm_steps.specs.declared.progress.Progress.TheVariants as progress
-use Rattle.vm_rounds.specs.Agreement.{Agrees, Aside, command_frames}
+use Rattle.vm_asks.specs.Asks.{ask_of}
+use Rattle.vm_rounds.specs.Agreement.{Agrees, Aside, MakesMany, command_frames}
 use Rattle.vm_rounds.specs.Journals.{AcknowledgesNothing, HasAll, StillWaits, commands_among, is_command, setup_for}
 use Rattle.vm_types.specs.declared.steps.Answer.{Answer}
 use Rattle.invocation_vm.specs.Views.{View}
@@ -125,6 +127,18 @@ handed_out j = record { entries = j.state; coverage = coverage_of j.start.partia
 abbrev pub begun : {fed : Heard} → Version → VMOptions → Journal fed → Point
 begun version options j = start (setup_for version options j.start) j.input (arrivals j) j.rest
 
+-- ---- new numbers
+
+-- Each completion id that a written command carries is greater than each that a command of the attempt's journal carries.
+pub record HasFreshIds (fed : Heard) (written : List RawMessage) : Type 0 where
+  pub journal : Journal fed
+  pub greater : AreGreater (all_carried (journal.first ∷ journal.rest)) (all_carried written)
+
+-- Where the recorded commands are skipped, no command was written, or each completion id that one carries is greater than each that a
+-- recorded command carries.
+abbrev pub NumbersFreshly : Version → VMOptions → Record → Type 0
+NumbersFreshly version options r = options.journal_replay ≡ Disabled → (written_by r ≡ []) ⊎ HasFreshIds (heard version r) (written_by r)
+
 -- ---- what is asked of the options and of the runtime
 
 -- No completion has two results at a point that the handler's run comes to, by what was fed, where each further command is its own.
@@ -199,8 +213,8 @@ pub record RefusesReplay (m : Meaning) (version : Version) (options : VMOptions)
   pub output : new.output ≡ old.output ++ (command_frames written ++ encoding (message.Error (error_message e)) ∷ [])
   pub failure : new.failure ≡ Some e
 
--- An await that began while recorded commands were left found no memory for one of its commands. It may have made others before, each
--- whole, but none while recorded ones were left.
+-- A call that may make more than one command, and began while recorded ones were left, found no memory for one of them. It may have made
+-- others before, each whole, but none while recorded ones were left.
 pub record StarvesReplay (m : Meaning) (version : Version) (options : VMOptions) (fed : Heard) (answers_so_far : List Answer) (e : Error) (old new : Machine) : Type 0 where
   pub journal : Journal fed
   pub at : Point
@@ -209,8 +223,7 @@ pub record StarvesReplay (m : Meaning) (version : Version) (options : VMOptions)
   pub none_before : (written ≡ []) ⊎ (at.left ≡ [])
   pub made : Made (setup_for version options journal.start) m (Handed (handed_out journal)) moves (begun version options journal) written at
   pub answers : at.answers ≡ answers_so_far
-  pub future : UnresolvedFuture
-  pub awaits : m at.answers ≡ step.Await future
+  pub many : MakesMany (ask_of version (m at.answers))
   pub error : e ≡ no_memory
   pub output : new.output ≡ old.output ++ command_frames written
   pub failure : new.failure ≡ Some e
@@ -260,9 +273,18 @@ pub record Runs (m : Meaning) (version : Version) (options : VMOptions) (fed : H
   pub answers : at.answers ≡ answers_so_far
   pub awaits : StillAwaits m at waiting
   pub agrees : IsLive vm.machine → Agrees (setup_for version options journal.start) (handed_out journal) written vm.machine at
+  pub rests : IsLive vm.machine → at.derived.parts ≡ 0
   pub keeps : IsLive vm.machine → KeepsProposals journal vm.machine
   pub phase : vm.machine.failure ≡ None → (is_running vm.machine.phase ≡ true) ⊎ (vm.machine.phase ≡ Closed)
   pub tail : IsLive vm.machine → (frames_of (bytes_fed fed)).1 ≡ Rest vm.undecoded
+
+-- Where the recorded commands are skipped, the completion ids that the written commands carry, and those of commands to come, are past all
+-- that the recorded ones carry: from this one on.
+pub record NumbersOn (recorded written : List RawMessage) (v : Machine) : Type 0 where
+  pub next : ℕ
+  pub past : AreBelow next (all_carried recorded)
+  pub from : AreFrom next (all_carried written)
+  pub further : IsLive v → next ≤ v.counters.completion
 
 -- The handler has read its input, which the journal begins with. What was written are the frames of messages. The VM was made for
 -- this version and these options; it runs, or it is closed or has failed.
@@ -274,6 +296,7 @@ pub record Came (version : Version) (options : VMOptions) (fed : Heard) (answers
   pub made_for : IsLive vm.machine → (vm.machine.version ≡ version) × (vm.machine.options ≡ options)
   pub keeps : IsLive vm.machine → KeepsProposals journal vm.machine
   pub early : IsLive vm.machine → ProposesLate fed vm.machine.phase
+  pub fresh : options.journal_replay ≡ Disabled → NumbersOn (journal.first ∷ journal.rest) written vm.machine
   pub phase : vm.machine.failure ≡ None → (is_running vm.machine.phase ≡ true) ⊎ (vm.machine.phase ≡ Closed)
   pub tail : IsLive vm.machine → (frames_of (bytes_fed fed)).1 ≡ Rest vm.undecoded
 

@@ -57,7 +57,7 @@ impl<H: Handler> Attempt<H> {
     ghost use Rattle.vm_rounds.specs.Blames.{Blame, IfError, IsHonest, IsOwnError};
     ghost use Rattle.vm_steps.specs.Heard.{proposals_in};
     ghost use Rattle.vm_steps.specs.Record.{all_heard, all_said, bytes_written, heard};
-    ghost use Rattle.vm_rounds.specs.Told.{AnswersAreTold, HasCome, NothingWakes, Premises, Replays, written_by};
+    ghost use Rattle.vm_rounds.specs.Told.{AnswersAreTold, HasCome, NothingWakes, NumbersFreshly, Premises, Replays, written_by};
 
     /// An attempt for the version that the header `content-type` names; the VM's refusals are its own.
     pub fn new<M: HeaderMap>(
@@ -118,6 +118,9 @@ impl<H: Handler> Attempt<H> {
         // Where the bytes are an honest attempt's over a history of the handler, an error is only want of memory, input that was closed
         // too early, a call's own refusal, where no recorded command is left, or that of the run's result that was told last.
         ensures honest { IsHonest (H.meaning self.old.handler) self.old.version self.old.options (all_heard self.old.version self.new.record_of) → IfError result (λ e. IsOwnError (H.meaning self.old.handler) self.old.version self.old.options (all_heard self.old.version self.new.record_of) (all_said self.new.record_of) self.new.record_of.answers e) }
+        // Where the options disable replay, the completion ids of the commands that it has written are greater than all that the commands of its
+        // journal carry.
+        ensures fresh { NumbersFreshly self.old.version self.old.options self.new.record_of }
         ensures handler { self.new.handler ≡ self.old.handler }
         ensures made_for { (self.new.version ≡ self.old.version) × (self.new.options ≡ self.old.options) }
     {
@@ -170,6 +173,7 @@ impl<H: Handler> Attempt<H> {
         // Under the premises the journal, which is what was fed, followed by the commands that were written, tells them; no command is
         // written while recorded ones are left.
         ensures told { Premises (H.meaning self.now.handler) self.now.version self.now.options (heard self.now.version self.now.record_of) → (self.now.record_of.answers ≡ []) ⊎ AnswersAreTold (H.meaning self.now.handler) self.now.version self.now.options self.now.record_of }
+        ensures fresh { NumbersFreshly self.now.version self.now.options self.now.record_of }
     {
         // What waits now is whole frames, from which the clauses read the commands.
         let _ = self.inner.output_len();

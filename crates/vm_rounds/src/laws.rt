@@ -15,6 +15,7 @@ ghost use Rattle.invocation_vm.specs.Views.{all_received};
 ghost use Rattle.vm_model.specs.Calls.{Setup, Meaning, identity_of};
 ghost use Rattle.vm_model.specs.Deliveries.{HasNoTwo};
 ghost use Rattle.vm_model.specs.Histories.{History, IsAwaiting};
+ghost use Rattle.vm_types.specs.declared.options.JournalReplay.TheVariants.{Enabled};
 ghost use Rattle.vm_types.specs.declared.options.SignalDelivery.TheVariants.{Queued};
 ghost use Rattle.vm_model.specs.Journal.{input_read_from};
 ghost use Rattle.vm_model.specs.Moves.{Point, later};
@@ -48,11 +49,11 @@ ghost use Rattle.await_trees.specs.declared.tree.UnresolvedFuture.{UnresolvedFut
 /// In a machine that agrees with a point of the handler's run, the handler's call does what the moves from there lead to:
 /// it is answered as they are, writes the commands that they make and no others, and agrees with the point where they lead;
 /// or an await waits, where no arrival and no recorded command is left, and asks for one more arrival; or the handler
-/// ends, where no recorded command is left; or the call is refused, where no move leads on. A cancelled await that is refused, or finds no
-/// memory, has made a beginning of its commands, each whole. Of an await this is said where signals
-/// queue and no completion has two results. (That a command which was written can be read back is in the contract of each call.)
+/// ends, where no recorded command is left; or the call is refused, where no move leads on. A cancelled await or a call with several
+/// commands that is refused, or finds no memory, has made a beginning of its commands, each whole. Of an await this is said where signals
+/// queue and no completion has two results, and of a call with several commands where none of them is made. (That a command which was written can be read back is in the contract of each call.)
 pub fn calls_follow()
-    ensures { (s : Setup) (m : Meaning) (given : StateMap) (written : List RawMessage) (v : Machine) (p : Point) (o : Outcome Reply) → ((future : UnresolvedFuture) → IsAwaiting m p future → (s.options.signal_delivery ≡ Queued) × HasNoTwo p) → Agrees s given written v p → Performs (m p.answers) v o → IfDone o (ReadsBack (m p.answers) v) → Follows s m given written p v o }
+    ensures { (s : Setup) (m : Meaning) (given : StateMap) (written : List RawMessage) (v : Machine) (p : Point) (o : Outcome Reply) → ((future : UnresolvedFuture) → IsAwaiting m p future → (s.options.signal_delivery ≡ Queued) × HasNoTwo p) → p.derived.parts ≡ 0 → Agrees s given written v p → Performs (m p.answers) v o → IfDone o (ReadsBack (m p.answers) v) → Follows s m given written p v o }
 {}
 
 /// Frames that come to a machine that agrees with a point are arrivals: a notification as it is, and an acknowledgement as the completion
@@ -62,10 +63,10 @@ pub fn frames_arrive()
     ensures { (s : Setup) (given : StateMap) (written : List RawMessage) (v : Machine) (p : Point) (raws : List RawMessage) → Agrees s given written v p → (Agrees s given written (all_received raws v) (later (arriving v.proposals raws) p) × ((all_received raws v).proposals ≡ kept_after v.proposals raws)) ⊎ FailsAt raws v (all_received raws v) }
 {}
 
-/// A machine that has the whole journal reads its input: where the first command is one, the handler is told it, and the
-/// machine agrees with the first point of the handler's run; else the call is refused.
+/// A machine that has the whole journal, whose commands are replayed, reads its input: where the first command is one, the handler is told
+/// it, and the machine agrees with the first point of the handler's run; else the call is refused.
 pub fn attempts_begin()
-    ensures { (s : Setup) (given : StateMap) (aside : Aside) (first : RawMessage) (rest : List RawMessage) (ns : List Notification) → s.identity ≡ identity_of aside.start → BeginsOrFails s given aside rest ns (input_read_from first) (input_step (machine_fed s given aside (first ∷ rest) ns Replaying)) }
+    ensures { (s : Setup) (given : StateMap) (aside : Aside) (first : RawMessage) (rest : List RawMessage) (ns : List Notification) → s.options.journal_replay ≡ Enabled → s.identity ≡ identity_of aside.start → BeginsOrFails s given aside rest ns (input_read_from first) (input_step (machine_fed s given aside (first ∷ rest) ns Replaying)) }
 {}
 
 /// Frames that come to a new machine: it has failed; or the first is a Start, and the machine waits for as many of the known

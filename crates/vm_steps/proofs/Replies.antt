@@ -1,5 +1,5 @@
 -- What a call does, with its answer as a reply.
-use Rattle.std.proofs.Common.{◌≡◌, inl, inr, ⊎_elim, Result, Ok, Err, refl, sym, ap}
+use Rattle.std.proofs.Common.{◌≡◌, List, inl, inr, ⊎_elim, Result, Ok, Err, refl, sym, ap}
 use Rattle.std.specs.Prelude.{OnOk}
 use Rattle.journal_errors.specs.declared.error.Error.{Error}
 use Rattle.vm_machine.specs.declared.machine.Machine.{Machine}
@@ -12,8 +12,14 @@ use Rattle.vm_machine.specs.Outcomes.{Does, DoesBy, Failed, IsStarved, Outcome, 
 use Rattle.vm_types.specs.declared.types.AwaitResponse.{AwaitResponse}
 use Rattle.await_trees.specs.declared.tree.UnresolvedFuture.{UnresolvedFuture}
 use Rattle.await_trees.specs.Tree.{tree_of}
+use Rattle.await_trees.specs.declared.handle.NotificationHandle.{NotificationHandle}
+use Rattle.vm_asks.specs.declared.asks.AnswerKind.{AnswerKind}
+use Rattle.vm_asks.specs.declared.asks.Command.{Command}
+use Rattle.vm_asks.specs.Asks.{answer_by}
+use Rattle.vm_machine.specs.Several.{MakesAll}
 use Rattle.vm_steps.specs.declared.progress.Reply.{Reply}
-use Rattle.vm_steps.specs.Steps.{Awaited, ComesTo, await_reply, mapped, result_mapped}
+use Rattle.vm_steps.specs.declared.progress.Reply.TheVariants as reply
+use Rattle.vm_steps.specs.Steps.{AllCarried, Awaited, ComesTo, await_reply, mapped, result_mapped}
 
 pub replies : {A : Type 0} (f : A → Reply) (step : Machine → Outcome A) (r : Result A Error) (old new : Machine) → Does (called (step old) old) r old new → DoesBy (ComesTo (λ v. mapped f (called (step v) v)) old) (result_mapped f r) old new
 replies f step (Ok a) old new h = ap (mapped f) (sym h)
@@ -23,6 +29,11 @@ replies f step (Err e) old new h = ⊎_elim (λ (x : called (step old) old ≡ F
 pub awaits_reply : (future : UnresolvedFuture) (r : Result (Result AwaitResponse Error) Error) (old new : Machine) → AwaitsWhole (tree_of future) r old new → DoesBy (Awaited future old) (result_mapped await_reply r) old new
 awaits_reply future (Ok a) old new h = (a, h, refl)
 awaits_reply future (Err e) old new h = inl h
+
+-- what the whole call of several commands came to
+pub all_reply : (kind : AnswerKind) (c : Command) (cs : List Command) (r : Result NotificationHandle Error) (old new : Machine) → MakesAll c cs r old new → DoesBy (AllCarried kind c cs old) (result_mapped (λ handle. reply.Answer (answer_by kind handle)) r) old new
+all_reply kind c cs (Ok handle) old new h = (handle, h, refl)
+all_reply kind c cs (Err e) old new h = inl h
 
 -- where a reply is an answer, its call was answered
 pub replies_sent : {A B : Type 0} (q : Message) (v : Machine) (f : A → B) (r : Result A Error) → OnOk r (CanBeRead q v) → OnOk (result_mapped f r) (CanBeRead q v)

@@ -1,5 +1,5 @@
 -- The call that a step of a handler is, and what its answer is to the handler: one row a kind of what steps ask for.
-use Rattle.std.specs.Prelude.{◌≡◌, ℕ, List, Result, Ok, Err, OnOk}
+use Rattle.std.specs.Prelude.{◌≡◌, ℕ, List, [], ◌∷◌, Result, Ok, Err, OnOk}
 use Rattle.journal_errors.specs.declared.error.Error.{Error}
 use Rattle.vm_types.specs.declared.steps.Answer.TheVariants as answer
 use Rattle.vm_types.specs.declared.steps.Step.{Step}
@@ -11,11 +11,13 @@ use Rattle.await_trees.specs.Tree.{tree_of}
 use Rattle.vm_machine.specs.declared.machine.Machine.{Machine}
 use Rattle.vm_asks.specs.declared.asks.Ask.{Ask}
 use Rattle.vm_asks.specs.declared.asks.Ask.TheVariants as ask
+use Rattle.vm_asks.specs.declared.asks.AnswerKind.{AnswerKind}
 use Rattle.vm_asks.specs.declared.asks.Command.{Command}
-use Rattle.vm_asks.specs.Asks.{ask_of, command_answer}
+use Rattle.vm_asks.specs.Asks.{answer_by, ask_of, command_answer}
 use Rattle.vm_awaits.specs.Cancels.{AwaitsWhole}
 use Rattle.vm_machine.specs.Takes.{is_completed, take_step}
 use Rattle.vm_machine.specs.Commands.{CanBeRead, commanded}
+use Rattle.vm_machine.specs.Several.{MakesAll}
 use Rattle.vm_machine.specs.Inputs.{end_step}
 use Rattle.vm_machine.specs.Outcomes.{DoesBy, Done, Failed, Outcome, called}
 use Rattle.vm_asks.specs.declared.state_read.StateRead.{StateRead}
@@ -39,6 +41,12 @@ result_mapped f (Err e) = Err e
 -- a call that has a command: the answer is by its first handle
 abbrev pub carried : Command → Machine → Outcome Reply
 carried c v = mapped (λ handle. reply.Answer (command_answer c.message handle)) (called (commanded c v) v)
+
+-- A call that has several commands: what it may come to, as a reply; the answer is by its first handle. An error is that of the call, also
+-- where it found no memory for a command behind the first.
+abbrev pub AllCarried : AnswerKind → Command → List Command → Machine → Outcome Reply → Type 0
+AllCarried kind c cs v (Done given w) = (handle : NotificationHandle) × MakesAll c cs (Ok handle) v w × (given ≡ reply.Answer (answer_by kind handle))
+AllCarried kind c cs v (Failed e w) = MakesAll c cs (Err e) v w
 
 -- an awakeable: the answer is its id and its handle
 abbrev pub awakeable_made : Machine → Outcome Reply
@@ -85,6 +93,7 @@ ComesTo call v o = o ≡ call v
 -- what the call may come to that is asked for
 abbrev pub PerformsBy : Ask → Machine → Outcome Reply → Type 0
 PerformsBy (ask.Command c) = ComesTo (carried c)
+PerformsBy (ask.Commands kind first second) = AllCarried kind first (second ∷ [])
 PerformsBy ask.Awakeable = ComesTo awakeable_made
 PerformsBy (ask.Read r) = ComesTo (read_made r)
 PerformsBy (ask.Signal name) = ComesTo (signalled name)

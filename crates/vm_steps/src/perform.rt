@@ -1,13 +1,14 @@
 //! The calls of the VM that the steps of a handler are: one function a kind of what steps ask for.
-ghost use Rattle.std.specs.Prelude.{◌≡◌, OnOk};
+ghost use Rattle.std.specs.Prelude.{◌≡◌, ◌∷◌, [], OnOk};
+ghost use Rattle.vm_asks.specs.Asks.{AnswerTakes, all_ids};
 ghost use Rattle.vm_machine.specs.Commands.{CanBeRead};
 ghost use Rattle.vm_machine.specs.Reads.{ReadCanBeRead};
 ghost use Rattle.invocation_vm.specs.Seen.{seen};
-ghost use Rattle.vm_steps.specs.Steps.{Asked, Awaited, ComesTo, StepMade, await_reply, awakeable_made, carried, ended, read_made, signalled, taken};
+ghost use Rattle.vm_steps.specs.Steps.{AllCarried, Asked, Awaited, ComesTo, StepMade, await_reply, awakeable_made, carried, ended, read_made, signalled, taken};
 
 use crate::progress::Reply;
 use invocation_vm::{AwaitResponse, CoreVM, NotificationHandle, UnresolvedFuture, VM, VMResult};
-use vm_asks::asks::command_answer;
+use vm_asks::asks::{AnswerKind, command_answer};
 use vm_asks::{Ask, Command, StateRead};
 use vm_parts::{Answer, Step};
 use wire::Text;
@@ -19,6 +20,17 @@ fn carry(vm: &mut CoreVM, command: Command) -> VMResult<Reply>
 {
     let kind = command.answer_kind();
     match vm.command(command) {
+        Ok(handle) => Ok(Reply::Answer(command_answer(kind, handle))),
+        Err(error) => Err(error),
+    }
+}
+
+#[tactic(auto, using(crate::proofs::Replies::all_reply, vm_machine::proofs::Answering::several_fit))]
+fn carry_both(vm: &mut CoreVM, kind: AnswerKind, first: Command, second: Command) -> VMResult<Reply>
+    requires { AnswerTakes kind (all_ids first (second ∷ [])) }
+    ensures { Asked (AllCarried kind first (second ∷ [])) result (seen vm.old) (seen vm.new) }
+{
+    match vm.commands(first, second) {
         Ok(handle) => Ok(Reply::Answer(command_answer(kind, handle))),
         Err(error) => Err(error),
     }
@@ -111,6 +123,7 @@ pub fn perform(vm: &mut CoreVM, step: Step) -> VMResult<Reply>
 {
     match vm.ask_of(step) {
         Ask::Command(command) => carry(vm, command),
+        Ask::Commands(kind, first, second) => carry_both(vm, kind, first, second),
         Ask::Awakeable => awakeable(vm),
         Ask::Read(read) => read_state(vm, read),
         Ask::Signal(name) => signal(vm, name),

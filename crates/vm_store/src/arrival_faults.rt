@@ -27,7 +27,7 @@ pub fn room_fault(journal: &[Bytes]) -> Option<RoundFault>
 }
 
 /// The fault of a completion, by what completes its id and whether it was completed.
-fn completion_fault(
+pub fn completion_fault(
     kind: Option<Completes>,
     done: bool,
     brings: &NotificationResult,

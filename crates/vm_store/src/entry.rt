@@ -1,9 +1,11 @@
 //! The entries of a journal, which are stored as frames.
-ghost use Rattle.std.specs.Prelude.{◌≡◌, IfOk};
+ghost use Rattle.std.specs.Prelude.{◌≡◌, IfOk, is_some};
+ghost use Rattle.vm_model.specs.Journal.{input_read_from};
 ghost use Rattle.vm_rounds.specs.Journals.{is_command, is_notification};
 ghost use Rattle.vm_store.specs.Entries.{frame_in, frame_of, note_in, note_of, said_at, said_by};
 
 use bytes::Bytes;
+use journal_errors::MessageType;
 use journal_messages::{Message, RawMessage};
 use journal_streams::Decoder;
 use journal_values::Notification;
@@ -37,7 +39,7 @@ pub fn frame_bytes(alloc: Global, raw: &RawMessage) -> Result<Bytes, AllocError>
 }
 
 /// The frame that some bytes are, if they are one whole frame and nothing more.
-fn frame_in(alloc: Global, bytes: &Bytes) -> Result<Option<RawMessage>, AllocError>
+pub fn frame_in(alloc: Global, bytes: &Bytes) -> Result<Option<RawMessage>, AllocError>
     ensures { IfOk result (λ raw. raw ≡ frame_in bytes.now) }
 {
     let mut decoder = Decoder::new(alloc);
@@ -57,7 +59,7 @@ fn frame_in(alloc: Global, bytes: &Bytes) -> Result<Option<RawMessage>, AllocErr
 }
 
 /// The notification that a frame is, if it is one and can be read.
-fn note_of(alloc: Global, raw: &RawMessage) -> Result<Option<Notification>, AllocError>
+pub fn note_of(alloc: Global, raw: &RawMessage) -> Result<Option<Notification>, AllocError>
     ensures { IfOk result (λ note. note ≡ note_of raw.now) }
 {
     if !is_notification(raw) {
@@ -71,7 +73,7 @@ fn note_of(alloc: Global, raw: &RawMessage) -> Result<Option<Notification>, Allo
 }
 
 /// What a frame says, if it is one of a command and can be read.
-fn said_by(alloc: Global, raw: &RawMessage) -> Result<Option<Message>, AllocError>
+pub fn said_by(alloc: Global, raw: &RawMessage) -> Result<Option<Message>, AllocError>
     ensures { IfOk result (λ message. message ≡ said_by raw.now) }
 {
     if !is_command(raw) {
@@ -81,6 +83,20 @@ fn said_by(alloc: Global, raw: &RawMessage) -> Result<Option<Message>, AllocErro
         Ok(message) => Ok(Some(message)),
         Err(Fault::Memory) => Err(AllocError),
         Err(Fault::Malformed) => Ok(None),
+    }
+}
+
+/// Whether a frame is an input that can be read.
+pub fn is_input(alloc: Global, raw: &RawMessage) -> Result<bool, AllocError>
+    ensures { IfOk result (λ is. is ≡ is_some (input_read_from raw.now)) }
+{
+    if !raw.has_type(MessageType::InputCommand) {
+        return Ok(false);
+    }
+    match raw.read_input(alloc) {
+        Ok(_) => Ok(true),
+        Err(Fault::Memory) => Err(AllocError),
+        Err(Fault::Malformed) => Ok(false),
     }
 }
 

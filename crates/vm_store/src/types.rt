@@ -98,7 +98,8 @@ impl Drop for Report {
     }
 }
 
-/// Why rounds stopped: the first event that has a fault has this one, of several the first in this list.
+/// Why rounds stopped, or why no world was made: the first event, or the first given entry, that has a fault has this one, of several the first
+/// in this list.
 #[derive(Clone, Copy, Debug, PartialEq, Eq)]
 pub enum RoundFault {
     /// An arrival isn't one whole frame of a notification.
@@ -115,4 +116,7 @@ pub enum RoundFault {
     Memory = 6,
     /// The journal has `u32::MAX` entries.
     JournalFull = 7,
+    /// A journal that is given is empty, begins with something else than one whole frame of an input, or has an entry that isn't one whole
+    /// frame of a command or a notification that can be read.
+    BadJournal = 8,
 }

@@ -18,7 +18,8 @@ pub use options::{
 };
 pub use steps::{Answer, Step};
 pub use types::{
-    AwaitResponse, AwakeableHandle, CallHandle, EphemeralCompletionId, SendHandle, State,
+    AwaitResponse, AwakeableHandle, CallHandle, DeadlineCallHandle, EphemeralCompletionId,
+    SendHandle, State,
 };
 pub use values::{Input, NonEmptyValue, ResponseHead, Target, TerminalFailure, Value};
 

@@ -2,7 +2,7 @@
 
 use crate::boxed::Boxed;
 use crate::options::PayloadOptions;
-use crate::types::{AwakeableHandle, CallHandle, SendHandle};
+use crate::types::{AwakeableHandle, CallHandle, DeadlineCallHandle, SendHandle};
 use crate::values::{Input, NonEmptyValue, Target, Value};
 use await_trees::{NotificationHandle, UnresolvedFuture};
 use bytes::Bytes;
@@ -42,6 +42,14 @@ pub enum Step {
     Call {
         target: Boxed<Target>,
         input: Bytes,
+        name: Option<Text>,
+        options: PayloadOptions,
+    },
+    /// A call, and behind it a sleep until its deadline.
+    CallWithDeadline {
+        target: Boxed<Target>,
+        input: Bytes,
+        wake_up_time_since_unix_epoch: Duration,
         name: Option<Text>,
         options: PayloadOptions,
     },
@@ -98,6 +106,7 @@ pub enum Answer {
     Input(Input),
     Handle(NotificationHandle),
     Call(CallHandle),
+    CallWithDeadline(DeadlineCallHandle),
     Send(SendHandle),
     Awakeable(AwakeableHandle),
     Unit,

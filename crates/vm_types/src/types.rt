@@ -39,6 +39,15 @@ pub struct CallHandle {
     pub call_notification_handle: NotificationHandle,
 }
 
+/// A call of another handler with a deadline: the handles of the invocation's id, of its result and of the deadline, each of which
+/// is the next one.
+#[derive(Clone, Copy, Debug, PartialEq, Eq)]
+pub struct DeadlineCallHandle {
+    pub invocation_id_notification_handle: NotificationHandle,
+    pub call_notification_handle: NotificationHandle,
+    pub deadline_notification_handle: NotificationHandle,
+}
+
 /// A call whose result nobody waits for: the handle of the invocation's id.
 #[derive(Clone, Copy, Debug, PartialEq, Eq)]
 pub struct SendHandle {

@@ -46,7 +46,7 @@ pub round_counts : (m : Meaning) (w : Setting) (round : Round) (old : List (List
 round_counts m w round old report new (inl d) = ap (λ (v : ReportView). v.entries) d.ran.told ∙ ap length (sym d.ran.left)
 round_counts m w round old report new (inr d) = ap (λ (v : ReportView). v.entries) d.told
 
-then_stood : (entries : ℕ) (mid added new : List (List ℕ)) → entries ≡ length mid → new ≡ mid ++ added → take entries new ≡ mid
+pub then_stood : (entries : ℕ) (mid added new : List (List ℕ)) → entries ≡ length mid → new ≡ mid ++ added → take entries new ≡ mid
 then_stood entries mid added new e grown = (λ i. take (e i) (grown i)) ∙ take-append_seam mid added
 
 pub rounds_agree : (K : Knowledge) (m : Meaning) (w : Setting) (rounds : List Round) (old : List (List ℕ)) (reports : List ReportView) (new : List (List ℕ)) → Replays w.options → Lasts K w m → HandsOut K w rounds → IsJournal old → IsOneRun (setup_of w) m K (entries_of old) → RoundsDo m w rounds old reports new → Agree (setup_of w) m new reports

@@ -10,9 +10,11 @@ pub mod Running
 pub mod Headline
 pub mod Rounding
 pub mod Agreeing
+pub mod Freshness
 pub mod Completing
 pub mod Beginning
 pub mod Versions
 pub mod First
+pub mod Given
 pub mod Lists
 pub mod Pieces

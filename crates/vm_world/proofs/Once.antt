@@ -12,7 +12,8 @@ use Rattle.journal_values.specs.declared.notification.Notification.{Notification
 use Rattle.journal_values.specs.declared.notification.NotificationId.{NotificationId}
 use Rattle.journal_values.specs.declared.notification.NotificationId.TheVariants.{CompletionId, SignalId, SignalName}
 use Rattle.journal_values.specs.declared.notification.NotificationResult.{NotificationResult}
-use Rattle.vm_model.specs.Carried.{AreCarried, ComeOnce, carried, is_among, is_carried, read_carries}
+use Rattle.vm_asks.specs.Carried.{carried}
+use Rattle.vm_model.specs.Carried.{AreCarried, ComeOnce, is_among, is_carried, read_carries}
 use Rattle.vm_model.specs.Journal.{messages_in, read_before}
 use Rattle.vm_model.proofs.Results.{results_behind, same_is}
 use Rattle.vm_rounds.specs.Journals.{commands_among}
@@ -121,12 +122,12 @@ pub absent : (id : ℕ) (ns : List Notification) → is_completed id ns ≡ fals
 absent id [] h = tt
 absent id (n ∷ ns) h = let x = none_true (is_of id n.id) (is_completed id ns) h in (not_of id n.id x.0, absent id ns x.1)
 
-not_done : (kind : Option Completes) (done : Bool) (brings : NotificationResult) (room : Option RoundFault) → completion_fault kind done brings room ≡ None → done ≡ false
+pub not_done : (kind : Option Completes) (done : Bool) (brings : NotificationResult) (room : Option RoundFault) → completion_fault kind done brings room ≡ None → done ≡ false
 not_done None done brings room e = absurd (cc)
 not_done (Some kind) true brings room e = absurd (cc)
 not_done (Some kind) false brings room e = refl
 
-not_nothing : (kind : Option Completes) (done : Bool) (brings : NotificationResult) (room : Option RoundFault) → completion_fault kind done brings room ≡ None → kind ≡ None → ⊥
+pub not_nothing : (kind : Option Completes) (done : Bool) (brings : NotificationResult) (room : Option RoundFault) → completion_fault kind done brings room ≡ None → kind ≡ None → ⊥
 not_nothing None done brings room e is = absurd (cc)
 not_nothing (Some kind) done brings room e is = absurd (cc)
 

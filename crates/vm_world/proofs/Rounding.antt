@@ -80,7 +80,7 @@ pub record Grows (old new : List (List ℕ)) : Type 0 where
 pub short_all : (m : Meaning) (version : Version) (events : List Event) (start : List ℕ) (old : List (List ℕ)) (r : Record) → IsJournal old → r.fed ≡ [] → r.taken ≡ [] → r.proposed ≡ [] → IsShort m events (new_now version old (start ++ concat old) r)
 short_all m version events start old r j fed taken nothing end h = (events_keep m version start old events (new_now version old (start ++ concat old) r) end h (begun version start old r j fed taken nothing)).journal.short
 
-attempt_goes : (m : Meaning) (w : Setting) (round : Round) (old : List (List ℕ)) (report : ReportView) (new : List (List ℕ)) → IsJournal old → (d : AttemptDoes m w round old report new) → Going w.version (encoding (start_message w round old)) old d.ran.now
+pub attempt_goes : (m : Meaning) (w : Setting) (round : Round) (old : List (List ℕ)) (report : ReportView) (new : List (List ℕ)) → IsJournal old → (d : AttemptDoes m w round old report new) → Going w.version (encoding (start_message w round old)) old d.ran.now
 attempt_goes m w round old report new j d = events_keep m w.version (encoding (start_message w round old)) old round.events (begin d.alloc w round old) d.ran.now d.ran.happen (begun w.version (encoding (start_message w round old)) old (fresh_record (made d.alloc w.options w.version)) j refl refl refl)
 
 pub round_grows : (m : Meaning) (w : Setting) (round : Round) (old : List (List ℕ)) (report : ReportView) (new : List (List ℕ)) → IsJournal old → RoundDoes m w round old report new → Grows old new
@@ -97,10 +97,10 @@ start_found : (b : List ℕ) (st : Start) → message_in type.Start b ≡ Some (
 unfolding message_in start_in
 start_found b st h = start_by st (start_in b) h
 
-start_reads : (st : Start) → IsWhole (message.Start st) → start_in (stored_form (message.Start st)).body ≡ Some st
+pub start_reads : (st : Start) → IsWhole (message.Start st) → start_in (stored_form (message.Start st)).body ≡ Some st
 start_reads st whole = start_found (stored_form (message.Start st)).body st (read_back (message.Start st) whole)
 
-start_framed : (st : Start) → IsWhole (message.Start st) → AreFrames (encoding (message.Start st)) (stored_form (message.Start st) ∷ [])
+pub start_framed : (st : Start) → IsWhole (message.Start st) → AreFrames (encoding (message.Start st)) (stored_form (message.Start st) ∷ [])
 start_framed st whole = one_framed (stored_form (message.Start st)) whole.1
 
 -- the course of a round's attempt, from its beginning on

@@ -1,5 +1,5 @@
 -- What an attempt wrote stays: each of its calls writes behind it.
-use Rattle.std.proofs.Common.{◌≡◌, inl, inr, ℕ, Bool, true, false, List, [], ◌++◌, map, Option, Some, None, Result, Ok, Err, refl, sym, ap, ◌∙◌, subst, append_assoc, append-nil}
+use Rattle.std.proofs.Common.{◌≡◌, inl, inr, ℕ, Bool, true, false, List, [], ◌∷◌, ◌++◌, map, Option, Some, None, Result, Ok, Err, refl, sym, ap, ◌∙◌, subst, append_assoc, append-nil}
 use Rattle.std.specs.Prelude.{if◌then◌else◌}
 use Rattle.std.specs.List.{concat}
 use Rattle.std.proofs.lemmas.List.Folds.{concat-append}
@@ -19,14 +19,16 @@ use Rattle.vm_asks.specs.declared.asks.Ask.TheVariants as ask
 use Rattle.vm_machine.specs.declared.machine.Machine.{Machine}
 use Rattle.vm_machine.specs.declared.phase.Phase.{Phase}
 use Rattle.vm_machine.specs.declared.phase.Phase.TheVariants.{WaitingStart, WaitingReplayEntries, Replaying, Processing, Closed}
-use Rattle.vm_asks.specs.Asks.{ask_of}
+use Rattle.vm_asks.specs.declared.asks.AnswerKind.{AnswerKind}
+use Rattle.vm_asks.specs.declared.asks.Command.{Command}
+use Rattle.vm_asks.specs.Asks.{EachIs, ask_of}
 use Rattle.vm_machine.specs.Commands.{commanded}
-use Rattle.vm_laws.specs.Endings.{EventWrites, Writes}
+use Rattle.vm_laws.specs.Endings.{EventWrites, Writes, is_terminal}
 use Rattle.vm_machine.specs.Inputs.{close_step, input_step}
 use Rattle.vm_machine.specs.Outcomes.{Does, DoesBy, Done, Failed, Outcome, called, refused}
 use Rattle.vm_machine.specs.Signals.{awakeable_step}
 use Rattle.vm_laws.proofs.Endings.{GoesOn, asks_go_on, awakeable_writes, called_writes, close_writes, commanded_event, end_writes, input_writes, read_writes, same, signal_writes, take_writes, writes_nothing}
-use Rattle.invocation_vm.specs.Calls.{skips_replay}
+use Rattle.vm_machine.specs.Skips.{skips_replay}
 use Rattle.invocation_vm.specs.Views.{View, after_closing, after_input, left_by}
 use Rattle.invocation_vm.proofs.Feeds.{among_output}
 use Rattle.vm_model.specs.Calls.{Meaning}
@@ -36,8 +38,8 @@ use Rattle.vm_steps.specs.declared.progress.Reply.{Reply}
 use Rattle.vm_steps.specs.declared.progress.Reply.TheVariants as reply
 use Rattle.vm_steps.specs.Record.{Record, bytes_written}
 use Rattle.vm_steps.specs.Stepping.{Advances, Asks, CloseDoes, Closes, FeedDoes, Feeds, FinishDoes, Reads, StepAt, StepDoes, StepFrom, StepUnless, future_in, kept_at, replied, step_asked, with_vm}
-use Rattle.vm_steps.specs.Steps.{Awaited, Performs, PerformsBy, mapped}
-use Rattle.vm_laws.proofs.Outputs.{whole_writes}
+use Rattle.vm_steps.specs.Steps.{AllCarried, Awaited, Performs, PerformsBy, mapped}
+use Rattle.vm_laws.proofs.Outputs.{all_writes, whole_writes}
 use Rattle.vm_rounds.proofs.Finishing.{finished}
 use Rattle.vm_rounds.proofs.Quiet.{input_quiet}
 
@@ -56,9 +58,15 @@ await_event : (future : UnresolvedFuture) (v : Machine) (o : Outcome Reply) → 
 await_event future v (Done given w) (answered, whole, replied) = whole_writes (tree_of future) (Ok answered) v w whole
 await_event future v (Failed e w) whole = whole_writes (tree_of future) (Err e) v w whole
 
+-- several commands write behind the output
+several_event : (kind : AnswerKind) (c : Command) (cs : List Command) (v : Machine) (o : Outcome Reply) → EachIs (λ x. is_terminal x.message ≡ false) c cs → AllCarried kind c cs v o → EventWrites v o
+several_event kind c cs v (Done given w) goes (handle, made, replied) = all_writes c cs (Ok handle) v w goes made
+several_event kind c cs v (Failed e w) goes made = all_writes c cs (Err e) v w goes made
+
 -- what is asked for writes behind the output
 asked_writes : (a : Ask) → GoesOn a → (v : Machine) (o : Outcome Reply) → PerformsBy a v o → EventWrites v o
 asked_writes (ask.Command c) goes v o does = subst (EventWrites v) (sym does) (mapped_writes _ v (called (commanded c v) v) (called_writes v (commanded c v) (commanded_event c v goes)))
+asked_writes (ask.Commands kind first second) goes v o does = several_event kind first (second ∷ []) v o goes does
 asked_writes ask.Awakeable goes v o does = subst (EventWrites v) (sym does) (mapped_writes _ v _ (new_awakeable_writes (skips_replay v.options.journal_replay) v))
 asked_writes (ask.Read r) goes v o does = subst (EventWrites v) (sym does) (mapped_writes _ v _ (read_writes r v))
 asked_writes (ask.Signal name) goes v o does = subst (EventWrites v) (sym does) (mapped_writes _ v _ (signal_writes name v))

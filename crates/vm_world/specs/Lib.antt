@@ -2,3 +2,5 @@ pub mod Rounds
 pub mod Courses
 pub mod Inside
 pub mod ContentTypes
+pub mod Fresh
+pub mod Onward

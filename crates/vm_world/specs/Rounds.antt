@@ -24,7 +24,7 @@ use Rattle.journal_messages.specs.declared.message.RawMessage.{RawMessage}
 use Rattle.vm_steps.specs.declared.progress.Progress.{Progress}
 use Rattle.vm_steps.specs.Heard.{proposals_in}
 use Rattle.vm_steps.specs.Record.{Record, bytes_written, heard}
-use Rattle.vm_rounds.specs.Told.{AnswersAreTold, Premises, written_by}
+use Rattle.vm_rounds.specs.Told.{AnswersAreTold, NumbersFreshly, Premises, written_by}
 use Rattle.vm_steps.specs.Stepping.{CloseDoes, FeedDoes, FinishDoes, StepDoes, fresh_record, taken_from}
 use Rattle.vm_store.specs.declared.types.Event.{Event}
 use Rattle.vm_store.specs.declared.types.Event.TheVariants as event
@@ -162,10 +162,11 @@ abbrev pub refused_report : Error → List (List ℕ) → ReportView
 refused_report e journal = record { answers = []; output = []; error = Some e; entries = length journal }
 
 -- What an attempt's own contract tells of it at the end of its round: before its input it has written no command; and under the
--- premises its journal, with what it wrote, tells its answers.
+-- premises its journal, with what it wrote, tells its answers; and where recorded commands are skipped, its commands carry new ids.
 pub record EndsTold (m : Meaning) (version : Version) (options : VMOptions) (r : Record) : Type 0 where
   pub begins : r.answers ≡ [] → written_by r ≡ []
   pub told : Premises m version options (heard version r) → (r.answers ≡ []) ⊎ AnswersAreTold m version options r
+  pub fresh : NumbersFreshly version options r
 
 -- a round begins with this attempt, and these bytes wait
 abbrev pub new_now : Version → List (List ℕ) → List ℕ → Record → Now

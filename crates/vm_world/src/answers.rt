@@ -11,6 +11,7 @@ fn copy_answer(answer: &Answer) -> Result<Answer, AllocError>
         Answer::Input(input) => Ok(Answer::Input(input.clone()?)),
         Answer::Handle(handle) => Ok(Answer::Handle(*handle)),
         Answer::Call(made) => Ok(Answer::Call(*made)),
+        Answer::CallWithDeadline(made) => Ok(Answer::CallWithDeadline(*made)),
         Answer::Send(made) => Ok(Answer::Send(*made)),
         Answer::Awakeable(made) => Ok(Answer::Awakeable(made.clone()?)),
         Answer::Unit => Ok(Answer::Unit),

@@ -1,9 +1,10 @@
 //! Rounds of a handler over a world's journal, one after another.
-ghost use Rattle.std.specs.Prelude.{◌≡◌, ◌∷◌, [], ◌++◌, map, IfOk, IfErr, if◌then◌else◌};
+ghost use Rattle.std.specs.Prelude.{◌≡◌, ◌∷◌, [], ◌++◌, length, map, IfOk, IfErr, if◌then◌else◌};
 ghost use Rattle.vm_model.specs.Histories.{History, Honest, IsPrefix, Whole};
 ghost use Rattle.vm_model.specs.HonestRounds.{IsOneRun};
 ghost use Rattle.vm_world.specs.Courses.{AreHonest};
 ghost use Rattle.vm_store.specs.Entries.{entries_of};
+ghost use Rattle.vm_world.specs.Fresh.{AreFresh, Skips};
 ghost use Rattle.vm_world.specs.Inside.{report_view};
 ghost use Rattle.vm_world.specs.Rounds.{Agree, AreWhole, CompletesOnce, Replays, RoundsDo, RoundsFault};
 ghost use Rattle.vm_store.specs.States.{base_of};
@@ -54,6 +55,9 @@ pub fn run_rounds<H: Handler>(
     // Of what the journal of an earlier report tells and the answers of a later one, one begins the other.
     ensures agree { IfOk result (λ r. Replays world.setting.options → IsOneRun (setup_of world.setting) (H.meaning handler.now) (Honest (base_of world.setting)) (entries_of world.journal)
         → Agree (setup_of world.setting) (H.meaning handler.now) r.0.journal (map report_view r.1.items)) }
+    // Where the options disable replay, whatever made the journal: in each round the completion ids of its new commands are greater than all that
+    // the journal's commands carried when it began.
+    ensures fresh { IfOk result (λ r. Skips world.setting.options → AreFresh (length world.journal) r.0.journal (map report_view r.1.items)) }
 {
     let World {
         alloc,

@@ -12,6 +12,7 @@ use journal_messages::{Encoder, Message};
 use std::alloc::{AllocError, Global};
 use std::marker::Model;
 use vm_parts::VMOptions;
+use vm_store::given::judge;
 use vm_store::types::{Identity, RoundFault, Setting};
 use wire::{Items, Text};
 
@@ -80,7 +81,8 @@ fn base_pairs(
 }
 
 impl World {
-    ghost use Rattle.std.specs.Prelude.{◌≡◌, [], ◌∷◌, IfOk, IfErr};
+    ghost use Rattle.std.specs.Prelude.{◌≡◌, ◌≢◌, ◌⊎◌, [], ◌∷◌, IfOk, IfErr, OnOk};
+    ghost use Rattle.vm_store.specs.Given.{AreGiven, GivenFaults};
     ghost use Rattle.vm_model.specs.Calls.{Meaning};
     ghost use Rattle.vm_model.specs.Histories.{Honest, Whole};
     ghost use Rattle.vm_model.specs.HonestRounds.{IsOneRun};
@@ -121,6 +123,41 @@ impl World {
                 base,
             },
             journal,
+        })
+    }
+
+    /// A world whose journal these entries are, each one whole frame, with this state before any command; of several pairs of one key the last
+    /// counts. The first entry is an input; completions are of ids that commands before them carry, once each. The entries decide what fault
+    /// it is, the first that has one, with the least of its own.
+    pub fn with_journal(
+        alloc: Global,
+        identity: Identity,
+        options: VMOptions,
+        version: Version,
+        state: Vec<(String, Bytes)>,
+        entries: Vec<Bytes>,
+    ) -> Result<World, RoundFault>
+        ensures setting { IfOk result (λ w. w.setting ≡ record { identity = identity; options = options; version = version; base = pairs_given state.items }) }
+        ensures journal { IfOk result (λ w. w.journal ≡ entries.items) }
+        ensures given { OnOk result ((entries.items ≢ []) × AreGiven [] entries.items) }
+        ensures err { IfErr result (λ f. (f ≡ round_fault.Memory) ⊎ GivenFaults entries.items f) }
+    {
+        match judge(alloc, entries.as_slice()) {
+            Err(fault) => return Err(fault),
+            Ok(()) => {}
+        }
+        let Ok(base) = base_pairs(alloc, state) else {
+            return Err(RoundFault::Memory);
+        };
+        Ok(World {
+            alloc,
+            setting: Setting {
+                identity,
+                options,
+                version,
+                base,
+            },
+            journal: entries,
         })
     }
 

@@ -9,7 +9,7 @@ use std::process::ExitCode;
 use streams::Plain;
 
 const USAGE: &str =
-    "usage: vmrounds <content-type> <sleeper|race|parent|counter|charge> < script > report";
+    "usage: vmrounds <content-type> <sleeper|race|parent|counter|deadline|charge> < script > report";
 
 /// The two arguments, where there are just two.
 fn arguments(rt: &(impl Env + AllocGlobal)) -> io::Result<Option<(String, String)>> {

@@ -8,7 +8,7 @@ use std::io;
 use std::process::ExitCode;
 use streams::Plain;
 
-const USAGE: &str = "usage: vmrun <content-type> <sleeper|race|parent|counter>";
+const USAGE: &str = "usage: vmrun <content-type> <sleeper|race|parent|counter|deadline>";
 
 /// The two arguments, where there are just two.
 fn arguments(rt: &(impl Env + AllocGlobal)) -> io::Result<Option<(String, String)>> {

@@ -2,7 +2,7 @@ use Rattle.std.proofs.Common.{refl}
 use Rattle.vm_asks.specs.Asks.{run_command}
 use Rattle.vm_machine.specs.Commands.{knows_next}
 use Rattle.invocation_vm.specs.Calls.{run_handle}
-use Rattle.vm_laws.proofs.Outputs.{made_ends, taken_ends, untaken_stays, bytes_stay, closing_stays, error_stays, await_stays, take_stays, input_stays, command_stays, answer_stays, awakeable_stays, read_stays, proposal_stays, signal_stays, end_stays}
+use Rattle.vm_laws.proofs.Outputs.{made_ends, taken_ends, untaken_stays, bytes_stay, closing_stays, error_stays, await_stays, take_stays, deadlines_stay, input_stays, command_stays, answer_stays, awakeable_stays, read_stays, proposal_stays, signal_stays, end_stays}
 use Rattle.vm_laws.proofs.vm.all_output_ends_once.Goals as goal
 
 pub returns-clause-fresh : goal.returns-clause-fresh
@@ -61,3 +61,6 @@ returns-clause-signals c = signal_stays
 
 pub returns-clause-ends : goal.returns-clause-ends
 returns-clause-ends c = end_stays
+
+pub returns-clause-deadlines : goal.returns-clause-deadlines
+returns-clause-deadlines c = deadlines_stay

@@ -5,6 +5,7 @@ use Rattle.vm_world.specs.Inside.{report_view}
 use Rattle.vm_store.specs.Worlds.{IsJournal, WorldView}
 use Rattle.vm_world.proofs.Agreeing.{rounds_agree}
 use Rattle.vm_world.proofs.Completing.{completes_once}
+use Rattle.vm_world.proofs.Freshness.{rounds_fresh}
 use Rattle.vm_world.proofs.Lists.{split_at, whole_at}
 use Rattle.vm_world.proofs.Rounding.{Grows, are_honest, hands_honest, honest_lasts, rounds_fail, rounds_grow, rounds_then, stays_history, stays_one_run, stays_undisturbed}
 use Rattle.vm_world.proofs.rounds.run_rounds.Given as given
@@ -53,6 +54,9 @@ returns-clause-undisturbed g c r whole h = stays_undisturbed (g.H.Handler.meanin
 
 pub returns-clause-agree : goal.returns-clause-agree
 returns-clause-agree g c r h = rounds_agree _ (g.H.Handler.meaning c.args.handler.now) c.args.world.setting c.args.rounds.now c.args.world.journal (map report_view c.loop-round.reports.items) c.loop-round.journal.items r (honest_lasts (g.H.Handler.meaning c.args.handler.now) c.args.world.setting) (hands_honest c.args.world.setting c.args.rounds.now) (before g c) h (all g c)
+
+pub returns-clause-fresh : goal.returns-clause-fresh
+returns-clause-fresh g c skips = rounds_fresh (g.H.Handler.meaning c.args.handler.now) c.args.world.setting c.args.rounds.now c.args.world.journal (map report_view c.loop-round.reports.items) c.loop-round.journal.items skips (before g c) (all g c)
 
 pub returns-then-not-keep_report-clause-err : goal.returns-then-not-keep_report-clause-err
 returns-then-not-keep_report-clause-err g c =

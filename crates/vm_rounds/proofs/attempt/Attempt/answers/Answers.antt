@@ -1,5 +1,6 @@
 use Rattle.vm_steps.specs.Inside.{the_record}
 use Rattle.vm_rounds.proofs.Advanced.{kept_told}
+use Rattle.vm_rounds.proofs.Freshly.{come_fresh}
 use Rattle.vm_rounds.proofs.Written.{none_before_input}
 use Rattle.vm_rounds.proofs.attempt.Attempt.answers.Goals as goal
 
@@ -15,3 +16,8 @@ pub returns-clause-told : goal.returns-clause-told
 returns-clause-told g c =
     let a = c.self.inside in
     rw (← c.self.view_is) (λ p. kept_told (g.H.Handler.meaning a.inner.handler) a.version a.options (the_record a.inner) c.output_len.ensures.whole (c.self.invariant.2 p))
+
+pub returns-clause-fresh : goal.returns-clause-fresh
+returns-clause-fresh g c =
+    let a = c.self.inside in
+    rw (← c.self.view_is) (come_fresh a.version a.options (the_record a.inner) c.self.invariant.0 c.output_len.ensures.whole)

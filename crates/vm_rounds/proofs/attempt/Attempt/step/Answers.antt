@@ -3,6 +3,7 @@ use Rattle.vm_steps.specs.Record.{all_heard, all_said}
 use Rattle.vm_rounds.proofs.Advanced.{step_replays}
 use Rattle.vm_rounds.proofs.Coming.{step_comes}
 use Rattle.vm_rounds.proofs.Erring.{step_blames}
+use Rattle.vm_rounds.proofs.Freshly.{come_fresh}
 use Rattle.vm_rounds.proofs.Replayed.{honest_errs}
 use Rattle.vm_rounds.proofs.Late.{step_blame, step_late}
 use Rattle.vm_rounds.proofs.Sleeping.{step_sleeps, waits_rightly}
@@ -53,3 +54,9 @@ returns-clause-honest g c =
     let does = step_told a.version a.options (g.H.Handler.meaning a.inner.handler) (the_fields a.inner) c.step-progress.result (the_fields c.step-progress.new.self) c.self.invariant.0 c.self.invariant.5 c.output_len.ensures.whole c.step-progress.ensures.does in
     let new = the_record c.step-progress.new.self in
     rw (← c.self.view_is) (λ honest. honest_errs (g.H.Handler.meaning a.inner.handler) a.version a.options (all_heard a.version new) (all_said new) new.answers c.step-progress.result honest (step_blame (g.H.Handler.meaning a.inner.handler) a.version a.options (the_record a.inner) c.step-progress.result new c.self.invariant.0 c.self.invariant.2 c.self.invariant.1 c.self.invariant.3 does))
+
+pub returns-clause-fresh : goal.returns-clause-fresh
+returns-clause-fresh g c =
+    let a = c.self.inside in
+    let does = step_told a.version a.options (g.H.Handler.meaning a.inner.handler) (the_fields a.inner) c.step-progress.result (the_fields c.step-progress.new.self) c.self.invariant.0 c.self.invariant.5 c.output_len.ensures.whole c.step-progress.ensures.does in
+    rw (← c.self.view_is) (come_fresh a.version a.options (the_record c.step-progress.new.self) (step_comes (g.H.Handler.meaning a.inner.handler) a.version a.options (the_record a.inner) c.step-progress.result (the_record c.step-progress.new.self) c.self.invariant.0 does) c.output_len.ensures.whole)

@@ -1,0 +1,80 @@
+//! The handler `deadline`: a call of another handler with a deadline, one second after the Unix epoch.
+ghost use Rattle.std.specs.Prelude.{◌≡◌, IfOk};
+ghost use Rattle.handlers.specs.Deadline.{deadline_output, earlier};
+
+use crate::answers::{
+    call_handle_at, cancelled_output, deadline_handle_at, input_bytes, is_cancelled_at,
+    is_completed_at, output_at,
+};
+use crate::calls::{both, call_until};
+use bytes::Bytes;
+use std::alloc::{AllocError, Global};
+use std::time::Duration;
+use vm_parts::{Answer, NonEmptyValue, NotificationHandle, PayloadOptions, Step, UnresolvedFuture};
+use vm_rounds::Handler;
+
+/// Calls with a deadline, awaits the first of result and deadline and takes it, writes what the call gave, or "timeout", and ends.
+#[derive(Debug, Drop)]
+pub struct Deadline {
+    pub alloc: Global,
+}
+
+/// The handle of the call, where its result is there, and else of the deadline.
+fn earlier(answers: &[Answer]) -> NotificationHandle
+    ensures { result ≡ earlier answers.now }
+{
+    if is_completed_at(answers, 3) {
+        return call_handle_at(answers, 1);
+    }
+    deadline_handle_at(answers, 1)
+}
+
+/// What the call gave, where its result was there, and else "timeout".
+fn deadline_output(answers: &[Answer]) -> Result<NonEmptyValue, AllocError>
+    ensures { IfOk result (λ output. output ≡ deadline_output answers.now) }
+{
+    if is_completed_at(answers, 3) {
+        return output_at(answers, 4);
+    }
+    Ok(NonEmptyValue::Success(Bytes::from_static(b"timeout")))
+}
+
+impl Handler for Deadline {
+    ghost use Rattle.handlers.specs.Deadline.{deadline_step};
+
+    ghost meaning = { λ h. deadline_step };
+
+    fn next(&self, answers: &[Answer]) -> Result<Step, AllocError> {
+        match answers.len() {
+            1 => {
+                let (input, time) = (input_bytes(answers)?, Duration::from_millis(1000));
+                call_until(self.alloc, "Greeter", "greet", input, time)
+            }
+            2 => {
+                let (result, deadline) = (
+                    call_handle_at(answers, 1),
+                    deadline_handle_at(answers, 1),
+                );
+                let children = both(self.alloc, result, deadline)?;
+                Ok(Step::Await(UnresolvedFuture::FirstCompleted(children)))
+            }
+            3 => {
+                if is_cancelled_at(answers, 2) {
+                    return cancelled_output(self.alloc);
+                }
+                Ok(Step::Completed(call_handle_at(answers, 1)))
+            }
+            4 => {
+                if is_cancelled_at(answers, 2) {
+                    return Ok(Step::End);
+                }
+                Ok(Step::Take(earlier(answers)))
+            }
+            5 => {
+                let output = deadline_output(answers)?;
+                Ok(Step::WriteOutput(output, PayloadOptions::stable_serialization()))
+            }
+            _ => Ok(Step::End),
+        }
+    }
+}

@@ -1,0 +1,76 @@
+-- A call that has several commands: what all of them need is looked for before the first is made, and each is made by a call of its own.
+use Rattle.std.specs.Prelude.{◌≡◌, ℕ, suc, ◌-◌, ◌+◌, ◌<◌, ◌^◌, if◌then◌else◌, nat_lt, List, [], ◌∷◌, length, Option, Some, None, unwrap_or, Result, Ok, Err, OnOk}
+use Rattle.std.specs.Option.{option_or}
+use Rattle.journal_errors.specs.declared.error.Error.{Error}
+use Rattle.journal_errors.specs.declared.faults.NamedFault.{NamedFault}
+use Rattle.journal_errors.specs.declared.faults.NamedFault.TheVariants.{ExhaustedCommandIndexes}
+use Rattle.await_trees.specs.declared.handle.NotificationHandle.{NotificationHandle}
+use Rattle.vm_parts.specs.declared.context.Counters.{Counters}
+use Rattle.vm_parts.specs.Counting.{missing, most}
+use Rattle.vm_asks.specs.declared.asks.Command.{Command}
+use Rattle.vm_asks.specs.Asks.{all_ids, any_refusal}
+use Rattle.vm_asks.specs.Requests.{name_of, shown_type}
+use Rattle.vm_machine.specs.declared.machine.Machine.{Machine}
+use Rattle.vm_machine.specs.Commands.{CanBeRead, about_next, commanded, entered}
+use Rattle.vm_machine.specs.Outcomes.{Does, Done, Failed, Outcome, ◌>>=◌, about_last, called, refused}
+use Rattle.vm_machine.specs.Phases.{is_running, state_fault}
+
+-- ---- what all of them need
+
+-- fewer command indexes are left than so many
+abbrev pub missing_indexes : ℕ → Counters → Option NamedFault
+missing_indexes n k = if nat_lt (most - unwrap_or k.command 0) n then Some ExhaustedCommandIndexes else None
+
+-- the first kind of number of which a command and those behind it need more than are left
+abbrev pub missing_for : Command → List Command → Counters → Option NamedFault
+missing_for c cs k = option_or (missing (all_ids c cs) 0 (all_ids c cs) k) (missing_indexes (suc (length cs)) k)
+
+-- the numbers are left; or the call is refused, and relates to its first command
+abbrev pub numbers_left : Option NamedFault → Command → Machine → Outcome Unit
+numbers_left (Some name) c v = Failed (about_next name (shown_type c.message) (name_of c.message) v) v
+numbers_left None c v = Done tt v
+
+-- the state, and then the numbers
+abbrev pub looked_for : Command → List Command → Machine → Outcome Unit
+looked_for c cs v =
+    if is_running v.phase then numbers_left (missing_for c cs v.counters) c v
+    else (let w = entered (shown_type c.message) (name_of c.message) v in Failed (about_last (state_fault v.phase) w) w)
+
+-- the arguments, and then the rest
+abbrev pub foreseen_unless : Option NamedFault → Command → List Command → Machine → Outcome Unit
+foreseen_unless (Some name) c cs v = refused name v
+foreseen_unless None c cs v = looked_for c cs v
+
+-- What a command and those behind it need is looked for, before it is made: the first reason that there is refuses the call.
+unfoldable pub foreseen : Command → List Command → Machine → Outcome Unit
+foreseen c cs v = foreseen_unless (any_refusal c cs) c cs v
+
+-- A command with these behind it; where there are any, what all of them need is looked for first.
+abbrev pub commanded_before : Command → List Command → Machine → Outcome NotificationHandle
+commanded_before c [] v = commanded c v
+commanded_before c (b ∷ bs) v = foreseen c (b ∷ bs) v >>= λ _ w. commanded c w
+
+-- ---- the whole call
+
+-- one of the commands, by a call of its own; what it wrote can be read back
+abbrev pub MakesOne : Command → List Command → Result NotificationHandle Error → Machine → Machine → Type 0
+MakesOne c cs r old new = Does (called (commanded_before c cs old) old) r old new × OnOk r (CanBeRead c.message old)
+
+-- a result with this answer
+abbrev pub answered_so : {A B : Type 0} → B → Result A Error → Result B Error
+answered_so b (Ok a) = Ok b
+answered_so b (Err e) = Err e
+
+-- what comes behind the first command: the call is answered by its handle; an error stays
+abbrev pub BehindFirst : (Result NotificationHandle Error → Machine → Machine → Type 0) → Result NotificationHandle Error → Result NotificationHandle Error → Machine → Machine → Type 0
+BehindFirst Next (Ok handle) r mid new = (given : Result NotificationHandle Error) × Next given mid new × (r ≡ answered_so handle given)
+BehindFirst Next (Err e) r mid new = (r ≡ Err e) × (new ≡ mid)
+
+-- A command and those behind it are made, one after another, each by a call of its own; the call is answered by the first one's handle.
+abbrev pub MakesAll : Command → List Command → Result NotificationHandle Error → Machine → Machine → Type 0
+MakesAll c [] r old new = MakesOne c [] r old new
+MakesAll c (b ∷ bs) r old new = (first : Result NotificationHandle Error) × (mid : Machine) × MakesOne c (b ∷ bs) first old mid × BehindFirst (MakesAll b bs) first r mid new
+
+-- all handles of a call fit, from its first on
+abbrev pub AllFit : Command → List Command → NotificationHandle → Type 0
+AllFit c cs handle = handle.0 + all_ids c cs < 2 ^ 32

@@ -1,0 +1,29 @@
+-- Recorded commands that are skipped: where they aren't replayed, those behind the input are dropped, and new commands get indexes and
+-- completion ids past theirs.
+use Rattle.std.specs.Prelude.{ℕ, ◌+◌, Bool, true, false, ◌==◌, if◌then◌else◌, nat_lt, List, [], Option, Some, None, unwrap_or, Result, Ok, Err}
+use Rattle.journal_errors.specs.declared.faults.NamedFault.{NamedFault}
+use Rattle.journal_errors.specs.declared.faults.NamedFault.TheVariants.{ExhaustedCompletionIds, ExhaustedCommandIndexes}
+use Rattle.vm_parts.specs.declared.context.Counters.{Counters}
+use Rattle.vm_parts.specs.Counting.{most, next_index}
+use Rattle.vm_types.specs.declared.options.JournalReplay.{JournalReplay}
+use Rattle.vm_types.specs.declared.options.JournalReplay.TheVariants.{Enabled, Disabled}
+use Rattle.vm_machine.specs.declared.machine.Machine.{Machine}
+use Rattle.vm_machine.specs.declared.phase.Phase.TheVariants.{Processing}
+
+-- recorded commands are skipped
+abbrev pub skips_replay : JournalReplay → Bool
+skips_replay Enabled = false
+skips_replay Disabled = true
+
+-- The counters once the input is read and so many commands behind it are dropped, where this completion id is next; or the kind of
+-- number that runs out by that.
+abbrev pub counters_past : ℕ → ℕ → Counters → Result Counters NamedFault
+counters_past dropped id c =
+    if nat_lt most id then Err ExhaustedCompletionIds
+    else if nat_lt most (next_index c.command + dropped) then Err ExhaustedCommandIndexes
+    else if unwrap_or c.command 0 == most then Err ExhaustedCommandIndexes
+    else Ok (record c { command = Some (next_index c.command + dropped); completion = id })
+
+-- the recorded commands that are left are dropped, and new ones are written next, by these counters
+abbrev pub skipped : Counters → Machine → Machine
+skipped counters v = record v { commands = []; phase = Processing; counters = counters }

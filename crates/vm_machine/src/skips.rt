@@ -1,0 +1,95 @@
+//! Recorded commands that are skipped: those behind the input are dropped, and new commands get indexes and completion ids past theirs.
+ghost use Rattle.std.specs.Prelude.{◌≡◌, drop, length, IfOk};
+ghost use Rattle.vm_asks.specs.Carried.{past_all, read_past};
+ghost use Rattle.journal_messages.specs.Reading.{message_in};
+ghost use Rattle.vm_machine.specs.Skips.{counters_past, skipped, skips_replay};
+
+use crate::machine::Machine;
+use crate::phase::Phase;
+use journal_errors::NamedFault;
+use journal_messages::RawMessage;
+use std::alloc::{AllocError, Global};
+use vm_asks::request::past;
+use vm_parts::{Counters, JournalReplay};
+use wire::Fault;
+
+/// Whether recorded commands are skipped.
+pub fn skips_replay(option: JournalReplay) -> bool
+    ensures { result ≡ skips_replay option }
+{
+    matches!(option, JournalReplay::Disabled)
+}
+
+/// The completion id that is next past those that a recorded command carries, where `next` was; none where it can't be read.
+fn read_past(alloc: Global, next: u64, raw: &RawMessage) -> Result<Option<u64>, AllocError>
+    ensures { IfOk result (λ id. id ≡ read_past next (message_in raw.now.ty raw.now.body)) }
+{
+    match raw.read(alloc) {
+        Ok(message) => {
+            let id = past(next, &message);
+            drop(message);
+            Ok(Some(id))
+        }
+        Err(Fault::Memory) => Err(AllocError),
+        Err(Fault::Malformed) => Ok(None),
+    }
+}
+
+/// The counters once the input is read and so many commands behind it are dropped, where this completion id is next; or the
+/// kind of number that runs out by that.
+pub fn counters_past(dropped: usize, id: u64, counters: &Counters) -> Result<Counters, NamedFault>
+    ensures { result ≡ counters_past dropped id counters.now }
+{
+    if id > u64::from(u32::MAX) {
+        return Err(NamedFault::ExhaustedCompletionIds);
+    }
+    let index = counters.next_index();
+    if dropped > (u32::MAX - index) as usize {
+        return Err(NamedFault::ExhaustedCommandIndexes);
+    }
+    if counters.command.unwrap_or(0) == u32::MAX {
+        return Err(NamedFault::ExhaustedCommandIndexes);
+    }
+    Ok(Counters {
+        command: Some(index + dropped as u32),
+        completion: id as u32,
+        signal: counters.signal,
+        handle: counters.handle,
+        ephemeral: counters.ephemeral,
+    })
+}
+
+impl Machine {
+    /// The completion id that is next past those that the recorded commands behind the first carry; none where one of them can't
+    /// be read.
+    pub fn next_past(&self) -> Result<Option<u64>, AllocError>
+        ensures { IfOk result (λ id. id ≡ past_all self.now.counters.completion (drop 1 self.now.commands)) }
+    {
+        let commands = self.commands.items();
+        let mut next = u64::from(self.counters.completion);
+        for i in 1..commands.len() {
+            match read_past(self.alloc, next, &commands[i]) {
+                Err(error) => return Err(error),
+                Ok(None) => return Ok(None),
+                Ok(Some(id)) => next = id,
+            }
+        }
+        Ok(Some(next))
+    }
+
+    /// How many recorded commands stand behind the first.
+    pub fn dropped(&self) -> usize
+        ensures { result ≡ length (drop 1 self.now.commands) }
+    {
+        self.commands.items().len().saturating_sub(1)
+    }
+
+    /// Drops the recorded commands that are left; new ones are written next, by these counters.
+    pub fn skip(&mut self, counters: Counters)
+        ensures { self.new ≡ skipped counters self.old }
+    {
+        self.commands.clear();
+        self.phase = Phase::Processing;
+        self.counters = counters;
+    }
+}
