@@ -2,6 +2,7 @@
 #![tactic(auto)]
 
 pub mod asks;
+pub mod laws;
 pub mod request;
 pub mod state_read;
 

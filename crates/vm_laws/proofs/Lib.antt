@@ -1,5 +1,6 @@
 pub mod Acknowledging
 pub mod Carried
+pub mod DeadlineCalls
 pub mod Endings
 pub mod Outputs
 pub mod Replaying

@@ -1,3 +1,4 @@
+pub mod Deadlines
 pub mod Endings
 pub mod Numbers
 pub mod Outputs

@@ -1,9 +1,11 @@
 //! What is so of a machine and of a VM over any list of events: the laws that users rely on.
 #![tactic(auto)]
 
+mod deadlines;
 mod machine;
 mod vm;
 
+pub use deadlines::deadlines_follow_their_calls;
 pub use machine::{
     acknowledgements_bring_what_was_proposed, commands_end_nothing, first_error_stays,
     nothing_follows, numbers_are_in_order, output_ends_once, replay_pops_what_is_equal,
