@@ -181,8 +181,8 @@ command_alike st e gives d c left p q (Ok result) front is compares h =
       gained = gives;
       answers = ap (λ z. z.answers) (sym to);
       alike = λ stable g.
-        let so : ComparesState e = ⊎_elim (λ (x : ComparesState e). x) (λ (x : (a : Answer) × (gives ≡ a ∷ []) × (IsNoUnstableSet st → ComparesState e)). x.2 (stable x.0 [] x.1)) compares in
-        ap (λ z. changed_by z.said g) (sym to) ∙ changed_by-append p.said (said_of e ∷ []) g ∙ sym (recorded_changes e c result is so (changed_by p.said g));
+          let so : ComparesState e = ⊎_elim (λ (x : ComparesState e). x) (λ (x : (a : Answer) × (gives ≡ a ∷ []) × (IsNoUnstableSet st → ComparesState e)). x.2 (stable x.0 [] x.1)) compares in
+          ap (λ z. changed_by z.said g) (sym to) ∙ changed_by-append p.said (said_of e ∷ []) g ∙ sym (recorded_changes e c result is so (changed_by p.said g));
     }
 
 moved_alike : (st : Step) (mv : Move) (p q : Point) → OfMove (StepCompares st) mv → moved mv p ≡ Some q → Alike (StableFor st) p q
@@ -222,10 +222,10 @@ alike_then m p r q a b = record {
   gained = a.gained ++ b.gained;
   answers = b.answers ∙ ap (λ l. l ++ b.gained) a.answers ∙ append_assoc p.answers a.gained b.gained;
   alike = λ stable g.
-    b.alike (subst (λ l. StableBehind m l b.gained) (sym a.answers) (stable_rest m p.answers a.gained b.gained stable)) g
-    ∙ ap (changed_by (messages_in b.used)) (a.alike (stable_first m p.answers a.gained b.gained stable) g)
-    ∙ sym (changed_by-append (messages_in a.used) (messages_in b.used) (changed_by p.said g))
-    ∙ ap (λ l. changed_by l (changed_by p.said g)) (sym (messages-append a.used b.used));
+      b.alike (subst (λ l. StableBehind m l b.gained) (sym a.answers) (stable_rest m p.answers a.gained b.gained stable)) g
+      ∙ ap (changed_by (messages_in b.used)) (a.alike (stable_first m p.answers a.gained b.gained stable) g)
+      ∙ sym (changed_by-append (messages_in a.used) (messages_in b.used) (changed_by p.said g))
+      ∙ ap (λ l. changed_by l (changed_by p.said g)) (sym (messages-append a.used b.used));
 }
 
 after_alike : (s : Setup) → s.options.non_determinism_checks ≡ checks.Enabled → (m : Meaning) (n : ℕ) (p q : Point) → after s m n p ≡ Some q → Alike (StableBehind m p.answers) p q

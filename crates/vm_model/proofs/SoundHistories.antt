@@ -148,8 +148,8 @@ module _ (s : Setup) (m : Meaning) (base : StateMap) (before : List Entry) (a : 
           eager = eager_append base rest stored h.history.eager (subst (λ g. EagerFrom g stored) (sym h.leaves) (eager_made s m base f.0 from stored f.1 h.history.uses_all f.2));
         };
         leaves =
-          ap (λ l. changed_by l base) (messages-append rest stored) ∙ changed_by-append (messages_in rest) (messages_in stored) base ∙ ap (changed_by (messages_in stored)) h.leaves
-          ∙ sym (said_made s m (Honest base) f.0 from stored f.1 h.history.uses_all f.2 base);
+            ap (λ l. changed_by l base) (messages-append rest stored) ∙ changed_by-append (messages_in rest) (messages_in stored) base ∙ ap (changed_by (messages_in stored)) h.leaves
+            ∙ sym (said_made s m (Honest base) f.0 from stored f.1 h.history.uses_all f.2 base);
       }
 
 -- ---- honest rounds
