@@ -10,13 +10,13 @@ use Rattle.vm_types.specs.declared.steps.Answer.{Answer}
 use Rattle.vm_model.specs.Calls.{Setup, Meaning}
 use Rattle.vm_model.specs.Journal.{Entry, commands_in, notifications_in, input_read_from, messages_in}
 use Rattle.vm_model.specs.Moves.{Point, changed_by, later, start}
-use Rattle.vm_model.specs.Histories.{Handed, History, Honest, Knowledge, Made, OneBegins, Told, Undisturbed, Whole, behind}
+use Rattle.vm_model.specs.Histories.{Handed, Honest, Knowledge, Made, OneBegins, Told, Undisturbed, Whole, behind}
 use Rattle.vm_model.specs.HonestRounds.{Attempted, HonestRound, HonestRounds, IsHanded, IsOneRun, IsToldOn}
 use Rattle.vm_model.proofs.Attempts.{continues}
 use Rattle.vm_model.proofs.Compared.{told_compare}
-use Rattle.vm_model.proofs.Eager.{eager_made, said_made}
+use Rattle.vm_model.proofs.Eager.{said_made}
 use Rattle.vm_model.proofs.Lasting.{Lasting, commands-append, honest_lasts, notifications-append, whole_lasts}
-use Rattle.vm_model.proofs.Runs.{made_after, made_front, made_later, made_spent}
+use Rattle.vm_model.proofs.Runs.{made_after, made_front, made_later}
 
 pub head_same : (a b : RawMessage) (xs ys : List RawMessage) → a ∷ xs ≡ b ∷ ys → a ≡ b
 head_same a b xs ys e = cc
@@ -74,22 +74,6 @@ whole_rounds s m base before (a ∷ more) after ordered h (mid, handed, told, ro
 -- the commands behind the input are the first of a run that nothing disturbs
 pub run_is_undisturbed : (s : Setup) (m : Meaning) (base : StateMap) (journal : List Entry) (h : IsOneRun s m (Whole base) journal) → Undisturbed s m base h.input (notifications_in journal) h.rest
 run_is_undisturbed s m base journal h = (h.moves, h.at, h.made)
-
--- a journal that one run made is a history
-pub run_is_history : (s : Setup) (m : Meaning) (base : StateMap) (journal : List Entry) → IsOneRun s m (Honest base) journal → History s m base journal
-run_is_history s m base journal h =
-    let from = start s h.input (notifications_in journal) [] in
-    record {
-      first = h.first;
-      input = h.input;
-      reads = h.reads;
-      rest = h.rest;
-      begins = h.begins;
-      at = h.at;
-      told = (h.moves, made_after s m (Honest base) h.moves from h.rest h.at h.made);
-      uses_all = made_spent s m (Honest base) h.moves from h.rest h.at refl h.made;
-      eager = eager_made s m base h.moves from h.rest h.at refl h.made;
-    }
 
 -- ---- what an earlier journal tells, and a later attempt
 

@@ -3,11 +3,12 @@ pub mod Said
 pub mod States
 pub mod Stored
 pub mod Standing
+pub mod Demands
 pub mod Eager
 pub mod Attempts
 pub mod Lasting
 pub mod Honesty
-pub mod GoingOn
+pub mod SoundHistories
 pub mod Once
 pub mod Order
 pub mod Compared
@@ -24,5 +25,6 @@ pub mod Sums
 pub mod Uses
 pub mod Rests
 pub mod Carried
+pub mod Comparing
 pub mod Rows
 pub mod Refusals

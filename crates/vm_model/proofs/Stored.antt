@@ -72,10 +72,10 @@ plain_stored now m (Some n) is e = plain_fits now (stored_form m) n (ap is_eager
 
 -- ---- texts and bytes
 
-text_is : (a b : List ℕ) → pointwise nat_eq a b ≡ true → a ≡ b
+pub text_is : (a b : List ℕ) → pointwise nat_eq a b ≡ true → a ≡ b
 text_is a b = (bytes_decides a b).0
 
-both : (a b : Bool) → (a && b) ≡ true → (a ≡ true) × (b ≡ true)
+pub both : (a b : Bool) → (a && b) ≡ true → (a ≡ true) × (b ≡ true)
 both true b e = (refl, e)
 both false b e = absurd (cc)
 
@@ -124,7 +124,7 @@ says_stored m g h none some = go (message_in (type_of m) (body m)) refl
     go None is = none is
     go (Some n) is = some n is
 
-unread : (command : Message) (ignore b : Bool) (o : Option Message) (result : Option NotificationResult) → (if b then reads_as ignore command o else Err fault.CommandTypeMismatch) ≡ Ok result → (n : Message) × (o ≡ Some n) × (header_equal n command ignore ≡ true)
+pub unread : (command : Message) (ignore b : Bool) (o : Option Message) (result : Option NotificationResult) → (if b then reads_as ignore command o else Err fault.CommandTypeMismatch) ≡ Ok result → (n : Message) × (o ≡ Some n) × (header_equal n command ignore ≡ true)
 unread command ignore false o result e = absurd (cc)
 unread command ignore true None result e = absurd (cc)
 unread command ignore true (Some n) result e = (n, refl, by_test (header_equal n command ignore) e)
@@ -147,7 +147,7 @@ read_type (reads.Keys name) id state = by_keys (known_keys state)
     by_keys None = refl
     by_keys (Some keys) = refl
 
-read_says : (r : StateRead) (id : ℕ) (g : StateMap) → changed (said_of (Reads r id)) g ≡ g
+pub read_says : (r : StateRead) (id : ℕ) (g : StateMap) → changed (said_of (Reads r id)) g ≡ g
 read_says (reads.Value key name) id g = refl
 read_says (reads.Keys name) id g = refl
 

@@ -7,8 +7,8 @@ use Rattle.vm_parts.specs.declared.context.StateMap.{StateMap}
 use Rattle.vm_types.specs.declared.steps.Answer.{Answer}
 use Rattle.vm_model.specs.Calls.{Setup, Meaning}
 use Rattle.vm_model.specs.Journal.{Entry, Recorded, Notified, commands_in, notifications_in, input_read_from, messages_in}
-use Rattle.vm_model.specs.Moves.{Point, after, changed_by, start}
-use Rattle.vm_model.specs.Histories.{Handed, History, IsPrefix, Knowledge, Made, behind}
+use Rattle.vm_model.specs.Moves.{Point, start}
+use Rattle.vm_model.specs.Histories.{Handed, IsPrefix, Knowledge, Made, behind}
 
 -- One run made the journal, whose calls went by so much of the state: it begins with an input, and the commands behind it are
 -- the very ones that the handler's calls define, by the journal's notifications and with nothing recorded.
@@ -21,29 +21,6 @@ pub record IsOneRun (s : Setup) (m : Meaning) (Knows : Knowledge) (journal : Lis
   pub moves : ℕ
   pub at : Point
   pub made : Made s m Knows moves (start s input (notifications_in journal) []) rest at
-
--- A history that was given, and what one run has made behind it, whose calls went by so much of the state: the journal begins with an
--- input; the given commands behind it are told by the journal's own notifications, all of them are used at some point, and there they have
--- changed the state as the handler's calls say; and the other commands are the very ones that the calls define from there on.
-pub record GoesOn (s : Setup) (m : Meaning) (Knows : Knowledge) (given : List RawMessage) (journal : List Entry) : Type 0 where
-  pub first : RawMessage
-  pub input : InputCommand
-  pub reads : input_read_from first ≡ Some input
-  pub before : ℕ
-  pub from : Point
-  pub told : after s m before (start s input (notifications_in journal) given) ≡ Some from
-  pub uses_all : from.left ≡ []
-  pub says : (state : StateMap) → changed_by from.said state ≡ changed_by (messages_in given) state
-  pub added : List RawMessage
-  pub begins : commands_in journal ≡ first ∷ (given ++ added)
-  pub moves : ℕ
-  pub at : Point
-  pub made : Made s m Knows moves from added at
-
--- a history whose state commands say what the handler's calls say
-pub record GivenHistory (s : Setup) (m : Meaning) (base : StateMap) (journal : List Entry) : Type 0 where
-  pub history : History s m base journal
-  pub says : (state : StateMap) → changed_by history.at.said state ≡ changed_by (messages_in history.rest) state
 
 -- An attempt on a journal: the state that it was handed; its course, which is the notifications that were delivered to it behind
 -- the journal's and the commands that it wrote, in the order in which this happened; and its answers.

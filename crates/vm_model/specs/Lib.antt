@@ -9,3 +9,5 @@ pub mod Cancels
 pub mod Carried
 pub mod Refusals
 pub mod HonestRounds
+pub mod SoundHistories
+pub mod ComparedSets

@@ -8,23 +8,39 @@ ghost use Rattle.vm_parts.specs.Entries.{IsInOrder};
 ghost use Rattle.vm_model.specs.Calls.{Setup, Meaning};
 ghost use Rattle.vm_model.specs.Journal.{Entry, Recorded, commands_in, notifications_in};
 ghost use Rattle.vm_model.specs.Moves.{Point};
-ghost use Rattle.vm_model.specs.Histories.{EagerFrom, History, Honest, IsPrefix, OneBegins, Told, Undisturbed, Whole};
-ghost use Rattle.vm_model.specs.HonestRounds.{Attempted, GivenHistory, GoesOn, HonestRound, HonestRounds, IsHanded, IsOneRun, IsToldOn};
+ghost use Rattle.vm_model.specs.ComparedSets.{SetsAreCompared};
+ghost use Rattle.vm_model.specs.Histories.{History, Honest, IsPrefix, OneBegins, Told, Undisturbed, Whole};
+ghost use Rattle.vm_model.specs.HonestRounds.{Attempted, HonestRound, HonestRounds, IsHanded, IsOneRun, IsToldOn};
+ghost use Rattle.vm_model.specs.SoundHistories.{SoundHistory};
+ghost use Rattle.vm_model.specs.Sums.{calls_for};
 
 /// Honest rounds of attempts that are told, each handed a state of which what is known is so, leave a journal that one run of
-/// the handler made, the very commands of its calls; and such a journal is a history.
+/// the handler made, the very commands of its calls; and such a journal is a sound history.
 pub fn honest_rounds()
     ensures round { (s : Setup) (m : Meaning) (base : StateMap) (before : List Entry) (a : Attempted) (after : List Entry) → IsInOrder base.entries → IsOneRun s m (Honest base) before → IsHanded (Honest base) before a → IsToldOn s m before a → HonestRound before a.course after → IsOneRun s m (Honest base) after }
     ensures rounds { (s : Setup) (m : Meaning) (base : StateMap) (before : List Entry) (attempts : List Attempted) (after : List Entry) → IsInOrder base.entries → IsOneRun s m (Honest base) before → HonestRounds s m (Honest base) before attempts after → IsOneRun s m (Honest base) after }
-    ensures history { (s : Setup) (m : Meaning) (base : StateMap) (journal : List Entry) → IsOneRun s m (Honest base) journal → History s m base journal }
+    ensures sound { (s : Setup) (m : Meaning) (base : StateMap) (journal : List Entry)
+        → IsOneRun s m (Honest base) journal → SoundHistory s m base journal }
 {}
 
-/// Honest rounds over a history that was given, whose state commands say what the handler's calls say, leave a history: the given
-/// commands, and behind them the very commands of the calls.
-pub fn given_rounds()
-    ensures begins { (s : Setup) (m : Meaning) (base : StateMap) (journal : List Entry) (h : GivenHistory s m base journal) → GoesOn s m (Honest base) h.history.rest journal }
-    ensures round { (s : Setup) (m : Meaning) (base : StateMap) (given : List RawMessage) (before : List Entry) (a : Attempted) (after : List Entry) → IsInOrder base.entries → GoesOn s m (Honest base) given before → IsHanded (Honest base) before a → IsToldOn s m before a → HonestRound before a.course after → GoesOn s m (Honest base) given after }
-    ensures history { (s : Setup) (m : Meaning) (base : StateMap) (given : List RawMessage) (journal : List Entry) → EagerFrom base given → GoesOn s m (Honest base) given journal → History s m base journal }
+/// Honest rounds over a sound history, whoever made it, leave a sound history.
+pub fn sound_histories_last()
+    ensures round { (s : Setup) (m : Meaning) (base : StateMap)
+        (before : List Entry) (a : Attempted) (after : List Entry)
+        → IsInOrder base.entries → SoundHistory s m base before
+        → IsHanded (Honest base) before a → IsToldOn s m before a
+        → HonestRound before a.course after → SoundHistory s m base after }
+    ensures rounds { (s : Setup) (m : Meaning) (base : StateMap)
+        (before : List Entry) (attempts : List Attempted) (after : List Entry)
+        → IsInOrder base.entries → SoundHistory s m base before
+        → HonestRounds s m (Honest base) before attempts after → SoundHistory s m base after }
+{}
+
+/// Where the values that the calls of a history set are compared, the history is sound by itself.
+pub fn compared_histories_are_sound()
+    ensures { (s : Setup) (m : Meaning) (base : StateMap) (journal : List Entry)
+        (h : History s m base journal) → SetsAreCompared s (calls_for m h.at.answers)
+        → SoundHistory s m base journal }
 {}
 
 /// Where each attempt is handed all of the state, the commands stay those of an undisturbed run: where the rounds stopped leaves

@@ -11,8 +11,8 @@ mod told;
 
 pub use awaits::{awaits_wake, cancelled_awaits, results_are_present, trees_wake};
 pub use honest::{
-    attempts_agree, commands_stand_behind, given_rounds, honest_rounds, one_undisturbed,
-    whole_rounds,
+    attempts_agree, commands_stand_behind, compared_histories_are_sound, honest_rounds,
+    one_undisturbed, sound_histories_last, whole_rounds,
 };
 pub use lists::{completions_come_once, handles_stand_for_ids, lists_are_used};
 pub use numbers::numbers_are_sums;

@@ -8,8 +8,9 @@ use Rattle.journal_messages.specs.declared.message.RawMessage.{RawMessage}
 use Rattle.vm_model.specs.Calls.{Meaning, Setup}
 use Rattle.vm_model.specs.Journal.{Entry, commands_in, notifications_in, input_read_from}
 use Rattle.vm_model.specs.Moves.{Point}
-use Rattle.vm_model.specs.Histories.{Knowledge, OneBegins, Told}
-use Rattle.vm_model.specs.HonestRounds.{Attempted, IsOneRun, IsToldOn}
+use Rattle.vm_model.specs.Histories.{Honest, Knowledge, OneBegins, Told}
+use Rattle.vm_model.specs.HonestRounds.{Attempted, IsToldOn}
+use Rattle.vm_model.specs.SoundHistories.{SoundHistory}
 use Rattle.vm_model.proofs.Lasting.{commands-append}
 use Rattle.vm_model.proofs.Honesty.{attempts_agree}
 use Rattle.vm_rounds.proofs.Replayed.{head_same}
@@ -18,8 +19,10 @@ use Rattle.vm_store.specs.declared.types.Setting.{Setting}
 use Rattle.vm_world.specs.Courses.{attempt_of}
 use Rattle.vm_store.specs.Entries.{entries_of}
 use Rattle.vm_world.specs.Rounds.{Agree, Replays, ReportView, RoundDoes, RoundsDo, TellsAlong}
+use Rattle.vm_store.specs.States.{base_of}
 use Rattle.vm_store.specs.Worlds.{IsJournal, setup_of}
-use Rattle.vm_world.proofs.Rounding.{HandsOut, Lasts, entries_grow, round_gives, round_grows, round_honest, round_lasts, rounds_grow}
+use Rattle.vm_world.specs.Sound.{IsSoundFor}
+use Rattle.vm_world.proofs.Rounding.{HandsOut, Lasts, entries_grow, hands_honest, round_gives, round_grows, round_honest, round_lasts, rounds_grow, sound_lasts}
 
 -- an attempt over a journal that has grown, and what the journal told before
 attempt_along : (s : Setup) (m : Meaning) (before more now : List Entry) (a : Attempted) → now ≡ before ++ more → (t : IsToldOn s m now a)
@@ -31,14 +34,14 @@ attempt_along s m before more now a grown t first input rest p begins reads told
     attempts_agree s m before more a t' rest (begins ∙ ap (λ c. c ∷ rest) head) p (subst (λ i. Told s m i (notifications_in before) rest p) one told)
 
 -- the rounds that follow, over a journal that has grown
-rounds_along : (K : Knowledge) (m : Meaning) (w : Setting) (rounds : List Round) (then_old added old : List (List ℕ)) (reports : List ReportView) (new : List (List ℕ)) → Replays w.options → Lasts K w m → HandsOut K w rounds → IsJournal old → IsOneRun (setup_of w) m K (entries_of old) → old ≡ then_old ++ added → RoundsDo m w rounds old reports new → TellsAlong (setup_of w) m (entries_of then_old) reports
-rounds_along K m w [] then_old added old reports new r lasts hands j b grown d first input rest p begins reads told = subst (AllByRecursion (λ v. OneBegins p.answers v.answers)) (sym d.0) tt
-rounds_along K m w (q ∷ qs) then_old added old reports new r lasts hands j b grown (mid, report, more, is, one, others) first input rest p begins reads told =
+rounds_along : (K : Knowledge) (P : List Entry → Type 0) (m : Meaning) (w : Setting) (rounds : List Round) (then_old added old : List (List ℕ)) (reports : List ReportView) (new : List (List ℕ)) → Replays w.options → Lasts K P m w → HandsOut K w rounds → IsJournal old → P (entries_of old) → old ≡ then_old ++ added → RoundsDo m w rounds old reports new → TellsAlong (setup_of w) m (entries_of then_old) reports
+rounds_along K P m w [] then_old added old reports new r l hands j b grown d first input rest p begins reads told = subst (AllByRecursion (λ v. OneBegins p.answers v.answers)) (sym d.0) tt
+rounds_along K P m w (q ∷ qs) then_old added old reports new r l hands j b grown (mid, report, more, is, one, others) first input rest p begins reads told =
     let g = round_grows m w q old report mid j one in
-    let h = round_honest K m w q old report mid r j b one in
-    let on = round_lasts K m w q qs old report mid r lasts hands j b one in
+    let h = round_honest m w q old report mid r j (l.history (entries_of old) b) one in
+    let on = round_lasts K P m w q qs old report mid r l hands j b one in
     let here : OneBegins p.answers report.answers = subst (OneBegins p.answers) (round_gives m w q old report mid one).1 (attempt_along (setup_of w) m (entries_of then_old) (entries_of added) (entries_of old) (attempt_of m w q old report mid one) (entries_grow then_old old added grown) h.told first input rest p begins reads told) in
-    let behind = rounds_along K m w qs then_old (added ++ g.added) mid more new r lasts hands.1 g.journal on (g.extends ∙ ap (λ l. l ++ g.added) grown ∙ append_assoc then_old added g.added) others first input rest p begins reads told in
+    let behind = rounds_along K P m w qs then_old (added ++ g.added) mid more new r l hands.1 g.journal on (g.extends ∙ ap (λ l. l ++ g.added) grown ∙ append_assoc then_old added g.added) others first input rest p begins reads told in
     subst (AllByRecursion (λ v. OneBegins p.answers v.answers)) (sym is) (here, behind)
 
 -- a report counts the entries of the journal that its round leaves
@@ -49,12 +52,16 @@ round_counts m w round old report new (inr d) = ap (λ (v : ReportView). v.entri
 pub then_stood : (entries : ℕ) (mid added new : List (List ℕ)) → entries ≡ length mid → new ≡ mid ++ added → take entries new ≡ mid
 then_stood entries mid added new e grown = (λ i. take (e i) (grown i)) ∙ take-append_seam mid added
 
-pub rounds_agree : (K : Knowledge) (m : Meaning) (w : Setting) (rounds : List Round) (old : List (List ℕ)) (reports : List ReportView) (new : List (List ℕ)) → Replays w.options → Lasts K w m → HandsOut K w rounds → IsJournal old → IsOneRun (setup_of w) m K (entries_of old) → RoundsDo m w rounds old reports new → Agree (setup_of w) m new reports
-rounds_agree K m w [] old reports new r lasts hands j b d = subst (Agree (setup_of w) m new) (sym d.0) tt
-rounds_agree K m w (q ∷ qs) old reports new r lasts hands j b (mid, report, more, is, one, others) =
+rounds_agree : (K : Knowledge) (P : List Entry → Type 0) (m : Meaning) (w : Setting) (rounds : List Round) (old : List (List ℕ)) (reports : List ReportView) (new : List (List ℕ)) → Replays w.options → Lasts K P m w → HandsOut K w rounds → IsJournal old → P (entries_of old) → RoundsDo m w rounds old reports new → Agree (setup_of w) m new reports
+rounds_agree K P m w [] old reports new r l hands j b d = subst (Agree (setup_of w) m new) (sym d.0) tt
+rounds_agree K P m w (q ∷ qs) old reports new r l hands j b (mid, report, more, is, one, others) =
     let g = round_grows m w q old report mid j one in
-    let b' = round_lasts K m w q qs old report mid r lasts hands j b one in
+    let b' = round_lasts K P m w q qs old report mid r l hands j b one in
     let rest = rounds_grow m w qs mid more new g.journal others in
     let stood : take report.entries new ≡ mid = then_stood report.entries mid rest.added new (round_counts m w q old report mid one) rest.extends in
-    let along = rounds_along K m w qs mid [] mid more new r lasts hands.1 g.journal b' (sym (append-nil mid)) others in
-    subst (Agree (setup_of w) m new) (sym is) (subst (λ l. TellsAlong (setup_of w) m (entries_of l) more) (sym stood) along, rounds_agree K m w qs mid more new r lasts hands.1 g.journal b' others)
+    let along = rounds_along K P m w qs mid [] mid more new r l hands.1 g.journal b' (sym (append-nil mid)) others in
+    subst (Agree (setup_of w) m new) (sym is) (subst (λ l. TellsAlong (setup_of w) m (entries_of l) more) (sym stood) along, rounds_agree K P m w qs mid more new r l hands.1 g.journal b' others)
+
+-- where the journal is sound for the handler
+pub sound_rounds_agree : (m : Meaning) (w : Setting) (rounds : List Round) (old : List (List ℕ)) (reports : List ReportView) (new : List (List ℕ)) → IsSoundFor m w old → IsJournal old → RoundsDo m w rounds old reports new → Agree (setup_of w) m new reports
+sound_rounds_agree m w rounds old reports new h j d = rounds_agree (Honest (base_of w)) (SoundHistory (setup_of w) m (base_of w)) m w rounds old reports new h.replays (sound_lasts m w) (hands_honest w rounds) j h.history d

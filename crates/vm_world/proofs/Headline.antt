@@ -8,9 +8,10 @@ use Rattle.journal_messages.specs.Reading.{start_in}
 use Rattle.vm_model.specs.Calls.{Meaning, Setup}
 use Rattle.vm_model.specs.Journal.{Entry, notifications_in}
 use Rattle.vm_model.specs.Moves.{Point, start as first_point}
-use Rattle.vm_model.specs.Histories.{Handed, IsPrefix, Knowledge, Made}
-use Rattle.vm_model.specs.HonestRounds.{Attempted, HonestRound, IsOneRun, IsToldOn}
+use Rattle.vm_model.specs.Histories.{Handed, History, IsPrefix, Made}
+use Rattle.vm_model.specs.HonestRounds.{Attempted, HonestRound, IsToldOn}
 use Rattle.vm_rounds.specs.Journals.{commands_among, setup_for}
+use Rattle.vm_parts.specs.declared.context.StateMap.{StateMap}
 use Rattle.vm_rounds.specs.Told.{AnswersAreTold, IsKept, written_by}
 use Rattle.vm_store.specs.declared.types.Setting.{Setting}
 use Rattle.vm_world.specs.Courses.{delivered, given_by}
@@ -34,7 +35,7 @@ pub record IsHonest (s : Setup) (m : Meaning) (before : List Entry) (a : Attempt
   pub told : IsToldOn s m before a
   pub honest : HonestRound before a.course after
 
-module _ (m : Meaning) (w : Setting) (begin_bytes : List ℕ) (raw : RawMessage) (st : Start) (old : List (List ℕ)) (j : IsJournal old) (framed : AreFrames begin_bytes (raw ∷ [])) (found : start_in raw.body ≡ Some st) (known : st.known_entries ≡ length old) (s : Setup) (same_setup : setup_for w.version w.options st ≡ s) (K : Knowledge) (one : IsOneRun s m K (entries_of old)) (r : Replays w.options) (now : Now) (course : List Entry) (a : Along m w.version begin_bytes raw old j framed course now) (kept : IsKept m w.version w.options now.attempt) where
+module _ (m : Meaning) (w : Setting) (begin_bytes : List ℕ) (raw : RawMessage) (st : Start) (old : List (List ℕ)) (j : IsJournal old) (framed : AreFrames begin_bytes (raw ∷ [])) (found : start_in raw.body ≡ Some st) (known : st.known_entries ≡ length old) (s : Setup) (same_setup : setup_for w.version w.options st ≡ s) (base : StateMap) (past : History s m base (entries_of old)) (r : Replays w.options) (now : Now) (course : List Entry) (a : Along m w.version begin_bytes raw old j framed course now) (kept : IsKept m w.version w.options now.attempt) where
   abbrev E : List Entry
   E = entries_of old
 
@@ -64,18 +65,18 @@ module _ (m : Meaning) (w : Setting) (begin_bytes : List ℕ) (raw : RawMessage)
 
   -- the first point of its run, where so much was delivered
   abbrev from : List Notification → Point
-  from ns = first_point s one.input (notifications_in E ++ ns) one.rest
+  from ns = first_point s past.input (notifications_in E ++ ns) past.rest
 
   -- the journal tells it by so many moves
   told_by_moves : (moves : ℕ) (at : Point) → Made s m (Handed (given_by st)) moves (from (delivered w.version old now.attempt)) (written_by now.attempt) at → (now.attempt.answers ≡ []) ⊎ (now.attempt.answers ≡ at.answers) → IsHonest s m E attempted (entries_of now.journal)
   told_by_moves moves at made answered =
       record {
         told = record {
-          first = one.first;
-          input = one.input;
-          reads = one.reads;
-          rest = one.rest;
-          begins = one.begins;
+          first = past.first;
+          input = past.input;
+          reads = past.reads;
+          rest = past.rest;
+          begins = past.begins;
           moves = moves;
           at = at;
           made = subst (λ (x : List Notification × List RawMessage). Made s m (Handed (given_by st)) moves (from x.0) x.1 at) (λ i. (sym a.came i, sym a.written i)) made;
@@ -88,5 +89,5 @@ module _ (m : Meaning) (w : Setting) (begin_bytes : List ℕ) (raw : RawMessage)
   is_honest end =
       ⊎_elim
       (λ (none : now.attempt.answers ≡ []). told_by_moves 0 (from (delivered w.version old now.attempt)) (end.begins none, refl) (inl none))
-      (λ (k : AnswersAreTold m w.version w.options now.attempt). told_by_moves k.moves k.at (there m w begin_bytes raw st old j framed found known s same_setup K one r now g k.journal k.moves (written_by now.attempt) k.at k.made) (inr (sym k.answers)))
-      (end.told (record { replays = r.replays; queues = r.queues; once = none_two m w begin_bytes raw st old j framed found known s same_setup K one r now g kept }))
+      (λ (k : AnswersAreTold m w.version w.options now.attempt). told_by_moves k.moves k.at (there m w begin_bytes raw st old j framed found known s same_setup base past r now g k.journal k.moves (written_by now.attempt) k.at k.made) (inr (sym k.answers)))
+      (end.told (record { replays = r.replays; queues = r.queues; once = none_two m w begin_bytes raw st old j framed found known s same_setup base past r now g kept }))

@@ -13,8 +13,7 @@ use Rattle.vm_parts.specs.declared.context.StateMap.{StateMap}
 use Rattle.vm_model.specs.Calls.{Meaning, Setup}
 use Rattle.vm_model.specs.Journal.{Entry, commands_in, input_read_from, messages_in, read_before}
 use Rattle.vm_model.specs.Moves.{changed_by}
-use Rattle.vm_model.specs.Histories.{Knowledge, behind}
-use Rattle.vm_model.specs.HonestRounds.{IsOneRun}
+use Rattle.vm_model.specs.Histories.{History, behind}
 use Rattle.vm_model.proofs.Stored.{changes_state, unchanged}
 
 -- a journal begins with an input
@@ -47,6 +46,6 @@ input_says journal b g = ap (λ l. changed_by (messages_in l) g) b.commands ∙ 
     by_message None is = refl
     by_message (Some n) is = ap (changed_by (messages_in b.rest)) (unchanged n (ap changes_state (message_is b.first.ty b.first.body n is).1 ∙ changes_nothing b.first.ty (input_type b.first b.input b.reads)) g)
 
--- a journal that one run made begins with its input
-pub run_begins : (s : Setup) (m : Meaning) (K : Knowledge) (journal : List Entry) → IsOneRun s m K journal → Begins journal
-run_begins s m K journal h = record { first = h.first; input = h.input; reads = h.reads; rest = h.rest; commands = h.begins }
+-- a history begins with its input
+pub history_begins : (s : Setup) (m : Meaning) (base : StateMap) (journal : List Entry) → History s m base journal → Begins journal
+history_begins s m base journal h = record { first = h.first; input = h.input; reads = h.reads; rest = h.rest; commands = h.begins }

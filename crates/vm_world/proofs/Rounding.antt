@@ -18,7 +18,9 @@ use Rattle.vm_model.specs.Journal.{Entry, commands_in, messages_in, notification
 use Rattle.vm_model.specs.Moves.{changed_by, start as first_point}
 use Rattle.vm_model.specs.Histories.{History, Honest, IsAllOf, IsTrueOf, Knowledge, Whole, behind}
 use Rattle.vm_model.specs.HonestRounds.{Attempted, HonestRound, IsHanded, IsOneRun, IsToldOn}
-use Rattle.vm_model.proofs.Honesty.{honest_round, honest_rounds, run_is_history, whole_round, whole_rounds}
+use Rattle.vm_model.specs.SoundHistories.{SoundHistory}
+use Rattle.vm_model.proofs.Honesty.{honest_rounds, whole_round, whole_rounds}
+use Rattle.vm_model.proofs.SoundHistories.{run_is_sound, sound_round, sound_rounds, whole_is_honest}
 use Rattle.journal_errors.specs.declared.version.Version.{Version}
 use Rattle.vm_rounds.specs.Arrivals.{arriving}
 use Rattle.vm_steps.specs.Heard.{acknowledged_from}
@@ -36,13 +38,14 @@ use Rattle.vm_store.specs.declared.types.Setting.{Setting}
 use Rattle.vm_world.specs.Courses.{AreHonest, attempt_of, attempts_of, course_of, given_by}
 use Rattle.vm_store.specs.Entries.{entries_of, frames_in, notes_in}
 use Rattle.vm_world.specs.Rounds.{AreWhole, AttemptDoes, IsShort, RefusedDoes, Replays, ReportView, RoundDoes, RoundFaults, RoundsDo, RoundsFault, begin, new_now}
+use Rattle.vm_world.specs.Sound.{IsSoundFor}
 use Rattle.vm_store.specs.States.{base_of, state_of}
 use Rattle.vm_store.specs.Worlds.{IsJournal, setup_of, start_for, start_message}
 use Rattle.vm_world.proofs.Coursing.{Along, events_go_along}
 use Rattle.vm_store.proofs.Framing.{AreFrames, entries_append, one_framed, said_are, none_framed}
 use Rattle.vm_world.proofs.Handing.{base_in_order, round_all, round_true}
 use Rattle.vm_world.proofs.Headline.{IsHonest, is_honest}
-use Rattle.vm_world.proofs.Inputs.{Begins, input_says, run_begins}
+use Rattle.vm_world.proofs.Inputs.{Begins, history_begins, input_says}
 use Rattle.vm_world.proofs.Keeping.{Going, arrivals_keep, events_keep}
 use Rattle.vm_world.proofs.Running.{events_run}
 use Rattle.vm_world.proofs.Settled.{brings_nothing}
@@ -123,8 +126,8 @@ attempt_along m w round old report new j d =
     drop_nil (suc k) ns e = ap (drop (suc k)) e
 
 -- a round with its attempt is an honest one
-attempt_honest : (K : Knowledge) (m : Meaning) (w : Setting) (round : Round) (old : List (List ℕ)) (report : ReportView) (new : List (List ℕ)) → Replays w.options → IsJournal old → IsOneRun (setup_of w) m K (entries_of old) → (d : AttemptDoes m w round old report new) → IsHonest (setup_of w) m (entries_of old) (attempt_of m w round old report new (inl d)) (entries_of new)
-attempt_honest K m w round old report new r j h d =
+attempt_honest : (m : Meaning) (w : Setting) (round : Round) (old : List (List ℕ)) (report : ReportView) (new : List (List ℕ)) → Replays w.options → IsJournal old → History (setup_of w) m (base_of w) (entries_of old) → (d : AttemptDoes m w round old report new) → IsHonest (setup_of w) m (entries_of old) (attempt_of m w round old report new (inl d)) (entries_of new)
+attempt_honest m w round old report new r j past d =
     let st = start_for w round old in
     let bytes = encoding (message.Start st) in
     let raw = stored_form (message.Start st) in
@@ -132,8 +135,8 @@ attempt_honest K m w round old report new r j h d =
     let found = start_reads st d.start in
     let first = begin d.alloc w round old in
     let course = course_of m old round.events first d.ran.now d.ran.happen in
-    let kept = events_run m w bytes raw st old j framed found refl (setup_of w) refl K h r round.events first d.ran.now d.ran.happen (begun w.version bytes old (fresh_record (made d.alloc w.options w.version)) j refl refl refl) (inl (made_new d.alloc w.version w.options), made_comes d.alloc w.version w.options) in
-    let honest = is_honest m w bytes raw st old j framed found refl (setup_of w) refl K h r d.ran.now course (attempt_along m w round old report new j d) kept.0 d.ran.ends in
+    let kept = events_run m w bytes raw st old j framed found refl (setup_of w) refl (base_of w) past r round.events first d.ran.now d.ran.happen (begun w.version bytes old (fresh_record (made d.alloc w.options w.version)) j refl refl refl) (inl (made_new d.alloc w.version w.options), made_comes d.alloc w.version w.options) in
+    let honest = is_honest m w bytes raw st old j framed found refl (setup_of w) refl (base_of w) past r d.ran.now course (attempt_along m w round old report new j d) kept.0 d.ran.ends in
     subst (λ (x : List Answer × List (List ℕ)). IsHonest (setup_of w) m (entries_of old) (record { given = given_by st; course = course; answers = x.0 }) (entries_of x.1)) (λ i. (sym (ap (λ (v : ReportView). v.answers) d.ran.told) i, sym d.ran.left i)) honest
 
 -- a round whose attempt was refused too: nothing was delivered or written
@@ -155,9 +158,9 @@ refused_honest m w round old report new j b d =
       };
     }
 
-pub round_honest : (K : Knowledge) (m : Meaning) (w : Setting) (round : Round) (old : List (List ℕ)) (report : ReportView) (new : List (List ℕ)) → Replays w.options → IsJournal old → IsOneRun (setup_of w) m K (entries_of old) → (d : RoundDoes m w round old report new) → IsHonest (setup_of w) m (entries_of old) (attempt_of m w round old report new d) (entries_of new)
-round_honest K m w round old report new r j h (inl d) = attempt_honest K m w round old report new r j h d
-round_honest K m w round old report new r j h (inr d) = refused_honest m w round old report new j (run_begins (setup_of w) m K (entries_of old) h) d
+pub round_honest : (m : Meaning) (w : Setting) (round : Round) (old : List (List ℕ)) (report : ReportView) (new : List (List ℕ)) → Replays w.options → IsJournal old → History (setup_of w) m (base_of w) (entries_of old) → (d : RoundDoes m w round old report new) → IsHonest (setup_of w) m (entries_of old) (attempt_of m w round old report new d) (entries_of new)
+round_honest m w round old report new r j past (inl d) = attempt_honest m w round old report new r j past d
+round_honest m w round old report new r j past (inr d) = refused_honest m w round old report new j (history_begins (setup_of w) m (base_of w) (entries_of old) past) d
 
 -- what a round's attempt is handed and what it answers, whether it was refused or not
 pub round_gives : (m : Meaning) (w : Setting) (round : Round) (old : List (List ℕ)) (report : ReportView) (new : List (List ℕ)) (d : RoundDoes m w round old report new) → ((attempt_of m w round old report new d).given ≡ given_by (start_for w round old)) × ((attempt_of m w round old report new d).answers ≡ report.answers)
@@ -180,33 +183,45 @@ entries_grow old new added e = ap entries_of e ∙ entries_append old added
 abbrev pub HandsOut : Knowledge → Setting → List Round → Type 0
 HandsOut K w rounds = AllByRecursion (λ r. (journal : List (List ℕ)) → Begins (entries_of journal) → K (given_by (start_for w r journal)) (messages_in (behind (commands_in (entries_of journal))))) rounds
 
--- an honest round leaves a journal that one run made
-abbrev pub Lasts : Knowledge → Setting → Meaning → Type 0
-Lasts K w m = (before : List Entry) (a : Attempted) (after : List Entry) → IsOneRun (setup_of w) m K before → IsHanded K before a → IsToldOn (setup_of w) m before a → HonestRound before a.course after → IsOneRun (setup_of w) m K after
+-- What is so of journals lasts over rounds, where so much of the state is handed out: such a journal is a history, and an honest round leaves
+-- one of which it is so.
+pub record Lasts (K : Knowledge) (P : List Entry → Type 0) (m : Meaning) (w : Setting) : Type 0 where
+  pub history : (journal : List Entry) → P journal → History (setup_of w) m (base_of w) journal
+  pub lasts : (before : List Entry) (a : Attempted) (after : List Entry) → P before → IsHanded K before a → IsToldOn (setup_of w) m before a → HonestRound before a.course after → P after
 
 -- what a round hands out, as its attempt has it
-pub round_handed : (K : Knowledge) (m : Meaning) (w : Setting) (q : Round) (qs : List Round) (old : List (List ℕ)) (report : ReportView) (mid : List (List ℕ)) → HandsOut K w (q ∷ qs) → IsOneRun (setup_of w) m K (entries_of old) → (d : RoundDoes m w q old report mid) → IsHanded K (entries_of old) (attempt_of m w q old report mid d)
-round_handed K m w q qs old report mid hands h d = subst (λ x. K x (messages_in (behind (commands_in (entries_of old))))) (sym (round_gives m w q old report mid d).0) (hands.0 old (run_begins (setup_of w) m K (entries_of old) h))
+pub round_handed : (K : Knowledge) (m : Meaning) (w : Setting) (q : Round) (qs : List Round) (old : List (List ℕ)) (report : ReportView) (mid : List (List ℕ)) → HandsOut K w (q ∷ qs) → History (setup_of w) m (base_of w) (entries_of old) → (d : RoundDoes m w q old report mid) → IsHanded K (entries_of old) (attempt_of m w q old report mid d)
+round_handed K m w q qs old report mid hands past d = subst (λ x. K x (messages_in (behind (commands_in (entries_of old))))) (sym (round_gives m w q old report mid d).0) (hands.0 old (history_begins (setup_of w) m (base_of w) (entries_of old) past))
 
--- one run made the journal behind a round too
-pub round_lasts : (K : Knowledge) (m : Meaning) (w : Setting) (q : Round) (qs : List Round) (old : List (List ℕ)) (report : ReportView) (mid : List (List ℕ)) → Replays w.options → Lasts K w m → HandsOut K w (q ∷ qs) → IsJournal old → IsOneRun (setup_of w) m K (entries_of old) → RoundDoes m w q old report mid → IsOneRun (setup_of w) m K (entries_of mid)
-round_lasts K m w q qs old report mid r lasts hands j h d =
-    let honest = round_honest K m w q old report mid r j h d in
-    lasts (entries_of old) (attempt_of m w q old report mid d) (entries_of mid) h (round_handed K m w q qs old report mid hands h d) honest.told honest.honest
+-- it is so of the journal behind a round too
+pub round_lasts : (K : Knowledge) (P : List Entry → Type 0) (m : Meaning) (w : Setting) (q : Round) (qs : List Round) (old : List (List ℕ)) (report : ReportView) (mid : List (List ℕ)) → Replays w.options → Lasts K P m w → HandsOut K w (q ∷ qs) → IsJournal old → P (entries_of old) → RoundDoes m w q old report mid → P (entries_of mid)
+round_lasts K P m w q qs old report mid r l hands j h d =
+    let past = l.history (entries_of old) h in
+    let honest = round_honest m w q old report mid r j past d in
+    l.lasts (entries_of old) (attempt_of m w q old report mid d) (entries_of mid) h (round_handed K m w q qs old report mid hands past d) honest.told honest.honest
 
-rounds_honest : (K : Knowledge) (m : Meaning) (w : Setting) (rounds : List Round) (old : List (List ℕ)) (reports : List ReportView) (new : List (List ℕ)) → Replays w.options → Lasts K w m → HandsOut K w rounds → IsJournal old → IsOneRun (setup_of w) m K (entries_of old) → (d : RoundsDo m w rounds old reports new) → AreHonest K m w rounds old reports new d
-rounds_honest K m w [] old reports new r lasts hands j h d = ap entries_of d.1
-rounds_honest K m w (q ∷ qs) old reports new r lasts hands j h (mid, report, more, is, one, others) =
+rounds_honest : (K : Knowledge) (P : List Entry → Type 0) (m : Meaning) (w : Setting) (rounds : List Round) (old : List (List ℕ)) (reports : List ReportView) (new : List (List ℕ)) → Replays w.options → Lasts K P m w → HandsOut K w rounds → IsJournal old → P (entries_of old) → (d : RoundsDo m w rounds old reports new) → AreHonest K m w rounds old reports new d
+rounds_honest K P m w [] old reports new r l hands j h d = ap entries_of d.1
+rounds_honest K P m w (q ∷ qs) old reports new r l hands j h (mid, report, more, is, one, others) =
     let g = round_grows m w q old report mid j one in
-    let honest = round_honest K m w q old report mid r j h one in
-    let on = round_lasts K m w q qs old report mid r lasts hands j h one in
-    (entries_of mid, round_handed K m w q qs old report mid hands h one, honest.told, honest.honest, rounds_honest K m w qs mid more new r lasts hands.1 g.journal on others)
+    let past = l.history (entries_of old) h in
+    let honest = round_honest m w q old report mid r j past one in
+    let on = round_lasts K P m w q qs old report mid r l hands j h one in
+    (entries_of mid, round_handed K m w q qs old report mid hands past one, honest.told, honest.honest, rounds_honest K P m w qs mid more new r l hands.1 g.journal on others)
 
-pub honest_lasts : (m : Meaning) (w : Setting) → Lasts (Honest (base_of w)) w m
-honest_lasts m w before a after = honest_round (setup_of w) m (base_of w) before a after (base_in_order w)
+-- a sound history lasts, where honest states are handed out
+pub sound_lasts : (m : Meaning) (w : Setting) → Lasts (Honest (base_of w)) (SoundHistory (setup_of w) m (base_of w)) m w
+sound_lasts m w = record {
+  history = λ journal h. h.history;
+  lasts = λ before a after. sound_round (setup_of w) m (base_of w) before a after (base_in_order w);
+}
 
-whole_lasts : (m : Meaning) (w : Setting) → Lasts (Whole (base_of w)) w m
-whole_lasts m w before a after = whole_round (setup_of w) m (base_of w) before a after (base_in_order w)
+-- what one run made lasts, where whole states are handed out
+whole_lasts : (m : Meaning) (w : Setting) → Lasts (Whole (base_of w)) (IsOneRun (setup_of w) m (Whole (base_of w))) m w
+whole_lasts m w = record {
+  history = λ journal h. (run_is_sound (setup_of w) m (base_of w) journal (whole_is_honest (setup_of w) m (base_of w) journal h)).history;
+  lasts = λ before a after. whole_round (setup_of w) m (base_of w) before a after (base_in_order w);
+}
 
 -- ---- what is handed out
 
@@ -225,18 +240,23 @@ hands_whole w (r ∷ rs) h = (λ journal b. subst (λ now. IsAllOf now (given_by
 -- ---- the headline
 
 module _ (m : Meaning) (w : Setting) (rounds : List Round) (old : List (List ℕ)) (reports : List ReportView) (new : List (List ℕ)) (j : IsJournal old) (d : RoundsDo m w rounds old reports new) where
-  pub are_honest : Replays w.options → IsOneRun (setup_of w) m (Honest (base_of w)) (entries_of old) → AreHonest (Honest (base_of w)) m w rounds old reports new d
-  are_honest r h = rounds_honest (Honest (base_of w)) m w rounds old reports new r (honest_lasts m w) (hands_honest w rounds) j h d
+  pub are_honest : IsSoundFor m w old → AreHonest (Honest (base_of w)) m w rounds old reports new d
+  are_honest h = rounds_honest (Honest (base_of w)) (SoundHistory (setup_of w) m (base_of w)) m w rounds old reports new h.replays (sound_lasts m w) (hands_honest w rounds) j h.history d
+
+  pub stays_sound : IsSoundFor m w old → IsSoundFor m w new
+  stays_sound h = record {
+    replays = h.replays;
+    history = sound_rounds (setup_of w) m (base_of w) (entries_of old) (attempts_of m w rounds old reports new d) (entries_of new) (base_in_order w) h.history (are_honest h);
+  }
 
   pub stays_one_run : Replays w.options → IsOneRun (setup_of w) m (Honest (base_of w)) (entries_of old) → IsOneRun (setup_of w) m (Honest (base_of w)) (entries_of new)
-  stays_one_run r h = honest_rounds (setup_of w) m (base_of w) (entries_of old) (attempts_of m w rounds old reports new d) (entries_of new) (base_in_order w) h (are_honest r h)
-
-  pub stays_history : Replays w.options → IsOneRun (setup_of w) m (Honest (base_of w)) (entries_of old) → History (setup_of w) m (base_of w) (entries_of new)
-  stays_history r h = run_is_history (setup_of w) m (base_of w) (entries_of new) (stays_one_run r h)
+  stays_one_run r h =
+      let a = are_honest (record { replays = r; history = run_is_sound (setup_of w) m (base_of w) (entries_of old) h }) in
+      honest_rounds (setup_of w) m (base_of w) (entries_of old) (attempts_of m w rounds old reports new d) (entries_of new) (base_in_order w) h a
 
   pub stays_undisturbed : Replays w.options → AreWhole rounds → IsOneRun (setup_of w) m (Whole (base_of w)) (entries_of old) → IsOneRun (setup_of w) m (Whole (base_of w)) (entries_of new)
   stays_undisturbed r whole h =
-      let a = rounds_honest (Whole (base_of w)) m w rounds old reports new r (whole_lasts m w) (hands_whole w rounds whole) j h d in
+      let a = rounds_honest (Whole (base_of w)) (IsOneRun (setup_of w) m (Whole (base_of w))) m w rounds old reports new r (whole_lasts m w) (hands_whole w rounds whole) j h d in
       whole_rounds (setup_of w) m (base_of w) (entries_of old) (attempts_of m w rounds old reports new d) (entries_of new) (base_in_order w) h a
 
 -- ---- one round more

@@ -18,12 +18,11 @@ use Rattle.vm_machine.specs.Inputs.{coverage_of}
 use Rattle.vm_model.specs.Calls.{Meaning, Setup}
 use Rattle.vm_model.specs.Carried.{AreCarried, ComeOnce}
 use Rattle.vm_model.specs.Deliveries.{HasNoTwo}
-use Rattle.vm_model.specs.Histories.{Handed, IsPrefix, Knowledge, Made, behind}
-use Rattle.vm_model.specs.HonestRounds.{IsOneRun}
+use Rattle.vm_model.specs.Histories.{Handed, History, IsPrefix, Made, behind}
 use Rattle.vm_model.specs.Journal.{Entry, input_read_from, notifications_in}
 use Rattle.vm_model.specs.Moves.{Point, later, start as first_point}
 use Rattle.vm_model.proofs.Once.{run_once, still_carried}
-use Rattle.vm_model.proofs.Runs.{after_later, made_after, made_spent}
+use Rattle.vm_model.proofs.Runs.{after_later}
 use Rattle.vm_rounds.specs.Journals.{commands_among, setup_for}
 use Rattle.vm_rounds.specs.Told.{BeforeInput, HasCome, IsKept, Journal, NoneHasTwo, Runs, Wrote, arrivals, begun, handed_out}
 use Rattle.vm_rounds.specs.Arrivals.{arriving}
@@ -67,9 +66,9 @@ once_front xs ys once id =
 carried_front : (xs ys : List Notification) (cs : List RawMessage) → AreCarried (xs ++ ys) cs → AreCarried xs cs
 carried_front xs ys cs h id none = front_nothing (results_of (CompletionId id) xs) (results_of (CompletionId id) ys) (sym (results-append (CompletionId id) xs ys) ∙ h id none)
 
--- ---- an attempt over a journal that one run made
+-- ---- an attempt over a journal that is a history
 
-module _ (m : Meaning) (w : Setting) (begin_bytes : List ℕ) (raw : RawMessage) (st : Start) (old : List (List ℕ)) (j : IsJournal old) (framed : AreFrames begin_bytes (raw ∷ [])) (found : start_in raw.body ≡ Some st) (known : st.known_entries ≡ length old) (s : Setup) (same_setup : setup_for w.version w.options st ≡ s) (K : Knowledge) (one : IsOneRun s m K (entries_of old)) (r : Replays w.options) where
+module _ (m : Meaning) (w : Setting) (begin_bytes : List ℕ) (raw : RawMessage) (st : Start) (old : List (List ℕ)) (j : IsJournal old) (framed : AreFrames begin_bytes (raw ∷ [])) (found : start_in raw.body ≡ Some st) (known : st.known_entries ≡ length old) (s : Setup) (same_setup : setup_for w.version w.options st ≡ s) (base : StateMap) (past : History s m base (entries_of old)) (r : Replays w.options) where
   abbrev E : List Entry
   E = entries_of old
 
@@ -82,16 +81,16 @@ module _ (m : Meaning) (w : Setting) (begin_bytes : List ℕ) (raw : RawMessage)
 
   -- the first point of its run
   abbrev from : Now → Point
-  from now = first_point s one.input (came now) one.rest
+  from now = first_point s past.input (came now) past.rest
 
   -- ---- what was fed is the world's journal
 
   record IsWorlds (now : Now) (J : Journal (heard w.version now.attempt)) : Type 0 where
     start : J.start ≡ st
     state : J.state ≡ state_entries st.state
-    input : J.input ≡ one.input
+    input : J.input ≡ past.input
     notes : arrivals J ≡ came now
-    rest : J.rest ≡ one.rest
+    rest : J.rest ≡ past.rest
 
   is_worlds : (now : Now) → Going w.version begin_bytes old now → (J : Journal (heard w.version now.attempt)) → IsWorlds now J
   is_worlds now g J =
@@ -104,8 +103,8 @@ module _ (m : Meaning) (w : Setting) (begin_bytes : List ℕ) (raw : RawMessage)
       let is_st : J.start ≡ st = same_Some J.start st (sym J.reads_start ∙ ap (λ (x : RawMessage). start_in x.body) (sym head) ∙ found) in
       let count : length (frames_in old) ≡ length J.entries = journal_length old j.entries ∙ sym (J.count ∙ ap (λ (x : Start). x.known_entries) is_st ∙ known) in
       let entries : frames_in old ≡ J.entries = (same_front (frames_in old) J.entries g.came (J.others ++ G) count tail).0 in
-      let commands : one.first ∷ one.rest ≡ J.first ∷ J.rest = sym one.begins ∙ commands_same (frames_in old) ∙ ap commands_among entries ∙ J.commands in
-      let first = head_same one.first J.first one.rest J.rest commands in
+      let commands : past.first ∷ past.rest ≡ J.first ∷ J.rest = sym past.begins ∙ commands_same (frames_in old) ∙ ap commands_among entries ∙ J.commands in
+      let first = head_same past.first J.first past.rest J.rest commands in
       let none = journal_acknowledges old j.entries in
       let others = arriving P J.others in
       let all : arriving P (J.entries ++ J.others) ≡ notes_in old ++ others =
@@ -114,16 +113,16 @@ module _ (m : Meaning) (w : Setting) (begin_bytes : List ℕ) (raw : RawMessage)
       record {
         start = is_st;
         state = entries_found J.start.state J.state J.reads_state ∙ ap (λ (x : Start). state_entries x.state) is_st;
-        input = sym (same_Some one.input J.input (sym one.reads ∙ ap input_read_from first ∙ J.reads_input));
+        input = sym (same_Some past.input J.input (sym past.reads ∙ ap input_read_from first ∙ J.reads_input));
         notes = all ∙ (λ i. (notes_are old ∙ sym (notes_same (frames_in old))) i ++ sym later i);
-        rest = sym (tail_same one.first J.first one.rest J.rest commands);
+        rest = sym (tail_same past.first J.first past.rest J.rest commands);
       }
 
   -- a run over what was fed is one from the first point
   pub there : (now : Now) (g : Going w.version begin_bytes old now) (J : Journal (heard w.version now.attempt)) (n : ℕ) (made : List RawMessage) (p : Point) → Made (setup_for w.version w.options J.start) m (Handed (handed_out J)) n (begun w.version w.options J) made p → Made s m (Handed given) n (from now) made p
   there now g J n made p run =
       let x = is_worlds now g J in
-      subst (λ (z : Setup). Made z m (Handed given) n (first_point z one.input (came now) one.rest) made p) same_setup
+      subst (λ (z : Setup). Made z m (Handed given) n (first_point z past.input (came now) past.rest) made p) same_setup
       (subst
       (λ (z : Start × List (List ℕ × Option (List ℕ)) × InputCommand × List Notification × List RawMessage). Made (setup_for w.version w.options z.0) m (Handed (record { entries = z.1; coverage = coverage_of z.0.partial })) n (first_point (setup_for w.version w.options z.0) z.2 z.3 z.4) made p)
       (λ i. (x.start i, x.state i, x.input i, x.notes i, x.rest i)) run)
@@ -144,15 +143,15 @@ module _ (m : Meaning) (w : Setting) (begin_bytes : List ℕ) (raw : RawMessage)
   came_once now g = let x = notes_split now g in once_front (came now) x.0 (subst ComeOnce x.1 (come_once (notes_in now.journal) g.journal.once))
 
   -- the commands behind the input are those of the journal and the stored ones
-  stored_carry : (now : Now) (g : Going w.version begin_bytes old now) → AreCarried (came now) (one.rest ++ commands_among g.scanned)
+  stored_carry : (now : Now) (g : Going w.version begin_bytes old now) → AreCarried (came now) (past.rest ++ commands_among g.scanned)
   stored_carry now g =
       let x = notes_split now g in
-      let all : commands_among (frames_in now.journal) ≡ one.first ∷ (one.rest ++ commands_among g.scanned) =
+      let all : commands_among (frames_in now.journal) ≡ past.first ∷ (past.rest ++ commands_among g.scanned) =
       ap (λ l. commands_among (frames_in l)) g.extends ∙ ap commands_among (frames_append old g.added) ∙ commands_append (frames_in old) (frames_in g.added)
-      ∙ (λ i. (sym (commands_same (frames_in old)) ∙ one.begins) i ++ g.commands i)
+      ∙ (λ i. (sym (commands_same (frames_in old)) ∙ past.begins) i ++ g.commands i)
       in
-      carried_behind (came now) one.first one.input (one.rest ++ commands_among g.scanned) one.reads
-      (carried_front (came now) x.0 (one.first ∷ (one.rest ++ commands_among g.scanned)) (subst (λ (z : List Notification × List RawMessage). AreCarried z.0 z.1) (λ i. (x.1 i, all i)) g.journal.carried))
+      carried_behind (came now) past.first past.input (past.rest ++ commands_among g.scanned) past.reads
+      (carried_front (came now) x.0 (past.first ∷ (past.rest ++ commands_among g.scanned)) (subst (λ (z : List Notification × List RawMessage). AreCarried z.0 z.1) (λ i. (x.1 i, all i)) g.journal.carried))
 
   -- what was stored was written
   stored_written : (now : Now) (g : Going w.version begin_bytes old now) (written : List RawMessage) → Wrote now.attempt.taken now.attempt.vm.machine.output written → IsPrefix (commands_among g.scanned) written
@@ -163,10 +162,10 @@ module _ (m : Meaning) (w : Setting) (begin_bytes : List ℕ) (raw : RawMessage)
       ap (λ b. commands_among (frames_of b).0) g.output_is ∙ ap (λ (x : List RawMessage × Tail). commands_among x.0) g.output_frames ∙ commands_append g.scanned frames in
       (commands_among frames ++ t.0, t.1 ∙ ap (λ l. l ++ t.0) scanned ∙ append_assoc (commands_among g.scanned) (commands_among frames) t.0)
 
-  written_carry : (now : Now) (g : Going w.version begin_bytes old now) (written : List RawMessage) → Wrote now.attempt.taken now.attempt.vm.machine.output written → AreCarried (came now) (one.rest ++ written)
+  written_carry : (now : Now) (g : Going w.version begin_bytes old now) (written : List RawMessage) → Wrote now.attempt.taken now.attempt.vm.machine.output written → AreCarried (came now) (past.rest ++ written)
   written_carry now g written wrote =
       let x = stored_written now g written wrote in
-      subst (AreCarried (came now)) (append_assoc one.rest (commands_among g.scanned) x.0 ∙ ap (λ l. one.rest ++ l) (sym x.1)) (still_carried (came now) (one.rest ++ commands_among g.scanned) x.0 (stored_carry now g))
+      subst (AreCarried (came now)) (append_assoc past.rest (commands_among g.scanned) x.0 ∙ ap (λ l. past.rest ++ l) (sym x.1)) (still_carried (came now) (past.rest ++ commands_among g.scanned) x.0 (stored_carry now g))
 
   -- ---- at no point has a completion two results
 
@@ -176,10 +175,8 @@ module _ (m : Meaning) (w : Setting) (begin_bytes : List ℕ) (raw : RawMessage)
   at_each : (now : Now) (g : Going w.version begin_bytes old now) (k : ℕ) (written : List RawMessage) (at : Point) → Made s m (Handed given) k (from now) written at → Wrote now.attempt.taken now.attempt.vm.machine.output written → (n : ℕ) (made : List RawMessage) (p : Point) → Made s m (Handed given) n (from now) made p → HasNoTwo p
   at_each now g k written at ran wrote =
       let D = delivered w.version old now.attempt in
-      let begins = first_point s one.input (notifications_in E) one.rest in
-      let told = after_later s m D one.moves begins one.at (made_after s m K one.moves (first_point s one.input (notifications_in E) []) one.rest one.at one.made) in
-      let spent = made_spent s m K one.moves (first_point s one.input (notifications_in E) []) one.rest one.at refl one.made in
-      run_once s m given one.input (came now) one.rest one.moves (later D one.at) told spent (came_once now g) k written at ran (written_carry now g written wrote)
+      let told = after_later s m D past.told.0 (first_point s past.input (notifications_in E) past.rest) past.at past.told.1 in
+      run_once s m given past.input (came now) past.rest past.told.0 (later D past.at) told past.uses_all (came_once now g) k written at ran (written_carry now g written wrote)
 
   pub none_two : (now : Now) (g : Going w.version begin_bytes old now) → Kept now → NoneHasTwo m w.version w.options (heard w.version now.attempt)
   none_two now g kept J n made p run =

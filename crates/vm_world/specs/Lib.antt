@@ -3,4 +3,4 @@ pub mod Courses
 pub mod Inside
 pub mod ContentTypes
 pub mod Fresh
-pub mod Onward
+pub mod Sound

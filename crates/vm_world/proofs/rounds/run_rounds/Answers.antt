@@ -1,13 +1,14 @@
-use Rattle.std.proofs.Common.{◌+◌, arith, map, take, drop, ap, subst, inl, refl}
+use Rattle.std.proofs.Common.{◌+◌, arith, map, take, drop, ap, subst, sym, inl, refl}
 use Rattle.std.proofs.lemmas.List.{take_all}
 use Rattle.vm_world.specs.Rounds.{RoundDoes, RoundFaults, RoundsDo}
 use Rattle.vm_world.specs.Inside.{report_view}
 use Rattle.vm_store.specs.Worlds.{IsJournal, WorldView}
-use Rattle.vm_world.proofs.Agreeing.{rounds_agree}
+use Rattle.vm_world.specs.Sound.{IsSoundFor}
+use Rattle.vm_world.proofs.Agreeing.{sound_rounds_agree}
 use Rattle.vm_world.proofs.Completing.{completes_once}
 use Rattle.vm_world.proofs.Freshness.{rounds_fresh}
 use Rattle.vm_world.proofs.Lists.{split_at, whole_at}
-use Rattle.vm_world.proofs.Rounding.{Grows, are_honest, hands_honest, honest_lasts, rounds_fail, rounds_grow, rounds_then, stays_history, stays_one_run, stays_undisturbed}
+use Rattle.vm_world.proofs.Rounding.{Grows, are_honest, rounds_fail, rounds_grow, rounds_then, stays_one_run, stays_sound, stays_undisturbed}
 use Rattle.vm_world.proofs.rounds.run_rounds.Given as given
 use Rattle.vm_world.proofs.rounds.run_rounds.Goals as goal
 
@@ -37,23 +38,27 @@ grows g c = rounds_grow (g.H.Handler.meaning c.args.handler.now) c.args.world.se
 pub returns-clause-extends : goal.returns-clause-extends
 returns-clause-extends g c = ((grows g c).added, (grows g c).extends)
 
+-- what rounds guarantee where the journal is sound for the handler, and where one run made it
 pub returns-clause-honest : goal.returns-clause-honest
-returns-clause-honest g c r h d = are_honest (g.H.Handler.meaning c.args.handler.now) c.args.world.setting c.args.rounds.now c.args.world.journal (map report_view c.loop-round.reports.items) c.loop-round.journal.items (before g c) d r h
+returns-clause-honest g c h d = are_honest (g.H.Handler.meaning c.args.handler.now) c.args.world.setting c.args.rounds.now c.args.world.journal (map report_view c.loop-round.reports.items) c.loop-round.journal.items (before g c) d h
+
+stays : (g : given.Over) (c : goal.After-loop-round g) → IsSoundFor (g.H.Handler.meaning c.args.handler.now) c.args.world.setting c.args.world.journal → IsSoundFor (g.H.Handler.meaning c.args.handler.now) c.args.world.setting c.loop-round.journal.items
+stays g c h = stays_sound (g.H.Handler.meaning c.args.handler.now) c.args.world.setting c.args.rounds.now c.args.world.journal (map report_view c.loop-round.reports.items) c.loop-round.journal.items (before g c) (all g c) h
+
+pub returns-clause-history : goal.returns-clause-history
+returns-clause-history g c h = subst (λ s. IsSoundFor (g.H.Handler.meaning c.args.handler.now) s c.loop-round.journal.items) (ap (λ (w : WorldView). w.setting) (sym c.world.view_is)) (stays g c h)
+
+pub returns-clause-once : goal.returns-clause-once
+returns-clause-once g c h = completes_once _ (g.H.Handler.meaning c.args.handler.now) _ c.loop-round.journal.items (grows g c).journal (stays g c h).history.history
+
+pub returns-clause-agree : goal.returns-clause-agree
+returns-clause-agree g c h = sound_rounds_agree (g.H.Handler.meaning c.args.handler.now) c.args.world.setting c.args.rounds.now c.args.world.journal (map report_view c.loop-round.reports.items) c.loop-round.journal.items h (before g c) (all g c)
 
 pub returns-clause-one_run : goal.returns-clause-one_run
 returns-clause-one_run g c r h = stays_one_run (g.H.Handler.meaning c.args.handler.now) c.args.world.setting c.args.rounds.now c.args.world.journal (map report_view c.loop-round.reports.items) c.loop-round.journal.items (before g c) (all g c) r h
 
-pub returns-clause-history : goal.returns-clause-history
-returns-clause-history g c r h = stays_history (g.H.Handler.meaning c.args.handler.now) c.args.world.setting c.args.rounds.now c.args.world.journal (map report_view c.loop-round.reports.items) c.loop-round.journal.items (before g c) (all g c) r h
-
-pub returns-clause-once : goal.returns-clause-once
-returns-clause-once g c r h = completes_once _ (g.H.Handler.meaning c.args.handler.now) _ c.loop-round.journal.items (grows g c).journal (returns-clause-history g c r h)
-
 pub returns-clause-undisturbed : goal.returns-clause-undisturbed
 returns-clause-undisturbed g c r whole h = stays_undisturbed (g.H.Handler.meaning c.args.handler.now) c.args.world.setting c.args.rounds.now c.args.world.journal (map report_view c.loop-round.reports.items) c.loop-round.journal.items (before g c) (all g c) r whole h
-
-pub returns-clause-agree : goal.returns-clause-agree
-returns-clause-agree g c r h = rounds_agree _ (g.H.Handler.meaning c.args.handler.now) c.args.world.setting c.args.rounds.now c.args.world.journal (map report_view c.loop-round.reports.items) c.loop-round.journal.items r (honest_lasts (g.H.Handler.meaning c.args.handler.now) c.args.world.setting) (hands_honest c.args.world.setting c.args.rounds.now) (before g c) h (all g c)
 
 pub returns-clause-fresh : goal.returns-clause-fresh
 returns-clause-fresh g c skips = rounds_fresh (g.H.Handler.meaning c.args.handler.now) c.args.world.setting c.args.rounds.now c.args.world.journal (map report_view c.loop-round.reports.items) c.loop-round.journal.items skips (before g c) (all g c)

@@ -1,0 +1,14 @@
+-- Histories by whose recorded commands the state is known as the handler knows it.
+use Rattle.std.specs.Prelude.{◌≡◌, List}
+use Rattle.vm_parts.specs.declared.context.StateMap.{StateMap}
+use Rattle.vm_model.specs.Calls.{Setup, Meaning}
+use Rattle.vm_model.specs.Journal.{Entry, messages_in}
+use Rattle.vm_model.specs.Moves.{changed_by}
+use Rattle.vm_model.specs.Histories.{History}
+
+-- A history whose recorded state commands leave of the base what the handler's own calls leave of it. An attempt knows the state by its
+-- calls, and the next attempt is handed what the recorded commands leave; where payloads aren't compared, a recorded value may be another
+-- than the call's.
+pub record SoundHistory (s : Setup) (m : Meaning) (base : StateMap) (journal : List Entry) : Type 0 where
+  pub history : History s m base journal
+  pub leaves : changed_by (messages_in history.rest) base ≡ changed_by history.at.said base
