@@ -65,6 +65,7 @@ with VM(CONTENT_TYPE, cancel="none", checks="on", seed=7) as vm:
     print(vm.do_await(all_succeeded_or_first_failed(26, 27)), vm.do_await(first_succeeded_or_all_failed(27, 23)))
     print(awaited(vm, 27), awaited(vm, 23))
     print(vm.do_await(26), vm.take_notification(26) == every)
+    print(vm.sys_call_with_deadline("Service", "handler", every, 1000, **options))
     vm.notify_input_closed()
     print(vm.line(""), vm.line("# nothing"), vm.line("what"), vm.line("index"))
     print(refused(vm.call, "what"))
@@ -92,6 +93,13 @@ with VM(CONTENT_TYPE) as vm:
     vm.sys_input()
     vm.notify_input(notification(b"\1" + struct.pack(">I", 1), b"\0"))
     print(refused(vm.do_await, vm.sys_sleep(1000)))
+
+# The recorded sleep, whose id is 1, is dropped and not replayed.
+with VM(CONTENT_TYPE, replay="off") as vm:
+    vm.notify_input(start(2) + INPUT + struct.pack(">HQQIQ", 18, 20, 1000, 1, 0))
+    vm.sys_input()
+    print(vm.state(), vm.last_command_index(), vm.sys_sleep(2000), int.from_bytes(vm.take_output()[18:22], "big"))
+    print(refused(vm.sys_awakeable))
 
 with VM(CONTENT_TYPE) as vm:
     vm.notify_input(start(1) + INPUT)

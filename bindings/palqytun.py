@@ -493,20 +493,30 @@ class VM:
         """Takes each state key's value away."""
         self.call(f"clear_all{_option('name', name)}")
 
-    def _callee(self, verb, service, handler, value, at, key, idempotency_key, scope, limit_key, headers, name, unstable):
+    def _callee(self, verb, service, handler, value, time, key, idempotency_key, scope, limit_key, headers, name, unstable):
         options = f"{_option('key', key)}{_option('idem', idempotency_key)}{_option('scope', scope)}{_option('limit', limit_key)}"
         pairs = "".join(f" header={{{_quoted(one)} {_quoted(other)}}}" for one, other in headers)
-        at = "" if at is None else f" at={at}"
-        return self.call(f"{verb} {_quoted(service)} {_quoted(handler)} {_bytes(value)}{options}{pairs}{at}{_named(name, unstable)}")
+        return self.call(f"{verb} {_quoted(service)} {_quoted(handler)} {_bytes(value)}{time}{options}{pairs}{_named(name, unstable)}")
 
     def sys_call(self, service, handler, value, *, key=None, idempotency_key=None, scope=None, limit_key=None, headers=(), name=None, unstable=False):
         """Calls another handler; answers the handles of the invocation's id and of its result."""
-        first, second = self._callee("call", service, handler, value, None, key, idempotency_key, scope, limit_key, headers, name, unstable).split()
+        first, second = self._callee("call", service, handler, value, "", key, idempotency_key, scope, limit_key, headers, name, unstable).split()
         return int(first), int(second)
+
+    def sys_call_with_deadline(
+        self, service, handler, value, wake_up_time, *, key=None, idempotency_key=None, scope=None, limit_key=None, headers=(), name=None, unstable=False
+    ):
+        """Calls another handler and sleeps until a time, in one call; answers the handles of the invocation's id, of its result and of the
+        deadline. Await the first that comes of the last two."""
+        time = f" {wake_up_time}"
+        handles = self._callee("call_with_deadline", service, handler, value, time, key, idempotency_key, scope, limit_key, headers, name, unstable)
+        first, second, third = map(int, handles.split())
+        return first, second, third
 
     def sys_send(self, service, handler, value, *, at=None, key=None, idempotency_key=None, scope=None, limit_key=None, headers=(), name=None, unstable=False):
         """Calls another handler at once or at a time, where nobody waits for the result; answers the handle of the invocation's id."""
-        return int(self._callee("send", service, handler, value, at, key, idempotency_key, scope, limit_key, headers, name, unstable))
+        time = "" if at is None else f" at={at}"
+        return int(self._callee("send", service, handler, value, time, key, idempotency_key, scope, limit_key, headers, name, unstable))
 
     def sys_awakeable(self):
         """Makes an awakeable."""

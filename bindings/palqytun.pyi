@@ -165,6 +165,21 @@ class VM:
         name: str | None = None,
         unstable: bool = False,
     ) -> tuple[int, int]: ...
+    def sys_call_with_deadline(
+        self,
+        service: str,
+        handler: str,
+        value: bytes,
+        wake_up_time: int,
+        *,
+        key: str | None = None,
+        idempotency_key: str | None = None,
+        scope: str | None = None,
+        limit_key: str | None = None,
+        headers: Iterable[tuple[str, str]] = (),
+        name: str | None = None,
+        unstable: bool = False,
+    ) -> tuple[int, int, int]: ...
     def sys_send(
         self,
         service: str,

@@ -1,5 +1,5 @@
 -- Words that name none of an option's values.
-use Rattle.std.proofs.Common.{◌≡◌, ◌≢◌, ◌⊎◌, inl, inr, ℕ, true, false, List, codes}
+use Rattle.std.proofs.Common.{◌≢◌, ℕ, true, false, List, codes}
 use Rattle.wire.specs.declared.fault.Fault.{Fault}
 use Rattle.lines.specs.Readings.{Blames}
 use Rattle.vm_types.specs.declared.options.AwaitingOnPolicy.{AwaitingOnPolicy}
@@ -14,7 +14,7 @@ use Rattle.vm_types.specs.declared.options.NonDeterministicChecksOption.{NonDete
 use Rattle.vm_types.specs.declared.options.NonDeterministicChecksOption.TheVariants as checks
 use Rattle.vm_types.specs.declared.options.SignalDelivery.{SignalDelivery}
 use Rattle.vm_types.specs.declared.options.SignalDelivery.TheVariants as delivery
-use Rattle.line_parts.specs.VmOptions.{IsAwaiting, IsCancel, IsChecks, IsDelivery, IsMismatch, IsReplay, IsSkip}
+use Rattle.line_parts.specs.VmOptions.{IsAwaiting, IsCancel, IsChecks, IsDelivery, IsMismatch, IsReplay}
 
 pub no_cancel : (text : List ℕ) (fault : Fault) → text ≢ codes "calls" → text ≢ codes "none" → text ≢ codes "sends" → text ≢ codes "both" → text ≢ codes "off" → Blames (IsCancel text) fault
 no_cancel text fault a b c d e = record { nothing = λ bad it is. go it is }
@@ -62,10 +62,3 @@ no_delivery text fault a b = record { nothing = λ bad it is. go it is }
     go : (it : SignalDelivery) → IsDelivery text it → ⊥
     go delivery.Queued is = a is
     go delivery.Overwrite is = b is
-
-pub no_skip : (text : List ℕ) (fault : Fault) → text ≢ codes "double" → text ≢ codes "carried" → Blames (IsSkip text) fault
-no_skip text fault a b = record { nothing = λ bad it is. go is }
-  where
-    go : (text ≡ codes "double") ⊎ (text ≡ codes "carried") → ⊥
-    go (inl e) = a e
-    go (inr e) = b e

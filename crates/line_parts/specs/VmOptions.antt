@@ -1,5 +1,5 @@
 -- The options of a `vm` line, by their words.
-use Rattle.std.specs.Prelude.{◌≡◌, ◌⊎◌, ℕ, true, false, List, [], ◌∷◌, codes}
+use Rattle.std.specs.Prelude.{◌≡◌, ℕ, true, false, List, [], ◌∷◌, codes}
 use Rattle.std.specs.Borrow.{Bor}
 use Rattle.vm_types.specs.Options.{default_options}
 use Rattle.vm_types.specs.declared.options.VMOptions.{VMOptions}
@@ -73,10 +73,6 @@ IsReplay text it = text ≡ replay_word it
 abbrev pub IsDelivery : List ℕ → SignalDelivery → Type 0
 IsDelivery text it = text ≡ delivery_word it
 
--- what a caller that skips commands does; no option of the VM
-abbrev pub IsSkip : List ℕ → Unit {0} → Type 0
-IsSkip text it = (text ≡ codes "double") ⊎ (text ≡ codes "carried")
-
 -- An option is what the word behind its name stands for, and as by default where it isn't named. The seed stands apart.
 pub record ArePolicies (words : List (Bor (List ℕ))) (options : VMOptions) : Type 0 where
   pub cancel : IsSet IsCancel default_options.implicit_cancellation (texts (codes "cancel=") words) options.implicit_cancellation
@@ -85,11 +81,10 @@ pub record ArePolicies (words : List (Bor (List ℕ))) (options : VMOptions) : T
   pub mismatch : IsSet IsMismatch default_options.journal_mismatch_retry_behavior (texts (codes "mismatch=") words) options.journal_mismatch_retry_behavior
   pub replay : IsSet IsReplay default_options.journal_replay (texts (codes "replay=") words) options.journal_replay
   pub delivery : IsSet IsDelivery default_options.signal_delivery (texts (codes "delivery=") words) options.signal_delivery
-  pub skip : IsSet IsSkip (tt {0}) (texts (codes "skip=") words) (tt {0})
 
 -- the names of the options
 abbrev pub option_names : List (List ℕ)
-option_names = codes "cancel=" ∷ codes "checks=" ∷ codes "awaiting=" ∷ codes "mismatch=" ∷ codes "replay=" ∷ codes "delivery=" ∷ codes "skip=" ∷ codes "seed=" ∷ []
+option_names = codes "cancel=" ∷ codes "checks=" ∷ codes "awaiting=" ∷ codes "mismatch=" ∷ codes "replay=" ∷ codes "delivery=" ∷ codes "seed=" ∷ []
 
 -- the options that these words name, and no others
 pub record AreOptions (words : List (Bor (List ℕ))) (options : VMOptions) : Type 0 where

@@ -5,7 +5,7 @@ ghost use Rattle.vm_types.specs.Options.{default_options};
 ghost use Rattle.vm_types.specs.declared.options.ImplicitCancellationOption.TheVariants as cancellation;
 ghost use Rattle.line_parts.specs.Fields.{IsSet, are_named, texts};
 ghost use Rattle.line_parts.specs.Words.{IsNumberOf};
-ghost use Rattle.line_parts.specs.VmOptions.{AreOptions, ArePolicies, IsAwaiting, IsCancel, IsChecks, IsDelivery, IsMismatch, IsReplay, IsSkip, option_names};
+ghost use Rattle.line_parts.specs.VmOptions.{AreOptions, ArePolicies, IsAwaiting, IsCancel, IsChecks, IsDelivery, IsMismatch, IsReplay, option_names};
 
 use crate::atoms::u64_of;
 use crate::fields::{are_named, field_of};
@@ -208,31 +208,6 @@ fn delivery_in(words: &[&[u8]]) -> Result<SignalDelivery, Fault>
     }
 }
 
-/// What a caller that skips commands does, which is no option of the VM.
-#[tactic(auto, using(crate::proofs::Choices::no_skip))]
-fn skip_of(text: &[u8]) -> Result<(), Fault>
-    ensures value { IfOk result (λ _. IsSkip text.now (tt {0})) }
-    ensures none { IfErr result (Blames (IsSkip text.now)) }
-{
-    if text == b"double".as_slice() || text == b"carried".as_slice() {
-        return Ok(());
-    }
-    Err(Fault::Malformed)
-}
-
-/// `[skip=..]`, among other words.
-#[tactic(auto, using(crate::proofs::Missing::set_blamed, crate::proofs::Missing::twice_set))]
-fn check_skip(words: &[&[u8]]) -> Result<(), Fault>
-    ensures value { IfOk result (λ _. IsSet IsSkip (tt {0}) (texts (codes "skip=") words.now) (tt {0})) }
-    ensures none { IfErr result (Blames (IsSet IsSkip (tt {0}) (texts (codes "skip=") words.now))) }
-{
-    match field_of(words, "skip=") {
-        Ok(Some(text)) => skip_of(text),
-        Ok(None) => Ok(()),
-        Err(fault) => Err(fault),
-    }
-}
-
 /// `[seed=N]`, by default 0.
 #[tactic(auto, using(crate::proofs::Missing::set_blamed, crate::proofs::Missing::twice_set))]
 pub fn seed_in(words: &[&[u8]]) -> Result<u64, Fault>
@@ -258,7 +233,6 @@ pub fn policies_of(words: &[&[u8]]) -> Result<VMOptions, Fault>
     let journal_mismatch_retry_behavior = mismatch_in(words)?;
     let journal_replay = replay_in(words)?;
     let signal_delivery = delivery_in(words)?;
-    check_skip(words)?;
     Ok(VMOptions {
         implicit_cancellation,
         non_determinism_checks,
@@ -283,7 +257,6 @@ fn are_options(words: &[&[u8]]) -> bool
             "mismatch=",
             "replay=",
             "delivery=",
-            "skip=",
             "seed=",
         ],
     )

@@ -13,21 +13,28 @@ use Rattle.requests.specs.declared.verb.Verb.TheVariants as verb
 use Rattle.line_parts.specs.Fields.{IsOptional, are_named, texts}
 use Rattle.line_parts.specs.Targets.{AreCallOptions, AreSendOptions, HasCallOptions, call_names}
 use Rattle.line_parts.specs.Values.{HasFlag, IsTime, without}
-use Rattle.requests.specs.Verbs.{HasCallee, IsCall, IsLine, IsSend}
+use Rattle.requests.specs.Verbs.{HasCallee, IsCall, IsDeadlineCall, IsLine, IsSend, NamesCall}
 use Rattle.line_parts.specs.Words.{text_at}
 
-pub is_call : (words rest others : List (Bor (List ℕ))) (service handler input : List ℕ) (target : Target) (name : Option (List ℕ)) (options : PayloadOptions) → HasCallee words (service, handler, input)
-    → target.service ≡ service → target.handler ≡ handler → rest ≡ drop 3 words → others ≡ without (codes "unstable") rest → HasFlag (codes "unstable") rest options.unstable_serialization
-    → HasCallOptions others (target, name) → are_named call_names others ≡ true → IsLine verb.Call words (call.Step (step.Call target input name options))
-is_call words rest others service handler input target name options callee s h behind but flag has only = record {
+pub is_call : (words rest : List (Bor (List ℕ))) (service handler input : List ℕ) (target : Target) (name : Option (List ℕ)) (options : PayloadOptions) → HasCallee words (service, handler, input)
+    → target.service ≡ service → target.handler ≡ handler → rest ≡ drop 3 words → AreCallOptions rest target name options → IsLine verb.Call words (call.Step (step.Call target input name options))
+is_call words rest service handler input target name options callee s h behind named = record {
   first = (target, input, name, options);
   is_first = record {
     callee = rw (s, h) callee;
-    options = subst (λ ws. AreCallOptions ws target name options) behind (record {
-      named = subst (λ ws. HasCallOptions ws (target, name)) but has;
-      unstable = flag;
-      only = subst (λ ws. are_named call_names ws ≡ true) but only;
-    });
+    options = subst (λ ws. AreCallOptions ws target name options) behind named;
+  };
+  is = refl;
+}
+
+pub is_deadline_call : (words rest : List (Bor (List ℕ))) (service handler input : List ℕ) (target : Target) (until : Duration) (name : Option (List ℕ)) (options : PayloadOptions) → HasCallee words (service, handler, input)
+    → target.service ≡ service → target.handler ≡ handler → IsTime (text_at 3 words) until → rest ≡ drop 4 words → AreCallOptions rest target name options → IsLine verb.CallWithDeadline words (call.Step (step.CallWithDeadline target input until name options))
+is_deadline_call words rest service handler input target until name options callee s h time behind named = record {
+  first = (target, input, until, name, options);
+  is_first = record {
+    callee = rw (s, h) callee;
+    until = time;
+    options = subst (λ ws. AreCallOptions ws target name options) behind named;
   };
   is = refl;
 }
@@ -63,20 +70,33 @@ input_blamed words fault blames = record { nothing = λ bad callee has. blames.n
 pub callee_blamed : (words : List (Bor (List ℕ))) (fault : Fault) → Blames (HasCallee words) fault → Blames (IsCall words) fault
 callee_blamed words fault blames = record { nothing = λ bad call is. blames.nothing bad (call.0.service, call.0.handler, call.1) is.callee }
 
-pub flag_blamed : (words rest : List (Bor (List ℕ))) (fault : Fault) → rest ≡ drop 3 words → Blames (HasFlag (codes "unstable") rest) fault → Blames (IsCall words) fault
-flag_blamed words rest fault e blames = record {
-  nothing = λ bad call is. blames.nothing bad call.3.unstable_serialization (subst (λ ws. HasFlag (codes "unstable") ws call.3.unstable_serialization) (sym e) is.options.unstable);
+pub flag_blamed : (words : List (Bor (List ℕ))) (fault : Fault) → Blames (HasFlag (codes "unstable") words) fault → Blames (NamesCall words) fault
+flag_blamed words fault blames = record { nothing = λ bad named is. blames.nothing bad named.2.unstable_serialization is.unstable }
+
+pub others_blamed : (words others : List (Bor (List ℕ))) (fault : Fault) → others ≡ without (codes "unstable") words → are_named call_names others ≡ false → Blames (NamesCall words) fault
+others_blamed words others fault but other = record {
+  nothing = λ bad named is. absurd (cc (sym other ∙ subst (λ ws. are_named call_names ws ≡ true) (sym but) is.only));
 }
 
-pub others_blamed : (words rest others : List (Bor (List ℕ))) (fault : Fault) → rest ≡ drop 3 words → others ≡ without (codes "unstable") rest → are_named call_names others ≡ false → Blames (IsCall words) fault
-others_blamed words rest others fault behind but other = record {
-  nothing = λ bad call is. absurd (cc (sym other ∙ subst (λ ws. are_named call_names ws ≡ true) (sym but) (subst (λ ws. are_named call_names (without (codes "unstable") ws) ≡ true) (sym behind) is.options.only)));
+pub options_blamed : (words others : List (Bor (List ℕ))) (fault : Fault) → others ≡ without (codes "unstable") words → Blames (HasCallOptions others) fault → Blames (NamesCall words) fault
+options_blamed words others fault but blames = record {
+  nothing = λ bad named is. blames.nothing bad (named.0, named.1) (subst (λ ws. HasCallOptions ws (named.0, named.1)) (sym but) is.named);
 }
 
-pub options_blamed : (words rest others : List (Bor (List ℕ))) (fault : Fault) → rest ≡ drop 3 words → others ≡ without (codes "unstable") rest → Blames (HasCallOptions others) fault → Blames (IsCall words) fault
-options_blamed words rest others fault behind but blames = record {
-  nothing = λ bad call is.
-      blames.nothing bad (call.0, call.2) (subst (λ ws. HasCallOptions ws (call.0, call.2)) (sym but) (subst (λ ws. HasCallOptions (without (codes "unstable") ws) (call.0, call.2)) (sym behind) is.options.named));
+pub named_blamed : (words rest : List (Bor (List ℕ))) (fault : Fault) → rest ≡ drop 3 words → Blames (NamesCall rest) fault → Blames (IsCall words) fault
+named_blamed words rest fault behind blames = record {
+  nothing = λ bad call is. blames.nothing bad (call.0, call.2, call.3) (subst (λ ws. NamesCall ws (call.0, call.2, call.3)) (sym behind) is.options);
+}
+
+pub deadline_callee_blamed : (words : List (Bor (List ℕ))) (fault : Fault) → Blames (HasCallee words) fault → Blames (IsDeadlineCall words) fault
+deadline_callee_blamed words fault blames = record { nothing = λ bad call is. blames.nothing bad (call.0.service, call.0.handler, call.1) is.callee }
+
+pub until_blamed : (words : List (Bor (List ℕ))) (fault : Fault) → Blames (IsTime (text_at 3 words)) fault → Blames (IsDeadlineCall words) fault
+until_blamed words fault blames = record { nothing = λ bad call is. blames.nothing bad call.2 is.until }
+
+pub deadline_named_blamed : (words rest : List (Bor (List ℕ))) (fault : Fault) → rest ≡ drop 4 words → Blames (NamesCall rest) fault → Blames (IsDeadlineCall words) fault
+deadline_named_blamed words rest fault behind blames = record {
+  nothing = λ bad call is. blames.nothing bad (call.0, call.3, call.4) (subst (λ ws. NamesCall ws (call.0, call.3, call.4)) (sym behind) is.options);
 }
 
 pub send_callee_blamed : (words : List (Bor (List ℕ))) (fault : Fault) → Blames (HasCallee words) fault → Blames (IsSend words) fault

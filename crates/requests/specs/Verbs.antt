@@ -41,6 +41,7 @@ verb_name verb.Clear = codes "clear"
 verb_name verb.ClearAll = codes "clear_all"
 verb_name verb.Sleep = codes "sleep"
 verb_name verb.Call = codes "call"
+verb_name verb.CallWithDeadline = codes "call_with_deadline"
 verb_name verb.Send = codes "send"
 verb_name verb.Awakeable = codes "awakeable"
 verb_name verb.Signal = codes "signal"
@@ -60,7 +61,7 @@ verb_name verb.End = codes "end"
 -- the verbs, those that most lines have first
 abbrev pub verbs : List Verb
 verbs =
-    verb.Take ∷ verb.Await ∷ verb.Input ∷ verb.Sleep ∷ verb.Get ∷ verb.Set ∷ verb.Call ∷ verb.Run ∷ verb.Propose ∷ verb.Signal ∷ verb.Completed ∷ verb.Send ∷ verb.Output ∷ verb.Head ∷ verb.Close ∷ verb.Ready ∷ verb.State ∷ verb.Index ∷ verb.Error ∷ verb.SysInput ∷ verb.Keys ∷ verb.Clear ∷ verb.ClearAll ∷ verb.Awakeable ∷ verb.CompleteAwakeable ∷ verb.CompleteSignal ∷ verb.Cancel ∷ verb.GetPromise ∷ verb.PeekPromise ∷ verb.CompletePromise ∷ verb.Attach ∷ verb.GetOutput ∷ verb.WriteOutput ∷ verb.End ∷ []
+    verb.Take ∷ verb.Await ∷ verb.Input ∷ verb.Sleep ∷ verb.Get ∷ verb.Set ∷ verb.Call ∷ verb.Run ∷ verb.Propose ∷ verb.Signal ∷ verb.Completed ∷ verb.Send ∷ verb.Output ∷ verb.Head ∷ verb.Close ∷ verb.Ready ∷ verb.State ∷ verb.Index ∷ verb.Error ∷ verb.SysInput ∷ verb.Keys ∷ verb.Clear ∷ verb.ClearAll ∷ verb.CallWithDeadline ∷ verb.Awakeable ∷ verb.CompleteAwakeable ∷ verb.CompleteSignal ∷ verb.Cancel ∷ verb.GetPromise ∷ verb.PeekPromise ∷ verb.CompletePromise ∷ verb.Attach ∷ verb.GetOutput ∷ verb.WriteOutput ∷ verb.End ∷ []
 
 -- the verb whose name this is
 unfoldable pub verb_named : List ℕ → Option Verb
@@ -74,10 +75,20 @@ IsAwaited words future = (length words ≡ 1) × SpellsFuture (text_at 0 words) 
 abbrev pub HasCallee : List (Bor (List ℕ)) → List ℕ × List ℕ × List ℕ → Type 0
 HasCallee words callee = IsText (text_at 0 words) callee.0 × IsText (text_at 1 words) callee.1 × IsAtom (text_at 2 words) callee.2
 
+-- the words name this target's options, this name and these options of a call
+abbrev pub NamesCall : List (Bor (List ℕ)) → Target × Option (List ℕ) × PayloadOptions → Type 0
+NamesCall words named = AreCallOptions words named.0 named.1 named.2
+
 -- what is called, with which input, name and options
 pub record IsCall (words : List (Bor (List ℕ))) (call : Target × List ℕ × Option (List ℕ) × PayloadOptions) : Type 0 where
   pub callee : HasCallee words (call.0.service, call.0.handler, call.1)
   pub options : AreCallOptions (drop 3 words) call.0 call.2 call.3
+
+-- what is called, with which input, until when, and with which name and options
+pub record IsDeadlineCall (words : List (Bor (List ℕ))) (call : Target × List ℕ × Duration × Option (List ℕ) × PayloadOptions) : Type 0 where
+  pub callee : HasCallee words (call.0.service, call.0.handler, call.1)
+  pub until : IsTime (text_at 3 words) call.2
+  pub options : AreCallOptions (drop 4 words) call.0 call.3 call.4
 
 -- what is sent to, with which input, when, and with which name and options
 pub record IsSend (words : List (Bor (List ℕ))) (send : Target × List ℕ × Option Duration × Option (List ℕ) × PayloadOptions) : Type 0 where
@@ -109,6 +120,7 @@ IsLine verb.Clear words = Two (IsText (text_at 0 words)) (HasName (drop 1 words)
 IsLine verb.ClearAll words = One (HasName words) (λ name. call.Step (step.StateClearAll name))
 IsLine verb.Sleep words = Three (IsText (text_at 0 words)) (IsTime (text_at 1 words)) (HasNow (drop 2 words)) (λ name until now. call.Step (step.Sleep name until now))
 IsLine verb.Call words = One (IsCall words) (λ c. call.Step (step.Call c.0 c.1 c.2 c.3))
+IsLine verb.CallWithDeadline words = One (IsDeadlineCall words) (λ c. call.Step (step.CallWithDeadline c.0 c.1 c.2 c.3 c.4))
 IsLine verb.Send words = One (IsSend words) (λ c. call.Step (step.Send c.0 c.1 c.2 c.3 c.4))
 IsLine verb.Awakeable words = IsBare words (call.Step step.Awakeable)
 IsLine verb.Signal words = One (IsOneText words) (λ name. call.Step (step.Signal name))

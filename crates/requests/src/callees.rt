@@ -3,8 +3,8 @@ ghost use Rattle.std.specs.Prelude.{◌≡◌, ◌∷◌, IfErr, IfOk, codes, dr
 ghost use Rattle.lines.specs.Readings.{Blames};
 ghost use Rattle.requests.specs.declared.verb.Verb.TheVariants as verb;
 ghost use Rattle.line_parts.specs.Fields.{are_named, texts};
-ghost use Rattle.line_parts.specs.Targets.{AreHeaders, HasCallOptions, call_names};
-ghost use Rattle.requests.specs.Verbs.{HasCallee, IsLine};
+ghost use Rattle.line_parts.specs.Targets.{AreCallOptions, AreHeaders, HasCallOptions, call_names};
+ghost use Rattle.requests.specs.Verbs.{HasCallee, IsLine, NamesCall};
 
 use crate::request::Call;
 use bytes::Bytes;
@@ -12,9 +12,9 @@ use journal_values::Header;
 use line_parts::arguments::{optional_duration, optional_text, without_unstable};
 use line_parts::fields::{are_named, text_behind};
 use line_parts::values::pair_of;
-use line_parts::words::{behind, bytes_in, text_in};
+use line_parts::words::{behind, bytes_in, text_in, time_in};
 use std::alloc::Global;
-use vm_parts::{Boxed, Step, Target};
+use vm_parts::{Boxed, PayloadOptions, Step, Target};
 use wire::{Fault, Items, Text};
 
 /// What is called, and with what.
@@ -115,26 +115,67 @@ fn are_send_options(words: &[&[u8]]) -> bool
     )
 }
 
-/// The row `call`: `T T B [key=T] [idem=T] [scope=T] [limit=T] [header={T T}].. [name=T] [unstable]`.
-#[tactic(auto, using(lines::proofs::Blaming::one_blamed, crate::proofs::Calling::callee_blamed, crate::proofs::Calling::flag_blamed, crate::proofs::Calling::others_blamed, crate::proofs::Calling::options_blamed))]
+/// The target, the call's name, and what is said of its payload:
+/// `[key=T] [idem=T] [scope=T] [limit=T] [header={T T}].. [name=T] [unstable]` alone.
+#[tactic(auto, using(crate::proofs::Calling::flag_blamed, crate::proofs::Calling::others_blamed, crate::proofs::Calling::options_blamed))]
+fn called_with(
+    alloc: Global,
+    service: Text,
+    handler: Text,
+    words: &[&[u8]],
+) -> Result<(Target, Option<Text>, PayloadOptions), Fault>
+    ensures service { IfOk result (λ found. found.0.service ≡ service) }
+    ensures handler { IfOk result (λ found. found.0.handler ≡ handler) }
+    ensures options { IfOk result (λ found. AreCallOptions words.now found.0 found.1 found.2) }
+    ensures none { IfErr result (Blames (NamesCall words.now)) }
+{
+    let (others, options) = without_unstable(alloc, words)?;
+    if !are_call_options(others.as_slice()) {
+        return Err(Fault::Malformed);
+    }
+    let (target, name) = target_with(alloc, service, handler, others.as_slice())?;
+    Ok((target, name, options))
+}
+
+/// The row `call`: `T T B [CALL]`.
+#[tactic(auto, using(lines::proofs::Blaming::one_blamed, crate::proofs::Calling::callee_blamed, crate::proofs::Calling::named_blamed))]
 pub fn call_line(alloc: Global, arguments: &[&[u8]]) -> Result<Call, Fault>
     ensures value { IfOk result (IsLine verb.Call arguments.now) }
     ensures none { IfErr result (Blames (IsLine verb.Call arguments.now)) }
 {
     let (callee, rest) = callee_of(alloc, arguments)?;
-    let (words, options) = without_unstable(alloc, rest)?;
-    if !are_call_options(words.as_slice()) {
-        return Err(Fault::Malformed);
-    }
     let Callee {
         service,
         handler,
         input,
     } = callee;
-    let (target, name) = target_with(alloc, service, handler, words.as_slice())?;
+    let (target, name, options) = called_with(alloc, service, handler, rest)?;
     Ok(Call::Step(Step::Call {
         target: Boxed::new(alloc, target)?,
         input,
+        name,
+        options,
+    }))
+}
+
+/// The row `call_with_deadline`: `T T B D [CALL]`.
+#[tactic(auto, using(lines::proofs::Blaming::one_blamed, crate::proofs::Calling::deadline_callee_blamed, crate::proofs::Calling::until_blamed, crate::proofs::Calling::deadline_named_blamed))]
+pub fn call_with_deadline_line(alloc: Global, arguments: &[&[u8]]) -> Result<Call, Fault>
+    ensures value { IfOk result (IsLine verb.CallWithDeadline arguments.now) }
+    ensures none { IfErr result (Blames (IsLine verb.CallWithDeadline arguments.now)) }
+{
+    let wake_up_time_since_unix_epoch = time_in(arguments, 3)?;
+    let (callee, _) = callee_of(alloc, arguments)?;
+    let Callee {
+        service,
+        handler,
+        input,
+    } = callee;
+    let (target, name, options) = called_with(alloc, service, handler, behind(arguments, 4))?;
+    Ok(Call::Step(Step::CallWithDeadline {
+        target: Boxed::new(alloc, target)?,
+        input,
+        wake_up_time_since_unix_epoch,
         name,
         options,
     }))

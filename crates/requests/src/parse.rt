@@ -7,7 +7,7 @@ ghost use Rattle.lines.specs.Readings.{Blames};
 ghost use Rattle.wire.specs.declared.fault.Fault.TheVariants.{Malformed};
 ghost use Rattle.requests.specs.Verbs.{IsAsked, IsAwaited, IsBare, IsLine};
 
-use crate::callees::{call_line, send_line};
+use crate::callees::{call_line, call_with_deadline_line, send_line};
 use crate::content_type::ContentType;
 use crate::request::{Call, Request};
 use crate::verb::{Verb, verb_of_word};
@@ -355,6 +355,7 @@ fn call_named(alloc: Global, verb: Verb, arguments: &[&[u8]]) -> Result<Call, Fa
         Verb::ClearAll => clear_all_of(alloc, arguments),
         Verb::Sleep => sleep_of(alloc, arguments),
         Verb::Call => call_line(alloc, arguments),
+        Verb::CallWithDeadline => call_with_deadline_line(alloc, arguments),
         Verb::Send => send_line(alloc, arguments),
         Verb::Signal => signal_of(alloc, arguments),
         Verb::CompleteAwakeable => complete_awakeable_of(alloc, arguments),

@@ -26,6 +26,7 @@ pub enum Verb {
     ClearAll,
     Sleep,
     Call,
+    CallWithDeadline,
     Send,
     Awakeable,
     Signal,
@@ -44,7 +45,7 @@ pub enum Verb {
 }
 
 /// Each verb: those that most lines have come first.
-static VERBS: [Verb; 34] = [
+static VERBS: [Verb; 35] = [
     Verb::Take,
     Verb::Await,
     Verb::Input,
@@ -68,6 +69,7 @@ static VERBS: [Verb; 34] = [
     Verb::Keys,
     Verb::Clear,
     Verb::ClearAll,
+    Verb::CallWithDeadline,
     Verb::Awakeable,
     Verb::CompleteAwakeable,
     Verb::CompleteSignal,
@@ -106,6 +108,7 @@ fn name_of_verb(verb: Verb) -> &'static str
         Verb::ClearAll => "clear_all",
         Verb::Sleep => "sleep",
         Verb::Call => "call",
+        Verb::CallWithDeadline => "call_with_deadline",
         Verb::Send => "send",
         Verb::Awakeable => "awakeable",
         Verb::Signal => "signal",

@@ -1,5 +1,5 @@
 -- What a run of the program does: it reads a whole script, plays its rounds, and writes their report.
-use Rattle.std.specs.Prelude.{◌≡◌, ℕ, List, [], ◌∷◌, map, Option, Some, None, IfSome}
+use Rattle.std.specs.Prelude.{◌≡◌, ◌⊎◌, ℕ, List, [], ◌∷◌, map, Option, Some, None, IfSome}
 use Rattle.std.specs.Io.KnownBytes.{Appends}
 use Rattle.std.specs.declared.io.Error.{Error as IoError}
 use Rattle.journal_messages.specs.Message.{encoding}
@@ -8,10 +8,12 @@ use Rattle.journal_errors.specs.declared.version.Version.{Version}
 use Rattle.vm_model.specs.Calls.{Meaning}
 use Rattle.vm_world.specs.Inside.{report_view}
 use Rattle.vm_world.specs.Rounds.{RoundsDo, RoundsFault}
+use Rattle.vm_store.specs.Given.{AreGiven, FirstGiven}
 use Rattle.vm_store.specs.Worlds.{pairs_given}
 use Rattle.vm_store.specs.declared.types.Report.{Report}
 use Rattle.vm_store.specs.declared.types.Round.{Round}
 use Rattle.vm_store.specs.declared.types.RoundFault.{RoundFault}
+use Rattle.vm_store.specs.declared.types.RoundFault.TheVariants as round_fault
 use Rattle.vm_store.specs.declared.types.Setting.{Setting}
 use Rattle.streams.specs.Streams.{AppendsSome}
 use Rattle.round_scripts.specs.Scripts.{IsRead, StopsAt, nothing}
@@ -25,9 +27,10 @@ use Rattle.round_reports.specs.declared.run_end.RunEnd.TheVariants.{UnknownHandl
 abbrev pub setting_of : Version → Given → Setting
 setting_of version given = record { identity = given.identity; options = given.options; version = version; base = pairs_given given.state.items }
 
--- the journal of a new world: one Input command, without headers
-abbrev pub first_journal : List ℕ → List (List ℕ)
-first_journal input = encoding (message.Input (record { headers = []; value = input })) ∷ []
+-- the journal with which a world begins: the entries that are given, or one Input command, without headers, if there are none
+abbrev pub first_journal : List ℕ → List (List ℕ) → List (List ℕ)
+first_journal input [] = encoding (message.Input (record { headers = []; value = input })) ∷ []
+first_journal input (entry ∷ entries) = entry ∷ entries
 
 -- how rounds end, and their report: all have run; or a fault has stopped them, and the report is its name
 abbrev pub RoundsEnd : Meaning → Setting → List Round → List (List ℕ) → Option RoundFault → List ℕ → Type 0
@@ -35,11 +38,31 @@ RoundsEnd meaning setting rounds journal None report =
     (reports : List Report) × (after : List (List ℕ)) × RoundsDo meaning setting rounds journal (map report_view reports) after × IsReport reports report
 RoundsEnd meaning setting rounds journal (Some fault) report = RoundsFault meaning setting rounds journal fault × (report ≡ fault_text fault)
 
--- a text is read as a script, and its rounds are played over a new world
+-- why no world is made of these entries: the first of them that has a fault has this one; or there is no memory
+abbrev pub MakeNoWorld : List (List ℕ) → RoundFault → Type 0
+MakeNoWorld entries fault = (fault ≡ round_fault.Memory) ⊎ FirstGiven [] entries fault
+
+-- No entry of the script has a fault, and its rounds end over its world.
+pub record IsPlayed (meaning : Meaning) (version : Version) (script : Script) (fault : Option RoundFault) (report : List ℕ) : Type 0 where
+  pub fits : AreGiven [] script.entries.items
+  pub ends : RoundsEnd meaning (setting_of version script.given) script.rounds.items (first_journal script.given.input script.entries.items) fault report
+
+-- No world is made of the script's entries, and the report is the name of the fault.
+pub record HasNoWorld (script : Script) (fault : Option RoundFault) (report : List ℕ) : Type 0 where
+  pub why : RoundFault
+  pub is_why : MakeNoWorld script.entries.items why
+  pub is_fault : fault ≡ Some why
+  pub is_report : report ≡ fault_text why
+
+-- how a script ends, and its report
+abbrev pub ScriptEnds : Meaning → Version → Script → Option RoundFault → List ℕ → Type 0
+ScriptEnds meaning version script fault report = IsPlayed meaning version script fault report ⊎ HasNoWorld script fault report
+
+-- a text is read as a script, and its rounds are played over its world, if there is one
 pub record Plays (meaning : Meaning) (version : Version) (text : List ℕ) (fault : Option RoundFault) (report : List ℕ) : Type 0 where
   pub script : Script
   pub is_read : IsRead text script
-  pub ends : RoundsEnd meaning (setting_of version script.given) script.rounds.items (first_journal script.given.input) fault report
+  pub ends : ScriptEnds meaning version script fault report
 
 -- The text is all that the reader had left, where this is known, and this holds of its report.
 pub record PlaysAll (meaning : Meaning) (version : Version) (left : Option (List ℕ)) (fault : Option RoundFault) (written : List ℕ → Type 0) : Type 0 where

@@ -1,16 +1,19 @@
 //! A script that is played: its rounds over its world, and their report.
-ghost use Rattle.std.specs.Prelude.{◌≡◌, IfErr, IfOk};
+ghost use Rattle.std.specs.Prelude.{◌≡◌, [], IfErr, IfOk, OnOk, Some};
+ghost use Rattle.vm_store.specs.Given.{AreGiven};
+ghost use Rattle.round_reports.specs.Printed.{fault_text};
 ghost use Rattle.round_scripts.specs.Scripts.{IsRead, IsUnreadFor, nothing};
-ghost use Rattle.round_reports.specs.Runs.{Plays, RoundsEnd, first_journal, setting_of};
+ghost use Rattle.round_reports.specs.Runs.{MakeNoWorld, Plays, RoundsEnd, ScriptEnds, first_journal, setting_of};
 
 use crate::report::{report_of, report_of_fault};
+use bytes::Bytes;
 use journal_errors::Version;
 use lines::line::Line;
 use round_scripts::given::Given;
 use round_scripts::script::{Script, Unread, script_of};
 use std::alloc::{AllocError, Global};
 use vm_rounds::Handler;
-use vm_world::{RoundFault, World, run_rounds};
+use vm_world::{Round, RoundFault, World, run_rounds};
 
 /// The report of a script, and the fault that stopped its rounds, if there is one.
 #[derive(Drop)]
@@ -19,10 +22,18 @@ pub struct Played {
     pub fault: Option<RoundFault>,
 }
 
-/// The world of a script, if there is memory.
-fn world_of(alloc: Global, version: Version, given: Given) -> Result<World, AllocError>
+/// The world of a script: it begins with the entries, or with its input if there are none.
+#[tactic(auto, using(crate::proofs::Beginning::begins_with_input, crate::proofs::Beginning::begins_with_entries, crate::proofs::Beginning::entries_make_no_world))]
+fn world_of(
+    alloc: Global,
+    version: Version,
+    given: Given,
+    entries: Vec<Bytes>,
+) -> Result<World, RoundFault>
     ensures setting { IfOk result (λ world. world.setting ≡ setting_of version given) }
-    ensures journal { IfOk result (λ world. world.journal ≡ first_journal given.input) }
+    ensures journal { IfOk result (λ world. world.journal ≡ first_journal given.input entries.items) }
+    ensures fits { OnOk result (AreGiven [] entries.items) }
+    ensures err { IfErr result (MakeNoWorld entries.items) }
 {
     let Given {
         identity,
@@ -30,32 +41,59 @@ fn world_of(alloc: Global, version: Version, given: Given) -> Result<World, Allo
         input,
         state,
     } = given;
-    match World::new(alloc, identity, options, version, input, state) {
-        Ok(world) => Ok(world),
-        Err(_) => Err(AllocError),
+    if entries.is_empty() {
+        return World::new(alloc, identity, options, version, input, state);
+    }
+    World::with_journal(alloc, identity, options, version, state, entries)
+}
+
+/// What is told where a fault has stopped a script.
+fn stopped_by(alloc: Global, fault: RoundFault) -> Result<Played, AllocError>
+    ensures fault { IfOk result (λ played. played.fault ≡ Some fault) }
+    ensures report { IfOk result (λ played. played.report ≡ fault_text fault) }
+{
+    Ok(Played {
+        report: report_of_fault(alloc, fault)?,
+        fault: Some(fault),
+    })
+}
+
+/// Plays rounds over a world.
+fn play_rounds<H: Handler>(
+    alloc: Global,
+    handler: &H,
+    world: World,
+    rounds: &[Round],
+) -> Result<Played, AllocError>
+    ensures { IfOk result (λ played. RoundsEnd (H.meaning handler.now) world.setting rounds.now world.journal played.fault played.report) }
+{
+    match run_rounds(handler, world, rounds) {
+        Ok((world, reports)) => Ok(Played {
+            report: report_of(alloc, &world, reports.as_slice())?,
+            fault: None,
+        }),
+        Err(fault) => stopped_by(alloc, fault),
     }
 }
 
 /// Plays a script.
+#[tactic(auto, using(crate::proofs::Beginning::is_played, crate::proofs::Beginning::has_no_world))]
 fn play<H: Handler>(
     alloc: Global,
     version: Version,
     handler: &H,
     script: Script,
 ) -> Result<Played, AllocError>
-    ensures { IfOk result (λ played. RoundsEnd (H.meaning handler.now) (setting_of version script.given) script.rounds.items (first_journal script.given.input) played.fault played.report) }
+    ensures { IfOk result (λ played. ScriptEnds (H.meaning handler.now) version script played.fault played.report) }
 {
-    let Script { given, rounds } = script;
-    let world = world_of(alloc, version, given)?;
-    match run_rounds(handler, world, rounds.as_slice()) {
-        Ok((world, reports)) => Ok(Played {
-            report: report_of(alloc, &world, reports.as_slice())?,
-            fault: None,
-        }),
-        Err(fault) => Ok(Played {
-            report: report_of_fault(alloc, fault)?,
-            fault: Some(fault),
-        }),
+    let Script {
+        given,
+        entries,
+        rounds,
+    } = script;
+    match world_of(alloc, version, given, entries) {
+        Ok(world) => play_rounds(alloc, handler, world, rounds.as_slice()),
+        Err(fault) => stopped_by(alloc, fault),
     }
 }
 

@@ -12,7 +12,7 @@ use Rattle.line_parts.proofs.Places.{word_at}
 use Rattle.vm_store.specs.declared.types.Event.{Event}
 use Rattle.vm_store.specs.declared.types.Event.TheVariants as event
 use Rattle.round_scripts.specs.Rounds.{SaysRound}
-use Rattle.round_scripts.specs.Said.{AreSteps, Arrives, IsCount, IsOneCount, SayNothing, SaysBehind, SaysEvent, SaysNothing, SaysWords, are_bytes, are_rest, is_frame}
+use Rattle.round_scripts.specs.Said.{AreSteps, IsCount, IsOneCount, SayNothing, SaysBehind, SaysEvent, SaysNothing, SaysWords, ShowsBytes, are_bytes, are_frame, are_rest, is_frame}
 use Rattle.round_scripts.specs.Worlds.{SaysWorld}
 use Rattle.round_scripts.specs.declared.script_line.ScriptLine.{ScriptLine}
 use Rattle.round_scripts.specs.declared.script_line.ScriptLine.TheVariants as line
@@ -45,16 +45,16 @@ many_steps_blamed words fault some more = record { nothing = λ bad steps is. go
     go steps (inl (none, is)) = some (ap length none)
     go steps (inr (one, is)) = more one
 
--- ---- arrivals
+-- ---- arrivals and entries
 
-pub rest_blamed : (words : List (Bor (List ℕ))) (fault : Fault) → are_rest words ≡ true → Blames (Arrives words) fault
+pub rest_blamed : (words : List (Bor (List ℕ))) (fault : Fault) → are_rest words ≡ true → Blames (ShowsBytes words) fault
 rest_blamed words fault rest = record { nothing = λ bad bytes is. absurd (cc (sym rest ∙ is.0)) }
 
-pub bytes_blamed : (words : List (Bor (List ℕ))) (fault : Fault) → are_bytes words ≡ true → Blames (IsAtom (text_at 0 words)) fault → Blames (Arrives words) fault
+pub bytes_blamed : (words : List (Bor (List ℕ))) (fault : Fault) → are_bytes words ≡ true → Blames (IsAtom (text_at 0 words)) fault → Blames (ShowsBytes words) fault
 bytes_blamed words fault are blames = record { nothing = λ bad bytes is. blames.nothing bad bytes (is.1 are) }
 
-pub frame_blamed : (words : List (Bor (List ℕ))) (fault : Fault) → are_rest words ≡ false → are_bytes words ≡ false → is_frame (codes "arrive") words ≡ false → Blames (Arrives words) fault
-frame_blamed words fault rest bytes other = let is : is_frame (codes "arrive") words ≡ true = rw (rest, bytes) refl in absurd (cc (sym other ∙ is))
+pub frame_blamed : (words : List (Bor (List ℕ))) (fault : Fault) → are_rest words ≡ false → are_bytes words ≡ false → are_frame words ≡ false → Blames (ShowsBytes words) fault
+frame_blamed words fault rest bytes other = let is : are_frame words ≡ true = rw (rest, bytes) refl in absurd (cc (sym other ∙ is))
 
 -- ---- what happens
 
@@ -84,7 +84,7 @@ store_row word others fault e blames = record { nothing = λ bad happens is. go 
     go bad (event.Store n) is = blames.nothing bad n is.1
     go bad (event.RunResult handle result policy) is = apart 0 word (codes "store") (codes "run_result") (omega arith) e is.0
 
-pub arrive_row : (word : List ℕ) (others : List (Bor (List ℕ))) (fault : Fault) → word ≡ codes "arrive" → (is_frame (codes "arrive") others ≡ false → Blames (Arrives others) fault) → is_frame word others ≡ false → Blames (SaysEvent word others) fault
+pub arrive_row : (word : List ℕ) (others : List (Bor (List ℕ))) (fault : Fault) → word ≡ codes "arrive" → (are_frame others ≡ false → Blames (ShowsBytes others) fault) → is_frame word others ≡ false → Blames (SaysEvent word others) fault
 arrive_row word others fault e blames other = record { nothing = λ bad happens is. go bad happens is }
   where
     go : fault ≡ Malformed → (happens : Event) → SaysEvent word others happens → ⊥
@@ -138,13 +138,14 @@ no_row word others fault piece close arrive store told = record { nothing = λ b
 
 -- ---- rows
 
-pub event_row : (word : List ℕ) (others : List (Bor (List ℕ))) (fault : Fault) → word ≢ codes "world" → word ≢ codes "round" → word ≢ codes "step" → (is_frame word others ≡ false → Blames (SaysEvent word others) fault) → is_frame word others ≡ false
+pub event_row : (word : List ℕ) (others : List (Bor (List ℕ))) (fault : Fault) → word ≢ codes "world" → word ≢ codes "entry" → word ≢ codes "round" → word ≢ codes "step" → (is_frame word others ≡ false → Blames (SaysEvent word others) fault) → is_frame word others ≡ false
     → Blames (SaysBehind word others) fault
-event_row word others fault world round step blames other = record { nothing = λ bad said is. go bad said is }
+event_row word others fault world entry round step blames other = record { nothing = λ bad said is. go bad said is }
   where
     go : fault ≡ Malformed → (said : ScriptLine) → SaysBehind word others said → ⊥
     go bad line.Nothing is = is
     go bad (line.World given) is = world is.0
+    go bad (line.Entry bytes) is = entry is.0
     go bad (line.Round opened) is = round is.0
     go bad (line.Event happens) is = (blames other).nothing bad happens is
     go bad (line.Steps n) is = step is.0
@@ -155,9 +156,21 @@ world_row word others fault e blames = record { nothing = λ bad said is. go bad
     go : fault ≡ Malformed → (said : ScriptLine) → SaysBehind word others said → ⊥
     go bad line.Nothing is = is
     go bad (line.World given) is = blames.nothing bad given is.1
+    go bad (line.Entry bytes) is = apart 0 word (codes "world") (codes "entry") (omega arith) e is.0
     go bad (line.Round opened) is = apart 0 word (codes "world") (codes "round") (omega arith) e is.0
     go bad (line.Event happens) is = (no_row word others Malformed (apart 0 word (codes "world") (codes "piece") (omega arith) e) (apart 0 word (codes "world") (codes "close") (omega arith) e) (apart 0 word (codes "world") (codes "arrive") (omega arith) e) (apart 0 word (codes "world") (codes "store") (omega arith) e) (apart 0 word (codes "world") (codes "run_result") (omega arith) e)).nothing refl happens is
     go bad (line.Steps n) is = apart 0 word (codes "world") (codes "step") (omega arith) e is.0
+
+pub entry_row : (word : List ℕ) (others : List (Bor (List ℕ))) (fault : Fault) → word ≡ codes "entry" → (are_frame others ≡ false → Blames (ShowsBytes others) fault) → is_frame word others ≡ false → Blames (SaysBehind word others) fault
+entry_row word others fault e blames other = record { nothing = λ bad said is. go bad said is }
+  where
+    go : fault ≡ Malformed → (said : ScriptLine) → SaysBehind word others said → ⊥
+    go bad line.Nothing is = is
+    go bad (line.World given) is = apart 0 word (codes "entry") (codes "world") (omega arith) e is.0
+    go bad (line.Entry bytes) is = (blames (subst (λ w. is_frame w others ≡ false) e other)).nothing bad bytes is.1
+    go bad (line.Round opened) is = apart 0 word (codes "entry") (codes "round") (omega arith) e is.0
+    go bad (line.Event happens) is = (no_row word others Malformed (apart 0 word (codes "entry") (codes "piece") (omega arith) e) (apart 0 word (codes "entry") (codes "close") (omega arith) e) (apart 0 word (codes "entry") (codes "arrive") (omega arith) e) (apart 0 word (codes "entry") (codes "store") (omega arith) e) (apart 0 word (codes "entry") (codes "run_result") (omega arith) e)).nothing refl happens is
+    go bad (line.Steps n) is = apart 0 word (codes "entry") (codes "step") (omega arith) e is.0
 
 pub round_row : (word : List ℕ) (others : List (Bor (List ℕ))) (fault : Fault) → word ≡ codes "round" → Blames (SaysRound others) fault → Blames (SaysBehind word others) fault
 round_row word others fault e blames = record { nothing = λ bad said is. go bad said is }
@@ -165,6 +178,7 @@ round_row word others fault e blames = record { nothing = λ bad said is. go bad
     go : fault ≡ Malformed → (said : ScriptLine) → SaysBehind word others said → ⊥
     go bad line.Nothing is = is
     go bad (line.World given) is = apart 0 word (codes "round") (codes "world") (omega arith) e is.0
+    go bad (line.Entry bytes) is = apart 0 word (codes "round") (codes "entry") (omega arith) e is.0
     go bad (line.Round opened) is = blames.nothing bad opened is.1
     go bad (line.Event happens) is = (no_row word others Malformed (apart 0 word (codes "round") (codes "piece") (omega arith) e) (apart 0 word (codes "round") (codes "close") (omega arith) e) (apart 0 word (codes "round") (codes "arrive") (omega arith) e) (apart 0 word (codes "round") (codes "store") (omega arith) e) (apart 1 word (codes "round") (codes "run_result") (omega arith) e)).nothing refl happens is
     go bad (line.Steps n) is = apart 0 word (codes "round") (codes "step") (omega arith) e is.0
@@ -175,6 +189,7 @@ step_row word others fault e blames = record { nothing = λ bad said is. go bad 
     go : fault ≡ Malformed → (said : ScriptLine) → SaysBehind word others said → ⊥
     go bad line.Nothing is = is
     go bad (line.World given) is = apart 0 word (codes "step") (codes "world") (omega arith) e is.0
+    go bad (line.Entry bytes) is = apart 0 word (codes "step") (codes "entry") (omega arith) e is.0
     go bad (line.Round opened) is = apart 0 word (codes "step") (codes "round") (omega arith) e is.0
     go bad (line.Event happens) is = (no_row word others Malformed (apart 0 word (codes "step") (codes "piece") (omega arith) e) (apart 0 word (codes "step") (codes "close") (omega arith) e) (apart 0 word (codes "step") (codes "arrive") (omega arith) e) (apart 2 word (codes "step") (codes "store") (omega arith) e) (apart 0 word (codes "step") (codes "run_result") (omega arith) e)).nothing refl happens is
     go bad (line.Steps n) is = blames.nothing bad n is.1
@@ -191,6 +206,7 @@ no_words [] h = record { nothing = λ other said is. go said is }
     go : (said : ScriptLine) → SaysWords [] said → ⊥
     go line.Nothing is = is
     go (line.World given) is = differs (codes "world") (omega arith) is.0
+    go (line.Entry bytes) is = differs (codes "entry") (omega arith) is.0
     go (line.Round opened) is = differs (codes "round") (omega arith) is.0
     go (line.Event happens) is = (no_row [] [] Malformed (differs (codes "piece") (omega arith)) (differs (codes "close") (omega arith)) (differs (codes "arrive") (omega arith)) (differs (codes "store") (omega arith)) (differs (codes "run_result") (omega arith))).nothing refl happens is
     go (line.Steps n) is = differs (codes "step") (omega arith) is.0

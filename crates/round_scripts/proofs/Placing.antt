@@ -21,13 +21,21 @@ no_round e before none = record { nothing = λ after adds. nothing_happens (e �
 pub no_round_to_step : (n : ℕ) (before : Parts) → before.last ≡ None → HasNoPlace (line.Steps n) before
 no_round_to_step n before none = record { nothing = λ after adds. nothing_happens (replicate n event.Step) before after none adds }
 
+-- a round has begun
+pub round_begun : (bytes : List ℕ) (before : Parts) → before.last ≢ None → HasNoPlace (line.Entry bytes) before
+round_begun bytes before some = record { nothing = λ after adds. some adds.0 }
+
 -- another world stands before
 pub world_stands : (given : Given) (before : Parts) → before.given ≢ None → HasNoPlace (line.World given) before
 world_stands given before some = record { nothing = λ after adds. some adds.0 }
 
+-- or an entry
+pub entries_stand : (given : Given) (before : Parts) → before.entries ≢ [] → HasNoPlace (line.World given) before
+entries_stand given before some = record { nothing = λ after adds. some adds.1 }
+
 -- or a round
 pub round_stands : (given : Given) (before : Parts) → before.last ≢ None → HasNoPlace (line.World given) before
-round_stands given before some = record { nothing = λ after adds. some adds.1 }
+round_stands given before some = record { nothing = λ after adds. some adds.2 }
 
 pub unread_adds_nothing : (text : List ℕ) (before : Parts) → IsUnread text → AddsNothing text before
 unread_adds_nothing text before unread = inl unread

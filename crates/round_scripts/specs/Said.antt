@@ -1,5 +1,5 @@
 -- What a line of a script of rounds says: its first word names it, and its numbers are in their places.
-use Rattle.std.specs.Prelude.{◌≡◌, ◌≢◌, ◌⊎◌, ◌-◌, ◌^◌, ◌==◌, ◌&&◌, ℕ, Bool, true, false, not, List, [], length, nat_eq, codes}
+use Rattle.std.specs.Prelude.{◌≡◌, ◌≢◌, ◌⊎◌, ◌-◌, ◌^◌, ◌==◌, ◌&&◌, ◌||◌, ℕ, Bool, true, false, not, List, [], length, nat_eq, codes}
 use Rattle.std.specs.Borrow.{Bor}
 use Rattle.std.specs.Cmp.Lexicographic.{pointwise}
 use Rattle.std.specs.List.{starts_with}
@@ -29,7 +29,7 @@ IsOneCount words count = (length words ≡ 1) × IsCount (text_at 0 words) count
 abbrev pub AreSteps : List (Bor (List ℕ)) → ℕ → Type 0
 AreSteps words steps = ((words ≡ []) × (steps ≡ 1)) ⊎ ((length words ≡ 1) × IsNumberOf 64 (text_at 0 words) steps)
 
--- whether the words behind `arrive` are the rest of a stream, which is no frame
+-- whether the words behind `arrive` or `entry` are the rest of a stream, which is no frame
 abbrev pub are_rest : List (Bor (List ℕ)) → Bool
 are_rest words = pointwise nat_eq (text_at 0 words) (codes "rest")
 
@@ -37,9 +37,9 @@ are_rest words = pointwise nat_eq (text_at 0 words) (codes "rest")
 abbrev pub are_bytes : List (Bor (List ℕ)) → Bool
 are_bytes words = length words == 1 && starts_with nat_eq (text_at 0 words) (codes "0x")
 
--- what arrives: bytes as they are, or a frame, as the words show it
-abbrev pub Arrives : List (Bor (List ℕ)) → List ℕ → Type 0
-Arrives words bytes =
+-- what arrives, or what an entry is: bytes as they are, or a frame, as the words show it
+abbrev pub ShowsBytes : List (Bor (List ℕ)) → List ℕ → Type 0
+ShowsBytes words bytes =
     (are_rest words ≡ false) × (are_bytes words ≡ true → IsAtom (text_at 0 words) bytes) × (are_bytes words ≡ false → Shows words bytes)
 
 -- this word and those behind it say that this happens
@@ -47,7 +47,7 @@ abbrev pub SaysEvent : List ℕ → List (Bor (List ℕ)) → Event → Type 0
 SaysEvent word others (event.Piece n) = (word ≡ codes "piece") × IsOneCount others n
 SaysEvent word others event.Close = (word ≡ codes "close") × (others ≡ [])
 SaysEvent word others event.Step = ⊥
-SaysEvent word others (event.Arrive bytes) = (word ≡ codes "arrive") × Arrives others bytes
+SaysEvent word others (event.Arrive bytes) = (word ≡ codes "arrive") × ShowsBytes others bytes
 SaysEvent word others (event.Store n) = (word ≡ codes "store") × IsOneCount others n
 SaysEvent word others (event.RunResult handle result policy) = (word ≡ codes "run_result") × IsProposal others (record { handle = handle; result = result; policy = policy })
 
@@ -55,6 +55,7 @@ SaysEvent word others (event.RunResult handle result policy) = (word ≡ codes "
 abbrev pub SaysBehind : List ℕ → List (Bor (List ℕ)) → ScriptLine → Type 0
 SaysBehind word others line.Nothing = ⊥
 SaysBehind word others (line.World given) = (word ≡ codes "world") × SaysWorld others given
+SaysBehind word others (line.Entry bytes) = (word ≡ codes "entry") × ShowsBytes others bytes
 SaysBehind word others (line.Round round) = (word ≡ codes "round") × SaysRound others round
 SaysBehind word others (line.Event e) = SaysEvent word others e
 SaysBehind word others (line.Steps n) = (word ≡ codes "step") × AreSteps others n
@@ -74,11 +75,15 @@ Reads text said = (trimmed : List ℕ) × IsTrimAscii text trimmed × IsUtf8 tri
 
 -- ---- lines without a meaning
 
--- whether this word and those behind it are an arrival that is a frame
-abbrev pub is_frame : List ℕ → List (Bor (List ℕ)) → Bool
-is_frame word others = pointwise nat_eq word (codes "arrive") && not (are_rest others) && not (are_bytes others)
+-- whether the words are to show a frame
+abbrev pub are_frame : List (Bor (List ℕ)) → Bool
+are_frame words = not (are_rest words) && not (are_bytes words)
 
--- words that say nothing, unless they are an arrival that is a frame: which fields make a message isn't said
+-- whether this word and those behind it are an arrival or an entry that is a frame
+abbrev pub is_frame : List ℕ → List (Bor (List ℕ)) → Bool
+is_frame word others = (pointwise nat_eq word (codes "arrive") || pointwise nat_eq word (codes "entry")) && are_frame others
+
+-- words that say nothing, unless they are an arrival or an entry that is a frame: which fields make a message isn't said
 pub record SayNothing (words : List (Bor (List ℕ))) : Type 0 where
   pub nothing : is_frame (text_at 0 words) (behind words) ≡ false → (said : ScriptLine) → SaysWords words said → ⊥
 

@@ -14,19 +14,20 @@ use Rattle.round_scripts.specs.declared.script_line.ScriptLine.TheVariants as li
 use Rattle.round_scripts.specs.Said.{IsUnread, Reads}
 use Rattle.round_scripts.specs.Worlds.{IsDefault}
 
--- what lines have said so far: what the world is made of, if one did, the rounds but the last, and the last
+-- what lines have said so far: what the world is made of, if one did, the entries of its journal, the rounds but the last, and the last
 pub record Parts : Type 0 where
   pub given : Option Given
+  pub entries : List (List ℕ)
   pub rounds : List Round
   pub last : Option Round
 
 -- what the fields say
 abbrev pub parts_of : SoFar → Parts
-parts_of so_far = record { given = so_far.given; rounds = so_far.rounds.items; last = so_far.round }
+parts_of so_far = record { given = so_far.given; entries = so_far.entries.items; rounds = so_far.rounds.items; last = so_far.round }
 
 -- nothing yet
 abbrev pub nothing : Parts
-nothing = record { given = None; rounds = []; last = None }
+nothing = record { given = None; entries = []; rounds = []; last = None }
 
 -- the rounds, the last one too
 abbrev pub with_last : List Round → Option Round → List Round
@@ -45,14 +46,16 @@ HappensIn (Some round) events after = after ≡ Some (then_happen events round)
 -- there is a last round, and these events happen next in it
 pub record Happens (events : List Event) (before after : Parts) : Type 0 where
   pub given : after.given ≡ before.given
+  pub entries : after.entries ≡ before.entries
   pub rounds : after.rounds ≡ before.rounds
   pub last : HappensIn before.last events after.last
 
--- A line more. The world stands before the rounds, once.
+-- A line more. The world stands before the entries and the rounds, once, and each entry before the rounds.
 abbrev pub Adds : ScriptLine → Parts → Parts → Type 0
 Adds line.Nothing before after = after ≡ before
-Adds (line.World given) before after = (before.given ≡ None) × (before.last ≡ None) × (after ≡ record { given = Some given; rounds = before.rounds; last = None })
-Adds (line.Round round) before after = after ≡ record { given = before.given; rounds = with_last before.rounds before.last; last = Some round }
+Adds (line.World given) before after = (before.given ≡ None) × (before.entries ≡ []) × (before.last ≡ None) × (after ≡ record { given = Some given; entries = []; rounds = before.rounds; last = None })
+Adds (line.Entry bytes) before after = (before.last ≡ None) × (after ≡ record { given = before.given; entries = before.entries ++ bytes ∷ []; rounds = before.rounds; last = None })
+Adds (line.Round round) before after = after ≡ record { given = before.given; entries = before.entries; rounds = with_last before.rounds before.last; last = Some round }
 Adds (line.Event e) before after = Happens (e ∷ []) before after
 Adds (line.Steps n) before after = Happens (replicate n event.Step) before after
 
@@ -79,6 +82,7 @@ IsGiven (Some said) given = given ≡ said
 -- the script has what the lines have said
 pub record Has (parts : Parts) (script : Script) : Type 0 where
   pub given : IsGiven parts.given script.given
+  pub entries : script.entries.items ≡ parts.entries
   pub rounds : script.rounds.items ≡ with_last parts.rounds parts.last
 
 -- what a whole text says

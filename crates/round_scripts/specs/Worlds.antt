@@ -49,7 +49,7 @@ AreEntries found entries = AllZip (λ text entry. IsEntry text (string_bytes ent
 -- what may be said of a world
 abbrev pub world_names : List (List ℕ)
 world_names =
-    codes "id=" ∷ codes "debug_id=" ∷ codes "key=" ∷ codes "seed=" ∷ codes "scope=" ∷ codes "limit=" ∷ codes "idem=" ∷ codes "input=" ∷ codes "state=" ∷ codes "cancel=" ∷ codes "checks=" ∷ codes "awaiting=" ∷ codes "mismatch=" ∷ codes "replay=" ∷ codes "delivery=" ∷ codes "skip=" ∷ []
+    codes "id=" ∷ codes "debug_id=" ∷ codes "key=" ∷ codes "seed=" ∷ codes "scope=" ∷ codes "limit=" ∷ codes "idem=" ∷ codes "input=" ∷ codes "state=" ∷ codes "cancel=" ∷ codes "checks=" ∷ codes "awaiting=" ∷ codes "mismatch=" ∷ codes "replay=" ∷ codes "delivery=" ∷ []
 
 -- the words say this of a world; the seed is the invocation's, and no option of the VM
 pub record SaysWorld (words : List (Bor (List ℕ))) (given : Given) : Type 0 where

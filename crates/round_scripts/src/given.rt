@@ -156,7 +156,6 @@ fn are_of_a_world(words: &[&[u8]]) -> bool
             "mismatch=",
             "replay=",
             "delivery=",
-            "skip=",
         ],
     )
 }

@@ -3,7 +3,7 @@ ghost use Rattle.std.specs.Prelude.{◌≡◌, false, codes, IfErr, IfOk};
 ghost use Rattle.lines.specs.Readings.{Blames};
 ghost use Rattle.requests.specs.Lines.{says_nothing};
 ghost use Rattle.wire.specs.declared.fault.Fault.TheVariants.{Malformed};
-ghost use Rattle.round_scripts.specs.Said.{AreSteps, Arrives, IsCount, IsOneCount, IsUnread, Reads, SayNothing, Says, SaysBehind, SaysEvent, SaysNothing, SaysWords, are_bytes, are_rest, is_frame};
+ghost use Rattle.round_scripts.specs.Said.{AreSteps, IsCount, IsOneCount, IsUnread, Reads, SayNothing, Says, SaysBehind, SaysEvent, SaysNothing, SaysWords, ShowsBytes, are_bytes, are_frame, are_rest, is_frame};
 
 use crate::given::given_of;
 use crate::opening::round_of;
@@ -30,7 +30,7 @@ fn count_of(text: &[u8]) -> Result<usize, Fault>
     Ok(u64_of(text)? as usize)
 }
 
-/// Whether the words behind `arrive` are the rest of a stream.
+/// Whether the words behind `arrive` or `entry` are the rest of a stream.
 fn are_rest(words: &[&[u8]]) -> bool
     ensures { result ≡ are_rest words.now }
 {
@@ -50,11 +50,12 @@ fn are_bytes(words: &[&[u8]]) -> bool
     }
 }
 
-/// What stands behind the word `arrive` of a line: bytes as they are, or a frame as a line. The rest of a stream is no frame.
+/// What stands behind the word `arrive` or `entry` of a line: bytes as they are, or a frame as a line. The rest of a stream is no
+/// frame.
 #[tactic(auto, using(crate::proofs::Nothing::rest_blamed, crate::proofs::Nothing::bytes_blamed, crate::proofs::Nothing::frame_blamed))]
-fn arrival_of(alloc: Global, words: &[&[u8]]) -> Result<Bytes, Fault>
-    ensures value { IfOk result (Arrives words.now) }
-    ensures none { IfErr result (λ fault. is_frame (codes "arrive") words.now ≡ false → Blames (Arrives words.now) fault) }
+fn shown_by(alloc: Global, words: &[&[u8]]) -> Result<Bytes, Fault>
+    ensures value { IfOk result (ShowsBytes words.now) }
+    ensures none { IfErr result (λ fault. are_frame words.now ≡ false → Blames (ShowsBytes words.now) fault) }
 {
     if are_rest(words) {
         return Err(Fault::Malformed);
@@ -133,7 +134,7 @@ fn event_behind(alloc: Global, word: &[u8], others: &[&[u8]]) -> Result<Event, F
         return Ok(event);
     }
     if word == b"arrive".as_slice() {
-        let bytes = arrival_of(alloc, others)?;
+        let bytes = shown_by(alloc, others)?;
         return Ok(Event::Arrive(bytes));
     }
     if word == b"store".as_slice() {
@@ -148,7 +149,7 @@ fn event_behind(alloc: Global, word: &[u8], others: &[&[u8]]) -> Result<Event, F
 }
 
 /// What a word of a line and those behind it say.
-#[tactic(auto, using(crate::proofs::Nothing::world_row, crate::proofs::Nothing::round_row, crate::proofs::Nothing::step_row, crate::proofs::Nothing::event_row))]
+#[tactic(auto, using(crate::proofs::Nothing::world_row, crate::proofs::Nothing::entry_row, crate::proofs::Nothing::round_row, crate::proofs::Nothing::step_row, crate::proofs::Nothing::event_row))]
 fn said_behind(alloc: Global, word: &[u8], others: &[&[u8]]) -> Result<ScriptLine, Fault>
     ensures value { IfOk result (SaysBehind word.now others.now) }
     ensures none { IfErr result (λ fault. is_frame word.now others.now ≡ false → Blames (SaysBehind word.now others.now) fault) }
@@ -156,6 +157,10 @@ fn said_behind(alloc: Global, word: &[u8], others: &[&[u8]]) -> Result<ScriptLin
     if word == b"world".as_slice() {
         let given = given_of(alloc, others)?;
         return Ok(ScriptLine::World(given));
+    }
+    if word == b"entry".as_slice() {
+        let bytes = shown_by(alloc, others)?;
+        return Ok(ScriptLine::Entry(bytes));
     }
     if word == b"round".as_slice() {
         let round = round_of(alloc, others)?;

@@ -8,6 +8,7 @@ ghost use Rattle.round_scripts.specs.declared.script_line.ScriptLine.TheVariants
 use crate::given::{Given, default_given};
 use crate::parse::line_of;
 use crate::script_line::ScriptLine;
+use bytes::Bytes;
 use scripts::run::first_line;
 use std::alloc::{AllocError, Global};
 use vm_world::{Event, Round};
@@ -17,6 +18,8 @@ use wire::Fault;
 #[derive(Drop)]
 pub struct Script {
     pub given: Given,
+    /// The entries with which the world's journal begins. If there are none, it begins with the world's input.
+    pub entries: Vec<Bytes>,
     pub rounds: Vec<Round>,
 }
 
@@ -32,6 +35,7 @@ pub enum Unread {
 #[derive(Drop)]
 pub struct SoFar {
     pub given: Option<Given>,
+    pub entries: Vec<Bytes>,
     /// The rounds but the last.
     pub rounds: Vec<Round>,
     pub round: Option<Round>,
@@ -81,13 +85,13 @@ fn add_steps(so_far: &mut SoFar, steps: u64) -> Result<(), Fault>
     }
 }
 
-/// The world is made of this; `Malformed` where another world or a round stands before.
-#[tactic(auto, using(crate::proofs::Placing::world_stands, crate::proofs::Placing::round_stands))]
+/// The world is made of this; `Malformed` where another world, an entry or a round stands before.
+#[tactic(auto, using(crate::proofs::Placing::world_stands, crate::proofs::Placing::entries_stand, crate::proofs::Placing::round_stands))]
 fn add_world(so_far: &mut SoFar, given: Given) -> Result<(), Fault>
     ensures value { OnOk result (Adds (line.World given) (parts_of so_far.old) (parts_of so_far.new)) }
     ensures none { IfErr result (λ fault. fault ≡ Malformed → HasNoPlace (line.World given) (parts_of so_far.old)) }
 {
-    if so_far.given.is_some() || so_far.round.is_some() {
+    if so_far.given.is_some() || !so_far.entries.is_empty() || so_far.round.is_some() {
         drop(given);
         return Err(Fault::Malformed);
     }
@@ -95,10 +99,25 @@ fn add_world(so_far: &mut SoFar, given: Given) -> Result<(), Fault>
     Ok(())
 }
 
+/// An entry of the world's journal; `Malformed` where a round stands before.
+#[tactic(auto, using(crate::proofs::Placing::round_begun))]
+fn add_entry(so_far: &mut SoFar, bytes: Bytes) -> Result<(), Fault>
+    ensures value { OnOk result (Adds (line.Entry bytes) (parts_of so_far.old) (parts_of so_far.new)) }
+    ensures none { IfErr result (λ fault. fault ≡ Malformed → HasNoPlace (line.Entry bytes) (parts_of so_far.old)) }
+{
+    if so_far.round.is_some() {
+        drop(bytes);
+        return Err(Fault::Malformed);
+    }
+    so_far.entries.push(bytes)?;
+    Ok(())
+}
+
 /// The last round stands among the others.
 fn finish_round(so_far: &mut SoFar) -> Result<(), AllocError>
     ensures rounds { OnOk result (so_far.new.rounds.items ≡ with_last so_far.old.rounds.items so_far.old.round) }
     ensures given { so_far.new.given ≡ so_far.old.given }
+    ensures entries { so_far.new.entries ≡ so_far.old.entries }
     ensures last { so_far.new.round ≡ None }
 {
     if let Some(round) = so_far.round.take() {
@@ -128,6 +147,7 @@ fn add(so_far: &mut SoFar, said: ScriptLine) -> Result<(), Fault>
     match said {
         ScriptLine::Nothing => Ok(()),
         ScriptLine::World(given) => add_world(so_far, given),
+        ScriptLine::Entry(bytes) => add_entry(so_far, bytes),
         ScriptLine::Round(round) => add_round(so_far, round),
         ScriptLine::Event(event) => add_event(so_far, event),
         ScriptLine::Steps(steps) => add_steps(so_far, steps),
@@ -172,12 +192,21 @@ fn script_with(alloc: Global, mut so_far: SoFar) -> Result<Script, AllocError>
     ensures { IfOk result (λ script. Has (parts_of so_far) script) }
 {
     finish_round(&mut so_far)?;
-    let SoFar { given, rounds, .. } = so_far;
+    let SoFar {
+        given,
+        entries,
+        rounds,
+        ..
+    } = so_far;
     let given = match given {
         Some(given) => given,
         None => default_given(alloc)?,
     };
-    Ok(Script { given, rounds })
+    Ok(Script {
+        given,
+        entries,
+        rounds,
+    })
 }
 
 /// What a text says, read as a whole. The last line may have no end.
@@ -187,6 +216,7 @@ pub fn script_of(alloc: Global, text: &[u8]) -> Result<Script, Unread>
 {
     let mut so_far = SoFar {
         given: None,
+        entries: Vec::new(alloc),
         rounds: Vec::new(alloc),
         round: None,
     };

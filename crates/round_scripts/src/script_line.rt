@@ -1,5 +1,6 @@
 //! What a line of a script of rounds says.
 use crate::given::Given;
+use bytes::Bytes;
 use vm_world::{Event, Round};
 
 /// A line of a script, read as a whole.
@@ -9,6 +10,8 @@ pub enum ScriptLine {
     Nothing,
     /// What the world is made of.
     World(Given),
+    /// An entry of the journal with which the world begins.
+    Entry(Bytes),
     /// A round begins, in which nothing happens yet.
     Round(Round),
     /// What happens next in the round.

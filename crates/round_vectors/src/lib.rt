@@ -4,19 +4,23 @@
 #[cfg(test)]
 mod bench;
 #[cfg(test)]
-mod charge_stops;
-#[cfg(test)]
 mod charges;
 #[cfg(test)]
 mod children;
 #[cfg(test)]
 mod counts;
 #[cfg(test)]
+mod deadlines;
+#[cfg(test)]
 mod failures;
 #[cfg(test)]
 mod faults;
 #[cfg(test)]
+mod journals;
+#[cfg(test)]
 mod meanings;
+#[cfg(test)]
+mod skips;
 #[cfg(test)]
 mod sleeps;
 #[cfg(test)]

@@ -44,6 +44,8 @@ arrive 0x0
 arrive 0x 0x
 arrive raw 65536 0x
 arrived 0x
+entry Input
+entry 0x
 run_result
 run_result 17
 run_result success ""
@@ -95,7 +97,17 @@ world state={"a" "b" "c"}
 world state={"\xff" "b"}
 world state="a"
 world cancel=on
-world skip=no
+world skip=carried
+entry
+entry rest 0x00
+entry Notification
+entry input
+entry "x"
+entry 0x0
+entry 0x 0x
+entry raw 65536 0x
+entry Input value=1
+entries 0x
 world header={"a" "b"}
 world input="a" input="b"
 world "abc"
@@ -128,8 +140,11 @@ fn first_lines_without_a_meaning_stop_the_program(rt: HostRuntime) -> Result<(),
 }
 
 /// Scripts, and the number of the first line of each that has no meaning.
-static FIRST_LINES: [(&[u8], u64); 7] = [
+static FIRST_LINES: [(&[u8], u64); 10] = [
     (b"world\nworld\n", 2),
+    (b"entry Input\nworld\n", 2),
+    (b"world\nentry Input\nentry Input\nworld\nround\n", 4),
+    (b"world\nentry Input\nround\nentry Input\n", 4),
     (b"round\nworld\n", 2),
     (b"\n\nstep\nround\n", 3),
     (b"round\nstep\n\n#\nno\nno", 5),

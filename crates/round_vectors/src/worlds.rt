@@ -5,7 +5,7 @@ use std::test::Fail;
 /// The seed is the identity's, and the options of the VM stand among the others.
 const IDENTITY: &str = r#"
 # Options stand in any order.
-world seed=18446744073709551615 key="k\xc3\xa9y" cancel=off id=0x00ff debug_id="d" idem="i" limit="l" scope="s" input="a\"b" checks=off awaiting=never mismatch=pause replay=on delivery=overwrite skip=carried
+world seed=18446744073709551615 key="k\xc3\xa9y" cancel=off id=0x00ff debug_id="d" idem="i" limit="l" scope="s" input="a\"b" checks=off awaiting=never mismatch=pause replay=on delivery=overwrite
 round
 piece all
 step

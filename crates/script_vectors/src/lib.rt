@@ -14,6 +14,8 @@ mod cancelled;
 #[cfg(test)]
 mod commands;
 #[cfg(test)]
+mod deadlines;
+#[cfg(test)]
 mod executed_runs;
 #[cfg(test)]
 mod journals;
@@ -33,6 +35,8 @@ mod read_frames;
 mod refusals;
 #[cfg(test)]
 mod reports;
+#[cfg(test)]
+mod skips;
 #[cfg(test)]
 mod sleeps;
 #[cfg(test)]

@@ -12,8 +12,8 @@ state => none
 
 /// VMs that are made, and those that are refused.
 const MAKES: &str = r#"
-vm "application/vnd.restate.invocation.v5" cancel=both checks=off awaiting=always mismatch=pause replay=off delivery=overwrite seed=7 skip=carried => ok V5
-vm "application/vnd.restate.invocation.v8" skip=double seed=18446744073709551615 delivery=queued => ok V8
+vm "application/vnd.restate.invocation.v5" cancel=both checks=off awaiting=always mismatch=pause replay=off delivery=overwrite seed=7 => ok V5
+vm "application/vnd.restate.invocation.v8" seed=18446744073709551615 delivery=queued => ok V8
 vm 0x6170706c69636174696f6e2f766e642e726573746174652e696e766f636174696f6e2e7636  cancel=off => ok V6
 state                                          => ok WaitingPreFlight
 vm -                                           => err 415 "MISSING_CONTENT_TYPE"
@@ -167,7 +167,7 @@ vm "application/vnd.restate.invocation.v7"     => ok V7
 vm "                                           => bad
 state                                          => none
 vm "application/vnd.restate.invocation.v7" seed=18446744073709551616 => bad
-vm "application/vnd.restate.invocation.v7" skip=none => bad
+vm "application/vnd.restate.invocation.v7" skip=carried => bad
 vm "application/vnd.restate.invocation.v7" seed=1 seed=1 => bad
 vm text                                        => bad
 vm "application/vnd.restate.invocation.v7" cancel => bad

@@ -1,0 +1,35 @@
+-- The world with which a script's rounds begin.
+use Rattle.std.proofs.Common.{◌≡◌, ◌≢◌, ◌⊎◌, inl, inr, ℕ, List, [], ◌∷◌, Option, Some, length, ap, refl, arith}
+use Rattle.journal_errors.specs.declared.version.Version.{Version}
+use Rattle.journal_messages.specs.Message.{encoding}
+use Rattle.journal_messages.specs.declared.message.Message.TheVariants as message
+use Rattle.vm_model.specs.Calls.{Meaning}
+use Rattle.vm_store.specs.Given.{AreGiven, GivenFaults}
+use Rattle.vm_store.specs.declared.types.RoundFault.{RoundFault}
+use Rattle.vm_store.specs.declared.types.RoundFault.TheVariants as round_fault
+use Rattle.round_scripts.specs.declared.script.Script.{Script}
+use Rattle.round_reports.specs.Printed.{fault_text}
+use Rattle.round_reports.specs.Runs.{IsPlayed, MakeNoWorld, RoundsEnd, ScriptEnds, first_journal, setting_of}
+
+-- no entry is given
+pub begins_with_input : (input : List ℕ) (entries : List (List ℕ)) (journal : List (List ℕ)) → length entries ≡ 0 → journal ≡ encoding (message.Input (record { headers = []; value = input })) ∷ [] → (journal ≡ first_journal input entries) × AreGiven [] entries
+begins_with_input input [] journal none is = (is, tt)
+begins_with_input input (entry ∷ entries) journal none is = absurd (omega arith)
+
+-- entries are given
+pub begins_with_entries : (input : List ℕ) (entries journal : List (List ℕ)) → length entries ≢ 0 → journal ≡ entries → journal ≡ first_journal input entries
+begins_with_entries input [] journal some is = absurd (some refl)
+begins_with_entries input (entry ∷ entries) journal some is = is
+
+pub entries_make_no_world : (entries : List (List ℕ)) (fault : RoundFault) → length entries ≢ 0 → (fault ≡ round_fault.Memory) ⊎ GivenFaults entries fault → MakeNoWorld entries fault
+entries_make_no_world entries fault some (inl memory) = inl memory
+entries_make_no_world entries fault some (inr (inl (none, is))) = absurd (some (ap length none))
+entries_make_no_world entries fault some (inr (inr first)) = inr first
+
+pub is_played : (meaning : Meaning) (version : Version) (script : Script) (fault : Option RoundFault) (report : List ℕ) → AreGiven [] script.entries.items
+    → RoundsEnd meaning (setting_of version script.given) script.rounds.items (first_journal script.given.input script.entries.items) fault report → ScriptEnds meaning version script fault report
+is_played meaning version script fault report fits ends = inl (record { fits = fits; ends = ends })
+
+pub has_no_world : (meaning : Meaning) (version : Version) (script : Script) (fault : Option RoundFault) (report : List ℕ) (why : RoundFault) → MakeNoWorld script.entries.items why → fault ≡ Some why → report ≡ fault_text why
+    → ScriptEnds meaning version script fault report
+has_no_world meaning version script fault report why is_why is_fault is_report = inr (record { why = why; is_why = is_why; is_fault = is_fault; is_report = is_report })
