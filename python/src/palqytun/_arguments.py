@@ -6,7 +6,7 @@ import re
 from collections.abc import Iterable
 from typing import get_args
 
-from palqytun._words import CODE, data, flag, message, number, one_of, option, pairs, text, utf8, whole
+from palqytun._words import CODE, data, encoded, flag, message, number, one_of, option, pairs, text, whole
 from palqytun.errors import BadLine
 from palqytun.values import Behaviour, Data, Failure, IdempotencyId, InvocationId, Retryable, WorkflowId
 
@@ -16,7 +16,7 @@ _RELATED = re.compile(r'last|(?:next\(|at\([0-9]+ )[A-Za-z]+ (?:-|"(?:[^"\\\n\r]
 
 def named(name: str | None, unstable: bool = False) -> str:
     """The name of a command, and whether its payload may differ in replay."""
-    return option("name", "name", name) + flag("unstable", unstable)
+    return "" if name is None and unstable is False else option("name", "name", name) + flag("unstable", unstable)
 
 
 def given(name: str, value: Data | Failure) -> str:
@@ -50,7 +50,8 @@ def related_to(command: str | None) -> str:
         raise TypeError(f"related must be a str, not {type(command).__name__}")
     if not _RELATED.fullmatch(command):
         raise BadLine(f"related must be last, next(TYPE NAME) or at(N TYPE NAME), not {command[:100]!r}")
-    return f" rel={utf8('related', command)}"
+    encoded("related", command)
+    return f" rel={command}"
 
 
 def target_of(target: InvocationId | WorkflowId | IdempotencyId) -> str:

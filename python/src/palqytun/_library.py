@@ -7,6 +7,7 @@ import functools
 import os
 import pathlib
 from collections.abc import Callable
+from typing import cast
 
 DONE, NO_MEMORY, NO_SESSION, NO_VM, NO_ROOM = range(5)
 """How a call ended."""
@@ -28,6 +29,11 @@ class Told(ctypes.Structure):
 
 
 Buffer = ctypes.Array[ctypes.c_char]
+
+
+def front(room: Buffer, size: int) -> bytes:
+    """The first bytes of a buffer."""
+    return cast(bytes, room[:size])
 
 
 class Library:

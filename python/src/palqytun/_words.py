@@ -23,12 +23,9 @@ def _wanted(name: str, what: str, value: object) -> TypeError:
 
 def whole(name: str, value: object, most: int = TIME, least: int = 0) -> str:
     """A whole number from `least` to `most`."""
-    try:
-        if isinstance(value, bool):
-            raise _wanted(name, "an int", value)
-        number = operator.index(value)  # type: ignore[arg-type]  # what isn't a whole number is refused here
-    except TypeError:
-        raise _wanted(name, "an int", value) from None
+    if isinstance(value, bool) or not hasattr(value, "__index__"):
+        raise _wanted(name, "an int", value)
+    number = operator.index(value)
     if not least <= number <= most:
         raise BadLine(f"{name} must be from {least} to {most}, not {number if number.bit_length() < 100 else 'a number this long'}")
     return str(number)
@@ -44,21 +41,21 @@ def quoted(text: str) -> str:
     return '"' + text.replace("\\", "\\\\").replace('"', '\\"').replace("\n", "\\x0a").replace("\r", "\\x0d") + '"'
 
 
-def utf8(name: str, text: str) -> str:
-    """The text, if it has bytes: half of a surrogate pair, as in a file's name that is no UTF-8, has none."""
-    if not text.isascii():
-        try:
-            text.encode()
-        except UnicodeEncodeError as error:
-            raise BadLine(f"{name} is no UTF-8: at {error.start} stands {text[error.start]!r}, half of a surrogate pair") from None
-    return text
+def encoded(name: str, text: str) -> bytes:
+    """The text's UTF-8. Half of a surrogate pair, as in a file's name that is no UTF-8, has none."""
+    try:
+        return text.encode()
+    except UnicodeEncodeError as error:
+        raise BadLine(f"{name} is no UTF-8: at {error.start} stands {text[error.start]!r}, half of a surrogate pair") from None
 
 
 def text(name: str, value: object) -> str:
     """A text."""
     if not isinstance(value, str):
         raise _wanted(name, "a str", value)
-    return quoted(utf8(name, value))
+    if not value.isascii():
+        encoded(name, value)
+    return quoted(value)
 
 
 def message(name: str, value: object) -> str:
@@ -91,7 +88,7 @@ def one_of(name: str, value: object, words: Collection[str]) -> str:
 
 def data(name: str, value: object) -> str:
     """Bytes."""
-    return "0x" + view(name, value).hex()
+    return f"0x{(value if isinstance(value, bytes) else view(name, value)).hex()}"
 
 
 def view(name: str, value: object) -> memoryview:

@@ -43,7 +43,7 @@ from typing import Literal, Never, Self, cast
 from palqytun import _library
 from palqytun._answers import input_of, pairs, result_of, shown, texts
 from palqytun._arguments import call_options, callee, details, given, named, related_to, target_of, tried
-from palqytun._words import CODE, HANDLE, SEED, data, flag, number, one_of, text, utf8, view, whole
+from palqytun._words import CODE, HANDLE, SEED, data, encoded, flag, number, one_of, text, view, whole
 from palqytun._words import message as _message
 from palqytun.errors import BadLine, Cancelled, Closed, Code, JournalMismatch, Suspended, VMError, error_of
 from palqytun.futures import (
@@ -126,6 +126,13 @@ _OPTIONS = {
     "mismatch": ("follow", "pause", "fail"),
     "replay": ("on", "off"),
     "delivery": ("queued", "overwrite"),
+}
+
+# What an await that waits is answered.
+_WAITS = {
+    f"wait {'true' if for_input else 'false'} {'true' if for_run else 'false'}": Waiting(for_input, for_run)
+    for for_input in (False, True)
+    for for_run in (False, True)
 }
 
 
@@ -213,14 +220,14 @@ class VM:
         >>> vm.line("await 17")
         'ok wait true false'
         """
-        words = utf8("line", line).encode()
+        words = encoded("line", line)
         told = self._library.line(self._session, words, len(words))
         if told.status:
             self._check(told.status)
         if told.len > len(self._room):
             self._room = ctypes.create_string_buffer(2 * told.len)
         self._library.answer(self._session, self._room, len(self._room))
-        return ctypes.string_at(self._room, told.len).decode("ascii")
+        return _library.front(self._room, told.len).decode("ascii")
 
     def call(self, line: str) -> str:
         """Performs a line that is a call, and answers what stands after `ok`; an error is raised.
@@ -309,7 +316,7 @@ class VM:
             self._room = ctypes.create_string_buffer(2 * told.len)
             told = self._library.take_output(self._session, self._room, len(self._room))
         self._check(told.status)
-        return ctypes.string_at(self._room, told.len)
+        return _library.front(self._room, told.len)
 
     def is_ready_to_execute(self) -> bool:
         """Whether the handler may begin: all known entries were fed.
@@ -345,10 +352,9 @@ class VM:
             return True
         if answer == "cancelled":
             raise Cancelled("the invocation was cancelled")
-        kind, *words = answer.split()
-        if kind == "run":
-            return ExecuteRun(int(words[0]))
-        return Waiting(input=words[0] == "true", run=words[1] == "true")
+        if answer.startswith("run "):
+            return ExecuteRun(int(answer[4:]))
+        return _WAITS[answer]
 
     def take_notification(self, handle: int) -> Result | None:
         """Takes the result that a handle has: `bytes`, `VOID`, a `Failure`, a list of keys or an `InvocationId`; `None` if it has none.
