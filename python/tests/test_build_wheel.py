@@ -49,7 +49,10 @@ class Wheels(unittest.TestCase):
         first = self.built("build_wheel", self.project).read_bytes()
         self.assertEqual(self.built("build_wheel", self.project).read_bytes(), first)
         with tarfile.open(self.built("build_sdist", self.project)) as archive:
-            archive.extractall(self.room / "unpacked", filter="data")
+            for entry in archive:
+                file = self.room / "unpacked" / entry.name
+                file.parent.mkdir(parents=True, exist_ok=True)
+                file.write_bytes(archive.extractfile(entry).read())
         (unpacked,) = (self.room / "unpacked").iterdir()
         self.assertEqual(self.built("build_wheel", unpacked).read_bytes(), first)
 

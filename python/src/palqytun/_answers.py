@@ -2,7 +2,9 @@
 
 from __future__ import annotations
 
+import codecs
 import re
+from typing import cast
 
 from palqytun.values import VOID, Failure, Input, InvocationId, Result
 
@@ -13,11 +15,13 @@ _PART = re.compile(r'"([^"]*)"|([\[\]{}])|([^\s"\[\]{}]+)')
 def shown(inside: str) -> bytes:
     """The bytes that stand between quotes in an answer: each character is printable ASCII, but for `\\xHH`, which is one byte.
 
+    `pickle` reads its own by the same function, which no manual has; it takes a quarter of the time of the codec `unicode_escape`.
+
     >>> shown(r"a\\x00\\xff")
     b'a\\x00\\xff'
     """
     plain = inside.encode("ascii")
-    return plain.decode("unicode_escape").encode("latin-1") if b"\\" in plain else plain
+    return cast(bytes, codecs.escape_decode(plain)[0]) if b"\\" in plain else plain
 
 
 def texts(answer: str) -> list[str]:
