@@ -36,6 +36,8 @@ WRONG_TYPES = [
     (lambda vm: vm.sys_call("s", "h", b"", headers="ab"), "headers must be pairs of str, not str"),
     (lambda vm: vm.sys_call("s", "h", b"", headers=[("a", 1)]), "a value of headers must be a str, not int"),
     (lambda vm: vm.sys_send("s", "h", b"", at="x"), "at must be an int, not str"),
+    (lambda vm: vm.sys_call_with_deadline("s", "h", b"", "x"), "wake_up_time must be an int, not str"),
+    (lambda vm: vm.sys_call_with_deadline("s", "h", 5, 1), "value must be bytes, not int"),
     (lambda vm: vm.create_signal_handle(1), "name must be a str, not int"),
     (lambda vm: vm.sys_complete_awakeable(1, b""), "id must be a str, not int"),
     (lambda vm: vm.sys_complete_awakeable("prom_1", 5), "value must be bytes, not int"),
