@@ -14,7 +14,6 @@ use Rattle.vm_asks.specs.Requests.{with_ids}
 use Rattle.vm_machine.specs.Commands.{ignores_payloads}
 use Rattle.vm_model.specs.Calls.{Demand, Derived, Setup, Turn, behind_command, part, part_unless}
 use Rattle.vm_model.specs.Calls.Demand.{Exactly}
-use Rattle.vm_model.specs.Calls.Move.{Needs}
 use Rattle.vm_model.specs.Moves.{Point, command_used, found, moved, uses_command}
 use Rattle.vm_model.specs.Uses.{needed_for}
 use Rattle.vm_model.proofs.Cancelling.{exactly_none}

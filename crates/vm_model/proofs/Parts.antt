@@ -1,5 +1,5 @@
 -- A call with several commands: how many of them are made, and where it stands then.
-use Rattle.std.proofs.Common.{◌≡◌, ℕ, zero, suc, ◌+◌, Bool, true, false, List, [], ◌∷◌, ◌++◌, Option, Some, None, refl, sym, ap, ◌∙◌, subst, append_assoc, append-nil, arith}
+use Rattle.std.proofs.Common.{◌≡◌, ℕ, zero, suc, ◌+◌, Bool, true, false, List, [], ◌∷◌, ◌++◌, Option, Some, None, refl, sym, ap, ◌∙◌, append_assoc, arith}
 use native.Mathlib.Nat.{add-zero}
 use Rattle.std.specs.Prelude.{Result, Ok, Err}
 use Rattle.std.proofs.lemmas.Option.{same_Some}
@@ -29,7 +29,7 @@ use Rattle.vm_machine.specs.Commands.{mapped_from}
 use Rattle.vm_machine.specs.Skips.{skips_replay}
 use Rattle.vm_model.specs.Calls.{Demand, Derived, Meaning, Move, Setup, Turn, asked, awaited, awakeable_made, awaiting, behind_command, cancel_sent, cancel_taken, cancelled, cancelling, commanding, id_awaited, id_read, is_awake, is_cancelled_in, making_awakeable, numbered, reading, ready_in, result_taken, signal_made, turn_after, value_noted, value_taken}
 use Rattle.vm_model.specs.Calls.Move.{Answers, Needs, Awaits, Ends, Refuses}
-use Rattle.vm_model.specs.Moves.{Point, after, brought, command_used, found, move_at, moved, next, uses_arrival, uses_command}
+use Rattle.vm_model.specs.Moves.{Point, brought, command_used, found, move_at, moved, next, uses_arrival, uses_command}
 use Rattle.vm_model.proofs.Runs.{none_some}
 
 -- ---- how many parts are made

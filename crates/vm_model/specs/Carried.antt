@@ -1,5 +1,5 @@
 -- Which completion ids a journal's commands carry, for whose results notifications come.
-use Rattle.std.specs.Prelude.{◌≡◌, ◌≤◌, ◌==◌, ℕ, Bool, false, List, [], ◌∷◌, length, Option, Some, None}
+use Rattle.std.specs.Prelude.{◌≡◌, ◌≤◌, ◌==◌, ℕ, Bool, false, List, [], length, Option, Some, None}
 use Rattle.std.specs.List.{list_any}
 use Rattle.arrivals.specs.Results.{results_of}
 use Rattle.journal_messages.specs.declared.message.Message.{Message}

@@ -1,5 +1,5 @@
 -- What comes behind some commands that a call has made.
-use Rattle.std.proofs.Common.{◌≡◌, ◌⊎◌, ◌+◌, List, [], ◌∷◌, ◌++◌, Option, Some, None, refl, sym, ap, ◌∙◌, subst, inl, inr, ⊎_elim, append_assoc, append-nil}
+use Rattle.std.proofs.Common.{◌≡◌, ◌⊎◌, ◌+◌, List, [], ◌∷◌, ◌++◌, refl, sym, ap, ◌∙◌, inl, inr, ⊎_elim, append_assoc, append-nil}
 use Rattle.journal_errors.specs.declared.error.Error.{Error}
 use Rattle.journal_errors.specs.Errors.{error_message, named_error}
 use Rattle.journal_messages.specs.declared.message.Message.TheVariants as message

@@ -1,22 +1,18 @@
 -- An await, in a machine that agrees with a point: what its whole call comes to, with the cancel signals that a cancelled one sends.
-use Rattle.std.proofs.Common.{◌≡◌, ◌⊎◌, ℕ, ◌+◌, Bool, true, false, List, [], ◌∷◌, ◌++◌, Option, Some, None, refl, sym, ap, ◌∙◌, subst, inl, inr, ⊎_elim, append_assoc, append-nil, Ok, Err, Result}
+use Rattle.std.proofs.Common.{◌≡◌, ◌⊎◌, ℕ, ◌+◌, Bool, true, false, List, [], ◌∷◌, ◌++◌, Option, Some, None, refl, sym, ap, ◌∙◌, subst, inl, inr, ⊎_elim, append-nil, Ok, Err, Result}
 use Rattle.std.specs.Prelude.{◌&&◌, is_some}
 use Rattle.await_trees.specs.declared.handle.NotificationHandle.{NotificationHandle}
 use Rattle.await_trees.specs.declared.tree.UnresolvedFuture.{UnresolvedFuture}
 use Rattle.await_trees.specs.Tree.{tree_of}
 use Rattle.journal_errors.specs.declared.error.Error.{Error}
 use Rattle.journal_errors.specs.declared.faults.NamedFault.{NamedFault}
-use Rattle.journal_errors.specs.Errors.{error_message, named_error}
-use Rattle.journal_messages.specs.declared.message.Message.TheVariants as message
 use Rattle.journal_messages.specs.declared.message.RawMessage.{RawMessage}
-use Rattle.journal_messages.specs.Message.{encoding}
 use Rattle.journal_values.specs.declared.notification.NotificationId.{NotificationId}
 use Rattle.journal_values.specs.declared.notification.NotificationResult.{NotificationResult}
 use Rattle.vm_parts.specs.Counting.{missing}
 use Rattle.vm_parts.specs.declared.context.StateMap.{StateMap}
 use Rattle.vm_types.specs.declared.options.SignalDelivery.TheVariants.{Queued}
 use Rattle.vm_parts.specs.declared.run_state.TrackedCall.{TrackedCall}
-use Rattle.vm_types.specs.declared.steps.Answer.{Answer}
 use Rattle.vm_types.specs.declared.steps.Answer.TheVariants as answer
 use Rattle.vm_types.specs.declared.steps.Step.TheVariants as step
 use Rattle.vm_types.specs.declared.types.AwaitResponse.{AwaitResponse}
@@ -30,7 +26,7 @@ use Rattle.vm_asks.specs.Asks.{ask_of, cancel_invocation_command, command_answer
 use Rattle.vm_awaits.specs.Awaits.{Awaits, AwaitsAt}
 use Rattle.vm_awaits.specs.Cancels.{AwaitsWhole, Cancels, Onward, SendsCancel, cancel_taken}
 use Rattle.vm_machine.specs.Commands.{CanBeRead, commanded}
-use Rattle.vm_machine.specs.Outcomes.{CalledBy, DoesBy, Done, Failed, IsStarved, Outcome, called, failed, ruled, settled}
+use Rattle.vm_machine.specs.Outcomes.{CalledBy, DoesBy, Done, Failed, IsStarved, Outcome, called, failed, ruled}
 use Rattle.vm_model.specs.Calls.{Demand, Derived, Meaning, Move, Setup, cancel_sent, cancelling, cancelled, identity_of, is_cancelled_in, numbered}
 use Rattle.vm_model.specs.Calls as model
 use Rattle.vm_model.specs.Calls.Move.{Answers}

@@ -35,8 +35,7 @@ use Rattle.vm_machine.specs.Making.{fresh}
 use Rattle.vm_machine.specs.Outcomes.{DoesBy, IsStarved, Outcome, Done, Failed, ◌>>=◌, about_last, called, called_at, failed, ruled, settled}
 use Rattle.vm_machine.specs.Phases.{is_closed, is_running}
 use Rattle.invocation_vm.specs.Views.{View}
-use Rattle.vm_model.specs.Calls.{Setup, Meaning, identity_of}
-use Rattle.vm_model.specs.Journal.{input_read_from}
+use Rattle.vm_model.specs.Calls.{Setup, Meaning}
 use Rattle.vm_model.proofs.Runs.{made_add}
 use Rattle.vm_steps.specs.Heard.{Heard}
 use Rattle.vm_steps.specs.declared.progress.Progress.{Progress}
@@ -46,7 +45,7 @@ use Rattle.vm_steps.specs.declared.progress.Reply.TheVariants as reply
 use Rattle.vm_rounds.specs.Agreement.{IsCutShort, IsRefused}
 use Rattle.vm_rounds.specs.Blames.{Blame, BlamedAt, CannotSkip, IfError, IsBlamed, LacksInput, RefusedCall, first_input, skip_fault}
 use Rattle.vm_rounds.specs.Blames.Blame.{Memory, NoInput, NoSkip, Call}
-use Rattle.vm_rounds.specs.Journals.{BeginsOrFails, HasAll, StillWaits, commands_among, machine_fed, missing, notifications_among, setup_for}
+use Rattle.vm_rounds.specs.Journals.{HasAll, StillWaits, commands_among, machine_fed, missing, notifications_among, setup_for}
 use Rattle.vm_steps.specs.Record.{Record, Said, all_said, heard}
 use Rattle.vm_steps.specs.Stepping.{Advances, Asks, LacksMemory, Reads, StepAt, StepDoes, StepFrom, StepUnless, step_asked, future_in, progress_of}
 use Rattle.vm_steps.specs.Stepping as stepping

@@ -1,7 +1,7 @@
 -- Where recorded commands are skipped the completion ids of new commands are past theirs: what each call keeps of that.
-use Rattle.std.proofs.Common.{◌≡◌, ℕ, ◌<◌, ◌≤◌, Bool, true, false, List, [], ◌∷◌, ◌++◌, Option, Some, None, refl, sym, ap, ◌∙◌, subst, inl, inr, arith}
-use Rattle.std.specs.Prelude.{◌==◌, if◌then◌else◌, IsSome}
-use Rattle.std.specs.List.{AllByRecursion, find}
+use Rattle.std.proofs.Common.{◌≡◌, ℕ, ◌<◌, ◌≤◌, Bool, true, false, List, [], ◌∷◌, ◌++◌, Option, Some, None, refl, sym, ap, ◌∙◌, subst, arith}
+use Rattle.std.specs.Prelude.{◌==◌, if◌then◌else◌}
+use Rattle.std.specs.List.{find}
 use Rattle.journal_attempt.specs.declared.runs.ProposeRunCompletionAck.{ProposeRunCompletionAck}
 use Rattle.journal_attempt.specs.declared.start.Start.{Start}
 use Rattle.journal_errors.specs.declared.error.Error.{Error}
@@ -19,14 +19,12 @@ use Rattle.vm_machine.specs.declared.phase.Phase.{Phase}
 use Rattle.vm_machine.specs.declared.phase.Phase.TheVariants.{WaitingStart, WaitingReplayEntries, Replaying, Processing, Closed}
 use Rattle.vm_machine.specs.Inputs.{acknowledged, acknowledged_by, coverage_of, counted_entry, entries_in, info_of, queued, started, started_with}
 use Rattle.vm_machine.specs.Outcomes.{Done, Failed, Outcome, refused, settled}
-use Rattle.vm_machine.specs.Phases.{is_running}
 use Rattle.invocation_vm.specs.Views.{all_received, left_by, received}
 use Rattle.vm_rounds.specs.Journals.{is_acknowledgement, is_command, is_notification}
 use Rattle.vm_rounds.specs.Told.{IsLive, NumbersOn, commands_of}
 use Rattle.vm_rounds.proofs.Arriving.{failed_receives}
 use Rattle.vm_rounds.proofs.Entries.{message_by, receives_by}
 use Rattle.vm_rounds.proofs.Numbers.{Numbers, carried_append, from_append, from_more}
-use Rattle.vm_rounds.proofs.Pieces.{not_failed}
 
 -- ---- frames that come leave the counters as they are
 

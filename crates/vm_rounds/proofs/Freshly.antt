@@ -1,5 +1,5 @@
 -- The completion ids of what an attempt wrote, where recorded commands are skipped.
-use Rattle.std.proofs.Common.{◌≡◌, [], ◌∷◌, sym, subst, inl, inr, ⊎_elim}
+use Rattle.std.proofs.Common.{[], ◌∷◌, sym, subst, inl, inr, ⊎_elim}
 use Rattle.journal_errors.specs.declared.version.Version.{Version}
 use Rattle.vm_asks.specs.Carried.{AreGreater, all_carried}
 use Rattle.vm_types.specs.declared.options.VMOptions.{VMOptions}

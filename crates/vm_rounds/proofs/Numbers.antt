@@ -2,13 +2,13 @@
 -- next never falls.
 use Rattle.std.proofs.Common.{◌≡◌, length, ℕ, ◌+◌, ◌≤◌, Bool, true, false, List, [], ◌∷◌, ◌++◌, map, Option, Some, None, Result, Ok, Err, refl, sym, ap, ◌∙◌, subst, ⊎_elim, append_assoc, append-nil, arith}
 use Rattle.std.specs.Prelude.{◌==◌, cond, if◌then◌else◌}
-use Rattle.std.specs.List.{AllByRecursion, find, list_any}
+use Rattle.std.specs.List.{find, list_any}
 use Rattle.std.specs.Option.{option_and_then, option_map}
 use Rattle.journal_errors.specs.declared.error.Error.{Error}
 use Rattle.journal_errors.specs.declared.faults.NamedFault.{NamedFault}
 use Rattle.journal_errors.specs.declared.faults.NamedFault.TheVariants as fault
 use Rattle.journal_errors.specs.declared.version.Version.{Version}
-use Rattle.journal_errors.specs.Errors.{error_message, named_error}
+use Rattle.journal_errors.specs.Errors.{error_message}
 use Rattle.journal_errors.specs.Types.{type_number}
 use Rattle.journal_equality.specs.HeaderEqual.{header_equal}
 use Rattle.journal_messages.specs.declared.message.Message.{Message}
@@ -25,7 +25,7 @@ use Rattle.await_trees.specs.Handles.{handles_of}
 use Rattle.await_trees.specs.Tree.{Tree, leaf, tree_of}
 use Rattle.await_trees.specs.Wires.{sent}
 use Rattle.await_tries.specs.Message.{ids}
-use Rattle.runs.specs.Pending.{handle_of, is_executing, is_executing_in, may_execute}
+use Rattle.runs.specs.Pending.{is_executing, is_executing_in, may_execute}
 use Rattle.vm_types.specs.declared.options.AwaitingOnPolicy.{AwaitingOnPolicy}
 use Rattle.vm_types.specs.declared.steps.Step.{Step}
 use Rattle.vm_types.specs.declared.types.AwaitResponse.{AwaitResponse}
@@ -75,7 +75,7 @@ use Rattle.vm_steps.specs.declared.progress.Reply.{Reply}
 use Rattle.vm_steps.specs.Steps.{AllCarried, Awaited, IsReadable, Performs, PerformsBy, ReadsBack, mapped}
 use Rattle.std.specs.Prelude.{OnOk}
 use Rattle.vm_rounds.specs.Journals.{is_command}
-use Rattle.vm_rounds.specs.Told.{IsLive, commands_of}
+use Rattle.vm_rounds.specs.Told.{commands_of}
 use Rattle.vm_rounds.proofs.Quiet.{commands_append, map_append}
 
 -- ---- numbers

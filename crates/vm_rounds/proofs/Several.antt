@@ -1,6 +1,6 @@
 -- A call with several commands, in a machine that agrees with a point: what the whole of it comes to.
 use Rattle.std.proofs.Common.{◌≡◌, ◌⊎◌, suc, ◌+◌, Bool, true, false, List, [], ◌∷◌, ◌++◌, Option, Some, None, refl, sym, ap, ◌∙◌, subst, inl, inr, ⊎_elim, append-nil, Ok, Err, Result}
-use Rattle.std.specs.Prelude.{if◌then◌else◌, OnOk}
+use Rattle.std.specs.Prelude.{if◌then◌else◌}
 use Rattle.std.specs.Option.{option_or}
 use Rattle.await_trees.specs.declared.handle.NotificationHandle.{NotificationHandle}
 use Rattle.journal_errors.specs.declared.error.Error.{Error}
@@ -17,8 +17,8 @@ use Rattle.vm_asks.specs.declared.asks.Command.{Command}
 use Rattle.vm_asks.specs.Asks.{EachIs, answer_by, any_refusal, ask_of, command_answer}
 use Rattle.vm_asks.specs.Requests.{ids_of, name_of, shown_type, with_ids}
 use Rattle.vm_machine.specs.declared.machine.Machine.{Machine}
-use Rattle.vm_machine.specs.Commands.{CanBeRead, commanded, commanded_unless, entered, ignores_payloads}
-use Rattle.vm_machine.specs.Outcomes.{Does, Done, Failed, IsStarved, Outcome, ◌>>=◌, about_last, called, called_at, failed, ruled, settled}
+use Rattle.vm_machine.specs.Commands.{CanBeRead, commanded, entered, ignores_payloads}
+use Rattle.vm_machine.specs.Outcomes.{Done, Failed, IsStarved, Outcome, ◌>>=◌, about_last, called, called_at, failed, ruled}
 use Rattle.vm_machine.specs.Phases.{is_running, state_fault}
 use Rattle.vm_machine.specs.Several.{BehindFirst, MakesAll, MakesOne, answered_so, commanded_before, foreseen, foreseen_unless, missing_for, numbers_left}
 use Rattle.vm_machine.proofs.Foreseeing.{before_first}
@@ -31,7 +31,6 @@ use Rattle.vm_model.proofs.Cancelling.{exactly_none}
 use Rattle.vm_model.proofs.Parts.{next_turn, turn_apart}
 use Rattle.vm_model.proofs.Runs.{none_some}
 use Rattle.vm_steps.specs.declared.progress.Reply.{Reply}
-use Rattle.vm_steps.specs.declared.progress.Reply.TheVariants as reply
 use Rattle.vm_steps.specs.Steps.{AllCarried, IfDone}
 use Rattle.vm_rounds.specs.Agreement.{Answered, Aside, Follows, IsCutShort, IsRefused, MakesMany, MovesOn, command_frames, machine_at}
 use Rattle.vm_rounds.proofs.Behind.{answered_behind, either_behind, settled_done, settled_failed}

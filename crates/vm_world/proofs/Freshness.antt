@@ -1,5 +1,5 @@
 -- New commands carry new completion ids, where recorded commands are skipped: over each round, whatever the rounds before it did.
-use Rattle.std.proofs.Common.{◌≡◌, ◌⊎◌, inl, inr, ⊎_elim, ℕ, List, [], ◌∷◌, ◌++◌, length, take, drop, Some, refl, sym, ap, ◌∙◌, subst, append_assoc, append-nil}
+use Rattle.std.proofs.Common.{◌≡◌, ◌⊎◌, inl, inr, ⊎_elim, ℕ, List, [], ◌∷◌, ◌++◌, length, take, drop, Some, refl, sym, ap, ◌∙◌, subst, append_assoc}
 use Rattle.std.specs.List.{concat}
 use Rattle.std.proofs.lemmas.Option.{same_Some}
 use Rattle.journal_attempt.specs.declared.start.Start.{Start}
@@ -7,19 +7,19 @@ use Rattle.journal_messages.specs.declared.message.Message.TheVariants as messag
 use Rattle.journal_messages.specs.declared.message.RawMessage.{RawMessage}
 use Rattle.journal_messages.specs.Message.{encoding}
 use Rattle.journal_messages.specs.Reading.{start_in}
-use Rattle.vm_asks.specs.Carried.{AreBelow, AreGreater, all_carried}
+use Rattle.vm_asks.specs.Carried.{AreGreater, all_carried}
 use Rattle.invocation_vm.specs.Frames.{frames_of}
 use Rattle.vm_model.specs.Calls.{Meaning}
 use Rattle.vm_model.specs.Journal.{stored_form}
-use Rattle.vm_steps.specs.Record.{Record, bytes_written, heard}
+use Rattle.vm_steps.specs.Record.{heard}
 use Rattle.vm_rounds.specs.Journals.{commands_among}
-use Rattle.vm_rounds.specs.Told.{HasFreshIds, Journal, frames_fed, written_by}
+use Rattle.vm_rounds.specs.Told.{HasFreshIds, Journal, written_by}
 use Rattle.vm_rounds.proofs.Numbers.{carried_append}
 use Rattle.vm_rounds.proofs.Replayed.{head_same, tail_same}
 use Rattle.vm_store.specs.declared.types.Round.{Round}
 use Rattle.vm_store.specs.declared.types.Setting.{Setting}
 use Rattle.vm_store.specs.Entries.{frames_in}
-use Rattle.vm_store.specs.Worlds.{IsJournal, start_for, start_message}
+use Rattle.vm_store.specs.Worlds.{IsJournal, start_for}
 use Rattle.vm_store.proofs.Framing.{AreFrames, journal_length, same_front}
 use Rattle.vm_world.specs.Fresh.{AreFresh, IsFresh, Skips, ids_in, ids_written}
 use Rattle.vm_world.specs.Rounds.{AttemptDoes, Now, RefusedDoes, ReportView, RoundDoes, RoundsDo, report_of}

@@ -1,12 +1,11 @@
 -- A journal that is given is one, where none of its entries has a fault.
-use Rattle.std.proofs.Common.{◌≡◌, ◌≢◌, inl, inr, ℕ, Bool, true, false, cond, List, [], ◌∷◌, ◌++◌, length, Option, Some, None, refl, sym, ap, ◌∙◌, subst, append_assoc, append-nil, length-append, arith}
+use Rattle.std.proofs.Common.{◌≡◌, ◌≢◌, ℕ, Bool, true, false, cond, List, [], ◌∷◌, ◌++◌, length, Option, Some, None, refl, sym, ap, ◌∙◌, subst, append_assoc, append-nil, length-append, arith}
 use Rattle.std.specs.Prelude.{◌||◌, ◌&&◌, ◌==◌, if◌then◌else◌, is_some, nat_le, nat_lt}
 use Rattle.std.proofs.lemmas.Bool.{eqb-true}
 use Rattle.std.specs.Option.{option_or}
 use Rattle.journal_attempt.specs.declared.commands.InputCommand.{InputCommand}
 use Rattle.journal_errors.specs.declared.types.MessageType.TheVariants as type
 use Rattle.journal_errors.specs.Types.{type_number}
-use Rattle.journal_messages.specs.declared.message.Message.{Message}
 use Rattle.journal_messages.specs.declared.message.RawMessage.{RawMessage}
 use Rattle.journal_messages.specs.Reading.{input_in, message_in, notification_in}
 use Rattle.journal_values.specs.declared.notification.Notification.{Notification}
@@ -14,22 +13,19 @@ use Rattle.journal_values.specs.declared.notification.NotificationId.{Notificati
 use Rattle.journal_values.specs.declared.notification.NotificationId.TheVariants.{CompletionId, SignalId, SignalName}
 use Rattle.journal_values.specs.declared.notification.NotificationResult.{NotificationResult}
 use Rattle.vm_model.specs.Carried.{AreCarried, is_carried}
-use Rattle.vm_model.specs.Journal.{input_read_from}
 use Rattle.vm_rounds.specs.Journals.{commands_among, is_command, notifications_among, notified_by}
 use Rattle.vm_rounds.proofs.Pieces.{commands_append}
 use Rattle.vm_model.proofs.Once.{still_carried}
 use Rattle.vm_store.specs.declared.completions.Completes.{Completes}
-use Rattle.vm_store.specs.declared.completions.Completes.TheVariants as completes
-use Rattle.vm_store.specs.declared.types.RoundFault.{RoundFault}
 use Rattle.vm_store.specs.declared.types.RoundFault.TheVariants as round_fault
-use Rattle.vm_store.specs.Arrivals.{completes_among, completion_fault, is_completed, most, room_fault}
+use Rattle.vm_store.specs.Arrivals.{completes_among, is_completed, most, room_fault}
 use Rattle.vm_store.specs.Completions.{CompleteOnce, HasNoOther}
-use Rattle.vm_store.specs.Entries.{AreEntries, frame_in, framed_by, frames_in, may_stand, note_in, note_of, notes_in, read_from, said_by, said_in}
+use Rattle.vm_store.specs.Entries.{frame_in, framed_by, frames_in, may_stand, note_in, note_of, notes_in, read_from, said_by, said_in}
 use Rattle.vm_store.specs.Given.{AreGiven, as_given, framed_fault, given_fault, given_note_fault, may_be_given, noted_fault, place_fault}
 use Rattle.vm_store.specs.Worlds.{IsJournal}
 use Rattle.vm_store.proofs.Framing.{command_no_note, entries_join, frames_append, notes_append, notes_are}
 use Rattle.vm_world.proofs.Keeping.{one_note}
-use Rattle.vm_world.proofs.Once.{IsNew, absent, completed_carried, not_done, not_most, not_nothing}
+use Rattle.vm_world.proofs.Once.{absent, completed_carried, not_done, not_most, not_nothing}
 use Rattle.vm_world.proofs.Settled.{note_keeps}
 
 -- ---- no fault
