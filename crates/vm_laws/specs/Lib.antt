@@ -1,5 +1,6 @@
 pub mod Deadlines
 pub mod Endings
+pub mod Ephemerals
 pub mod Numbers
 pub mod Outputs
 pub mod Replays
