@@ -14,7 +14,10 @@ use Rattle.vm_machine.specs.declared.phase.Phase.TheVariants.{Closed}
 use Rattle.vm_machine.specs.Phases.{is_closed}
 use Rattle.vm_asks.specs.Requests.{ids_of}
 use Rattle.vm_machine.specs.Commands.{CanBeRead, Fits, answered_by}
-use Rattle.invocation_vm.specs.Calls.{CallsAwait, CallsFlatAwait, CallsTry, result_by}
+use Rattle.vm_machine.specs.Ephemerals.{answers_ready, may_answer}
+use Rattle.vm_types.specs.declared.types.AwaitResponse.TheVariants.{EphemeralNotificationReady}
+use Rattle.vm_types.specs.declared.types.EphemeralCompletionId.{EphemeralCompletionId}
+use Rattle.invocation_vm.specs.Calls.{CallsAwait, CallsAwaitBy, CallsFlatAwait, CallsTry, result_by}
 use Rattle.invocation_vm.specs.Views.{View}
 use Rattle.await_trees.specs.declared.tree.UnresolvedFuture.{UnresolvedFuture}
 use Rattle.vm_types.specs.declared.types.AwaitResponse.{AwaitResponse}
@@ -109,8 +112,12 @@ pub does_none : {A : Type 0} (R : Outcome A → Type 0) (e : Error) (old : Machi
 does_none R e old l = none_at old.failure R e old refl l
 
 -- an await whose answer may be an error, from the call that keeps it as an answer
-pub flattens_call : (future : UnresolvedFuture) (answered : Result (Result AwaitResponse Error) Error) (r : Result AwaitResponse Error) (old new : View) → CallsAwait future answered old new → r ≡ flattened answered → CallsFlatAwait future r old new
-flattens_call future answered r old new calls is = (answered, calls, is)
+pub flattens_call : (future : UnresolvedFuture) (answered : Result (Result AwaitResponse Error) Error) (r : Result AwaitResponse Error) (old new : View) → answers_ready old.machine ≡ false → CallsAwait future answered old new → r ≡ flattened answered → CallsFlatAwait future r old new
+flattens_call future answered r old new none calls is = subst (λ b. CallsAwaitBy b future r old new) (sym none) (answered, calls, is)
+
+-- one that an ephemeral read answers
+pub answers_read : (future : UnresolvedFuture) (id : EphemeralCompletionId) (r : Result AwaitResponse Error) (old : View) → answers_ready old.machine ≡ true → may_answer id.0 old.machine ≡ true → r ≡ Ok (EphemeralNotificationReady id) → CallsFlatAwait future r old old
+answers_read future id r old some may is = subst (λ b. CallsAwaitBy b future r old old) (sym some) (id.0, may, is, refl)
 
 -- an await that sends no cancel signal stays as it is
 pub finishes_so : (future : UnresolvedFuture) (first : Result (Result AwaitResponse Error) Error) (old new : View) → CallsTry future first old new → sends_cancels first ≡ false → CallsAwait future first old new

@@ -3,7 +3,7 @@ use Rattle.vm_machine.specs.Proposals.{Proposes}
 use Rattle.runs.specs.declared.types.RunExitResult.{RunExitResult}
 use Rattle.retries.specs.declared.policy.RetryPolicy.{RetryPolicy}
 use Rattle.std.proofs.Common.{◌≡◌, inl, inr, Option, Some, None, List, refl, sym, ap, ◌∙◌, subst}
-use Rattle.std.specs.Prelude.{Result, Ok, Err}
+use Rattle.std.specs.Prelude.{Bool, true, false, not, ◌&&◌, is_some, Result, Ok, Err}
 use Rattle.std.specs.declared.alloc.AllocError.{AllocError}
 use Rattle.journal_errors.specs.declared.error.Error.{Error}
 use Rattle.journal_messages.specs.declared.message.RawMessage.{RawMessage}
@@ -17,7 +17,10 @@ use Rattle.vm_types.specs.declared.types.AwaitResponse.{AwaitResponse}
 use Rattle.vm_machine.specs.declared.machine.Machine.{Machine}
 use Rattle.vm_machine.specs.Outcomes.{Outcome, Done, Failed, CalledAt, CalledBy, Does, DoesBy, called, flattened}
 use Rattle.vm_machine.proofs.Calling.{answers_first}
-use Rattle.invocation_vm.specs.Calls.{CallsFlatAwait, CallsProposal}
+use Rattle.vm_machine.specs.Ephemerals.{answers_ready}
+use Rattle.vm_parts.specs.Ephemerals.{any_ready}
+use Rattle.vm_machine.specs.Phases.{is_processing}
+use Rattle.invocation_vm.specs.Calls.{CallsAnyAwait, CallsAwaitBy, CallsFlatAwait, CallsProposal}
 use Rattle.invocation_vm.specs.Views.{View, AnswersFirst, Calls, Leaves}
 
 pub viewed : (old new : View) (m : Machine) → new.machine ≡ m → new.undecoded ≡ old.undecoded → new ≡ record old { machine = m }
@@ -62,8 +65,9 @@ first_proposed handle exit policy r e old new is c =
     let R = Proposes handle exit policy old.machine in
     first_by (CalledBy R old.machine) r e old new is (λ o. awaited_at old.machine.failure R e old.machine o is) c.0 c.1
 
-pub first_awaited : (future : UnresolvedFuture) (r : Result AwaitResponse Error) (e : Error) (old new : View) → old.machine.failure ≡ Some e → CallsFlatAwait future r old new → AnswersFirst e r old new
-first_awaited future r e old new is (answered, (whole, u), flat) =
+-- where no ephemeral read is answered
+any_awaited : (future : UnresolvedFuture) (r : Result AwaitResponse Error) (e : Error) (old new : View) → old.machine.failure ≡ Some e → CallsAnyAwait future r old new → AnswersFirst e r old new
+any_awaited future r e old new is (answered, (whole, u), flat) =
     let R = Awaits (tree_of future) old.machine in
     let mid : View = record old { machine = whole.1 } in
     let first = first_by (CalledBy R old.machine) whole.0 e old mid is (λ o. awaited_at old.machine.failure R e old.machine o is) whole.2 refl in
@@ -72,3 +76,11 @@ first_awaited future r e old new is (answered, (whole, u), flat) =
       | inl x ↦ (inl (flat ∙ ap flattened (stays e x).0), viewed old new old.machine ((stays e x).1 ∙ ap (λ (v : View). v.machine) first.1) u)
       | inr x ↦ (inr (flat ∙ ap flattened (stays no_memory x).0), viewed old new old.machine ((stays no_memory x).1 ∙ ap (λ (v : View). v.machine) first.1) u)
     ]
+
+-- a failed machine answers no ephemeral read
+none_ready : (v : Machine) (e : Error) → v.failure ≡ Some e → answers_ready v ≡ false
+none_ready v e is = ap (λ (f : Option Error). not (is_some f) && (is_processing v.phase && any_ready v.ephemeral)) is
+
+pub first_awaited : (future : UnresolvedFuture) (r : Result AwaitResponse Error) (e : Error) (old new : View) → old.machine.failure ≡ Some e → CallsFlatAwait future r old new → AnswersFirst e r old new
+first_awaited future r e old new is h =
+    any_awaited future r e old new is (subst (λ b. CallsAwaitBy b future r old new) (none_ready old.machine e is) h)

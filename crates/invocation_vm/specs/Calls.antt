@@ -5,6 +5,7 @@ use Rattle.std.specs.declared.string.String.{String}
 use Rattle.journal_errors.specs.declared.error.Error.{Error}
 use Rattle.journal_errors.specs.declared.faults.NamedFault.TheVariants as fault
 use Rattle.vm_types.specs.declared.types.AwaitResponse.{AwaitResponse}
+use Rattle.vm_types.specs.declared.types.AwaitResponse.TheVariants.{EphemeralNotificationReady}
 use Rattle.vm_types.specs.declared.types.AwakeableHandle.{AwakeableHandle}
 use Rattle.await_trees.specs.declared.handle.NotificationHandle.{NotificationHandle}
 use Rattle.retries.specs.declared.policy.RetryPolicy.{RetryPolicy}
@@ -17,6 +18,7 @@ use Rattle.vm_awaits.specs.Awaits.{Awaits}
 use Rattle.vm_awaits.specs.Cancels.{AwaitsWhole}
 use Rattle.vm_asks.specs.Asks.{run_command}
 use Rattle.vm_machine.specs.Commands.{CanBeRead, Fits, answered_by, commanded, knows_next}
+use Rattle.vm_machine.specs.Ephemerals.{answers_ready, may_answer}
 use Rattle.vm_machine.specs.Several.{AllFit, MakesAll, commanded_before}
 use Rattle.vm_machine.specs.Outcomes.{Outcome, flattened, refused}
 use Rattle.vm_machine.specs.Proposals.{Proposes}
@@ -89,6 +91,19 @@ CallsTry future r old new = CallsBy (Awaits (tree_of future)) r old new
 abbrev pub CallsAwait : UnresolvedFuture → Result (Result AwaitResponse Error) Error → View → View → Type 0
 CallsAwait future r old new = AwaitsWhole (tree_of future) r old.machine new.machine × (new.undecoded ≡ old.undecoded)
 
+-- An await is answered by an ephemeral read whose value is there, any of them; nothing changes.
+abbrev pub AnswersReady : Result AwaitResponse Error → View → View → Type 0
+AnswersReady r old new = (id : ℕ) × (may_answer id old.machine ≡ true) × (r ≡ Ok (EphemeralNotificationReady (record { 0 = id }))) × (new ≡ old)
+
+-- An await of a future, where no ephemeral read's value is there.
+abbrev pub CallsAnyAwait : UnresolvedFuture → Result AwaitResponse Error → View → View → Type 0
+CallsAnyAwait future r old new = (answered : Result (Result AwaitResponse Error) Error) × CallsAwait future answered old new × (r ≡ flattened answered)
+
+-- An await of a future, by whether the value of some ephemeral read is there: it is answered before all else, until it is taken.
+abbrev pub CallsAwaitBy : Bool → UnresolvedFuture → Result AwaitResponse Error → View → View → Type 0
+CallsAwaitBy true future r old new = AnswersReady r old new
+CallsAwaitBy false future r old new = CallsAnyAwait future r old new
+
 -- An await of a future.
 abbrev pub CallsFlatAwait : UnresolvedFuture → Result AwaitResponse Error → View → View → Type 0
-CallsFlatAwait future r old new = (answered : Result (Result AwaitResponse Error) Error) × CallsAwait future answered old new × (r ≡ flattened answered)
+CallsFlatAwait future r old new = CallsAwaitBy (answers_ready old.machine) future r old new

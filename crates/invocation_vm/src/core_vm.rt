@@ -31,9 +31,9 @@ use vm_inputs::close_input;
 use vm_machine::Machine;
 use vm_parts::{
     AttachInvocationTarget, AwaitResponse, AwakeableHandle, CallHandle, CommandRelationship,
-    DeadlineCallHandle, Input, NonEmptyValue, NotificationHandle, PayloadOptions, ResponseHead,
-    SendHandle, State, StateKey, Step, Target, TrackedCall, UnresolvedFuture, VMOptions, VMResult,
-    Value,
+    DeadlineCallHandle, EphemeralCompletionId, Input, NonEmptyValue, NotificationHandle,
+    PayloadOptions, ResponseHead, SendHandle, State, StateKey, Step, Target, TrackedCall,
+    UnresolvedFuture, VMOptions, VMResult, Value,
 };
 use wire::Text;
 
@@ -270,7 +270,7 @@ impl CoreVM {
     }
 }
 
-#[tactic(auto, using(crate::proofs::Calls::flattens_call, crate::proofs::Calls::does_called, crate::proofs::Calls::does_failed, crate::proofs::Feeds::leaves_called, crate::proofs::Feeds::stays_called))]
+#[tactic(auto, using(crate::proofs::Calls::flattens_call, crate::proofs::Calls::answers_read, crate::proofs::Calls::does_called, crate::proofs::Calls::does_failed, crate::proofs::Feeds::leaves_called, crate::proofs::Feeds::stays_called))]
 impl VM for CoreVM {
     ghost view = { λ s. record { undecoded = s.decoder; machine = s.machine } };
 
@@ -347,6 +347,9 @@ impl VM for CoreVM {
     }
 
     fn do_await(&mut self, future: UnresolvedFuture) -> VMResult<AwaitResponse> {
+        if let Some(id) = self.machine.ready_ephemeral() {
+            return Ok(AwaitResponse::EphemeralNotificationReady(id));
+        }
         flatten(self.try_await(future))
     }
 
@@ -375,6 +378,27 @@ impl VM for CoreVM {
         now_since_unix_epoch: Option<Duration>,
     ) -> VMResult<NotificationHandle> {
         self.command(asks::sleep(Text::from_string(name), wake_up_time_since_unix_epoch))
+    }
+
+    fn ephemeral_state_get(&mut self, key: String) -> VMResult<EphemeralCompletionId> {
+        if let Err(error) = self.machine.live() {
+            return Err(error);
+        }
+        let before = self.machine.counters;
+        let given = self.machine.read_ephemeral(Text::from_string(key));
+        self.machine.settle(before, given)
+    }
+
+    fn take_ephemeral_notification(
+        &mut self,
+        id: EphemeralCompletionId,
+    ) -> VMResult<Option<Value>> {
+        if let Err(error) = self.machine.live() {
+            return Err(error);
+        }
+        let before = self.machine.counters;
+        let given = self.machine.take_ephemeral(id);
+        self.machine.settle(before, given)
     }
 
     fn sys_state_set(

@@ -2,6 +2,7 @@
 ghost use Rattle.std.specs.Prelude.{◌≡◌, ◌/◌, [], IfOk, OnOk, OnErr, None, Ok, true, string_bytes, codes, ◌∷◌};
 ghost use Rattle.std.specs.Duration.{as_nanos};
 ghost use Rattle.vm_asks.specs.Asks.{attach_invocation_command, call_command, call_handles, cancel_invocation_command, clear_all_state_command, clear_state_command, complete_awakeable_command, complete_promise_command, complete_signal_command, deadline_handles, get_invocation_output_command, get_promise_command, millis_of, output_command, peek_promise_command, send_command, send_handle, set_state_command, sleep_command};
+ghost use Rattle.vm_machine.specs.Ephemerals.{ephemeral_step, take_ephemeral_step};
 ghost use Rattle.vm_machine.specs.Takes.{is_completed, take_step};
 ghost use Rattle.vm_machine.specs.Queries.{IsReadyAt, last_index, state_of};
 ghost use Rattle.vm_machine.specs.Inputs.{end_step, input_step};
@@ -23,8 +24,9 @@ use std::alloc::{AllocError, Global};
 use std::time::Duration;
 use vm_parts::{
     AttachInvocationTarget, AwaitResponse, AwakeableHandle, CallHandle, CommandRelationship,
-    DeadlineCallHandle, Input, NonEmptyValue, NotificationHandle, PayloadOptions, ResponseHead,
-    SendHandle, State, Target, UnresolvedFuture, VMOptions, VMResult, Value,
+    DeadlineCallHandle, EphemeralCompletionId, Input, NonEmptyValue, NotificationHandle,
+    PayloadOptions, ResponseHead, SendHandle, State, Target, UnresolvedFuture, VMOptions, VMResult,
+    Value,
 };
 
 /// One attempt of an invocation: the bytes of its journal come in, the handler's calls are answered, and the bytes
@@ -74,10 +76,11 @@ pub trait VM: Sized {
     fn is_completed(&self, handle: NotificationHandle) -> bool
         ensures { result ≡ is_completed handle.0 (view self.now).machine };
 
-    /// Uses notifications in order of arrival until the future is done. Where it stays pending: in replay the VM
+    /// In Processing an ephemeral read whose value is there is answered before all else, and again until it is taken. Else
+    /// notifications are used in order of arrival until the future is done. Where it stays pending: in replay the VM
     /// fails; in Processing each run that it waits for is to be executed, by one answer a run; then with open input the caller is
-    /// to wait, and with closed input too as long as such a run is executing; else the invocation is suspended, the VM is closed
-    /// and answers the error 599. By the options the cancel signal ends it too: once the ids are there of all invocations that
+    /// to wait. With closed input an ephemeral read in flight fails the VM; else the caller is to wait as long as such a run is
+    /// executing; else the invocation is suspended, the VM is closed and answers the error 599. By the options the cancel signal ends it too: once the ids are there of all invocations that
     /// are cancelled with the handler's, each is sent the cancel signal, by a command each, and `CancelSignalReceived` is answered.
     fn do_await(&mut self, future: UnresolvedFuture) -> VMResult<AwaitResponse>
         ensures { CallsFlatAwait future result (view self.old) (view self.new) };
@@ -100,6 +103,15 @@ pub trait VM: Sized {
         now_since_unix_epoch: Option<Duration>,
     ) -> VMResult<NotificationHandle>
         ensures { CallsCommand (sleep_command (as_nanos wake_up_time_since_unix_epoch / 1_000_000) (string_bytes name)) result (view self.old) (view self.new) };
+
+    /// Reads the value of a state key and leaves nothing of it in the journal, for what doesn't steer the handler. Where the VM knows
+    /// the key the value is there at once; else it is asked for, which closed input refuses. It needs V8, and is refused in replay.
+    fn ephemeral_state_get(&mut self, key: String) -> VMResult<EphemeralCompletionId>
+        ensures { Calls (ephemeral_step (string_bytes key)) result (view self.old) (view self.new) };
+
+    /// Takes the value of an ephemeral read, where it is there: void, where the key has no value. In replay it is refused.
+    fn take_ephemeral_notification(&mut self, id: EphemeralCompletionId) -> VMResult<Option<Value>>
+        ensures { Calls (take_ephemeral_step id.0) result (view self.old) (view self.new) };
 
     /// Gives a state key a value.
     fn sys_state_set(

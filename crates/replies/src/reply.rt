@@ -96,6 +96,10 @@ impl Shown for AwaitResponse {
             AwaitResponse::AnyCompleted => line.word("any"),
             AwaitResponse::CancelSignalReceived => line.word("cancelled"),
             AwaitResponse::ExecuteRun(handle) => labelled("run ", handle, line),
+            AwaitResponse::EphemeralNotificationReady(id) => {
+                line.word("ephemeral ")?;
+                line.number(u64::from(id.0))
+            }
             AwaitResponse::WaitingExternalProgress {
                 waiting_input,
                 waiting_run_proposal,

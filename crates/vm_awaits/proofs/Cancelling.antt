@@ -8,9 +8,10 @@ use Rattle.await_trees.specs.Tree.{Tree, leaf}
 use Rattle.journal_errors.specs.declared.error.Error.{Error}
 use Rattle.journal_errors.specs.declared.faults.NamedFault.TheVariants as fault
 use Rattle.runs.specs.Pending.{is_executing_in, may_execute}
+use Rattle.vm_parts.specs.Ephemerals.{any_in_flight}
 use Rattle.vm_parts.specs.declared.run_state.PendingRun.{PendingRun}
 use Rattle.vm_types.specs.declared.types.AwaitResponse.{AwaitResponse}
-use Rattle.vm_types.specs.declared.types.AwaitResponse.TheVariants.{AnyCompleted, CancelSignalReceived, ExecuteRun, WaitingExternalProgress}
+use Rattle.vm_types.specs.declared.types.AwaitResponse.TheVariants.{AnyCompleted, CancelSignalReceived, EphemeralNotificationReady, ExecuteRun, WaitingExternalProgress}
 use Rattle.vm_parts.specs.declared.run_state.TrackedCall.{TrackedCall}
 use Rattle.vm_parts.specs.Tracked.{IsFirst, id_of_result, unresolved, with_next_id}
 use Rattle.vm_parts.proofs.Tracking.{unresolved-with_next_id}
@@ -34,14 +35,15 @@ done_so : {A : Type 0} (a b : A) (v w : Machine) → Done a v ≡ Done b w → w
 done_so a b v w h = cc
 
 -- an await that stays pending hasn't woken
-waits_sleeps : (closed executing : Bool) (left : Tree) (u w : Machine) → woken w ≡ waits_by closed executing left u → ⊥
-waits_sleeps false executing left u w h = cc
-waits_sleeps true true left u w h = cc
-waits_sleeps true false left u w h = cc
+waits_sleeps : (closed in_flight executing : Bool) (left : Tree) (u w : Machine) → woken w ≡ waits_by closed in_flight executing left u → ⊥
+waits_sleeps false in_flight executing left u w h = cc
+waits_sleeps true true executing left u w h = cc
+waits_sleeps true false true left u w h = cc
+waits_sleeps true false false left u w h = cc
 
 runs_sleep : (run : Option PendingRun) (executing : Bool) (left : Tree) (u w : Machine) → woken w ≡ waits_on run executing left u → ⊥
 runs_sleep (Some run) executing left u w h = cc
-runs_sleep None executing left u w h = waits_sleeps u.input_closed executing left u w h
+runs_sleep None executing left u w h = waits_sleeps u.input_closed (any_in_flight u.ephemeral) executing left u w h
 
 pending_sleeps : (replaying : Bool) (run : Option PendingRun) (executing : Bool) (left : Tree) (u w : Machine)
     → woken w ≡ (if replaying then pending_in_replay (handles_of left) u else waits_on run executing left u) → ⊥
@@ -82,6 +84,7 @@ read_behind handle v w (Done (Ok AnyCompleted) x) tries on =
 read_behind handle v w (Done (Ok CancelSignalReceived) x) tries on = absurd cc
 read_behind handle v w (Done (Ok (ExecuteRun run)) x) tries on = absurd cc
 read_behind handle v w (Done (Ok (WaitingExternalProgress input run)) x) tries on = absurd cc
+read_behind handle v w (Done (Ok (EphemeralNotificationReady id)) x) tries on = absurd cc
 read_behind handle v w (Done (Err e) x) tries on = absurd cc
 read_behind handle v w (Failed e x) tries on = absurd cc
 
@@ -130,6 +133,7 @@ woken_is (Ok AnyCompleted) so = refl
 woken_is (Ok CancelSignalReceived) so = absurd cc
 woken_is (Ok (ExecuteRun run)) so = absurd cc
 woken_is (Ok (WaitingExternalProgress input run)) so = absurd cc
+woken_is (Ok (EphemeralNotificationReady id)) so = absurd cc
 woken_is (Err e) so = absurd cc
 
 -- none was read yet

@@ -7,6 +7,7 @@ use Rattle.await_trees.specs.declared.handle.NotificationHandle.{NotificationHan
 use Rattle.runs.specs.Firsts.{with_first}
 use Rattle.runs.specs.Pending.{handle_of, is_executing_in, may_execute, started}
 use Rattle.runs.specs.Settling.{run_command}
+use Rattle.vm_parts.specs.Ephemerals.{any_in_flight}
 use Rattle.vm_parts.specs.declared.run_state.PendingRun.{PendingRun}
 use Rattle.vm_machine.specs.declared.fault.Fault.{Fault}
 use Rattle.vm_machine.specs.declared.machine.Machine.{Machine}
@@ -59,7 +60,7 @@ none_executed handles runs left none is = is ∙ not_changed (may_execute handle
 
 -- it waits for input, or for the result of a run that is executing
 pub waits_so : (left : Tree) (v : Machine) (handles : List ℕ) (executing : Bool) → handles ≡ handles_of left → is_replaying v.phase ≡ false → None ≡ option_map handle_of (find (may_execute handles) v.runs) → executing ≡ list_any (is_executing_in handles) v.runs
-    → pending_on left v ≡ waits_by v.input_closed executing left v
+    → pending_on left v ≡ waits_by v.input_closed (any_in_flight v.ephemeral) executing left v
 waits_so left v handles executing are past none is =
     let none_waits : find (may_execute (handles_of left)) v.runs ≡ None = ap (λ hs. find (may_execute hs) v.runs) (sym are) ∙ mapped_none handle_of (find (may_execute handles) v.runs) none in
     ap (λ b. if b then pending_in_replay (handles_of left) v else waits_on (find (may_execute (handles_of left)) v.runs) (list_any (is_executing_in (handles_of left)) v.runs) left v) past
@@ -77,7 +78,7 @@ executes_so left v new handles run are past some is =
 
 -- it waits where no run is to be executed
 pub pends_so : (left : Tree) (v w new : Machine) (handles : List ℕ) (executing : Bool) (r : Result (Result AwaitResponse Error) Fault) → handles ≡ handles_of left → is_replaying v.phase ≡ false → None ≡ option_map handle_of (find (may_execute handles) v.runs) → w ≡ v
-    → executing ≡ list_any (is_executing_in handles) w.runs → Gives (waits_by w.input_closed executing left w) r w new → Gives (pending_on left v) r v new
+    → executing ≡ list_any (is_executing_in handles) w.runs → Gives (waits_by w.input_closed (any_in_flight w.ephemeral) executing left w) r w new → Gives (pending_on left v) r v new
 pends_so left v w new handles executing r are past none same is gives =
     let at : executing ≡ list_any (is_executing_in handles) v.runs = is ∙ ap (λ (x : Machine). list_any (is_executing_in handles) x.runs) same in
-    subst (λ o. Gives o r v new) (sym (waits_so left v handles executing are past none at)) (subst (λ (x : Machine). Gives (waits_by x.input_closed executing left x) r x new) same gives)
+    subst (λ o. Gives o r v new) (sym (waits_so left v handles executing are past none at)) (subst (λ (x : Machine). Gives (waits_by x.input_closed (any_in_flight x.ephemeral) executing left x) r x new) same gives)

@@ -27,8 +27,9 @@ use Rattle.vm_types.specs.declared.options.AwaitingOnPolicy.{AwaitingOnPolicy}
 use Rattle.vm_types.specs.declared.options.AwaitingOnPolicy.TheVariants as policy
 use Rattle.vm_parts.specs.declared.run_state.PendingRun.{PendingRun}
 use Rattle.vm_types.specs.declared.types.AwaitResponse.{AwaitResponse}
-use Rattle.vm_types.specs.declared.types.AwaitResponse.TheVariants.{AnyCompleted, CancelSignalReceived, ExecuteRun, WaitingExternalProgress}
+use Rattle.vm_types.specs.declared.types.AwaitResponse.TheVariants.{AnyCompleted, CancelSignalReceived, EphemeralNotificationReady, ExecuteRun, WaitingExternalProgress}
 use Rattle.vm_parts.specs.Deliveries.{id_at, present_for}
+use Rattle.vm_parts.specs.Ephemerals.{any_in_flight}
 use Rattle.vm_types.specs.Options.{ends_awaits}
 use Rattle.vm_parts.specs.Tracked.{id_of_result, unresolved, with_next_id}
 use Rattle.vm_machine.specs.declared.machine.Machine.{Machine}
@@ -82,17 +83,19 @@ pending_in_replay handles v = Failed (named_error fault.UncompletedDoProgressDur
 abbrev pub executed : List ℕ → Machine → Machine
 executed handles v = record v { runs = with_first (may_execute handles) started v.runs }
 
--- An await waits for input and for the results of runs, by whether the input is closed and whether a run that it waits for is
--- executing; where neither can come, the invocation is suspended.
-abbrev pub waits_by : Bool → Bool → Tree → Machine → Outcome (Result AwaitResponse Error)
-waits_by false executing left v = Done (Ok (WaitingExternalProgress true executing)) (waiting left v)
-waits_by true true left v = Done (Ok (WaitingExternalProgress false true)) v
-waits_by true false left v = Done (Err (named_error fault.Suspended None)) (suspended (sent (ids v.results) left) v)
+-- An await waits for input and for the results of runs, by whether the input is closed, whether an ephemeral read is in flight, and whether
+-- a run that it waits for is executing. With closed input no ephemeral read may be in flight; where no run's result can come either, the
+-- invocation is suspended.
+abbrev pub waits_by : Bool → Bool → Bool → Tree → Machine → Outcome (Result AwaitResponse Error)
+waits_by false in_flight executing left v = Done (Ok (WaitingExternalProgress true executing)) (waiting left v)
+waits_by true true executing left v = refused fault.InputClosedWhileWaitingEphemeralNotifications v
+waits_by true false true left v = Done (Ok (WaitingExternalProgress false true)) v
+waits_by true false false left v = Done (Err (named_error fault.Suspended None)) (suspended (sent (ids v.results) left) v)
 
 -- An await that stays pending in Processing: a run that it waits for is executed first, where there is one that isn't executing.
 abbrev pub waits_on : Option PendingRun → Bool → Tree → Machine → Outcome (Result AwaitResponse Error)
 waits_on (Some run) executing left v = Done (Ok (ExecuteRun (handle_of run))) (executed (handles_of left) v)
-waits_on None executing left v = waits_by v.input_closed executing left v
+waits_on None executing left v = waits_by v.input_closed (any_in_flight v.ephemeral) executing left v
 
 -- an await that stays pending, by what is left of its tree
 abbrev pub pending_on : Tree → Machine → Outcome (Result AwaitResponse Error)
@@ -139,6 +142,7 @@ has_woken (Ok AnyCompleted) = true
 has_woken (Ok CancelSignalReceived) = false
 has_woken (Ok (ExecuteRun handle)) = false
 has_woken (Ok (WaitingExternalProgress input run)) = false
+has_woken (Ok (EphemeralNotificationReady id)) = false
 has_woken (Err e) = false
 
 -- what comes behind an await that has woken; each other outcome stays

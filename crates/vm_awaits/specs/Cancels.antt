@@ -4,7 +4,7 @@ use Rattle.await_trees.specs.declared.handle.NotificationHandle.{NotificationHan
 use Rattle.await_trees.specs.Tree.{Tree}
 use Rattle.journal_errors.specs.declared.error.Error.{Error}
 use Rattle.vm_types.specs.declared.types.AwaitResponse.{AwaitResponse}
-use Rattle.vm_types.specs.declared.types.AwaitResponse.TheVariants.{AnyCompleted, CancelSignalReceived, ExecuteRun, WaitingExternalProgress}
+use Rattle.vm_types.specs.declared.types.AwaitResponse.TheVariants.{AnyCompleted, CancelSignalReceived, EphemeralNotificationReady, ExecuteRun, WaitingExternalProgress}
 use Rattle.vm_parts.specs.Deliveries.{id_at, taken_by}
 use Rattle.vm_parts.specs.Tracked.{invocation_ids}
 use Rattle.vm_machine.specs.declared.machine.Machine.{Machine}
@@ -40,6 +40,7 @@ sends_cancels (Ok (Ok CancelSignalReceived)) = true
 sends_cancels (Ok (Ok AnyCompleted)) = false
 sends_cancels (Ok (Ok (ExecuteRun handle))) = false
 sends_cancels (Ok (Ok (WaitingExternalProgress input run))) = false
+sends_cancels (Ok (Ok (EphemeralNotificationReady id))) = false
 sends_cancels (Ok (Err e)) = false
 sends_cancels (Err e) = false
 

@@ -13,6 +13,7 @@ ghost use Rattle.runs.specs.Settling.{run_command};
 ghost use Rattle.journal_messages.specs.declared.message.Message.TheVariants as message;
 ghost use Rattle.vm_machine.specs.Outcomes.{Gives, GivesBy};
 ghost use Rattle.vm_types.specs.Options.{ends_awaits};
+ghost use Rattle.vm_parts.specs.Ephemerals.{any_in_flight};
 ghost use Rattle.vm_parts.specs.Tracked.{id_of_result, unresolved};
 ghost use Rattle.vm_awaits.specs.Awaits.{Awaits, Gathers, ReadsId, Tries, TriesOrCancels, allows, executed, has_woken, is_cancelled, is_first_of_none, last_run, or_cancelled, pending_on, result_at, says_so, waiting, waits_by};
 ghost use Rattle.vm_machine.specs.Proposals.{run_at};
@@ -162,10 +163,10 @@ fn execute_run(machine: &mut Machine, handles: &[u32]) -> Option<NotificationHan
     }
 }
 
-/// An await waits for input and for the results of runs, by whether a run that it waits for is executing; where neither can come,
-/// the invocation is suspended.
+/// An await waits for input and for the results of runs, by whether a run that it waits for is executing. Where no input comes any more,
+/// no ephemeral read may be in flight; where no run's result can come either, the invocation is suspended.
 fn wait_or_suspend(machine: &mut Machine, left: &Residue, executing: bool) -> Result<Awaited, Fault>
-    ensures { Gives (waits_by machine.old.input_closed executing (tree_left left.now) machine.old) result machine.old machine.new }
+    ensures { Gives (waits_by machine.old.input_closed (any_in_flight machine.old.ephemeral) executing (tree_left left.now) machine.old) result machine.old machine.new }
 {
     if !machine.input_closed {
         wait_on(machine, left)?;
@@ -173,6 +174,9 @@ fn wait_or_suspend(machine: &mut Machine, left: &Residue, executing: bool) -> Re
             waiting_input: true,
             waiting_run_proposal: executing,
         }));
+    }
+    if machine.ephemeral.any_in_flight() {
+        return Err(refuse(NamedFault::InputClosedWhileWaitingEphemeralNotifications));
     }
     if executing {
         return Ok(Awaited::with(AwaitResponse::WaitingExternalProgress {

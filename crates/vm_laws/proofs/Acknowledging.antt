@@ -9,6 +9,7 @@ use Rattle.runs.specs.Kept.{is_for}
 use Rattle.vm_parts.specs.declared.run_state.KeptProposal.{KeptProposal}
 use Rattle.vm_machine.specs.declared.machine.Machine.{Machine}
 use Rattle.journal_errors.specs.Versions.{is_from_v7}
+use Rattle.vm_machine.specs.Ephemerals.{ephemeral_notification_step}
 use Rattle.vm_machine.specs.Inputs.{acknowledged, acknowledged_by, acknowledgement_step, completion_of, enqueued, entry_step, message_step, notification_step, start_step}
 use Rattle.vm_machine.specs.Outcomes.{Done, Outcome, refused}
 use Rattle.vm_machine.specs.Proposals.{Acknowledges, proposed}
@@ -20,6 +21,7 @@ by_number raw n v =
     else if nat_le 10 n && nat_lt n 30 then entry_step raw v.phase v
     else if n == 30 then notification_step raw v.phase v
     else if n == 6 then acknowledgement_step raw v.phase v
+    else if n == 9 then ephemeral_notification_step raw v.phase v
     else refused name.UnexpectedInputMessage v
 
 acknowledged_as : (raw : RawMessage) (id : ℕ) (v : Machine) → Acknowledges raw id v → message_step raw v ≡ acknowledged id (find (is_for id) v.proposals) v

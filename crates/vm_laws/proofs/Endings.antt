@@ -33,7 +33,7 @@ use Rattle.vm_parts.specs.declared.run_state.PendingRun.{PendingRun}
 use Rattle.journal_errors.specs.Types.{type_number}
 use Rattle.vm_types.specs.declared.command_type.CommandRelationship.{CommandRelationship}
 use Rattle.vm_types.specs.declared.types.AwaitResponse.{AwaitResponse}
-use Rattle.vm_types.specs.declared.types.AwaitResponse.TheVariants.{AnyCompleted, CancelSignalReceived, ExecuteRun, WaitingExternalProgress}
+use Rattle.vm_types.specs.declared.types.AwaitResponse.TheVariants.{AnyCompleted, CancelSignalReceived, EphemeralNotificationReady, ExecuteRun, WaitingExternalProgress}
 use Rattle.await_trees.specs.declared.handle.NotificationHandle.{NotificationHandle}
 use Rattle.vm_types.specs.declared.values.Value.{Value}
 use Rattle.vm_parts.specs.Deliveries.{id_at, present_for, taken_by}
@@ -56,11 +56,15 @@ use Rattle.vm_asks.specs.declared.asks.Command.{Command}
 use Rattle.vm_asks.specs.Asks.{EachIs, any_refusal, ask_of}
 use Rattle.vm_machine.specs.Takes.{result_taken, take_step, taken_at, value_noted, value_taken}
 use Rattle.vm_machine.specs.Inputs.{acknowledged, acknowledged_by, acknowledgement_step, close_step, closed_at, counted_entry, end_at, end_step, ended, enqueued, entries_in, entry_step, input_at, input_by, input_counted, input_numbered, input_past, input_read, input_step, malformed_step, message_step, notification_step, queued, start_step, started, started_with}
+use Rattle.journal_state.specs.declared.state.GetStateEphemeralNotification.{GetStateEphemeralNotification}
+use Rattle.journal_state.specs.declared.state.VoidOrValue.{VoidOrValue}
+use Rattle.vm_machine.specs.Ephemerals.{completed_by, ephemeral_notification_in, ephemeral_notification_step, result_comes}
 use Rattle.vm_machine.specs.Reports.{is_retry, related_to, report_step}
 use Rattle.journal_values.specs.declared.notification.NotificationResult.{NotificationResult}
 use Rattle.vm_parts.specs.declared.context.Known.{Known}
 use Rattle.vm_parts.specs.declared.context.Known.TheVariants as known_as
 use Rattle.vm_parts.specs.declared.context.StateMap.{StateMap}
+use Rattle.vm_parts.specs.Ephemerals.{any_in_flight}
 use Rattle.vm_parts.specs.States.{known, known_keys}
 use Rattle.vm_asks.specs.declared.state_read.StateRead.{StateRead}
 use Rattle.vm_asks.specs.declared.state_read.StateRead.TheVariants as reads
@@ -162,7 +166,7 @@ not_closed Replaying e = refl
 not_closed Processing e = refl
 not_closed Closed e = absurd cc
 
-goes_on : (v : Machine) → v.failure ≡ None → is_running v.phase ≡ true → is_over v ≡ false
+pub goes_on : (v : Machine) → v.failure ≡ None → is_running v.phase ≡ true → is_over v ≡ false
 goes_on v live runs = λ i. is_some (live i) || not_closed v.phase runs i
 
 command_goes_on : (m : Message) (id : ℕ) → is_terminal m ≡ false → is_terminal (with_ids id m) ≡ false
@@ -221,7 +225,7 @@ replayed_quiet : (m : Message) (ignore : Bool) (v u : Machine) → Same v u → 
 unfolding replayed
 replayed_quiet m ignore v u s c = then_compared m ignore v (popped (type_of m) u) (popped_quiet (type_of m) v u s c)
 
-quiet_event : {A : Type 0} (v : Machine) (o : Outcome A) → Quiet v o → Event v o
+pub quiet_event : {A : Type 0} (v : Machine) (o : Outcome A) → Quiet v o → Event v o
 quiet_event v (Done a w) s = writes_nothing v w s
 quiet_event v (Failed e w) s = s
 
@@ -421,7 +425,7 @@ suspended_so v u future s goes =
     }
 
 -- a message that isn't terminal, or none
-none_last : (b : Bool) (c : Bool) (m : Message) (after : Bool) → b ≡ false → is_terminal m ≡ false → EndsOnce b (if c then m ∷ [] else []) after
+pub none_last : (b : Bool) (c : Bool) (m : Message) (after : Bool) → b ≡ false → is_terminal m ≡ false → EndsOnce b (if c then m ∷ [] else []) after
 none_last true c m after e t = absurd cc
 none_last false true m after e t = rw t tt
 none_last false false m after e t = tt
@@ -436,14 +440,15 @@ waiting_so v u left s goes =
       ends_once = none_last (is_over v) (says_so u.version u.options.awaiting_on_policy executing left) (message.AwaitingOn (record { future = sent (ids u.results) left; executing_side_effects = false })) (is_over u) goes refl;
     }
 
-waits_so : (closed executing : Bool) (left : Tree) (v u : Machine) → Same v u → is_over v ≡ false → Event v (waits_by closed executing left u)
-waits_so false executing left v u s goes = waiting_so v u left s goes
-waits_so true true left v u s goes = writes_nothing v u s
-waits_so true false left v u s goes = suspended_so v u (sent (ids u.results) left) s goes
+waits_so : (closed in_flight executing : Bool) (left : Tree) (v u : Machine) → Same v u → is_over v ≡ false → Event v (waits_by closed in_flight executing left u)
+waits_so false in_flight executing left v u s goes = waiting_so v u left s goes
+waits_so true true executing left v u s goes = s
+waits_so true false true left v u s goes = writes_nothing v u s
+waits_so true false false left v u s goes = suspended_so v u (sent (ids u.results) left) s goes
 
 runs_so : (run : Option PendingRun) (executing : Bool) (left : Tree) (v u : Machine) → Same v u → is_over v ≡ false → Event v (waits_on run executing left u)
 runs_so (Some run) executing left v u s goes = writes_nothing v (executed (handles_of left) u) (record { output = s.output; closed = s.closed; failure = s.failure })
-runs_so None executing left v u s goes = waits_so u.input_closed executing left v u s goes
+runs_so None executing left v u s goes = waits_so u.input_closed (any_in_flight u.ephemeral) executing left v u s goes
 
 pending_so : (replaying : Bool) (run : Option PendingRun) (executing : Bool) (left : Tree) (v u : Machine) → Same v u → is_over v ≡ false
     → Event v (if replaying then pending_in_replay (handles_of left) u else waits_on run executing left u)
@@ -483,6 +488,7 @@ behind_so v Next (Done (Ok AnyCompleted) w) o h f on = f w refl on
 behind_so v Next (Done (Ok CancelSignalReceived) w) o h f on = subst (Event v) (sym on) h
 behind_so v Next (Done (Ok (ExecuteRun run)) w) o h f on = subst (Event v) (sym on) h
 behind_so v Next (Done (Ok (WaitingExternalProgress input run)) w) o h f on = subst (Event v) (sym on) h
+behind_so v Next (Done (Ok (EphemeralNotificationReady id)) w) o h f on = subst (Event v) (sym on) h
 behind_so v Next (Done (Err e) w) o h f on = subst (Event v) (sym on) h
 behind_so v Next (Failed e w) o h f on = subst (Event v) (sym on) h
 
@@ -685,17 +691,36 @@ acknowledgement_quiet raw Replaying v = same v
 acknowledgement_quiet raw Processing v = acknowledged_quiet (acknowledgement_in raw.body) v
 acknowledgement_quiet raw Closed v = same v
 
-message_so : (raw : RawMessage) (v : Machine) (a b c d : Bool)
-    → Quiet v (if a then start_step raw v.phase v else if b then entry_step raw v.phase v else if c then notification_step raw v.phase v else if d then acknowledgement_step raw v.phase v else refused fault.UnexpectedInputMessage v)
-message_so raw v true b c d = start_quiet raw v.phase v refl
-message_so raw v false true c d = entry_quiet raw v.phase v refl
-message_so raw v false false true d = notification_quiet raw v.phase v refl
-message_so raw v false false false true = acknowledgement_quiet raw v.phase v
-message_so raw v false false false false = same v
+completed_quiet : (id : ℕ) (found : Option VoidOrValue) (v : Machine) → Quiet v (result_comes id found v)
+completed_quiet id None v = same v
+completed_quiet id (Some found) v = record { output = refl; closed = refl; failure = refl }
+
+completed_by_quiet : (n : Option GetStateEphemeralNotification) (v : Machine) → Quiet v (completed_by n v)
+completed_by_quiet None v = same v
+completed_by_quiet (Some n) v = completed_quiet n.id n.result v
+
+ephemeral_quiet : (raw : RawMessage) (p : Phase) (v : Machine) → Quiet v (ephemeral_notification_step raw p v)
+ephemeral_quiet raw WaitingStart v = same v
+ephemeral_quiet raw WaitingReplayEntries v = same v
+ephemeral_quiet raw Replaying v = same v
+ephemeral_quiet raw Processing v = completed_by_quiet (ephemeral_notification_in raw.body) v
+ephemeral_quiet raw Closed v = same v
+
+other_so : (raw : RawMessage) (v : Machine) (d e : Bool) → Quiet v (if d then acknowledgement_step raw v.phase v else if e then ephemeral_notification_step raw v.phase v else refused fault.UnexpectedInputMessage v)
+other_so raw v true e = acknowledgement_quiet raw v.phase v
+other_so raw v false true = ephemeral_quiet raw v.phase v
+other_so raw v false false = same v
+
+message_so : (raw : RawMessage) (v : Machine) (a b c d e : Bool)
+    → Quiet v (if a then start_step raw v.phase v else if b then entry_step raw v.phase v else if c then notification_step raw v.phase v else if d then acknowledgement_step raw v.phase v else if e then ephemeral_notification_step raw v.phase v else refused fault.UnexpectedInputMessage v)
+message_so raw v true b c d e = start_quiet raw v.phase v refl
+message_so raw v false true c d e = entry_quiet raw v.phase v refl
+message_so raw v false false true d e = notification_quiet raw v.phase v refl
+message_so raw v false false false d e = other_so raw v d e
 
 message_quiet : (raw : RawMessage) (v : Machine) → Quiet v (message_step raw v)
 unfolding message_step
-message_quiet raw v = message_so raw v (type_number raw.ty == 1) (nat_le 10 (type_number raw.ty) && nat_lt (type_number raw.ty) 30) (type_number raw.ty == 30) (type_number raw.ty == 6)
+message_quiet raw v = message_so raw v (type_number raw.ty == 1) (nat_le 10 (type_number raw.ty) && nat_lt (type_number raw.ty) 30) (type_number raw.ty == 30) (type_number raw.ty == 6) (type_number raw.ty == 9)
 
 pub message_writes : (raw : RawMessage) (v : Machine) → EventWrites v (called (message_step raw v) v)
 message_writes raw v = called_writes v (message_step raw v) (λ live. quiet_event v (message_step raw v) (message_quiet raw v))

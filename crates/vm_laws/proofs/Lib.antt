@@ -1,6 +1,7 @@
 pub mod Acknowledging
 pub mod Carried
 pub mod Endings
+pub mod Ephemerals
 pub mod Outputs
 pub mod Replaying
 pub mod Sleeping

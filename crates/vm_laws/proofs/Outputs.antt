@@ -31,18 +31,21 @@ use Rattle.vm_parts.specs.Tracked.{invocation_ids}
 use Rattle.vm_machine.specs.Commands.{answered_by, commanded}
 use Rattle.vm_machine.specs.Several.{BehindFirst, MakesAll, MakesOne, commanded_before}
 use Rattle.vm_laws.specs.Endings.{EndsIf, EndsOnce, EventWrites, Writes, is_over, is_terminal}
+use Rattle.vm_types.specs.declared.types.EphemeralCompletionId.{EphemeralCompletionId}
+use Rattle.vm_machine.specs.Ephemerals.{answers_ready, ephemeral_step, take_ephemeral_step}
 use Rattle.vm_machine.specs.Takes.{take_step}
 use Rattle.vm_machine.specs.Inputs.{close_step, end_step, input_step, malformed_step, message_step}
 use Rattle.vm_machine.specs.Signals.{awakeable_step, signal_step}
 use Rattle.vm_machine.specs.Outcomes.{CalledBy, Does, DoesBy, Done, Failed, IsStarved, Outcome, called, refused}
 use Rattle.vm_machine.specs.Reports.{report_step}
 use Rattle.vm_laws.proofs.Endings.{answered, awaited_writes, awakeable_writes, signal_writes, read_writes, before_event, called_writes, close_writes, end_writes, input_writes, commanded_event, malformed_writes, message_writes, nothing_behind, proposed_write, report_writes, same, take_writes, writes_nothing}
+use Rattle.vm_laws.proofs.Ephemerals.{ephemeral_writes, take_ephemeral_writes}
 use Rattle.vm_asks.specs.declared.state_read.StateRead.{StateRead}
 use Rattle.vm_machine.specs.Reads.{read_step}
 use Rattle.retries.specs.declared.policy.RetryPolicy.{RetryPolicy}
 use Rattle.runs.specs.declared.types.RunExitResult.{RunExitResult}
 use Rattle.vm_machine.specs.Proposals.{Proposes}
-use Rattle.invocation_vm.specs.Calls.{CallsCommand, CallsFlatAwait, CallsFor, CallsProposal, CallsRead, new_awakeable_step, CallsAllFor}
+use Rattle.invocation_vm.specs.Calls.{AnswersReady, CallsAwaitBy, CallsCommand, CallsFlatAwait, CallsFor, CallsProposal, CallsRead, new_awakeable_step, CallsAllFor}
 use Rattle.vm_machine.specs.Skips.{skips_replay}
 use Rattle.vm_laws.specs.Outputs.{EndsOnceAfter, StaysSo}
 use Rattle.invocation_vm.specs.Frames.{Tail, Rest, Garbage, frames_of}
@@ -171,6 +174,12 @@ end_stays r old new c = calls_stay end_step r old new (end_writes old.machine) c
 pub take_stays : (handle : ℕ) (r : Result (Option Value) Error) (old new : View) → Calls (take_step handle) r old new → StaysSo old new
 take_stays handle r old new c = calls_stay (take_step handle) r old new (take_writes handle old.machine) c
 
+pub ephemeral_stays : (key : List ℕ) (r : Result EphemeralCompletionId Error) (old new : View) → Calls (ephemeral_step key) r old new → StaysSo old new
+ephemeral_stays key r old new c = calls_stay (ephemeral_step key) r old new (ephemeral_writes key old.machine) c
+
+pub take_ephemeral_stays : (id : ℕ) (r : Result (Option Value) Error) (old new : View) → Calls (take_ephemeral_step id) r old new → StaysSo old new
+take_ephemeral_stays id r old new c = calls_stay (take_ephemeral_step id) r old new (take_ephemeral_writes id old.machine) c
+
 -- ---- several commands
 
 one_writes : (c : Command) (cs : List Command) (r : Result NotificationHandle Error) (v w : Machine) → is_terminal c.message ≡ false → MakesOne c cs r v w → Writes v w
@@ -214,8 +223,16 @@ finishes_write false first r v mid w h on = subst (Writes v) (sym on.1) h
 pub whole_writes : (t : Tree) (r : Result (Result AwaitResponse Error) Error) (v w : Machine) → AwaitsWhole t r v w → Writes v w
 whole_writes t r v w (first, mid, does, fin) = finishes_write (sends_cancels first) first r v mid w (does_by_writes (CalledBy (Awaits t v) v) first v mid (λ o. awaited_writes t v o) does) fin
 
+ready_stays : (r : Result AwaitResponse Error) (old new : View) → AnswersReady r old new → StaysSo old new
+ready_stays r old new (id, may, is, left) =
+    stays old new (subst (λ (x : View). Writes old.machine x.machine) (sym left) (writes_nothing old.machine old.machine (same old.machine)))
+
+await_by : (b : Bool) (future : UnresolvedFuture) (r : Result AwaitResponse Error) (old new : View) → CallsAwaitBy b future r old new → StaysSo old new
+await_by true future r old new h = ready_stays r old new h
+await_by false future r old new (answered, (whole, u), is) = stays old new (whole_writes (tree_of future) answered old.machine new.machine whole)
+
 pub await_stays : (future : UnresolvedFuture) (r : Result AwaitResponse Error) (old new : View) → CallsFlatAwait future r old new → StaysSo old new
-await_stays future r old new (answered, (whole, u), is) = stays old new (whole_writes (tree_of future) answered old.machine new.machine whole)
+await_stays future r old new h = await_by (answers_ready old.machine) future r old new h
 
 -- ---- what comes in
 

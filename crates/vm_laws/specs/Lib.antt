@@ -1,4 +1,5 @@
 pub mod Endings
+pub mod Ephemerals
 pub mod Numbers
 pub mod Outputs
 pub mod Replays

@@ -1,5 +1,5 @@
 //! Laws of the calls, in replay as in Processing.
-ghost use Rattle.std.specs.Prelude.{◌≡◌, ℕ, Bool, true, false, find, List, [], ◌∷◌, Option, Some, None, Result};
+ghost use Rattle.std.specs.Prelude.{◌≡◌, ◌+◌, ℕ, Bool, true, false, find, List, [], ◌∷◌, Option, Some, None, Result};
 ghost use Rattle.vm_types.specs.declared.types.AwakeableHandle.{AwakeableHandle};
 ghost use Rattle.await_trees.specs.declared.handle.NotificationHandle.{NotificationHandle};
 ghost use Rattle.vm_machine.specs.declared.machine.Machine.{Machine};
@@ -39,6 +39,11 @@ ghost use Rattle.vm_awaits.specs.Awaits.{Awaits};
 ghost use Rattle.vm_machine.specs.Proposals.{Acknowledges, Proposes, proposed};
 ghost use Rattle.await_trees.specs.Tree.{Tree};
 ghost use Rattle.vm_types.specs.declared.types.AwaitResponse.{AwaitResponse};
+ghost use Rattle.vm_types.specs.declared.types.EphemeralCompletionId.{EphemeralCompletionId};
+ghost use Rattle.vm_types.specs.declared.values.Value.{Value};
+ghost use Rattle.vm_machine.specs.Ephemerals.{ephemeral_notification_step, ephemeral_step, take_ephemeral_step};
+ghost use Rattle.vm_machine.specs.declared.phase.Phase.{Phase};
+ghost use Rattle.vm_laws.specs.Ephemerals.{LeavesJournal};
 
 /// The calls that change the state do so, whether their command is written or popped.
 #[tactic(auto, using(crate::proofs::Carried::issued_changes))]
@@ -48,14 +53,15 @@ pub fn state_is_changed()
 
 /// Numbers are given in order, each once: a call takes as many completion ids and handles as its command has, an
 /// state read one of both, an awakeable one signal id and one handle, a named signal one handle; what is answered is the
-/// handle that came next. A state read leaves the state as it is.
-#[tactic(auto, using(crate::proofs::Carried::issued_counts, crate::proofs::Carried::issued_handle, crate::proofs::Carried::awakeable_makes, crate::proofs::Carried::signal_makes, crate::proofs::Carried::read_gives))]
+/// handle that came next. A state read leaves the state as it is. An ephemeral read is given the next of its own ids.
+#[tactic(auto, using(crate::proofs::Carried::issued_counts, crate::proofs::Carried::issued_handle, crate::proofs::Carried::awakeable_makes, crate::proofs::Carried::signal_makes, crate::proofs::Carried::read_gives, crate::proofs::Ephemerals::read_counts))]
 pub fn numbers_are_in_order()
     ensures calls { (m : Message) (unstable : Bool) (h : NotificationHandle) (v w : Machine) → issued m unstable v ≡ Done h w → Counted (ids_of m) 0 (ids_of m) v.counters w.counters }
     ensures handles { (m : Message) (unstable : Bool) (h : NotificationHandle) (v w : Machine) → issued m unstable v ≡ Done h w → h.0 ≡ v.counters.handle }
     ensures reads { (r : StateRead) (h : NotificationHandle) (v w : Machine) → read_step r v ≡ Done h w → Counted 1 0 1 v.counters w.counters × (h.0 ≡ v.counters.handle) × (w.state ≡ v.state) }
     ensures awakeables { (a : AwakeableHandle) (v w : Machine) → awakeable_step v ≡ Done a w → Counted 0 1 1 v.counters w.counters × (a.handle.0 ≡ v.counters.handle) }
     ensures signals { (name : List ℕ) (h : NotificationHandle) (v w : Machine) → signal_step name v ≡ Done h w → Counted 0 0 1 v.counters w.counters × (h.0 ≡ v.counters.handle) }
+    ensures ephemeral_reads { (key : List ℕ) (id : EphemeralCompletionId) (v w : Machine) → ephemeral_step key v ≡ Done id w → (w.counters.ephemeral ≡ v.counters.ephemeral + 1) × (id.0 ≡ v.counters.ephemeral) }
 {}
 
 /// Whatever happens to a machine, at most one Suspension, Error or End is written, and nothing behind it: nothing on a
@@ -67,6 +73,8 @@ pub fn output_ends_once()
     ensures reads { (r : StateRead) (v : Machine) → EventWrites v (called (read_step r v) v) }
     ensures awaits { (t : Tree) (v : Machine) (o : Outcome (Result AwaitResponse Error)) → Awaits t v o → EventWrites v (called o v) }
     ensures takes { (handle : ℕ) (v : Machine) → EventWrites v (called (take_step handle v) v) }
+    ensures ephemeral_reads { (key : List ℕ) (v : Machine) → EventWrites v (called (ephemeral_step key v) v) }
+    ensures ephemeral_takes { (id : ℕ) (v : Machine) → EventWrites v (called (take_ephemeral_step id v) v) }
     ensures inputs { (v : Machine) → EventWrites v (called (input_step v) v) }
     ensures ends { (v : Machine) → EventWrites v (called (end_step v) v) }
     ensures reports { (e : Error) (relationship : Option CommandRelationship) (v : Machine) → EventWrites v (called (report_step e relationship v) v) }
@@ -74,6 +82,14 @@ pub fn output_ends_once()
     ensures messages { (raw : RawMessage) (v : Machine) → EventWrites v (called (message_step raw v) v) }
     ensures malformed { (v : Machine) → EventWrites v (called (malformed_step v) v) }
     ensures closings { (v : Machine) → EventWrites v (called (close_step v) v) }
+{}
+
+/// Ephemeral reads leave the journal's side as it was: the commands, their numbers and the last of them, whether one was written, the
+/// phase, the state and the results. So do the takes of their values, and the notifications that bring them.
+pub fn ephemeral_reads_leave_the_journal()
+    ensures reads { (key : List ℕ) (id : EphemeralCompletionId) (v w : Machine) → ephemeral_step key v ≡ Done id w → LeavesJournal v w }
+    ensures takes { (id : ℕ) (r : Option Value) (v w : Machine) → take_ephemeral_step id v ≡ Done r w → LeavesJournal v w }
+    ensures notifications { (raw : RawMessage) (phase : Phase) (v w : Machine) → ephemeral_notification_step raw phase v ≡ Done tt w → LeavesJournal v w }
 {}
 
 /// In Processing an acknowledgement brings the proposed result, once, as the completion of its run, and is refused where none is kept;

@@ -12,6 +12,7 @@ ghost use Rattle.vm_types.specs.declared.types.AwakeableHandle.{AwakeableHandle}
 ghost use Rattle.vm_types.specs.declared.types.CallHandle.{CallHandle};
 ghost use Rattle.vm_types.specs.declared.types.DeadlineCallHandle.{DeadlineCallHandle};
 ghost use Rattle.await_trees.specs.declared.handle.NotificationHandle.{NotificationHandle};
+ghost use Rattle.vm_types.specs.declared.types.EphemeralCompletionId.{EphemeralCompletionId};
 ghost use Rattle.vm_types.specs.declared.types.SendHandle.{SendHandle};
 ghost use Rattle.retries.specs.declared.policy.RetryPolicy.{RetryPolicy};
 ghost use Rattle.runs.specs.declared.types.RunExitResult.{RunExitResult};
@@ -22,6 +23,7 @@ ghost use Rattle.vm_types.specs.declared.values.Value.{Value};
 ghost use Rattle.vm_machine.specs.declared.machine.Machine.{Machine};
 ghost use Rattle.vm_asks.specs.declared.asks.Command.{Command};
 ghost use Rattle.vm_asks.specs.Asks.{call_handles, deadline_handles, send_handle, sleep_command};
+ghost use Rattle.vm_machine.specs.Ephemerals.{ephemeral_step, take_ephemeral_step};
 ghost use Rattle.vm_machine.specs.Takes.{take_step};
 ghost use Rattle.vm_laws.specs.Endings.{is_terminal};
 ghost use Rattle.vm_machine.specs.Inputs.{end_step, input_step};
@@ -54,6 +56,8 @@ pub fn all_output_ends_once()
     ensures runs { (name : List ℕ) (r : Result RunHandle Error) (old new : View) → CallsRun name r old new → StaysSo old new }
     ensures proposals { (handle : NotificationHandle) (exit : RunExitResult) (policy : RetryPolicy) (r : Result Unit Error) (old new : View) → CallsProposal handle exit policy r old new → StaysSo old new }
     ensures reads { (read : StateRead) (r : Result NotificationHandle Error) (old new : View) → CallsRead read r old new → StaysSo old new }
+    ensures ephemeral_reads { (key : List ℕ) (r : Result EphemeralCompletionId Error) (old new : View) → Calls (ephemeral_step key) r old new → StaysSo old new }
+    ensures ephemeral_takes { (id : ℕ) (r : Result (Option Value) Error) (old new : View) → Calls (take_ephemeral_step id) r old new → StaysSo old new }
     ensures awakeables { (r : Result AwakeableHandle Error) (old new : View) → Calls new_awakeable_step r old new → StaysSo old new }
     ensures signals { (name : List ℕ) (r : Result NotificationHandle Error) (old new : View) → Calls (signal_step name) r old new → StaysSo old new }
     ensures ends { (r : Result Unit Error) (old new : View) → Calls end_step r old new → StaysSo old new }

@@ -34,6 +34,7 @@ use Rattle.vm_machine.specs.declared.phase.Phase.{Phase}
 use Rattle.vm_machine.specs.declared.phase.Phase.TheVariants.{WaitingStart, WaitingReplayEntries, Replaying, Processing, Closed}
 use Rattle.vm_machine.specs.Outcomes.{Outcome, Done, Failed, ◌>>=◌, refused, about_last, ruled, failed, starved}
 use Rattle.vm_machine.specs.Commands.{entered, about_next, popped}
+use Rattle.vm_machine.specs.Ephemerals.{ephemeral_notification_step}
 use Rattle.vm_machine.specs.Phases.{state_fault}
 use Rattle.vm_machine.specs.Skips.{counters_past, skipped, skips_replay}
 use Rattle.vm_asks.specs.Carried.{past_all}
@@ -158,6 +159,7 @@ message_step raw v =
     else if nat_le 10 (type_number raw.ty) && nat_lt (type_number raw.ty) 30 then entry_step raw v.phase v
     else if type_number raw.ty == 30 then notification_step raw v.phase v
     else if type_number raw.ty == 6 then acknowledgement_step raw v.phase v
+    else if type_number raw.ty == 9 then ephemeral_notification_step raw v.phase v
     else refused fault.UnexpectedInputMessage v
 
 -- bytes that are no frame

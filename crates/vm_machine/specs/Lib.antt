@@ -1,4 +1,5 @@
 pub mod Commands
+pub mod Ephemerals
 pub mod Inputs
 pub mod Making
 pub mod Outcomes

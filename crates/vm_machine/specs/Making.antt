@@ -8,6 +8,7 @@ use Rattle.vm_parts.specs.declared.context.StateCoverage.TheVariants.{Partial}
 use Rattle.vm_types.specs.declared.options.VMOptions.{VMOptions}
 use Rattle.vm_parts.specs.Counting.{fresh_counters}
 use Rattle.vm_parts.specs.Deliveries.{no_results}
+use Rattle.vm_parts.specs.Ephemerals.{no_ephemerals}
 use Rattle.vm_machine.specs.declared.machine.Machine.{Machine}
 use Rattle.vm_machine.specs.declared.phase.Phase.TheVariants.{WaitingStart}
 
@@ -46,7 +47,7 @@ fresh alloc version options = record {
   runs = [];
   proposals = [];
   tracked = [];
-  ephemeral = [];
+  ephemeral = no_ephemerals;
   output = [];
   output_ended = false;
 }

@@ -2,10 +2,17 @@
 use Rattle.std.specs.Prelude.{Bool, true, false}
 use Rattle.journal_errors.specs.declared.faults.NamedFault.{NamedFault}
 use Rattle.journal_errors.specs.declared.faults.NamedFault.TheVariants as fault
+use Rattle.journal_errors.specs.declared.version.Version.{Version}
+use Rattle.journal_errors.specs.declared.version.Version.TheVariants.{V8}
 use Rattle.vm_types.specs.declared.types.State.{State}
 use Rattle.vm_types.specs.declared.types.State.TheVariants as state
 use Rattle.vm_machine.specs.declared.phase.Phase.{Phase}
 use Rattle.vm_machine.specs.declared.phase.Phase.TheVariants.{WaitingStart, WaitingReplayEntries, Replaying, Processing, Closed}
+
+-- the version is V8
+abbrev pub is_from_v8 : Version → Bool
+is_from_v8 V8 = true
+is_from_v8 earlier = false
 
 -- the handler runs
 abbrev pub is_running : Phase → Bool

@@ -1,6 +1,7 @@
 //! The machine of the VM: one function for each event, each with the outcome that its contract names.
 #![tactic(auto)]
 
+pub mod ephemeral;
 pub mod fault;
 pub mod input;
 pub mod issue;

@@ -9,10 +9,10 @@ use journal_messages::RawMessage;
 use runs::{KeptProposals, RunState};
 use std::alloc::{AllocError, Global};
 use vm_parts::{
-    AsyncResults, Counters, EphemeralCommand, LastCommand, Outbox, Queue, StartInfo, StateCoverage,
-    StateMap, TrackedCalls, VMOptions,
+    AsyncResults, Counters, EphemeralCommands, LastCommand, Outbox, Queue, StartInfo,
+    StateCoverage, StateMap, TrackedCalls, VMOptions,
 };
-use wire::{Items, Text};
+use wire::Text;
 
 /// All that a machine is.
 #[derive(Drop)]
@@ -41,7 +41,8 @@ pub struct Machine {
     pub proposals: KeptProposals,
     /// The calls whose invocations are cancelled with the handler's.
     pub tracked: TrackedCalls,
-    pub ephemeral: Items<EphemeralCommand>,
+    /// The ephemeral reads whose results are to come, or weren't taken.
+    pub ephemeral: EphemeralCommands,
     /// The frames that wait to be taken.
     pub output: Outbox,
     /// Whether a terminal frame was written, or the machine has failed: no frame comes any more.
@@ -93,7 +94,7 @@ impl Machine {
             runs: RunState::new(alloc),
             proposals: KeptProposals::new(alloc),
             tracked: TrackedCalls::new(alloc),
-            ephemeral: Items::new(alloc),
+            ephemeral: EphemeralCommands::new(alloc),
             output: Outbox::new(alloc),
             output_ended: false,
         })

@@ -1,7 +1,7 @@
 -- The numbers that calls are given.
 use Rattle.std.specs.Prelude.{ℕ, ◌+◌, ◌-◌, ◌==◌, if◌then◌else◌, nat_lt, Option, Some, None, unwrap_or}
 use Rattle.journal_errors.specs.declared.faults.NamedFault.{NamedFault}
-use Rattle.journal_errors.specs.declared.faults.NamedFault.TheVariants.{ExhaustedCompletionIds, ExhaustedSignalIds, ExhaustedHandles, ExhaustedCommandIndexes}
+use Rattle.journal_errors.specs.declared.faults.NamedFault.TheVariants.{ExhaustedCompletionIds, ExhaustedSignalIds, ExhaustedHandles, ExhaustedCommandIndexes, ExhaustedEphemeralIds}
 use Rattle.vm_parts.specs.declared.context.Counters.{Counters}
 
 -- Command indexes count from 0, completion and ephemeral ids from 1, signal ids and handles from 17.
@@ -32,3 +32,7 @@ missing_signals signals handles c =
     if nat_lt (most - c.signal) signals then Some ExhaustedSignalIds
     else if nat_lt (most - c.handle) handles then Some ExhaustedHandles
     else None
+
+-- An ephemeral read needs an id.
+abbrev pub missing_ephemeral : Counters → Option NamedFault
+missing_ephemeral c = if c.ephemeral == most then Some ExhaustedEphemeralIds else None

@@ -6,7 +6,7 @@ ghost use Rattle.vm_parts.specs.declared.context.StateMap.{StateMap as State};
 ghost use Rattle.vm_parts.specs.declared.context.Known.TheVariants.{Empty, Value};
 ghost use Rattle.vm_parts.specs.Entries.{IsInOrder, by_bytes, entries_of, is_among};
 ghost use Rattle.vm_parts.specs.States.{state_set, state_cleared, all_cleared, known, has_value, known_keys};
-ghost use Rattle.vm_parts.specs.Counting.{fresh_counters, next_index, missing, missing_signals};
+ghost use Rattle.vm_parts.specs.Counting.{fresh_counters, next_index, missing, missing_ephemeral, missing_signals};
 
 use crate::entries::Entries;
 use crate::state_key::StateKey;
@@ -131,6 +131,17 @@ impl Counters {
         } else {
             None
         }
+    }
+
+    /// Whether no id is left for an ephemeral read.
+    pub fn missing_ephemeral(&self) -> Option<NamedFault>
+        ensures found { result ≡ missing_ephemeral self.now }
+        ensures left { IfNone result (self.now.ephemeral + 1 < 2 ^ 32) }
+    {
+        if self.ephemeral == u32::MAX {
+            return Some(NamedFault::ExhaustedEphemeralIds);
+        }
+        None
     }
 }
 

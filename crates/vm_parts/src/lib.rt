@@ -16,7 +16,7 @@ pub mod tracked;
 pub use async_results::{AsyncResults, Mapping};
 pub use context::{Counters, Known, LastCommand, StartInfo, StateCoverage, StateMap};
 pub use entries::Entries;
-pub use ephemeral::EphemeralCommand;
+pub use ephemeral::EphemeralCommands;
 pub use outbox::Outbox;
 pub use queue::Queue;
 pub use run_state::{KeptProposal, PendingRun, RunExecution, TrackedCall};

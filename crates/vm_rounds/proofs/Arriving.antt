@@ -11,6 +11,9 @@ use Rattle.std.proofs.lemmas.Bool.{eqb-true}
 use Rattle.journal_errors.specs.declared.error.Error.{Error}
 use Rattle.journal_errors.specs.declared.faults.NamedFault.TheVariants as fault
 use Rattle.journal_messages.specs.declared.message.RawMessage.{RawMessage}
+use Rattle.journal_state.specs.declared.state.GetStateEphemeralNotification.{GetStateEphemeralNotification}
+use Rattle.journal_state.specs.declared.state.VoidOrValue.{VoidOrValue}
+use Rattle.vm_machine.specs.Ephemerals.{completed_by, ephemeral_notification_in, ephemeral_notification_step, result_comes}
 use Rattle.journal_values.specs.declared.notification.Notification.{Notification}
 use Rattle.journal_messages.specs.Reading.{notification_in, acknowledgement_in}
 use Rattle.journal_errors.specs.Types.{type_number}
@@ -20,13 +23,13 @@ use Rattle.vm_machine.specs.declared.phase.Phase.{Phase}
 use Rattle.vm_machine.specs.declared.phase.Phase.TheVariants.{WaitingStart, WaitingReplayEntries, Replaying, Processing, Closed}
 use Rattle.vm_machine.specs.Inputs.{entry_step, message_step, notification_step, queued, start_step, acknowledged, acknowledged_by, acknowledgement_step, completion_of}
 use Rattle.vm_machine.specs.Outcomes.{Outcome, called, called_at, refused, settled}
-use Rattle.vm_machine.specs.Phases.{is_running}
+use Rattle.vm_machine.specs.Phases.{is_closed, is_processing, is_running}
 use Rattle.invocation_vm.specs.Views.{all_received, left_by, received}
 use Rattle.vm_model.specs.Calls.{Setup, identity_of}
 use Rattle.vm_model.specs.Moves.{Point, later}
 use Rattle.vm_rounds.specs.Agreement.{Agrees, Aside, machine_at}
 use Rattle.vm_rounds.specs.Arrivals.{arriving, brought_by, kept_after, kept_behind, stands_for, unacknowledged}
-use Rattle.vm_rounds.specs.Journals.{is_acknowledgement, is_notification, notifications_among, notified_by}
+use Rattle.vm_rounds.specs.Journals.{is_acknowledgement, is_ephemeral, is_notification, notifications_among, notified_by}
 use Rattle.vm_rounds.proofs.Requesting.{runs_at}
 
 -- a machine that has failed stays as it is
@@ -43,6 +46,24 @@ pub live_receives : (v : Machine) (raw : RawMessage) → v.failure ≡ None → 
 unfolding received called
 live_receives v raw is = ap (λ f. left_by (called_at f (message_step raw v) v)) is
 
+-- ---- a frame of no other kind
+
+-- by whether it brings the result of an ephemeral read
+abbrev pub unknown_step : Bool → RawMessage → Phase → Machine → Outcome Unit
+unknown_step ephemeral raw phase v = if ephemeral then ephemeral_notification_step raw phase v else refused fault.UnexpectedInputMessage v
+
+-- it is refused while the handler waits or replays
+pub unknown_fails : (b : Bool) (raw : RawMessage) (phase : Phase) (v : Machine) → is_processing phase ≡ false → is_closed phase ≡ false → IsSome (left_by (settled (unknown_step b raw phase v))).failure
+unknown_fails true raw WaitingStart v past open_yet = refl
+unknown_fails true raw WaitingReplayEntries v past open_yet = refl
+unknown_fails true raw Replaying v past open_yet = refl
+unknown_fails true raw Processing v past open_yet = absurd (cc)
+unknown_fails true raw Closed v past open_yet = absurd (cc)
+unknown_fails false raw phase v past open_yet = refl
+
+pub unknown_dead : {A : Type 0} (b : Bool) (raw : RawMessage) (phase : Phase) (v : Machine) → is_processing phase ≡ false → is_closed phase ≡ false → (left_by (settled (unknown_step b raw phase v))).failure ≡ None → A
+unknown_dead b raw phase v past open_yet none = absurd (let z : true ≡ false = sym (unknown_fails b raw phase v past open_yet) ∙ ap is_some none in cc)
+
 -- ---- by the number of the type
 
 abbrev by_number : RawMessage → ℕ → Machine → Outcome Unit
@@ -51,16 +72,16 @@ by_number raw n v =
     else if nat_le 10 n && nat_lt n 30 then entry_step raw v.phase v
     else if n == 30 then notification_step raw v.phase v
     else if n == 6 then acknowledgement_step raw v.phase v
-    else refused fault.UnexpectedInputMessage v
+    else unknown_step (n == 9) raw v.phase v
 
 notification_is : (v : Machine) (raw : RawMessage) → is_notification raw ≡ true → message_step raw v ≡ notification_step raw v.phase v
 unfolding message_step
 notification_is v raw e = ap (λ n. by_number raw n v) (eqb-true (type_number raw.ty) 30 e)
 
 other_is : (v : Machine) (raw : RawMessage) → is_notification raw ≡ false
-    → message_step raw v ≡ (if type_number raw.ty == 1 then start_step raw v.phase v else if nat_le 10 (type_number raw.ty) && nat_lt (type_number raw.ty) 30 then entry_step raw v.phase v else if type_number raw.ty == 6 then acknowledgement_step raw v.phase v else refused fault.UnexpectedInputMessage v)
+    → message_step raw v ≡ (if type_number raw.ty == 1 then start_step raw v.phase v else if nat_le 10 (type_number raw.ty) && nat_lt (type_number raw.ty) 30 then entry_step raw v.phase v else if type_number raw.ty == 6 then acknowledgement_step raw v.phase v else unknown_step (is_ephemeral raw) raw v.phase v)
 unfolding message_step
-other_is v raw e = ap (λ b. if type_number raw.ty == 1 then start_step raw v.phase v else if nat_le 10 (type_number raw.ty) && nat_lt (type_number raw.ty) 30 then entry_step raw v.phase v else if b then notification_step raw v.phase v else if type_number raw.ty == 6 then acknowledgement_step raw v.phase v else refused fault.UnexpectedInputMessage v) e
+other_is v raw e = ap (λ b. if type_number raw.ty == 1 then start_step raw v.phase v else if nat_le 10 (type_number raw.ty) && nat_lt (type_number raw.ty) 30 then entry_step raw v.phase v else if b then notification_step raw v.phase v else if type_number raw.ty == 6 then acknowledgement_step raw v.phase v else unknown_step (is_ephemeral raw) raw v.phase v) e
 
 -- a frame isn't both
 not_both : (raw : RawMessage) → is_notification raw ≡ true → is_acknowledgement raw ≡ false
@@ -97,9 +118,22 @@ module _ (s : Setup) (given : StateMap) (written : List RawMessage) (aside : Asi
   acknowledged_comes None = inr refl
   acknowledged_comes (Some ack) = kept_comes ack.id (find (is_for ack.id) aside.proposals)
 
-  -- another message than a notification is refused, but for an acknowledgement in Processing
+  -- the result of an ephemeral read changes nothing, as none is held
+  found_comes : (id : ℕ) (found : Option VoidOrValue) → Comes s given written (left_by (settled (result_comes id found here))) [] aside.proposals p
+  found_comes id None = inr refl
+  found_comes id (Some found) = inl (subst (Agrees s given written here) (λ i. record p { queue = sym (append-nil p.queue) i }) (record { aside = aside; machine = refl; identity = identity }), refl)
+
+  completed_comes : (n : Option GetStateEphemeralNotification) → Comes s given written (left_by (settled (completed_by n here))) [] aside.proposals p
+  completed_comes None = inr refl
+  completed_comes (Some n) = found_comes n.id n.result
+
+  unknown_comes : (b : Bool) (raw : RawMessage) → Comes s given written (left_by (settled (unknown_step b raw Processing here))) [] aside.proposals p
+  unknown_comes true raw = completed_comes (ephemeral_notification_in raw.body)
+  unknown_comes false raw = inr refl
+
+  -- another message than a notification is refused, but for an acknowledgement and the result of an ephemeral read in Processing
   other_comes : (raw : RawMessage) (phase : Phase) → is_running phase ≡ true → (a b d : Bool)
-      → Comes s given written (left_by (settled (if a then start_step raw phase here else if b then entry_step raw phase here else if d then acknowledgement_step raw phase here else refused fault.UnexpectedInputMessage here)))
+      → Comes s given written (left_by (settled (if a then start_step raw phase here else if b then entry_step raw phase here else if d then acknowledgement_step raw phase here else unknown_step (is_ephemeral raw) raw phase here)))
       (notified_by (if d then stands_for aside.proposals (acknowledgement_in raw.body) else None) []) (if d then unacknowledged aside.proposals (acknowledgement_in raw.body) else aside.proposals) p
   other_comes raw WaitingStart e a b d = absurd (cc)
   other_comes raw WaitingReplayEntries e a b d = absurd (cc)
@@ -107,11 +141,11 @@ module _ (s : Setup) (given : StateMap) (written : List RawMessage) (aside : Asi
   other_comes raw Replaying e true b d = inr refl
   other_comes raw Replaying e false true d = inr refl
   other_comes raw Replaying e false false true = inr refl
-  other_comes raw Replaying e false false false = inr refl
+  other_comes raw Replaying e false false false = inr (unknown_fails (is_ephemeral raw) raw Replaying here refl refl)
   other_comes raw Processing e true b d = inr refl
   other_comes raw Processing e false true d = inr refl
   other_comes raw Processing e false false true = acknowledged_comes (acknowledgement_in raw.body)
-  other_comes raw Processing e false false false = inr refl
+  other_comes raw Processing e false false false = unknown_comes (is_ephemeral raw) raw
 
   one_comes : (raw : RawMessage) → Comes s given written (received raw here) (notified_by (brought_by aside.proposals raw) []) (kept_behind aside.proposals raw) p
   one_comes raw = by_kind (is_notification raw) refl

@@ -23,7 +23,7 @@ use Rattle.vm_types.specs.declared.options.SignalDelivery.TheVariants.{Queued}
 use Rattle.vm_types.specs.declared.steps.Answer.TheVariants as answer
 use Rattle.vm_types.specs.declared.steps.Step.TheVariants as step
 use Rattle.vm_types.specs.declared.types.AwaitResponse.{AwaitResponse}
-use Rattle.vm_types.specs.declared.types.AwaitResponse.TheVariants.{AnyCompleted, CancelSignalReceived, ExecuteRun, WaitingExternalProgress}
+use Rattle.vm_types.specs.declared.types.AwaitResponse.TheVariants.{AnyCompleted, CancelSignalReceived, EphemeralNotificationReady, ExecuteRun, WaitingExternalProgress}
 use Rattle.vm_parts.specs.Deliveries.{same_id}
 use Rattle.vm_types.specs.Options.{ends_awaits}
 use Rattle.vm_parts.specs.Tracked.{id_of_result, unresolved, with_next_id}
@@ -130,6 +130,7 @@ module _ (s : Setup) (m : Meaning) (given : StateMap) (written : List RawMessage
   PartTo p (Done (Ok CancelSignalReceived) w) = IsGathered p w
   PartTo p (Done (Ok (WaitingExternalProgress input run)) w) = StillAgrees input s m given written p (v p) w
   PartTo p (Done (Ok (ExecuteRun run)) w) = StillAgrees false s m given written p (v p) w
+  PartTo p (Done (Ok (EphemeralNotificationReady id)) w) = ⊥
   PartTo p (Done (Err e) w) = IsSuspended s m given p (v p) w
   PartTo p (Failed e w) = RefusesAt s m given p (v p) e w
 
@@ -155,6 +156,7 @@ module _ (s : Setup) (m : Meaning) (given : StateMap) (written : List RawMessage
   part_behind p q a (Done (Ok CancelSignalReceived) w) h = record { at = h.at; reached = one_behind p q h.at a h.reached; machine = h.machine; is_cancelled = h.is_cancelled; known = h.known }
   part_behind p q a (Done (Ok (WaitingExternalProgress input run)) w) h = still_behind input p q a w h
   part_behind p q a (Done (Ok (ExecuteRun run)) w) h = still_behind false p q a w h
+  part_behind p q a (Done (Ok (EphemeralNotificationReady id)) w) h = absurd h
   part_behind p q a (Done (Err e) w) h = record {
     at = h.at;
     waits = record { moves = moves_behind s m given p q h.at [] [] a.moves h.waits.moves; future = h.waits.future; awaits = h.waits.awaits; asks = h.waits.asks; no_arrival = h.waits.no_arrival; none_recorded = sym a.left ∙ h.waits.none_recorded; no_command = h.waits.no_command };
@@ -214,6 +216,7 @@ module _ (s : Setup) (m : Meaning) (given : StateMap) (written : List RawMessage
     plain_to never (Done (Ok CancelSignalReceived) w) x = absurd x
     plain_to never (Done (Ok (WaitingExternalProgress input run)) w) x = x
     plain_to never (Done (Ok (ExecuteRun run)) w) x = x
+    plain_to never (Done (Ok (EphemeralNotificationReady id)) w) x = absurd x
     plain_to never (Done (Err e) w) x = x
     plain_to never (Failed e w) x = x
 
@@ -233,6 +236,7 @@ module _ (s : Setup) (m : Meaning) (given : StateMap) (written : List RawMessage
   ReadTo handles p (Done (Ok CancelSignalReceived) w) = ⊥
   ReadTo handles p (Done (Ok (WaitingExternalProgress input run)) w) = StillAgrees input s m given written p (v p) w
   ReadTo handles p (Done (Ok (ExecuteRun run)) w) = StillAgrees false s m given written p (v p) w
+  ReadTo handles p (Done (Ok (EphemeralNotificationReady id)) w) = ⊥
   ReadTo handles p (Done (Err e) w) = IsSuspended s m given p (v p) w
   ReadTo handles p (Failed e w) = RefusesAt s m given p (v p) e w
 
@@ -241,6 +245,7 @@ module _ (s : Setup) (m : Meaning) (given : StateMap) (written : List RawMessage
   read_behind handles p q a (Done (Ok CancelSignalReceived) w) h = absurd h
   read_behind handles p q a (Done (Ok (WaitingExternalProgress input run)) w) h = part_behind p q a (Done (Ok (WaitingExternalProgress input run)) w) h
   read_behind handles p q a (Done (Ok (ExecuteRun run)) w) h = part_behind p q a (Done (Ok (ExecuteRun run)) w) h
+  read_behind handles p q a (Done (Ok (EphemeralNotificationReady id)) w) h = absurd h
   read_behind handles p q a (Done (Err e) w) h = part_behind p q a (Done (Err e) w) h
   read_behind handles p q a (Failed e w) h = part_behind p q a (Failed e w) h
 
@@ -339,6 +344,7 @@ module _ (s : Setup) (m : Meaning) (given : StateMap) (written : List RawMessage
     read_by (Done (Ok CancelSignalReceived) w) x o on = absurd x
     read_by (Done (Ok (WaitingExternalProgress input run)) w) x o on = subst (ReadTo handles p) (sym on) x
     read_by (Done (Ok (ExecuteRun run)) w) x o on = subst (ReadTo handles p) (sym on) x
+    read_by (Done (Ok (EphemeralNotificationReady id)) w) x o on = absurd x
     read_by (Done (Err e) w) x o on = subst (ReadTo handles p) (sym on) x
     read_by (Failed e w) x o on = subst (ReadTo handles p) (sym on) x
 
@@ -355,6 +361,7 @@ module _ (s : Setup) (m : Meaning) (given : StateMap) (written : List RawMessage
       behind rest_to (Done (Ok CancelSignalReceived) w) x on = absurd x
       behind rest_to (Done (Ok (WaitingExternalProgress input run)) w) x on = subst (PartTo p) (sym on) x
       behind rest_to (Done (Ok (ExecuteRun run)) w) x on = subst (PartTo p) (sym on) x
+      behind rest_to (Done (Ok (EphemeralNotificationReady id)) w) x on = absurd x
       behind rest_to (Done (Err e) w) x on = subst (PartTo p) (sym on) x
       behind rest_to (Failed e w) x on = subst (PartTo p) (sym on) x
 
@@ -397,6 +404,7 @@ module _ (s : Setup) (m : Meaning) (given : StateMap) (written : List RawMessage
     cancels_by (Done (Ok CancelSignalReceived) w) x o on = absurd x
     cancels_by (Done (Ok (WaitingExternalProgress input run)) w) x o on = subst (PartTo p) (sym on) x
     cancels_by (Done (Ok (ExecuteRun run)) w) x o on = subst (PartTo p) (sym on) x
+    cancels_by (Done (Ok (EphemeralNotificationReady id)) w) x o on = absurd x
     cancels_by (Done (Err e) w) x o on = subst (PartTo p) (sym on) x
     cancels_by (Failed e w) x o on = subst (PartTo p) (sym on) x
 

@@ -8,6 +8,9 @@ use Rattle.std.specs.Prelude.{◌==◌, if◌then◌else◌, is_some, IsSome}
 use Rattle.journal_errors.specs.declared.faults.NamedFault.{NamedFault}
 use Rattle.journal_errors.specs.declared.faults.NamedFault.TheVariants as fault
 use Rattle.journal_messages.specs.declared.message.RawMessage.{RawMessage}
+use Rattle.journal_state.specs.declared.state.GetStateEphemeralNotification.{GetStateEphemeralNotification}
+use Rattle.journal_state.specs.declared.state.VoidOrValue.{VoidOrValue}
+use Rattle.vm_machine.specs.Ephemerals.{completed_by, ephemeral_notification_in, ephemeral_notification_step, result_comes}
 use Rattle.journal_values.specs.declared.notification.Notification.{Notification}
 use Rattle.journal_attempt.specs.declared.start.Start.{Start}
 use Rattle.journal_errors.specs.declared.version.Version.{Version}
@@ -21,14 +24,14 @@ use Rattle.vm_machine.specs.declared.phase.Phase.TheVariants.{WaitingStart, Wait
 use Rattle.vm_machine.specs.Inputs.{counted_entry, coverage_of, entries_in, info_of, queued, started, started_with, acknowledged, acknowledged_by, acknowledgement_step}
 use Rattle.vm_machine.specs.Outcomes.{Outcome, Done, refused, ruled, ruled_by, settled}
 use Rattle.invocation_vm.specs.Views.{all_received, left_by, received}
-use Rattle.vm_rounds.specs.Journals.{is_command, is_notification, is_acknowledgement}
-use Rattle.vm_rounds.specs.Blames.{FailsAt, acknowledgement_fault, fault_among, fault_by, kept_fault, notification_fault, other_fault, read_fault, refused_start, start_fault, frame_fault}
+use Rattle.vm_rounds.specs.Journals.{is_command, is_ephemeral, is_notification, is_acknowledgement}
+use Rattle.vm_rounds.specs.Blames.{FailsAt, acknowledgement_fault, completion_fault, ephemeral_fault, found_fault, unknown_fault, fault_among, fault_by, kept_fault, notification_fault, other_fault, read_fault, refused_start, start_fault, frame_fault}
 use Rattle.vm_parts.specs.declared.context.StateMap.{StateMap}
 use Rattle.vm_model.specs.Calls.{Setup}
 use Rattle.vm_model.specs.Moves.{Point, later}
 use Rattle.vm_rounds.specs.Agreement.{Agrees}
 use Rattle.vm_rounds.specs.Arrivals.{arriving, kept_after}
-use Rattle.vm_rounds.proofs.Arriving.{failed_stays, frames_come}
+use Rattle.vm_rounds.proofs.Arriving.{failed_stays, frames_come, unknown_step}
 use Rattle.vm_rounds.proofs.Entries.{message_by, receives_by}
 
 -- a machine that is alive, of this version and options
@@ -74,9 +77,28 @@ acknowledgement_fits raw Replaying v = refl
 acknowledgement_fits raw Processing v = read_fits (acknowledgement_in raw.body) v
 acknowledgement_fits raw Closed v = (_, refl, (refl, (refl, refl)), (refl, refl))
 
-other_fits : (raw : RawMessage) (phase : Phase) (v : Machine) (d : Bool) → Fits (other_fault v.proposals phase raw d) v (if d then acknowledgement_step raw phase v else refused fault.UnexpectedInputMessage v)
+found_fits : (id : ℕ) (found : Option VoidOrValue) (v : Machine) → Fits (found_fault found) v (result_comes id found v)
+found_fits id None v = refl
+found_fits id (Some found) v = (_, refl, (refl, (refl, refl)), (refl, refl))
+
+completion_fits : (n : Option GetStateEphemeralNotification) (v : Machine) → Fits (completion_fault n) v (completed_by n v)
+completion_fits None v = refl
+completion_fits (Some n) v = found_fits n.id n.result v
+
+ephemeral_fits : (raw : RawMessage) (phase : Phase) (v : Machine) → Fits (ephemeral_fault phase raw) v (ephemeral_notification_step raw phase v)
+ephemeral_fits raw WaitingStart v = refl
+ephemeral_fits raw WaitingReplayEntries v = refl
+ephemeral_fits raw Replaying v = refl
+ephemeral_fits raw Processing v = completion_fits (ephemeral_notification_in raw.body) v
+ephemeral_fits raw Closed v = (_, refl, (refl, (refl, refl)), (refl, refl))
+
+unknown_fits : (b : Bool) (raw : RawMessage) (phase : Phase) (v : Machine) → Fits (unknown_fault b phase raw) v (unknown_step b raw phase v)
+unknown_fits true raw phase v = ephemeral_fits raw phase v
+unknown_fits false raw phase v = refl
+
+other_fits : (raw : RawMessage) (phase : Phase) (v : Machine) (d : Bool) → Fits (other_fault v.proposals phase raw d) v (if d then acknowledgement_step raw phase v else unknown_step (is_ephemeral raw) raw phase v)
 other_fits raw phase v true = acknowledgement_fits raw phase v
-other_fits raw phase v false = refl
+other_fits raw phase v false = unknown_fits (is_ephemeral raw) raw phase v
 
 pub message_fits : (raw : RawMessage) (phase : Phase) (v : Machine) (a b c d : Bool) → Fits (fault_by v.proposals phase raw a b c d) v (message_by raw phase v a b c d)
 message_fits raw WaitingStart v true b c d = starts_fit (start_in raw.body) v

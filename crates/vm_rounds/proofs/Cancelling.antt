@@ -20,7 +20,7 @@ use Rattle.vm_types.specs.declared.steps.Answer.{Answer}
 use Rattle.vm_types.specs.declared.steps.Answer.TheVariants as answer
 use Rattle.vm_types.specs.declared.steps.Step.TheVariants as step
 use Rattle.vm_types.specs.declared.types.AwaitResponse.{AwaitResponse}
-use Rattle.vm_types.specs.declared.types.AwaitResponse.TheVariants.{AnyCompleted, CancelSignalReceived, ExecuteRun, WaitingExternalProgress}
+use Rattle.vm_types.specs.declared.types.AwaitResponse.TheVariants.{AnyCompleted, CancelSignalReceived, EphemeralNotificationReady, ExecuteRun, WaitingExternalProgress}
 use Rattle.vm_parts.specs.Deliveries.{id_at, present_for, taken_by}
 use Rattle.vm_types.specs.Options.{ends_awaits}
 use Rattle.vm_parts.specs.Tracked.{invocation_ids, unresolved, without_first_call}
@@ -271,6 +271,7 @@ module _ (s : Setup) (m : Meaning) (given : StateMap) (future : UnresolvedFuture
   CancelsTo written aside p (Ok (Ok AnyCompleted)) w = ⊥
   CancelsTo written aside p (Ok (Ok (WaitingExternalProgress input run))) w = ⊥
   CancelsTo written aside p (Ok (Ok (ExecuteRun run))) w = ⊥
+  CancelsTo written aside p (Ok (Ok (EphemeralNotificationReady id))) w = ⊥
   CancelsTo written aside p (Ok (Err e)) w = ⊥
   CancelsTo written aside p (Err e) w = IsRefused s m given p (cleared written aside p) e w ⊎ IsCutShort s m given p (cleared written aside p) e w
 
@@ -279,6 +280,7 @@ module _ (s : Setup) (m : Meaning) (given : StateMap) (future : UnresolvedFuture
   cancels_behind written aside p ids mid x (Ok (Ok AnyCompleted)) w h = absurd h
   cancels_behind written aside p ids mid x (Ok (Ok (WaitingExternalProgress input run))) w h = absurd h
   cancels_behind written aside p ids mid x (Ok (Ok (ExecuteRun run))) w h = absurd h
+  cancels_behind written aside p ids mid x (Ok (Ok (EphemeralNotificationReady id))) w h = absurd h
   cancels_behind written aside p ids mid x (Ok (Err e)) w h = absurd h
   cancels_behind written aside p ids mid x (Err e) w h = either_behind s m given p x.at x.made (cleared written aside p) (cleared (written ++ x.made) x.beside x.at) x.moves x.output refl refl e w h
 
@@ -379,6 +381,7 @@ module _ (s : Setup) (m : Meaning) (given : StateMap) (written : List RawMessage
   answered_so a w (Ok (Ok AnyCompleted), mid, does, fin) = subst (λ (z : Result AwaitResponse Error × Machine). Follows s m given written p here (Done (await_reply z.0) z.1)) (λ i. (sym (ap (ok_in a) fin.0) i, sym fin.1 i)) (first_done (Ok AnyCompleted) mid does)
   answered_so a w (Ok (Ok (WaitingExternalProgress input run)), mid, does, fin) = subst (λ (z : Result AwaitResponse Error × Machine). Follows s m given written p here (Done (await_reply z.0) z.1)) (λ i. (sym (ap (ok_in a) fin.0) i, sym fin.1 i)) (first_done (Ok (WaitingExternalProgress input run)) mid does)
   answered_so a w (Ok (Ok (ExecuteRun run)), mid, does, fin) = subst (λ (z : Result AwaitResponse Error × Machine). Follows s m given written p here (Done (await_reply z.0) z.1)) (λ i. (sym (ap (ok_in a) fin.0) i, sym fin.1 i)) (first_done (Ok (ExecuteRun run)) mid does)
+  answered_so a w (Ok (Ok (EphemeralNotificationReady id)), mid, does, fin) = absurd (first_done (Ok (EphemeralNotificationReady id)) mid does)
   answered_so a w (Ok (Err e), mid, does, fin) = subst (λ (z : Result AwaitResponse Error × Machine). Follows s m given written p here (Done (await_reply z.0) z.1)) (λ i. (sym (ap (ok_in a) fin.0) i, sym fin.1 i)) (first_done (Err e) mid does)
   answered_so a w (Ok (Ok CancelSignalReceived), mid, does, fin) = by_answer a (whole_cancels mid (Ok a) w x fin)
     where
@@ -392,6 +395,7 @@ module _ (s : Setup) (m : Meaning) (given : StateMap) (written : List RawMessage
       by_answer (Ok AnyCompleted) h = absurd h
       by_answer (Ok (WaitingExternalProgress input run)) h = absurd h
       by_answer (Ok (ExecuteRun run)) h = absurd h
+      by_answer (Ok (EphemeralNotificationReady id)) h = absurd h
       by_answer (Err e) h = absurd h
 
   failed_as : (e : Error) (w : Machine) → AwaitsWhole (tree_of future) (Err e) here w → IsRefused s m given p here e w ⊎ IsCutShort s m given p here e w
@@ -400,6 +404,7 @@ module _ (s : Setup) (m : Meaning) (given : StateMap) (written : List RawMessage
   failed_as e w (Ok (Ok AnyCompleted), mid, does, fin) = absurd (let z : Err e ≡ Ok (Ok AnyCompleted) = fin.0 in cc)
   failed_as e w (Ok (Ok (WaitingExternalProgress input run)), mid, does, fin) = absurd (let z : Err e ≡ Ok (Ok (WaitingExternalProgress input run)) = fin.0 in cc)
   failed_as e w (Ok (Ok (ExecuteRun run)), mid, does, fin) = absurd (let z : Err e ≡ Ok (Ok (ExecuteRun run)) = fin.0 in cc)
+  failed_as e w (Ok (Ok (EphemeralNotificationReady id)), mid, does, fin) = absurd (let z : Err e ≡ Ok (Ok (EphemeralNotificationReady id)) = fin.0 in cc)
   failed_as e w (Ok (Err d), mid, does, fin) = absurd (let z : Err e ≡ Ok (Err d) = fin.0 in cc)
   failed_as e w (Ok (Ok CancelSignalReceived), mid, does, fin) =
       let x : IsGathered s m given written aside future identity queued p mid = first_done (Ok CancelSignalReceived) mid does in

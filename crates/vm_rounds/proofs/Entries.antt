@@ -24,8 +24,8 @@ use Rattle.vm_machine.specs.Outcomes.{Outcome, Done, refused, settled}
 use Rattle.invocation_vm.specs.Views.{all_received, left_by, received}
 use Rattle.vm_model.specs.Calls.{Setup}
 use Rattle.vm_rounds.specs.Agreement.{Aside}
-use Rattle.vm_rounds.specs.Journals.{AcknowledgesNothing, TakenIn, HasAll, HasStarted, StartCame, aside_for, setup_for, Started, StillWaits, commands_among, is_command, is_notification, machine_fed, missing, notifications_among, notified_by, phase_missing, waiting, is_acknowledgement}
-use Rattle.vm_rounds.proofs.Arriving.{behind_one, failed_stays, live_receives, some_failure}
+use Rattle.vm_rounds.specs.Journals.{AcknowledgesNothing, TakenIn, HasAll, HasStarted, StartCame, aside_for, setup_for, Started, StillWaits, commands_among, is_command, is_ephemeral, is_notification, machine_fed, missing, notifications_among, notified_by, phase_missing, waiting, is_acknowledgement}
+use Rattle.vm_rounds.proofs.Arriving.{behind_one, failed_stays, live_receives, some_failure, unknown_fails, unknown_step}
 
 -- one entry less is missing
 abbrev counted_to : Setup → StateMap → Aside → ℕ → List RawMessage → List Notification → Machine
@@ -52,7 +52,7 @@ message_by raw phase v a b c d =
     else if b then entry_step raw phase v
     else if c then notification_step raw phase v
     else if d then acknowledgement_step raw phase v
-    else refused fault.UnexpectedInputMessage v
+    else unknown_step (is_ephemeral raw) raw phase v
 
 pub receives_by : (v : Machine) (raw : RawMessage) → v.failure ≡ None → received raw v ≡ left_by (settled (message_by raw v.phase v (type_number raw.ty == 1) (is_command raw) (is_notification raw) (is_acknowledgement raw)))
 unfolding message_step
@@ -94,7 +94,7 @@ entry_counts s given aside k cs ns raw false true true d one = absurd (let z : t
 entry_counts s given aside k cs ns raw false true false d one = inr ((counts_to s given aside k (cs ++ raw ∷ []) ns ∙ λ i. waiting s given aside k (cs ++ raw ∷ []) (sym (append-nil ns) i)), one.no_acknowledgement refl)
 entry_counts s given aside k cs ns raw false false true d one = queued_counts s given aside k cs ns (d ≡ false) (one.note_acknowledges_nothing refl) (notification_in raw.body)
 entry_counts s given aside k cs ns raw false false false true one = inl refl
-entry_counts s given aside k cs ns raw false false false false one = inl refl
+entry_counts s given aside k cs ns raw false false false false one = inl (unknown_fails (is_ephemeral raw) raw WaitingReplayEntries (machine_fed s given (missing (suc k) aside) cs ns WaitingReplayEntries) refl refl)
 
 entry_comes : (s : Setup) (given : StateMap) (aside : Aside) (k : ℕ) (cs : List RawMessage) (ns : List Notification) (raw : RawMessage) → Counts s given aside k (cs ++ commands_among (raw ∷ [])) (ns ++ notifications_among (raw ∷ [])) (AcknowledgesNothing raw) (received raw (waiting s given aside (suc k) cs ns))
 entry_comes s given aside k cs ns raw =
@@ -113,7 +113,7 @@ more_counts s given aside cs ns raw true b c d one = inl refl
 more_counts s given aside cs ns raw false true c d one = inl refl
 more_counts s given aside cs ns raw false false true d one = queued_stays s given aside cs ns (d ≡ false) (one.note_acknowledges_nothing refl) (notification_in raw.body)
 more_counts s given aside cs ns raw false false false true one = inl refl
-more_counts s given aside cs ns raw false false false false one = inl refl
+more_counts s given aside cs ns raw false false false false one = inl (unknown_fails (is_ephemeral raw) raw Replaying (waiting s given aside 0 cs ns) refl refl)
 
 more_comes : (s : Setup) (given : StateMap) (aside : Aside) (cs : List RawMessage) (ns : List Notification) (raw : RawMessage) → Counts s given aside 0 cs (ns ++ notifications_among (raw ∷ [])) (AcknowledgesNothing raw) (received raw (waiting s given aside 0 cs ns))
 more_comes s given aside cs ns raw =
@@ -220,7 +220,7 @@ first_by alloc version options raw true b c d = starts_with alloc version option
 first_by alloc version options raw false true c d = inl refl
 first_by alloc version options raw false false true d = inl refl
 first_by alloc version options raw false false false true = inl refl
-first_by alloc version options raw false false false false = inl refl
+first_by alloc version options raw false false false false = inl (unknown_fails (is_ephemeral raw) raw WaitingStart (fresh alloc version options) refl refl)
 
 first_comes : (alloc : Global) (version : Version) (options : VMOptions) (raw : RawMessage) → StartCame alloc version options raw (received raw (fresh alloc version options))
 first_comes alloc version options raw = subst (StartCame alloc version options raw) (sym (receives_by (fresh alloc version options) raw refl)) (first_by alloc version options raw (type_number raw.ty == 1) (is_command raw) (is_notification raw) (is_acknowledgement raw))

@@ -8,6 +8,9 @@ use Rattle.journal_errors.specs.declared.error.Error.{Error}
 use Rattle.journal_errors.specs.declared.faults.NamedFault.TheVariants as fault
 use Rattle.journal_errors.specs.Types.{type_number}
 use Rattle.journal_messages.specs.declared.message.RawMessage.{RawMessage}
+use Rattle.journal_state.specs.declared.state.GetStateEphemeralNotification.{GetStateEphemeralNotification}
+use Rattle.journal_state.specs.declared.state.VoidOrValue.{VoidOrValue}
+use Rattle.vm_machine.specs.Ephemerals.{completed_by, ephemeral_notification_in, result_comes}
 use Rattle.journal_messages.specs.Reading.{acknowledgement_in, notification_in, start_in}
 use Rattle.journal_values.specs.declared.notification.Notification.{Notification}
 use Rattle.runs.specs.Kept.{is_for}
@@ -21,9 +24,9 @@ use Rattle.vm_machine.specs.Inputs.{acknowledged, acknowledged_by, coverage_of, 
 use Rattle.vm_machine.specs.Outcomes.{Done, Failed, Outcome, refused, settled}
 use Rattle.vm_machine.specs.Phases.{is_running}
 use Rattle.invocation_vm.specs.Views.{all_received, left_by, received}
-use Rattle.vm_rounds.specs.Journals.{is_acknowledgement, is_command, is_notification}
+use Rattle.vm_rounds.specs.Journals.{is_acknowledgement, is_command, is_ephemeral, is_notification}
 use Rattle.vm_rounds.specs.Told.{IsLive, NumbersOn, commands_of}
-use Rattle.vm_rounds.proofs.Arriving.{failed_receives}
+use Rattle.vm_rounds.proofs.Arriving.{failed_receives, unknown_step}
 use Rattle.vm_rounds.proofs.Entries.{message_by, receives_by}
 use Rattle.vm_rounds.proofs.Numbers.{Numbers, carried_append, from_append, from_more}
 use Rattle.vm_rounds.proofs.Pieces.{not_failed}
@@ -64,6 +67,22 @@ acknowledged_same : (ack : Option ProposeRunCompletionAck) (v : Machine) → Sam
 acknowledged_same None v = refl
 acknowledged_same (Some ack) v = kept_same ack.id (find (is_for ack.id) v.proposals) v
 
+found_same : (id : ℕ) (found : Option VoidOrValue) (v : Machine) → SameCounters v (result_comes id found v)
+found_same id None v = refl
+found_same id (Some found) v = refl
+
+completed_same : (n : Option GetStateEphemeralNotification) (v : Machine) → SameCounters v (completed_by n v)
+completed_same None v = refl
+completed_same (Some n) v = found_same n.id n.result v
+
+unknown_same : (b : Bool) (raw : RawMessage) (ph : Phase) (v : Machine) → SameCounters v (unknown_step b raw ph v)
+unknown_same true raw WaitingStart v = refl
+unknown_same true raw WaitingReplayEntries v = refl
+unknown_same true raw Replaying v = refl
+unknown_same true raw Processing v = completed_same (ephemeral_notification_in raw.body) v
+unknown_same true raw Closed v = refl
+unknown_same false raw ph v = refl
+
 message_same : (raw : RawMessage) (ph : Phase) (v : Machine) → (a b c d : Bool) → SameCounters v (message_by raw ph v a b c d)
 message_same raw WaitingStart v true b c d = started_same (start_in raw.body) v
 message_same raw WaitingReplayEntries v true b c d = refl
@@ -85,7 +104,7 @@ message_same raw WaitingReplayEntries v false false false true = refl
 message_same raw Replaying v false false false true = refl
 message_same raw Processing v false false false true = acknowledged_same (acknowledgement_in raw.body) v
 message_same raw Closed v false false false true = refl
-message_same raw ph v false false false false = refl
+message_same raw ph v false false false false = unknown_same (is_ephemeral raw) raw ph v
 
 received_same : (raw : RawMessage) (v : Machine) → (received raw v).counters ≡ v.counters
 received_same raw v = by_failure v.failure refl

@@ -26,12 +26,12 @@ use Rattle.invocation_vm.proofs.Cuts.{frames_of-append}
 use Rattle.vm_steps.specs.Heard.{Heard, and_piece, with_pieces}
 use Rattle.vm_steps.specs.declared.progress.Fed.{Fed}
 use Rattle.vm_rounds.specs.Agreement.{Aside}
-use Rattle.vm_rounds.specs.Journals.{HasAll, StillWaits, is_command, is_notification, setup_for, is_acknowledgement}
+use Rattle.vm_rounds.specs.Journals.{HasAll, StillWaits, is_command, is_ephemeral, is_notification, setup_for, is_acknowledgement}
 use Rattle.vm_steps.specs.Record.{Record, heard}
 use Rattle.vm_steps.specs.Stepping.{CloseDoes, Closes, FeedDoes, Feeds, Takes, emptied, kept, kept_at, with_vm}
 use Rattle.vm_parts.specs.Outboxes.{WholeFrames}
 use Rattle.vm_rounds.specs.Told.{BeforeInput, Begun, Comes, IsLive, Quiet, bytes_fed, frames_fed}
-use Rattle.vm_rounds.proofs.Arriving.{failed_receives}
+use Rattle.vm_rounds.proofs.Arriving.{failed_receives, unknown_step}
 use Rattle.vm_rounds.proofs.Entries.{message_by, receives_by}
 use Rattle.vm_rounds.proofs.Pieces.{before_fed, bytes_behind, more_frames, not_failed}
 use Rattle.vm_rounds.proofs.Written.{takes_wrote}
@@ -56,7 +56,11 @@ closed_by raw v true b c d = refl
 closed_by raw v false true c d = refl
 closed_by raw v false false true d = refl
 closed_by raw v false false false true = refl
-closed_by raw v false false false false = refl
+closed_by raw v false false false false = unknown_closed (is_ephemeral raw)
+  where
+    unknown_closed : (b : Bool) → (left_by (settled (unknown_step b raw Closed v))).phase ≡ v.phase
+    unknown_closed true = refl
+    unknown_closed false = refl
 
 closed_received : (raw : RawMessage) (v : Machine) → v.phase ≡ Closed → (received raw v).phase ≡ Closed
 closed_received raw v closed = by_option v.failure refl

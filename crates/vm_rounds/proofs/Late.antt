@@ -27,9 +27,9 @@ use Rattle.vm_steps.specs.declared.progress.Fed.{Fed}
 use Rattle.vm_steps.specs.declared.progress.Progress.{Progress}
 use Rattle.vm_steps.specs.declared.progress.Reply.{Reply}
 use Rattle.vm_steps.specs.declared.progress.Reply.TheVariants as reply
-use Rattle.vm_rounds.specs.Blames.{BadFrame, Began, BehindEnd, Blame, FailsAt, IfError, IsBlamed, IsLate, LateBy, fault_by, fault_among}
+use Rattle.vm_rounds.specs.Blames.{BadFrame, Began, BehindEnd, Blame, FailsAt, IfError, IsBlamed, IsLate, LateBy, fault_by, fault_among, unknown_fault}
 use Rattle.vm_rounds.specs.Blames.Blame.{Memory, Frame, NoFrame}
-use Rattle.vm_rounds.specs.Journals.{is_command, is_notification, is_acknowledgement}
+use Rattle.vm_rounds.specs.Journals.{is_command, is_ephemeral, is_notification, is_acknowledgement}
 use Rattle.vm_steps.specs.Record.{Record, Said, heard, all_heard, all_said}
 use Rattle.vm_steps.specs.Stepping.{Advances, Asks, CloseDoes, Closes, FeedDoes, Feeds, LacksMemory, Reads, StepAt, StepDoes, StepFrom, StepUnless, Takes, fed_now, future_in, kept, kept_at, replied, step_asked, taken_from, with_vm}
 use Rattle.vm_rounds.specs.Told.{BeforeInput, Came, HasCome, IsKeptUnder, IsLive, bytes_fed, frames_fed}
@@ -48,7 +48,11 @@ closed_fault kept others raw true b c d why is = is
 closed_fault kept others raw false true c d why is = is
 closed_fault kept others raw false false true d why is = absurd (cc)
 closed_fault kept others raw false false false true why is = absurd (cc)
-closed_fault kept others raw false false false false why is = is
+closed_fault kept others raw false false false false why is = unknown_closed (is_ephemeral raw) is
+  where
+    unknown_closed : (b : Bool) → unknown_fault b Closed raw ≡ Some why → unknown_fault b Processing raw ≡ Some why
+    unknown_closed true none = absurd (cc)
+    unknown_closed false so = so
 
 began_more : (F G : List RawMessage) → Began F (λ n known. known ≤ n) → Began (F ++ G) (λ n known. known ≤ n)
 began_more F G b = record { first = b.first; others = b.others ++ G; is = ap (λ l. l ++ G) b.is; start = b.start; reads = b.reads; counts = more (length b.others) (length G) (length (b.others ++ G)) b.start.known_entries (length-append b.others G) b.counts }

@@ -29,7 +29,7 @@ use Rattle.runs.specs.Pending.{handle_of, is_executing, is_executing_in, may_exe
 use Rattle.vm_types.specs.declared.options.AwaitingOnPolicy.{AwaitingOnPolicy}
 use Rattle.vm_types.specs.declared.steps.Step.{Step}
 use Rattle.vm_types.specs.declared.types.AwaitResponse.{AwaitResponse}
-use Rattle.vm_types.specs.declared.types.AwaitResponse.TheVariants.{AnyCompleted, CancelSignalReceived, ExecuteRun, WaitingExternalProgress}
+use Rattle.vm_types.specs.declared.types.AwaitResponse.TheVariants.{AnyCompleted, CancelSignalReceived, EphemeralNotificationReady, ExecuteRun, WaitingExternalProgress}
 use Rattle.vm_types.specs.declared.types.AwakeableHandle.{AwakeableHandle}
 use Rattle.vm_types.specs.declared.values.Value.{Value}
 use Rattle.vm_types.specs.Options.{ends_awaits}
@@ -53,6 +53,7 @@ use Rattle.vm_asks.specs.Asks.{any_refusal, ask_of, cancel_invocation_command}
 use Rattle.vm_asks.specs.Carried.{AreFrom, all_carried, carried, read_carried}
 use Rattle.vm_asks.specs.Requests.{ids_of, name_of, shown_type, with_ids}
 use Rattle.vm_asks.specs.StateReads.{eager_type, keys_form, lazy_type, name_read, own_form, recorded_as, recorded_type, result_in, value_form}
+use Rattle.vm_parts.specs.Ephemerals.{any_in_flight}
 use Rattle.vm_machine.specs.declared.machine.Machine.{Machine}
 use Rattle.vm_machine.specs.declared.phase.Phase.{Phase}
 use Rattle.vm_machine.specs.declared.phase.Phase.TheVariants.{WaitingStart, WaitingReplayEntries, Replaying, Processing, Closed}
@@ -379,14 +380,15 @@ module _ (left : Tree) (v u : Machine) (same : Stays v u) where
       let said = said_waiting u.version u.options.awaiting_on_policy (list_any is_executing u.runs) (ids u.results) left in
       record { messages = said; output = ap (λ l. l ++ map encoding said) same.0; from = says_no_id v.counters.completion u.version u.options.awaiting_on_policy (list_any is_executing u.runs) (ids u.results) left; counter = same.1 }
 
-  waits_so : (closed executing : Bool) → Happens Plain v (waits_by closed executing left u)
-  waits_so false executing = λ _. waits
-  waits_so true true = plainly v u same
-  waits_so true false = λ _. suspends
+  waits_so : (closed in_flight executing : Bool) → Happens Plain v (waits_by closed in_flight executing left u)
+  waits_so false in_flight executing = λ _. waits
+  waits_so true true executing = same
+  waits_so true false true = plainly v u same
+  waits_so true false false = λ _. suspends
 
   runs_so : (run : Option PendingRun) (executing : Bool) → Happens Plain v (waits_on run executing left u)
   runs_so (Some run) executing = plainly v (executed (handles_of left) u) same
-  runs_so None executing = waits_so u.input_closed executing
+  runs_so None executing = waits_so u.input_closed (any_in_flight u.ephemeral) executing
 
   pends : Happens Plain v (pending_on left u)
   pends = by_tests (is_replaying u.phase) (find (may_execute (handles_of left)) u.runs) (list_any (is_executing_in (handles_of left)) u.runs)
@@ -417,6 +419,7 @@ behind v Next (Done (Ok AnyCompleted) w) o h f on = f w refl on
 behind v Next (Done (Ok CancelSignalReceived) w) o h f on = subst (Happens Plain v) (sym on) h
 behind v Next (Done (Ok (WaitingExternalProgress input run)) w) o h f on = subst (Happens Plain v) (sym on) h
 behind v Next (Done (Ok (ExecuteRun run)) w) o h f on = subst (Happens Plain v) (sym on) h
+behind v Next (Done (Ok (EphemeralNotificationReady id)) w) o h f on = subst (Happens Plain v) (sym on) h
 behind v Next (Done (Err e) w) o h f on = subst (Happens Plain v) (sym on) h
 behind v Next (Failed e w) o h f on = subst (Happens Plain v) (sym on) h
 

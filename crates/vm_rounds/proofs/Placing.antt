@@ -10,6 +10,9 @@ use Rattle.std.proofs.lemmas.Option.{same_Some}
 use Rattle.journal_errors.specs.declared.error.Error.{Error}
 use Rattle.journal_errors.specs.declared.faults.NamedFault.TheVariants as fault
 use Rattle.journal_messages.specs.declared.message.RawMessage.{RawMessage}
+use Rattle.journal_state.specs.declared.state.GetStateEphemeralNotification.{GetStateEphemeralNotification}
+use Rattle.journal_state.specs.declared.state.VoidOrValue.{VoidOrValue}
+use Rattle.vm_machine.specs.Ephemerals.{completed_by, ephemeral_notification_in, result_comes}
 use Rattle.journal_values.specs.declared.notification.Notification.{Notification}
 use Rattle.journal_attempt.specs.declared.start.Start.{Start}
 use Rattle.journal_errors.specs.declared.version.Version.{Version}
@@ -26,14 +29,14 @@ use Rattle.vm_machine.specs.Outcomes.{Done, refused, ruled, settled}
 use Rattle.vm_machine.specs.Phases.{is_running}
 use Rattle.invocation_vm.specs.Views.{all_received, left_by, received}
 use Rattle.vm_steps.specs.Heard.{Heard, with_pieces}
-use Rattle.vm_rounds.specs.Journals.{HasAll, StillWaits, is_command, is_notification, setup_for, is_acknowledgement}
+use Rattle.vm_rounds.specs.Journals.{HasAll, StillWaits, is_command, is_ephemeral, is_notification, setup_for, is_acknowledgement}
 use Rattle.vm_steps.specs.Record.{Record, heard}
 use Rattle.vm_steps.specs.declared.progress.Fed.{Fed}
 use Rattle.vm_model.specs.Histories.{behind}
 use Rattle.vm_rounds.specs.Arrivals.{kept_after}
 use Rattle.vm_rounds.specs.Told.{BeforeInput, Begun, Came, Comes, HasCome, IsLive, ProposesLate, frames_fed}
 use Rattle.vm_rounds.specs.Blames.{BadFrame, Began, FailsAt, Place, fault_among}
-use Rattle.vm_rounds.proofs.Arriving.{failed_stays, kept_none}
+use Rattle.vm_rounds.proofs.Arriving.{failed_stays, kept_none, unknown_dead, unknown_step}
 use Rattle.vm_rounds.proofs.Blaming.{one_comes}
 use Rattle.vm_rounds.proofs.Entries.{message_by, receives_by}
 use Rattle.vm_rounds.proofs.Proposed.{all_keep, all_none, kept_append}
@@ -103,6 +106,18 @@ acknowledged_behind : (F : List RawMessage) (raw : RawMessage) (v : Machine) →
 acknowledged_behind F raw v p None h = no_failure _ h
 acknowledged_behind F raw v p (Some ack) h = kept_behind F raw v p ack.id (find (is_for ack.id) v.proposals) h
 
+found_behind : (F : List RawMessage) (raw : RawMessage) (v : Machine) → Place v.phase v.entries_missing (F ++ raw ∷ []) → (id : ℕ) (found : Option VoidOrValue) → Stands (F ++ raw ∷ []) (left_by (settled (result_comes id found v)))
+found_behind F raw v p id None h = no_failure _ h
+found_behind F raw v p id (Some found) h = p
+
+completed_behind : (F : List RawMessage) (raw : RawMessage) (v : Machine) → Place v.phase v.entries_missing (F ++ raw ∷ []) → (n : Option GetStateEphemeralNotification) → Stands (F ++ raw ∷ []) (left_by (settled (completed_by n v)))
+completed_behind F raw v p None h = no_failure _ h
+completed_behind F raw v p (Some n) h = found_behind F raw v p n.id n.result h
+
+unknown_behind : (b : Bool) (F : List RawMessage) (raw : RawMessage) (v : Machine) → Place v.phase v.entries_missing (F ++ raw ∷ []) → Stands (F ++ raw ∷ []) (left_by (settled (unknown_step b raw Processing v)))
+unknown_behind true F raw v p h = completed_behind F raw v p (ephemeral_notification_in raw.body) h
+unknown_behind false F raw v p h = no_failure _ h
+
 next_by : (F : List RawMessage) (raw : RawMessage) (phase : Phase) (v : Machine) → v.phase ≡ phase → Place phase v.entries_missing F → (a b c d : Bool) → Stands (F ++ raw ∷ []) (left_by (settled (message_by raw phase v a b c d)))
 next_by F raw WaitingStart v at p true b c d = starts F raw v p (start_in raw.body) refl
 next_by F raw WaitingReplayEntries v at p true b c d = λ h. no_failure _ h
@@ -118,13 +133,13 @@ next_by F raw WaitingReplayEntries v at p false false true d = queued_counts F r
 next_by F raw Replaying v at p false false true d = queued_behind F raw v (subst (λ ph. Place ph v.entries_missing (F ++ raw ∷ [])) (sym at) (still_behind F raw p)) (notification_in raw.body)
 next_by F raw Processing v at p false false true d = queued_behind F raw v (subst (λ ph. Place ph v.entries_missing (F ++ raw ∷ [])) (sym at) (still_behind F raw p)) (notification_in raw.body)
 next_by F raw WaitingStart v at p false false false true = λ h. no_failure _ h
-next_by F raw WaitingStart v at p false false false false = λ h. no_failure _ h
+next_by F raw WaitingStart v at p false false false false = λ h. unknown_dead (is_ephemeral raw) raw WaitingStart v refl refl h
 next_by F raw WaitingReplayEntries v at p false false false true = λ h. no_failure _ h
-next_by F raw WaitingReplayEntries v at p false false false false = λ h. no_failure _ h
+next_by F raw WaitingReplayEntries v at p false false false false = λ h. unknown_dead (is_ephemeral raw) raw WaitingReplayEntries v refl refl h
 next_by F raw Replaying v at p false false false true = λ h. no_failure _ h
-next_by F raw Replaying v at p false false false false = λ h. no_failure _ h
+next_by F raw Replaying v at p false false false false = λ h. unknown_dead (is_ephemeral raw) raw Replaying v refl refl h
 next_by F raw Processing v at p false false false true = acknowledged_behind F raw v (subst (λ ph. Place ph v.entries_missing (F ++ raw ∷ [])) (sym at) (still_behind F raw p)) (acknowledgement_in raw.body)
-next_by F raw Processing v at p false false false false = λ h. no_failure _ h
+next_by F raw Processing v at p false false false false = unknown_behind (is_ephemeral raw) F raw v (subst (λ ph. Place ph v.entries_missing (F ++ raw ∷ [])) (sym at) (still_behind F raw p))
 
 place_next : (F : List RawMessage) (raw : RawMessage) (v : Machine) → v.failure ≡ None → Place v.phase v.entries_missing F → Stands (F ++ raw ∷ []) (received raw v)
 place_next F raw v live p = subst (Stands (F ++ raw ∷ [])) (sym (receives_by v raw live)) (next_by F raw v.phase v refl p (type_number raw.ty == 1) (is_command raw) (is_notification raw) (is_acknowledgement raw))

@@ -12,6 +12,9 @@ use Rattle.journal_errors.specs.Types.{type_number}
 use Rattle.journal_attempt.specs.declared.start.Start.{Start}
 use Rattle.journal_attempt.specs.declared.runs.ProposeRunCompletionAck.{ProposeRunCompletionAck}
 use Rattle.journal_messages.specs.declared.message.RawMessage.{RawMessage}
+use Rattle.journal_state.specs.declared.state.GetStateEphemeralNotification.{GetStateEphemeralNotification}
+use Rattle.journal_state.specs.declared.state.VoidOrValue.{VoidOrValue}
+use Rattle.vm_machine.specs.Ephemerals.{completed_by, ephemeral_notification_in, result_comes}
 use Rattle.journal_messages.specs.Reading.{acknowledgement_in, notification_in, start_in}
 use Rattle.journal_values.specs.declared.notification.Notification.{Notification}
 use Rattle.runs.specs.Firsts.{without_first}
@@ -26,8 +29,8 @@ use Rattle.vm_machine.specs.Phases.{is_running}
 use Rattle.invocation_vm.specs.Views.{all_received, left_by, received}
 use Rattle.vm_rounds.specs.Arrivals.{AllFound, FindsProposal, IsFound, arriving, brought_by, kept_after, kept_behind, stands_for, unacknowledged}
 use Rattle.vm_rounds.specs.Blames.{fault_among}
-use Rattle.vm_rounds.specs.Journals.{AcknowledgesNothing, is_acknowledgement, is_command, is_notification, notifications_among, notified_by}
-use Rattle.vm_rounds.proofs.Arriving.{failed_receives, failed_stays, live_receives}
+use Rattle.vm_rounds.specs.Journals.{AcknowledgesNothing, is_acknowledgement, is_command, is_ephemeral, is_notification, notifications_among, notified_by}
+use Rattle.vm_rounds.proofs.Arriving.{failed_receives, failed_stays, live_receives, unknown_dead, unknown_step}
 use Rattle.vm_rounds.proofs.Blaming.{one_comes as one_fits}
 use Rattle.vm_rounds.proofs.Entries.{message_by, receives_by}
 use Rattle.vm_rounds.proofs.Staying.{no_failure, one_stays}
@@ -175,7 +178,7 @@ by_number raw n v =
     else if nat_le 10 n && nat_lt n 30 then entry_step raw v.phase v
     else if n == 30 then notification_step raw v.phase v
     else if n == 6 then acknowledgement_step raw v.phase v
-    else refused fault.UnexpectedInputMessage v
+    else unknown_step (n == 9) raw v.phase v
 
 acknowledgement_is : (v : Machine) (raw : RawMessage) → is_acknowledgement raw ≡ true → message_step raw v ≡ acknowledgement_step raw v.phase v
 unfolding message_step by_number
@@ -184,6 +187,18 @@ acknowledgement_is v raw e = ap (λ n. by_number raw n v) (eqb-true (type_number
 queued_keeps : (o : Option Notification) (v : Machine) → (left_by (settled (queued o (λ w. w) v))).failure ≡ None → (left_by (settled (queued o (λ w. w) v))).proposals ≡ v.proposals
 queued_keeps None v h = no_failure _ h
 queued_keeps (Some n) v h = refl
+
+found_keeps : (id : ℕ) (found : Option VoidOrValue) (v : Machine) → (left_by (settled (result_comes id found v))).failure ≡ None → (left_by (settled (result_comes id found v))).proposals ≡ v.proposals
+found_keeps id None v h = no_failure _ h
+found_keeps id (Some found) v h = refl
+
+completed_keeps : (n : Option GetStateEphemeralNotification) (v : Machine) → (left_by (settled (completed_by n v))).failure ≡ None → (left_by (settled (completed_by n v))).proposals ≡ v.proposals
+completed_keeps None v h = no_failure _ h
+completed_keeps (Some n) v h = found_keeps n.id n.result v h
+
+unknown_keeps : (b : Bool) (raw : RawMessage) (v : Machine) → (left_by (settled (unknown_step b raw Processing v))).failure ≡ None → (left_by (settled (unknown_step b raw Processing v))).proposals ≡ v.proposals
+unknown_keeps true raw v h = completed_keeps (ephemeral_notification_in raw.body) v h
+unknown_keeps false raw v h = no_failure _ h
 
 others_keep : (raw : RawMessage) (ph : Phase) (v : Machine) (a b c : Bool) → is_running ph ≡ true → (left_by (settled (message_by raw ph v a b c false))).failure ≡ None → (left_by (settled (message_by raw ph v a b c false))).proposals ≡ v.proposals
 others_keep raw WaitingStart v a b c runs h = absurd (cc)
@@ -195,8 +210,8 @@ others_keep raw Replaying v false true c runs h = no_failure _ h
 others_keep raw Processing v false true c runs h = no_failure _ h
 others_keep raw Replaying v false false true runs h = queued_keeps (notification_in raw.body) v h
 others_keep raw Processing v false false true runs h = queued_keeps (notification_in raw.body) v h
-others_keep raw Replaying v false false false runs h = no_failure _ h
-others_keep raw Processing v false false false runs h = no_failure _ h
+others_keep raw Replaying v false false false runs h = unknown_dead (is_ephemeral raw) raw Replaying v refl refl h
+others_keep raw Processing v false false false runs h = unknown_keeps (is_ephemeral raw) raw v h
 
 pub one_keeps : (raw : RawMessage) (v : Machine) → v.failure ≡ None → is_running v.phase ≡ true → Keeps raw v (received raw v)
 one_keeps raw v live runs = by_test (is_acknowledgement raw) refl
@@ -265,6 +280,22 @@ acknowledged_none : (ack : Option ProposeRunCompletionAck) (v : Machine) → v.p
 acknowledged_none None v none = none
 acknowledged_none (Some ack) v none = kept_none_by ack.id (find (is_for ack.id) v.proposals) v none
 
+found_none : (id : ℕ) (found : Option VoidOrValue) (v : Machine) → v.proposals ≡ [] → NoneKept (result_comes id found v)
+found_none id None v none = none
+found_none id (Some found) v none = none
+
+completed_none : (n : Option GetStateEphemeralNotification) (v : Machine) → v.proposals ≡ [] → NoneKept (completed_by n v)
+completed_none None v none = none
+completed_none (Some n) v none = found_none n.id n.result v none
+
+unknown_none : (b : Bool) (raw : RawMessage) (ph : Phase) (v : Machine) → v.proposals ≡ [] → NoneKept (unknown_step b raw ph v)
+unknown_none true raw WaitingStart v none = none
+unknown_none true raw WaitingReplayEntries v none = none
+unknown_none true raw Replaying v none = none
+unknown_none true raw Processing v none = completed_none (ephemeral_notification_in raw.body) v none
+unknown_none true raw Closed v none = none
+unknown_none false raw ph v none = none
+
 message_none : (raw : RawMessage) (ph : Phase) (v : Machine) → v.proposals ≡ [] → (a b c d : Bool) → NoneKept (message_by raw ph v a b c d)
 message_none raw WaitingStart v none true b c d = started_none (start_in raw.body) v none
 message_none raw WaitingReplayEntries v none true b c d = none
@@ -286,7 +317,7 @@ message_none raw WaitingReplayEntries v none false false false true = none
 message_none raw Replaying v none false false false true = none
 message_none raw Processing v none false false false true = acknowledged_none (acknowledgement_in raw.body) v none
 message_none raw Closed v none false false false true = none
-message_none raw ph v none false false false false = none
+message_none raw ph v none false false false false = unknown_none (is_ephemeral raw) raw ph v none
 
 received_none : (raw : RawMessage) (v : Machine) → v.proposals ≡ [] → (received raw v).proposals ≡ []
 received_none raw v none = by_failure v.failure refl

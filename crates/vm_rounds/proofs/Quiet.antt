@@ -10,6 +10,9 @@ use Rattle.journal_errors.specs.declared.faults.NamedFault.TheVariants as fault
 use Rattle.journal_messages.specs.declared.message.Message.{Message}
 use Rattle.journal_messages.specs.declared.message.Message.TheVariants as message
 use Rattle.journal_messages.specs.declared.message.RawMessage.{RawMessage}
+use Rattle.journal_state.specs.declared.state.GetStateEphemeralNotification.{GetStateEphemeralNotification}
+use Rattle.journal_state.specs.declared.state.VoidOrValue.{VoidOrValue}
+use Rattle.vm_machine.specs.Ephemerals.{completed_by, ephemeral_notification_in, ephemeral_notification_step, result_comes}
 use Rattle.journal_values.specs.declared.notification.Notification.{Notification}
 use Rattle.journal_attempt.specs.declared.start.Start.{Start}
 use Rattle.journal_errors.specs.Errors.{error_message}
@@ -155,16 +158,32 @@ acknowledgement_step_silent raw Replaying v = refl
 acknowledgement_step_silent raw Processing v = acknowledged_silent (acknowledgement_in raw.body) v
 acknowledgement_step_silent raw Closed v = refl
 
+found_silent : (id : ℕ) (found : Option VoidOrValue) (v : Machine) → Silent v (result_comes id found v)
+found_silent id None v = refl
+found_silent id (Some found) v = refl
+
+completed_silent : (n : Option GetStateEphemeralNotification) (v : Machine) → Silent v (completed_by n v)
+completed_silent None v = refl
+completed_silent (Some n) v = found_silent n.id n.result v
+
+ephemeral_step_silent : (raw : RawMessage) (phase : Phase) (v : Machine) → Silent v (ephemeral_notification_step raw phase v)
+ephemeral_step_silent raw WaitingStart v = refl
+ephemeral_step_silent raw WaitingReplayEntries v = refl
+ephemeral_step_silent raw Replaying v = refl
+ephemeral_step_silent raw Processing v = completed_silent (ephemeral_notification_in raw.body) v
+ephemeral_step_silent raw Closed v = refl
+
 message_silent : (raw : RawMessage) (v : Machine) → Silent v (message_step raw v)
 unfolding message_step
-message_silent raw v = by_tests (type_number raw.ty == 1) (nat_le 10 (type_number raw.ty) && nat_lt (type_number raw.ty) 30) (type_number raw.ty == 30) (type_number raw.ty == 6)
+message_silent raw v = by_tests (type_number raw.ty == 1) (nat_le 10 (type_number raw.ty) && nat_lt (type_number raw.ty) 30) (type_number raw.ty == 30) (type_number raw.ty == 6) (type_number raw.ty == 9)
   where
-    by_tests : (a b c d : Bool) → Silent v (if a then start_step raw v.phase v else if b then entry_step raw v.phase v else if c then notification_step raw v.phase v else if d then acknowledgement_step raw v.phase v else refused fault.UnexpectedInputMessage v)
-    by_tests true b c d = start_step_silent raw v.phase v
-    by_tests false true c d = entry_step_silent raw v.phase v
-    by_tests false false true d = notification_step_silent raw v.phase v
-    by_tests false false false true = acknowledgement_step_silent raw v.phase v
-    by_tests false false false false = refl
+    by_tests : (a b c d e : Bool) → Silent v (if a then start_step raw v.phase v else if b then entry_step raw v.phase v else if c then notification_step raw v.phase v else if d then acknowledgement_step raw v.phase v else if e then ephemeral_notification_step raw v.phase v else refused fault.UnexpectedInputMessage v)
+    by_tests true b c d e = start_step_silent raw v.phase v
+    by_tests false true c d e = entry_step_silent raw v.phase v
+    by_tests false false true d e = notification_step_silent raw v.phase v
+    by_tests false false false true e = acknowledgement_step_silent raw v.phase v
+    by_tests false false false false true = ephemeral_step_silent raw v.phase v
+    by_tests false false false false false = refl
 
 received_quiet : (raw : RawMessage) (v : Machine) → Quiet v (received raw v)
 unfolding received

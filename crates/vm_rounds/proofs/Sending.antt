@@ -21,7 +21,7 @@ use Rattle.journal_messages.specs.Message.{encoding, type_of}
 use Rattle.journal_messages.specs.Reading.{message_in}
 use Rattle.journal_errors.specs.Types.{type_number}
 use Rattle.vm_types.specs.declared.types.AwaitResponse.{AwaitResponse}
-use Rattle.vm_types.specs.declared.types.AwaitResponse.TheVariants.{AnyCompleted, CancelSignalReceived, ExecuteRun, WaitingExternalProgress}
+use Rattle.vm_types.specs.declared.types.AwaitResponse.TheVariants.{AnyCompleted, CancelSignalReceived, EphemeralNotificationReady, ExecuteRun, WaitingExternalProgress}
 use Rattle.vm_types.specs.declared.types.AwakeableHandle.{AwakeableHandle}
 use Rattle.await_trees.specs.declared.handle.NotificationHandle.{NotificationHandle}
 use Rattle.await_trees.specs.declared.tree.UnresolvedFuture.{UnresolvedFuture}
@@ -35,6 +35,7 @@ use Rattle.vm_parts.specs.Deliveries.{id_at, present_for, taken_by}
 use Rattle.vm_types.specs.Values.{value_of}
 use Rattle.vm_asks.specs.declared.asks.Ask.{Ask}
 use Rattle.vm_asks.specs.declared.asks.Ask.TheVariants as ask
+use Rattle.vm_parts.specs.Ephemerals.{any_in_flight}
 use Rattle.vm_machine.specs.declared.machine.Machine.{Machine}
 use Rattle.vm_machine.specs.declared.phase.Phase.{Phase}
 use Rattle.vm_machine.specs.declared.phase.Phase.TheVariants.{WaitingStart, WaitingReplayEntries, Replaying, Processing, Closed}
@@ -331,6 +332,7 @@ AwaitLeaves v (Ok AnyCompleted) w = is_running w.phase ≡ true
 AwaitLeaves v (Ok CancelSignalReceived) w = is_running w.phase ≡ true
 AwaitLeaves v (Ok (WaitingExternalProgress input run)) w = is_running w.phase ≡ true
 AwaitLeaves v (Ok (ExecuteRun run)) w = (is_running w.phase ≡ true) × HandsOut run v w
+AwaitLeaves v (Ok (EphemeralNotificationReady id)) w = is_running w.phase ≡ true
 AwaitLeaves v (Err e) w = w.phase ≡ Closed
 
 -- the same by what the machine was before
@@ -339,6 +341,7 @@ await_since u v (Ok AnyCompleted) w n h = h
 await_since u v (Ok CancelSignalReceived) w n h = h
 await_since u v (Ok (WaitingExternalProgress input run)) w n h = h
 await_since u v (Ok (ExecuteRun run)) w n h = (h.0, handed_since run u v w n h.1)
+await_since u v (Ok (EphemeralNotificationReady id)) w n h = h
 await_since u v (Err e) w n h = h
 
 module _ (left : Tree) (v u : Machine) (same : Stays v u) (failure : u.failure ≡ v.failure) (phase : u.phase ≡ v.phase) (runs : is_running u.phase ≡ true) where
@@ -382,14 +385,15 @@ module _ (left : Tree) (v u : Machine) (same : Stays v u) (failure : u.failure �
         left = (runs, handed_since (handle_of run) v u w same.4 (executed_once (handles_of left) u run found));
       }
 
-  waits_so : (closed executing : Bool) → Happens AwaitLeaves v (waits_by closed executing left u)
-  waits_so false executing = waits executing
-  waits_so true true = waits_for_runs
-  waits_so true false = suspends
+  waits_so : (closed in_flight executing : Bool) → Happens AwaitLeaves v (waits_by closed in_flight executing left u)
+  waits_so false in_flight executing = waits executing
+  waits_so true true executing = same
+  waits_so true false true = waits_for_runs
+  waits_so true false false = suspends
 
   runs_so : (run : Option PendingRun) → find (may_execute (handles_of left)) u.runs ≡ run → (executing : Bool) → Happens AwaitLeaves v (waits_on run executing left u)
   runs_so (Some run) found executing = executes run found
-  runs_so None found executing = waits_so u.input_closed executing
+  runs_so None found executing = waits_so u.input_closed (any_in_flight u.ephemeral) executing
 
   pends : Happens AwaitLeaves v (pending_on left u)
   pends = by_tests (is_replaying u.phase) (find (may_execute (handles_of left)) u.runs) refl (list_any (is_executing_in (handles_of left)) u.runs)
@@ -434,6 +438,7 @@ behind v Next (Done (Ok AnyCompleted) w) o h f on = f w refl on
 behind v Next (Done (Ok CancelSignalReceived) w) o h f on = subst (Happens AwaitLeaves v) (sym on) h
 behind v Next (Done (Ok (WaitingExternalProgress input run)) w) o h f on = subst (Happens AwaitLeaves v) (sym on) h
 behind v Next (Done (Ok (ExecuteRun run)) w) o h f on = subst (Happens AwaitLeaves v) (sym on) h
+behind v Next (Done (Ok (EphemeralNotificationReady id)) w) o h f on = subst (Happens AwaitLeaves v) (sym on) h
 behind v Next (Done (Err e) w) o h f on = subst (Happens AwaitLeaves v) (sym on) h
 behind v Next (Failed e w) o h f on = subst (Happens AwaitLeaves v) (sym on) h
 
@@ -531,6 +536,7 @@ await_stands v (Ok AnyCompleted) w h = h
 await_stands v (Ok CancelSignalReceived) w h = h
 await_stands v (Ok (WaitingExternalProgress input run)) w h = h
 await_stands v (Ok (ExecuteRun run)) w h = h
+await_stands v (Ok (EphemeralNotificationReady id)) w h = h
 await_stands v (Err e) w h = h
 
 -- what a call of an await leaves
@@ -629,6 +635,7 @@ await_whole t v live r w (first, mid, does, fin) = by_first first (first_part t 
     by_first (Ok (Ok AnyCompleted)) h on = stays_so (Ok (Ok AnyCompleted)) h on
     by_first (Ok (Ok (WaitingExternalProgress input run))) h on = stays_so (Ok (Ok (WaitingExternalProgress input run))) h on
     by_first (Ok (Ok (ExecuteRun run))) h on = stays_so (Ok (Ok (ExecuteRun run))) h on
+    by_first (Ok (Ok (EphemeralNotificationReady id))) h on = stays_so (Ok (Ok (EphemeralNotificationReady id))) h on
     by_first (Ok (Err e)) h on = stays_so (Ok (Err e)) h on
     by_first (Err e) h on = stays_so (Err e) h on
     by_first (Ok (Ok CancelSignalReceived)) h on =

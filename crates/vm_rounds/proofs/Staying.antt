@@ -8,6 +8,9 @@ use Rattle.journal_errors.specs.declared.faults.NamedFault.{NamedFault}
 use Rattle.journal_errors.specs.Errors.{named_error}
 use Rattle.journal_errors.specs.Types.{type_number}
 use Rattle.journal_messages.specs.declared.message.RawMessage.{RawMessage}
+use Rattle.journal_state.specs.declared.state.GetStateEphemeralNotification.{GetStateEphemeralNotification}
+use Rattle.journal_state.specs.declared.state.VoidOrValue.{VoidOrValue}
+use Rattle.vm_machine.specs.Ephemerals.{completed_by, ephemeral_notification_in, result_comes}
 use Rattle.journal_messages.specs.Reading.{notification_in, acknowledgement_in}
 use Rattle.journal_values.specs.declared.notification.Notification.{Notification}
 use Rattle.runs.specs.Kept.{is_for}
@@ -20,8 +23,8 @@ use Rattle.vm_machine.specs.Outcomes.{settled, ruled}
 use Rattle.vm_machine.specs.Phases.{is_running}
 use Rattle.invocation_vm.specs.Views.{all_received, left_by, received}
 use Rattle.vm_rounds.specs.Blames.{fault_among}
-use Rattle.vm_rounds.specs.Journals.{is_command, is_notification, is_acknowledgement}
-use Rattle.vm_rounds.proofs.Arriving.{failed_stays}
+use Rattle.vm_rounds.specs.Journals.{is_command, is_ephemeral, is_notification, is_acknowledgement}
+use Rattle.vm_rounds.proofs.Arriving.{failed_stays, unknown_dead, unknown_step}
 use Rattle.vm_rounds.proofs.Blaming.{one_comes}
 use Rattle.vm_rounds.proofs.Entries.{message_by, receives_by}
 
@@ -44,6 +47,18 @@ acknowledged_stays : (v : Machine) (ack : Option ProposeRunCompletionAck) → St
 acknowledged_stays v None = λ h. no_failure _ h
 acknowledged_stays v (Some ack) = kept_stays v ack.id (find (is_for ack.id) v.proposals)
 
+found_stays : (v : Machine) (id : ℕ) (found : Option VoidOrValue) → StaysAt v (left_by (settled (result_comes id found v)))
+found_stays v id None = λ h. no_failure _ h
+found_stays v id (Some found) = λ h. refl
+
+completed_stays : (v : Machine) (n : Option GetStateEphemeralNotification) → StaysAt v (left_by (settled (completed_by n v)))
+completed_stays v None = λ h. no_failure _ h
+completed_stays v (Some n) = found_stays v n.id n.result
+
+unknown_stays : (b : Bool) (raw : RawMessage) (v : Machine) → StaysAt v (left_by (settled (unknown_step b raw Processing v)))
+unknown_stays true raw v = completed_stays v (ephemeral_notification_in raw.body)
+unknown_stays false raw v = λ h. no_failure _ h
+
 message_stays : (raw : RawMessage) (ph : Phase) → is_running ph ≡ true → (v : Machine) (a b c d : Bool) → StaysAt v (left_by (settled (message_by raw ph v a b c d)))
 message_stays raw WaitingStart runs v a b c d = absurd (cc)
 message_stays raw WaitingReplayEntries runs v a b c d = absurd (cc)
@@ -56,8 +71,8 @@ message_stays raw Replaying runs v false false true d = queued_stays v (notifica
 message_stays raw Processing runs v false false true d = queued_stays v (notification_in raw.body)
 message_stays raw Replaying runs v false false false true = λ h. no_failure _ h
 message_stays raw Processing runs v false false false true = acknowledged_stays v (acknowledgement_in raw.body)
-message_stays raw Replaying runs v false false false false = λ h. no_failure _ h
-message_stays raw Processing runs v false false false false = λ h. no_failure _ h
+message_stays raw Replaying runs v false false false false = λ h. unknown_dead (is_ephemeral raw) raw Replaying v refl refl h
+message_stays raw Processing runs v false false false false = unknown_stays (is_ephemeral raw) raw v
 
 pub one_stays : (raw : RawMessage) (v : Machine) → v.failure ≡ None → is_running v.phase ≡ true → StaysAt v (received raw v)
 one_stays raw v live runs = subst (StaysAt v) (sym (receives_by v raw live)) (message_stays raw v.phase runs v (type_number raw.ty == 1) (is_command raw) (is_notification raw) (is_acknowledgement raw))

@@ -25,7 +25,7 @@ use Rattle.vm_types.specs.declared.options.SignalDelivery.TheVariants.{Queued}
 use Rattle.vm_types.specs.declared.steps.Answer.{Answer}
 use Rattle.vm_types.specs.declared.steps.Step.TheVariants as step
 use Rattle.vm_types.specs.declared.types.AwaitResponse.{AwaitResponse}
-use Rattle.vm_types.specs.declared.types.AwaitResponse.TheVariants.{AnyCompleted, CancelSignalReceived, ExecuteRun, WaitingExternalProgress}
+use Rattle.vm_types.specs.declared.types.AwaitResponse.TheVariants.{AnyCompleted, CancelSignalReceived, EphemeralNotificationReady, ExecuteRun, WaitingExternalProgress}
 use Rattle.vm_machine.specs.declared.machine.Machine.{Machine}
 use Rattle.vm_awaits.specs.Awaits.{Ends, StaysPending, Tries, pending_on, with_used, waits_by, waits_on, last_run}
 use Rattle.vm_machine.specs.Commands.{phase_after}
@@ -124,6 +124,7 @@ module _ (s : Setup) (m : Meaning) (given : StateMap) (written : List RawMessage
   TriesTo (Done (Ok CancelSignalReceived) w) = ⊥
   TriesTo (Done (Ok (WaitingExternalProgress input run)) w) = StillAgrees input s m given written p v w
   TriesTo (Done (Ok (ExecuteRun run)) w) = StillAgrees false s m given written p v w
+  TriesTo (Done (Ok (EphemeralNotificationReady id)) w) = ⊥
   TriesTo (Done (Err e) w) = IsSuspended s m given p v w
   TriesTo (Failed e w) = RefusesAt s m given p v e w
 
@@ -186,7 +187,7 @@ module _ (s : Setup) (m : Meaning) (given : StateMap) (written : List RawMessage
         agrees_by : (after : Aside) → after.start ≡ aside.start → Agrees s given written (record (machine_at s given written after last) { phase = phase_after [] }) last
         agrees_by after started = record { aside = after; machine = λ i. record (machine_at s given written after last) { phase = phase_after (sym e i) }; identity = identity ∙ ap identity_of (sym started) }
 
-        by_closed : (closed executing : Bool) → TriesTo (waits_by closed executing left (sends []))
+        by_closed : (closed executing : Bool) → TriesTo (waits_by closed false executing left (sends []))
         by_closed false executing =
             let said = map encoding (waiting_on true s (list_any is_executing aside.beside.runs) left last.derived) in
             record { at = last; waits = stands e; left = left; is_left = is_left; agrees = agrees_by (record aside { output = aside.output ++ said }) refl; kept = refl; output = refl }

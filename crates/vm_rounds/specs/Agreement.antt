@@ -25,6 +25,7 @@ use Rattle.await_trees.specs.Wires.{sent}
 use Rattle.await_tries.specs.Await.{AwakeAlike}
 use Rattle.runs.specs.Pending.{is_executing}
 use Rattle.vm_parts.specs.Deliveries.{id_at}
+use Rattle.vm_parts.specs.Ephemerals.{no_ephemerals}
 use Rattle.vm_asks.specs.declared.asks.Ask.{Ask}
 use Rattle.vm_asks.specs.declared.asks.Ask.TheVariants as ask
 use Rattle.vm_asks.specs.Asks.{ask_of}
@@ -83,7 +84,7 @@ machine_at s given written aside p = record {
   runs = aside.beside.runs;
   proposals = aside.proposals;
   tracked = p.derived.tracked;
-  ephemeral = [];
+  ephemeral = no_ephemerals;
   output = aside.output;
   output_ended = false;
 }

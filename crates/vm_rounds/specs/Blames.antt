@@ -7,6 +7,8 @@ use Rattle.journal_errors.specs.declared.error.RelatedCommand.{RelatedCommand}
 use Rattle.journal_errors.specs.declared.faults.NamedFault.{NamedFault}
 use Rattle.journal_errors.specs.declared.faults.NamedFault.TheVariants as fault
 use Rattle.journal_messages.specs.declared.message.RawMessage.{RawMessage}
+use Rattle.journal_state.specs.declared.state.GetStateEphemeralNotification.{GetStateEphemeralNotification}
+use Rattle.journal_state.specs.declared.state.VoidOrValue.{VoidOrValue}
 use Rattle.journal_values.specs.declared.notification.Notification.{Notification}
 use Rattle.journal_attempt.specs.declared.start.Start.{Start}
 use Rattle.journal_errors.specs.declared.version.Version.{Version}
@@ -30,6 +32,7 @@ use Rattle.vm_types.specs.declared.steps.Answer.{Answer}
 use Rattle.vm_machine.specs.declared.machine.Machine.{Machine}
 use Rattle.vm_machine.specs.declared.phase.Phase.{Phase}
 use Rattle.vm_machine.specs.declared.phase.Phase.TheVariants.{WaitingStart, WaitingReplayEntries, Replaying, Processing, Closed}
+use Rattle.vm_machine.specs.Ephemerals.{ephemeral_notification_in}
 use Rattle.vm_machine.specs.Inputs.{entries_in}
 use Rattle.vm_machine.specs.Outcomes.{Failed, ruled, ruled_by}
 use Rattle.vm_machine.specs.Proposals.{Proposes}
@@ -44,7 +47,7 @@ use Rattle.vm_model.specs.Refusals.{IsRefusedFor}
 use Rattle.vm_rounds.specs.Arrivals.{kept_after}
 use Rattle.vm_steps.specs.Heard.{Heard}
 use Rattle.vm_steps.specs.declared.progress.Progress.{Progress}
-use Rattle.vm_rounds.specs.Journals.{as_entries, commands_among, is_acknowledgement, is_command, is_notification, setup_for}
+use Rattle.vm_rounds.specs.Journals.{as_entries, commands_among, is_acknowledgement, is_command, is_ephemeral, is_notification, setup_for}
 use Rattle.vm_steps.specs.Record.{Record, Said, all_heard, all_said, heard}
 use Rattle.vm_rounds.specs.Told.{ProposesLate, handed_out, Journal, Premises, begun, bytes_fed, frames_fed}
 
@@ -81,10 +84,31 @@ acknowledgement_fault kept Processing raw = read_fault kept (acknowledgement_in 
 acknowledgement_fault kept Closed raw = None
 acknowledgement_fault kept phase raw = Some fault.UnexpectedState
 
--- why another frame is refused: no such frame comes
+-- why the result of an ephemeral read is refused: there has to be one
+abbrev pub found_fault : Option VoidOrValue → Option NamedFault
+found_fault None = Some fault.EmptyGetStateEphemeralNotification
+found_fault (Some found) = None
+
+-- why a body is refused as the notification of an ephemeral read
+abbrev pub completion_fault : Option GetStateEphemeralNotification → Option NamedFault
+completion_fault None = Some fault.BadMessage
+completion_fault (Some n) = found_fault n.result
+
+-- why the notification of an ephemeral read is refused in this phase
+abbrev pub ephemeral_fault : Phase → RawMessage → Option NamedFault
+ephemeral_fault Processing raw = completion_fault (ephemeral_notification_in raw.body)
+ephemeral_fault Closed raw = None
+ephemeral_fault phase raw = Some fault.UnexpectedState
+
+-- why a frame is refused that is of no other kind, by whether it is the notification of an ephemeral read: no other one comes
+abbrev pub unknown_fault : Bool → Phase → RawMessage → Option NamedFault
+unknown_fault true phase raw = ephemeral_fault phase raw
+unknown_fault false phase raw = Some fault.UnexpectedInputMessage
+
+-- why another frame is refused, by whether it is an acknowledgement
 abbrev pub other_fault : List KeptProposal → Phase → RawMessage → Bool → Option NamedFault
 other_fault kept phase raw true = acknowledgement_fault kept phase raw
-other_fault kept phase raw false = Some fault.UnexpectedInputMessage
+other_fault kept phase raw false = unknown_fault (is_ephemeral raw) phase raw
 
 -- why a frame is refused in this phase, where these proposals are kept, by whether it is a Start, a command, a notification or an
 -- acknowledgement

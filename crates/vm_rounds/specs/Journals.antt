@@ -15,6 +15,7 @@ use Rattle.vm_types.specs.declared.options.VMOptions.{VMOptions}
 use Rattle.vm_types.specs.declared.values.Input.{Input}
 use Rattle.vm_parts.specs.Counting.{fresh_counters}
 use Rattle.vm_parts.specs.Deliveries.{no_results, none_ready}
+use Rattle.vm_parts.specs.Ephemerals.{no_ephemerals}
 use Rattle.vm_machine.specs.declared.machine.Machine.{Machine}
 use Rattle.vm_machine.specs.declared.phase.Phase.{Phase}
 use Rattle.vm_machine.specs.declared.phase.Phase.TheVariants.{WaitingReplayEntries, Replaying}
@@ -36,6 +37,10 @@ is_notification raw = type_number raw.ty == 30
 -- the frame is an acknowledgement of a proposal
 abbrev pub is_acknowledgement : RawMessage → Bool
 is_acknowledgement raw = type_number raw.ty == 6
+
+-- the frame brings the result of an ephemeral read
+abbrev pub is_ephemeral : RawMessage → Bool
+is_ephemeral raw = type_number raw.ty == 9
 
 -- the frame is no acknowledgement
 abbrev pub AcknowledgesNothing : RawMessage → Type 0
@@ -91,7 +96,7 @@ machine_fed s given aside cs ns phase = record {
   runs = [];
   proposals = [];
   tracked = [];
-  ephemeral = [];
+  ephemeral = no_ephemerals;
   output = aside.output;
   output_ended = false;
 }

@@ -1,10 +1,10 @@
 -- The call that a step of a handler is, and what its answer is to the handler: one row a kind of what steps ask for.
-use Rattle.std.specs.Prelude.{◌≡◌, ℕ, List, [], ◌∷◌, Result, Ok, Err, OnOk}
+use Rattle.std.specs.Prelude.{◌≡◌, ℕ, true, false, List, [], ◌∷◌, Result, Ok, Err, OnOk}
 use Rattle.journal_errors.specs.declared.error.Error.{Error}
 use Rattle.vm_types.specs.declared.steps.Answer.TheVariants as answer
 use Rattle.vm_types.specs.declared.steps.Step.{Step}
 use Rattle.vm_types.specs.declared.types.AwaitResponse.{AwaitResponse}
-use Rattle.vm_types.specs.declared.types.AwaitResponse.TheVariants.{AnyCompleted, CancelSignalReceived, ExecuteRun, WaitingExternalProgress}
+use Rattle.vm_types.specs.declared.types.AwaitResponse.TheVariants.{AnyCompleted, CancelSignalReceived, EphemeralNotificationReady, ExecuteRun, WaitingExternalProgress}
 use Rattle.await_trees.specs.declared.handle.NotificationHandle.{NotificationHandle}
 use Rattle.await_trees.specs.declared.tree.UnresolvedFuture.{UnresolvedFuture}
 use Rattle.await_trees.specs.Tree.{tree_of}
@@ -66,6 +66,7 @@ await_reply (Ok AnyCompleted) = reply.Answer answer.Awake
 await_reply (Ok CancelSignalReceived) = reply.Answer answer.Cancelled
 await_reply (Ok (WaitingExternalProgress input run)) = reply.Waiting input run
 await_reply (Ok (ExecuteRun run)) = reply.Execute run
+await_reply (Ok (EphemeralNotificationReady id)) = reply.Waiting true false
 await_reply (Err e) = reply.Suspended
 
 -- An await of a future: what its whole call may come to, as a reply. An error is that of the call, also where it found no memory for one

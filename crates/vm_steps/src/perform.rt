@@ -103,6 +103,11 @@ fn reply_of(response: VMResult<AwaitResponse>) -> Reply
             run: waiting_run_proposal,
         },
         Ok(AwaitResponse::ExecuteRun(run)) => Reply::Execute(run),
+        // A handler's steps make no ephemeral read.
+        Ok(AwaitResponse::EphemeralNotificationReady(_)) => Reply::Waiting {
+            input: true,
+            run: false,
+        },
         Err(_) => Reply::Suspended,
     }
 }

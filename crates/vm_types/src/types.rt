@@ -5,7 +5,7 @@ ghost use Rattle.vm_types.specs.declared.types.State.TheVariants as state;
 use await_trees::NotificationHandle;
 use wire::Text;
 
-/// Names an ephemeral command; counted from 1.
+/// Names an ephemeral read of the state; counted from 1.
 #[derive(Clone, Copy, Debug, PartialEq, Eq, PartialOrd, Ord, Hash)]
 pub struct EphemeralCompletionId(pub u32);
 
@@ -68,6 +68,8 @@ pub enum AwaitResponse {
     ExecuteRun(NotificationHandle),
     /// The handler is cancelled: the cancel signal came, and each invocation that is cancelled with it was sent one.
     CancelSignalReceived,
+    /// The value of this ephemeral read is there, and wasn't taken yet.
+    EphemeralNotificationReady(EphemeralCompletionId),
 }
 
 /// How far a VM is, as a handler's runner sees it.

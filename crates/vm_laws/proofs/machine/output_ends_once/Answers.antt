@@ -1,4 +1,5 @@
 use Rattle.vm_laws.proofs.Endings.{issued_writes, awakeable_writes, signal_writes, read_writes, await_writes, take_writes, input_writes, end_writes, report_writes, message_writes, proposals_write, malformed_writes, close_writes}
+use Rattle.vm_laws.proofs.Ephemerals.{ephemeral_writes, take_ephemeral_writes}
 use Rattle.vm_laws.proofs.machine.output_ends_once.Goals as goal
 
 pub returns-clause-commands : goal.returns-clause-commands
@@ -18,6 +19,12 @@ returns-clause-awaits c = await_writes
 
 pub returns-clause-takes : goal.returns-clause-takes
 returns-clause-takes c = take_writes
+
+pub returns-clause-ephemeral_reads : goal.returns-clause-ephemeral_reads
+returns-clause-ephemeral_reads c = ephemeral_writes
+
+pub returns-clause-ephemeral_takes : goal.returns-clause-ephemeral_takes
+returns-clause-ephemeral_takes c = take_ephemeral_writes
 
 pub returns-clause-inputs : goal.returns-clause-inputs
 returns-clause-inputs c = input_writes

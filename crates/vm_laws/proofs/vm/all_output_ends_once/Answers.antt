@@ -2,7 +2,7 @@ use Rattle.std.proofs.Common.{refl}
 use Rattle.vm_asks.specs.Asks.{run_command}
 use Rattle.vm_machine.specs.Commands.{knows_next}
 use Rattle.invocation_vm.specs.Calls.{run_handle}
-use Rattle.vm_laws.proofs.Outputs.{made_ends, taken_ends, untaken_stays, bytes_stay, closing_stays, error_stays, await_stays, take_stays, deadlines_stay, input_stays, command_stays, answer_stays, awakeable_stays, read_stays, proposal_stays, signal_stays, end_stays}
+use Rattle.vm_laws.proofs.Outputs.{made_ends, taken_ends, untaken_stays, bytes_stay, closing_stays, ephemeral_stays, take_ephemeral_stays, error_stays, await_stays, take_stays, deadlines_stay, input_stays, command_stays, answer_stays, awakeable_stays, read_stays, proposal_stays, signal_stays, end_stays}
 use Rattle.vm_laws.proofs.vm.all_output_ends_once.Goals as goal
 
 pub returns-clause-fresh : goal.returns-clause-fresh
@@ -52,6 +52,12 @@ returns-clause-proposals c = proposal_stays
 
 pub returns-clause-reads : goal.returns-clause-reads
 returns-clause-reads c = read_stays
+
+pub returns-clause-ephemeral_reads : goal.returns-clause-ephemeral_reads
+returns-clause-ephemeral_reads c = ephemeral_stays
+
+pub returns-clause-ephemeral_takes : goal.returns-clause-ephemeral_takes
+returns-clause-ephemeral_takes c = take_ephemeral_stays
 
 pub returns-clause-awakeables : goal.returns-clause-awakeables
 returns-clause-awakeables c = awakeable_stays
