@@ -18,7 +18,7 @@ import pathlib
 import re
 from dataclasses import dataclass, field
 
-__all__ = ["VM", "VMError", "Suspended", "Cancelled", "BadLine", "Failure", "Input", "InvocationId", "Awakeable", "Future", "first_completed", "all_completed", "first_succeeded_or_all_failed", "all_succeeded_or_first_failed", "unknown", "Run", "ExecuteRun", "Retryable", "RetryPolicy", "retry_forever", "retry_never", "retry_fixed", "retry_exponential", "ResponseHead", "Void", "VOID", "WorkflowId", "IdempotencyId"]
+__all__ = ["VM", "VMError", "Suspended", "Cancelled", "BadLine", "Failure", "Input", "InvocationId", "Awakeable", "Future", "first_completed", "all_completed", "first_succeeded_or_all_failed", "all_succeeded_or_first_failed", "unknown", "Run", "ExecuteRun", "EphemeralReady", "Retryable", "RetryPolicy", "retry_forever", "retry_never", "retry_fixed", "retry_exponential", "ResponseHead", "Void", "VOID", "WorkflowId", "IdempotencyId"]
 
 _DONE, _NO_MEMORY, _NO_SESSION, _NO_VM, _NO_ROOM = range(5)
 _SUSPENDED = 599
@@ -161,6 +161,17 @@ class ExecuteRun:
     """What an await answers where a run is to be executed first: the run's handle. It counts as false, for nothing awaited is there yet."""
 
     handle: int
+
+    def __bool__(self):
+        return False
+
+
+@dataclass(frozen=True)
+class EphemeralReady:
+    """What an await answers where the value of an ephemeral read is there and wasn't taken yet: the read's id. It counts as false: take the
+    value by `VM.take_ephemeral_notification` and await again."""
+
+    id: int
 
     def __bool__(self):
         return False
@@ -440,12 +451,15 @@ class VM:
     def do_await(self, future):
         """Whether the future, a handle or a `Future`, is awake. Where it isn't, more input is to be fed, or the result of a run that executes to be
         proposed; where neither can come the invocation is suspended, and `Suspended` is raised. An `ExecuteRun` names a run to execute first:
-        propose its result and await again. `Cancelled` is raised where the invocation was cancelled."""
+        propose its result and await again. An `EphemeralReady` names an ephemeral read whose value is there. `Cancelled` is raised where the
+        invocation was cancelled."""
         answer = self.call(f"await {future}")
         if answer == "cancelled":
             raise Cancelled("the invocation was cancelled")
         if answer.startswith("run "):
             return ExecuteRun(int(answer[4:]))
+        if answer.startswith("ephemeral "):
+            return EphemeralReady(int(answer[10:]))
         return answer == "any"
 
     def take_notification(self, handle):
@@ -480,6 +494,15 @@ class VM:
     def sys_state_get_keys(self, *, name=None):
         """Reads the keys that have a value; answers a handle."""
         return int(self.call(f"keys{_option('name', name)}"))
+
+    def ephemeral_state_get(self, key):
+        """Reads the value of a state key and leaves nothing of it in the journal, for what doesn't steer the handler; answers the read's id. It
+        needs version 8, and is refused in replay."""
+        return int(self.call(f"ephemeral_get {_quoted(key)}"))
+
+    def take_ephemeral_notification(self, id):
+        """Takes the value of an ephemeral read: `bytes`, or `VOID` where the key has none; `None` where it isn't there."""
+        return _result(self.call(f"take_ephemeral {id}"))
 
     def sys_state_set(self, key, value, *, name=None, unstable=False):
         """Gives a state key a value."""
