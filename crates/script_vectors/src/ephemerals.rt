@@ -176,7 +176,7 @@ input 0x001e0000000000000006000000000100 => ok
 close => ok
 await 17 => ok any
 
-# it comes behind a run that is to be executed, and before the wait for one
+# it comes after a run that is to be executed, and before the wait for one
 input 0x00010000000000000042000000000000000361626300000000000000036162630000000000000000000000010000000000000000010000000000000000000000000000000000000000000000000a00000000000000140000000000000000000000000000000454696c6c => ok
 sys_input => ok id="abc" seed=0 key="" headers=[] value="Till" scope=- limit=- idem=-
 run "r" => ok 17 false
@@ -218,7 +218,7 @@ const CANCELLED: Rows = Rows {
     options: "",
     before: "",
     rows: r#"
-# a cancelled await is answered behind one that is ready
+# a cancelled await is answered after one that is ready
 input 0x00010000000000000042000000000000000361626300000000000000036162630000000000000000000000010000000000000000010000000000000000000000000000000000000000000000000a00000000000000140000000000000000000000000000000454696c6c => ok
 sys_input => ok id="abc" seed=0 key="" headers=[] value="Till" scope=- limit=- idem=-
 ephemeral_get "u" => ok 1
