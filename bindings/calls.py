@@ -4,7 +4,7 @@ import pathlib
 import struct
 
 from handler import CONTENT_TYPE, start
-from palqytun import VM, BadLine, Cancelled, Failure, IdempotencyId, InvocationId, Retryable, Suspended, VMError, WorkflowId
+from palqytun import VM, BadLine, Cancelled, EphemeralReady, Failure, IdempotencyId, InvocationId, Retryable, Suspended, VMError, WorkflowId
 from palqytun import retry_exponential, retry_fixed, retry_never
 from palqytun import all_completed, all_succeeded_or_first_failed, first_completed, first_succeeded_or_all_failed, unknown
 
@@ -93,6 +93,20 @@ with VM(CONTENT_TYPE) as vm:
     vm.sys_input()
     vm.notify_input(notification(b"\1" + struct.pack(">I", 1), b"\0"))
     print(refused(vm.do_await, vm.sys_sleep(1000)))
+
+# Of the state `visits` is known to be 7, and it is whole.
+with VM("application/vnd.restate.invocation.v8") as vm:
+    vm.notify_input(start(1) + INPUT)
+    vm.sys_input()
+    known, other = vm.ephemeral_state_get("visits"), vm.ephemeral_state_get(odd)
+    ready = vm.do_await(17)
+    print(known, other, ready in (EphemeralReady(known), EphemeralReady(other)), bool(ready))
+    print(vm.take_ephemeral_notification(known), vm.do_await(17), vm.take_ephemeral_notification(other), vm.take_ephemeral_notification(known))
+    print(vm.last_command_index(), vm.take_output())
+with VM(CONTENT_TYPE) as vm:
+    vm.notify_input(start(1) + INPUT)
+    vm.sys_input()
+    print(refused(vm.ephemeral_state_get, "visits"))
 
 # The recorded sleep, whose id is 1, is dropped and not replayed.
 with VM(CONTENT_TYPE, replay="off") as vm:

@@ -19,6 +19,8 @@ WRONG_TYPES = [
     (lambda vm: vm.sys_state_get(b"k"), "key must be a str, not bytes"),
     (lambda vm: vm.sys_state_get("k", name=1), "name must be a str, not int"),
     (lambda vm: vm.sys_state_get("k", unstable="no"), "unstable must be a bool, not str"),
+    (lambda vm: vm.ephemeral_state_get(1), "key must be a str, not int"),
+    (lambda vm: vm.take_ephemeral_notification("x"), "id must be an int, not str"),
     (lambda vm: vm.sys_state_get_keys(name=1), "name must be a str, not int"),
     (lambda vm: vm.sys_state_set("k", 5), "value must be bytes, not int"),
     (lambda vm: vm.sys_state_set("k", "v"), "value must be bytes, not str"),

@@ -64,6 +64,7 @@ value_reply_text (reply.State state) = state_text state
 value_reply_text (reply.Index index) = index_text index
 value_reply_text (reply.Awaited response) = awaited_text response
 value_reply_text (reply.Run run) = run_text run
+value_reply_text (reply.Ephemeral id) = decimal id.0
 value_reply_text (reply.Answer answer) = answer_text answer
 value_reply_text given = []
 

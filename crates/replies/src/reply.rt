@@ -1,5 +1,6 @@
 //! What a line of the script is answered.
 ghost use Rattle.std.specs.Prelude.{◌≡◌, ◌++◌, codes, ℤ, OnOk};
+ghost use Rattle.std.specs.Fmt.{decimal};
 ghost use Rattle.replies.specs.Replies.{awaited_text, error_text, head_text, index_text, reply_text, state_text, value_reply_text, version_text};
 
 use crate::shown::{Shown, labelled, spaced};
@@ -8,7 +9,7 @@ use journal_errors::{Error, Version};
 use lines::line::Line;
 use runs::RunHandle;
 use std::alloc::AllocError;
-use vm_parts::{Answer, AwaitResponse, ResponseHead, State};
+use vm_parts::{Answer, AwaitResponse, EphemeralCompletionId, ResponseHead, State};
 
 /// The answer to a line.
 #[derive(Debug, Drop)]
@@ -31,6 +32,7 @@ pub enum Reply {
     Index(i64),
     Awaited(AwaitResponse),
     Run(RunHandle),
+    Ephemeral(EphemeralCompletionId),
     /// The call of a handler was answered.
     Answer(Answer),
 }
@@ -88,6 +90,14 @@ impl Shown for ResponseHead {
     }
 }
 
+impl Shown for EphemeralCompletionId {
+    ghost text = { λ id. decimal id.0 };
+
+    fn show(&self, line: &mut Line) -> Result<(), AllocError> {
+        line.number(u64::from(self.0))
+    }
+}
+
 impl Shown for AwaitResponse {
     ghost text = { awaited_text };
 
@@ -96,10 +106,7 @@ impl Shown for AwaitResponse {
             AwaitResponse::AnyCompleted => line.word("any"),
             AwaitResponse::CancelSignalReceived => line.word("cancelled"),
             AwaitResponse::ExecuteRun(handle) => labelled("run ", handle, line),
-            AwaitResponse::EphemeralNotificationReady(id) => {
-                line.word("ephemeral ")?;
-                line.number(u64::from(id.0))
-            }
+            AwaitResponse::EphemeralNotificationReady(id) => labelled("ephemeral ", id, line),
             AwaitResponse::WaitingExternalProgress {
                 waiting_input,
                 waiting_run_proposal,
@@ -140,6 +147,7 @@ impl Reply {
             Reply::Index(given) => index(*given, line),
             Reply::Awaited(response) => response.show(line),
             Reply::Run(run) => run.show(line),
+            Reply::Ephemeral(id) => id.show(line),
             Reply::Answer(answer) => answer.show(line),
             _ => Ok(()),
         }

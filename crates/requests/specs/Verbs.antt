@@ -8,6 +8,7 @@ use Rattle.lines.specs.Readings.{One, Two, Three}
 use Rattle.vm_types.specs.declared.options.PayloadOptions.{PayloadOptions}
 use Rattle.vm_types.specs.declared.values.Target.{Target}
 use Rattle.vm_types.specs.declared.steps.Step.TheVariants as step
+use Rattle.vm_types.specs.declared.types.EphemeralCompletionId.{EphemeralCompletionId}
 use Rattle.await_trees.specs.declared.tree.UnresolvedFuture.{UnresolvedFuture}
 use Rattle.requests.specs.declared.request.Call.{Call}
 use Rattle.requests.specs.declared.request.Call.TheVariants as call
@@ -18,7 +19,7 @@ use Rattle.line_parts.specs.Results.{IsProposal}
 use Rattle.line_parts.specs.Targets.{AreCallOptions, AreSendOptions, NamesInvocation}
 use Rattle.line_parts.specs.Trees.{SpellsFuture}
 use Rattle.line_parts.specs.Values.{HasExtras, HasName, HasNow, HasValue, IsTime, IsValue}
-use Rattle.line_parts.specs.Words.{IsHandle, IsOneAtom, IsOneText, behind, text_at}
+use Rattle.line_parts.specs.Words.{IsHandle, IsNumberOf, IsOneAtom, IsOneText, behind, text_at}
 
 -- the word that names a call
 unfoldable pub verb_name : Verb → List ℕ
@@ -57,11 +58,13 @@ verb_name verb.Attach = codes "attach"
 verb_name verb.GetOutput = codes "get_output"
 verb_name verb.WriteOutput = codes "write_output"
 verb_name verb.End = codes "end"
+verb_name verb.EphemeralGet = codes "ephemeral_get"
+verb_name verb.TakeEphemeral = codes "take_ephemeral"
 
 -- the verbs, those that most lines have first
 abbrev pub verbs : List Verb
 verbs =
-    verb.Take ∷ verb.Await ∷ verb.Input ∷ verb.Sleep ∷ verb.Get ∷ verb.Set ∷ verb.Call ∷ verb.Run ∷ verb.Propose ∷ verb.Signal ∷ verb.Completed ∷ verb.Send ∷ verb.Output ∷ verb.Head ∷ verb.Close ∷ verb.Ready ∷ verb.State ∷ verb.Index ∷ verb.Error ∷ verb.SysInput ∷ verb.Keys ∷ verb.Clear ∷ verb.ClearAll ∷ verb.CallWithDeadline ∷ verb.Awakeable ∷ verb.CompleteAwakeable ∷ verb.CompleteSignal ∷ verb.Cancel ∷ verb.GetPromise ∷ verb.PeekPromise ∷ verb.CompletePromise ∷ verb.Attach ∷ verb.GetOutput ∷ verb.WriteOutput ∷ verb.End ∷ []
+    verb.Take ∷ verb.Await ∷ verb.Input ∷ verb.Sleep ∷ verb.Get ∷ verb.Set ∷ verb.Call ∷ verb.Run ∷ verb.Propose ∷ verb.Signal ∷ verb.Completed ∷ verb.Send ∷ verb.Output ∷ verb.Head ∷ verb.Close ∷ verb.Ready ∷ verb.State ∷ verb.Index ∷ verb.Error ∷ verb.SysInput ∷ verb.Keys ∷ verb.Clear ∷ verb.ClearAll ∷ verb.CallWithDeadline ∷ verb.Awakeable ∷ verb.CompleteAwakeable ∷ verb.CompleteSignal ∷ verb.Cancel ∷ verb.GetPromise ∷ verb.PeekPromise ∷ verb.CompletePromise ∷ verb.Attach ∷ verb.GetOutput ∷ verb.WriteOutput ∷ verb.End ∷ verb.EphemeralGet ∷ verb.TakeEphemeral ∷ []
 
 -- the verb whose name this is
 unfoldable pub verb_named : List ℕ → Option Verb
@@ -94,6 +97,10 @@ pub record IsDeadlineCall (words : List (Bor (List ℕ))) (call : Target × List
 pub record IsSend (words : List (Bor (List ℕ))) (send : Target × List ℕ × Option Duration × Option (List ℕ) × PayloadOptions) : Type 0 where
   pub callee : HasCallee words (send.0.service, send.0.handler, send.1)
   pub options : AreSendOptions (drop 3 words) send.0 send.2 send.3 send.4
+
+-- the digits of this id, and no other word
+abbrev pub IsEphemeralId : List (Bor (List ℕ)) → EphemeralCompletionId → Type 0
+IsEphemeralId words id = (length words ≡ 1) × IsNumberOf 32 (text_at 0 words) id.0
 
 -- nothing stands behind the name
 abbrev pub IsBare : List (Bor (List ℕ)) → Call → Call → Type 0
@@ -136,6 +143,8 @@ IsLine verb.Attach words = One (NamesInvocation words) (λ target. call.Step (st
 IsLine verb.GetOutput words = One (NamesInvocation words) (λ target. call.Step (step.GetInvocationOutput target))
 IsLine verb.WriteOutput words = One (HasValue words) (λ value. call.Step (step.WriteOutput value.0 value.1))
 IsLine verb.End words = IsBare words (call.Step step.End)
+IsLine verb.EphemeralGet words = One (IsOneText words) call.EphemeralGet
+IsLine verb.TakeEphemeral words = One (IsEphemeralId words) call.TakeEphemeral
 
 -- the call that the words of a line ask for
 pub record IsAsked (words : List (Bor (List ℕ))) (call : Call) : Type 0 where

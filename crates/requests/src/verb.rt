@@ -42,10 +42,12 @@ pub enum Verb {
     GetOutput,
     WriteOutput,
     End,
+    EphemeralGet,
+    TakeEphemeral,
 }
 
 /// Each verb: those that most lines have come first.
-static VERBS: [Verb; 35] = [
+static VERBS: [Verb; 37] = [
     Verb::Take,
     Verb::Await,
     Verb::Input,
@@ -81,6 +83,8 @@ static VERBS: [Verb; 35] = [
     Verb::GetOutput,
     Verb::WriteOutput,
     Verb::End,
+    Verb::EphemeralGet,
+    Verb::TakeEphemeral,
 ];
 
 /// The word for it.
@@ -124,6 +128,8 @@ fn name_of_verb(verb: Verb) -> &'static str
         Verb::GetOutput => "get_output",
         Verb::WriteOutput => "write_output",
         Verb::End => "end",
+        Verb::EphemeralGet => "ephemeral_get",
+        Verb::TakeEphemeral => "take_ephemeral",
     }
 }
 

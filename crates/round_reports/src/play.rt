@@ -47,7 +47,7 @@ fn world_of(
     World::with_journal(alloc, identity, options, version, state, entries)
 }
 
-/// What is told where a fault has stopped a script.
+/// What is reported of a script that a fault has stopped.
 fn stopped_by(alloc: Global, fault: RoundFault) -> Result<Played, AllocError>
     ensures fault { IfOk result (λ played. played.fault ≡ Some fault) }
     ensures report { IfOk result (λ played. played.report ≡ fault_text fault) }

@@ -29,7 +29,7 @@ IsOneCount words count = (length words ≡ 1) × IsCount (text_at 0 words) count
 abbrev pub AreSteps : List (Bor (List ℕ)) → ℕ → Type 0
 AreSteps words steps = ((words ≡ []) × (steps ≡ 1)) ⊎ ((length words ≡ 1) × IsNumberOf 64 (text_at 0 words) steps)
 
--- whether the words behind `arrive` or `entry` are the rest of a stream, which is no frame
+-- whether the words after `arrive` or `entry` are the rest of a stream, which is no frame
 abbrev pub are_rest : List (Bor (List ℕ)) → Bool
 are_rest words = pointwise nat_eq (text_at 0 words) (codes "rest")
 
@@ -79,7 +79,7 @@ Reads text said = (trimmed : List ℕ) × IsTrimAscii text trimmed × IsUtf8 tri
 abbrev pub are_frame : List (Bor (List ℕ)) → Bool
 are_frame words = not (are_rest words) && not (are_bytes words)
 
--- whether this word and those behind it are an arrival or an entry that is a frame
+-- whether this word and those after it are an arrival or an entry that is a frame
 abbrev pub is_frame : List ℕ → List (Bor (List ℕ)) → Bool
 is_frame word others = (pointwise nat_eq word (codes "arrive") || pointwise nat_eq word (codes "entry")) && are_frame others
 

@@ -30,7 +30,7 @@ fn count_of(text: &[u8]) -> Result<usize, Fault>
     Ok(u64_of(text)? as usize)
 }
 
-/// Whether the words behind `arrive` or `entry` are the rest of a stream.
+/// Whether the words after `arrive` or `entry` are the rest of a stream.
 fn are_rest(words: &[&[u8]]) -> bool
     ensures { result ≡ are_rest words.now }
 {
@@ -50,8 +50,7 @@ fn are_bytes(words: &[&[u8]]) -> bool
     }
 }
 
-/// What stands behind the word `arrive` or `entry` of a line: bytes as they are, or a frame as a line. The rest of a stream is no
-/// frame.
+/// The words after `arrive` or `entry`: bytes as they are, or a frame as a line. The rest of a stream is no frame.
 #[tactic(auto, using(crate::proofs::Nothing::rest_blamed, crate::proofs::Nothing::bytes_blamed, crate::proofs::Nothing::frame_blamed))]
 fn shown_by(alloc: Global, words: &[&[u8]]) -> Result<Bytes, Fault>
     ensures value { IfOk result (ShowsBytes words.now) }

@@ -85,7 +85,7 @@ fn add_steps(so_far: &mut SoFar, steps: u64) -> Result<(), Fault>
     }
 }
 
-/// The world is made of this; `Malformed` where another world, an entry or a round stands before.
+/// The world is made of this; `Malformed` if another world, an entry or a round stands before.
 #[tactic(auto, using(crate::proofs::Placing::world_stands, crate::proofs::Placing::entries_stand, crate::proofs::Placing::round_stands))]
 fn add_world(so_far: &mut SoFar, given: Given) -> Result<(), Fault>
     ensures value { OnOk result (Adds (line.World given) (parts_of so_far.old) (parts_of so_far.new)) }
@@ -99,7 +99,7 @@ fn add_world(so_far: &mut SoFar, given: Given) -> Result<(), Fault>
     Ok(())
 }
 
-/// An entry of the world's journal; `Malformed` where a round stands before.
+/// An entry of the world's journal; `Malformed` if a round stands before.
 #[tactic(auto, using(crate::proofs::Placing::round_begun))]
 fn add_entry(so_far: &mut SoFar, bytes: Bytes) -> Result<(), Fault>
     ensures value { OnOk result (Adds (line.Entry bytes) (parts_of so_far.old) (parts_of so_far.new)) }

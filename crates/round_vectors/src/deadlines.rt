@@ -2,7 +2,7 @@
 use crate::bench::assert_reported;
 use std::test::Fail;
 
-/// What is stored behind the input, and what an attempt makes of it.
+/// What is stored after the input, and what an attempt makes of it.
 static ATTEMPTS: [&str; 17] = [
     // a first attempt
     r#"entry Input value="hi"
@@ -142,7 +142,7 @@ Sleep wake_up_time=1000 result_completion_id=3
 Notification id=completion(2) result=value("x")
 Output result=value("x")
 "#,
-    // the call is first, and the time is over behind it
+    // the call is first, and the time is over after it
     r#"entry Input value="hi"
 entry Call service_name="Greeter" handler_name="greet" parameter="hi" invocation_id_notification_idx=1 result_completion_id=2
 entry Sleep wake_up_time=1000 result_completion_id=3
@@ -172,7 +172,7 @@ Notification id=completion(2) result=value("x")
 Notification id=completion(3) result=void
 Output result=value("x")
 "#,
-    // the time is over first: what came behind it isn't used
+    // the time is over first: what came after it isn't used
     r#"entry Input value="hi"
 entry Call service_name="Greeter" handler_name="greet" parameter="hi" invocation_id_notification_idx=1 result_completion_id=2
 entry Sleep wake_up_time=1000 result_completion_id=3
@@ -376,7 +376,7 @@ Notification id=signal(1) result=void
 SendSignal target_invocation_id="inv1" signal=index(1) result=void
 Output result=failure(code=409 message="cancelled")
 "#,
-    // an output is recorded behind the call
+    // an output is recorded after the call
     r#"entry Input value="hi"
 entry Call service_name="Greeter" handler_name="greet" parameter="hi" invocation_id_notification_idx=1 result_completion_id=2
 entry Output result=value("")

@@ -30,7 +30,7 @@ fn stored_journal_is_played_on(rt: HostRuntime) -> Result<(), Fail> {
     assert_reported(&rt, rt.alloc(), "sleeper", PLAYED_ON)
 }
 
-/// The journal is one of `sleeper`, which ends where `race` calls.
+/// The journal is one of `sleeper`, which ends when `race` calls.
 const CHANGED: &str = r#"entry Input value="Till"
 entry Sleep wake_up_time=1000 result_completion_id=1
 entry Notification id=completion(1) result=void
@@ -122,7 +122,7 @@ fn world_has_its_state_and_its_entries(rt: HostRuntime) -> Result<(), Fail> {
     assert_reported(&rt, rt.alloc(), "counter", OF_A_WORLD)
 }
 
-/// A command behind the first may be any one, and a signal comes at any time.
+/// A command after the first may be any one, and a signal comes at any time.
 const WITHOUT_ROUNDS: &str = r#"entry Input value="Till"
 entry Notification id=signal(17) result=void
 entry Input value="again"
@@ -148,13 +148,13 @@ static FAULTS: [&str; 25] = [
     "entry 0x\nround\npiece all\nstep\n=>\nfault BadJournal\n",
     // an input that can't be read
     "entry raw 10 0x00\nround\npiece all\nstep\n=>\nfault BadJournal\n",
-    // an input, and a byte behind it
+    // an input, and a byte after it
     "entry 0x000a00000000000000100000000000000000000000000000000000\nround\npiece all\nstep\n=>\nfault BadJournal\n",
     // two inputs in one entry
     "entry 0x000a000000000000001000000000000000000000000000000000000a000000000000001000000000000000000000000000000000\nround\npiece all\nstep\n=>\nfault BadJournal\n",
     // a completion, whose id no command before it carries
     "entry Notification id=completion(1) result=void\nround\npiece all\nstep\n=>\nfault NoSuchId\n",
-    // a Start behind the input
+    // a Start after the input
     "entry Input\nentry Start id=\"abc\" debug_id=\"abc\" known_entries=1\nround\npiece all\nstep\n=>\nfault BadJournal\n",
     // an End
     "entry Input\nentry End\nround\npiece all\nstep\n=>\nfault BadJournal\n",

@@ -39,7 +39,7 @@ Sleep wake_up_time=1000 result_completion_id=3
 "#;
 
 #[test]
-fn each_round_goes_on_behind_those_before(rt: HostRuntime) -> Result<(), Fail> {
+fn each_round_goes_on_after_those_before(rt: HostRuntime) -> Result<(), Fail> {
     assert_reported(&rt, rt.alloc(), "sleeper", THREE_ROUNDS)
 }
 
@@ -91,7 +91,7 @@ fn late_result_is_not_the_new_one(rt: HostRuntime) -> Result<(), Fail> {
     assert_reported(&rt, rt.alloc(), "sleeper", LATE)
 }
 
-/// Journals that are given, and a sleep behind them.
+/// Journals that are given, and a sleep after them.
 static GIVEN: [&str; 7] = [
     // the input alone
     r#"world replay=off

@@ -1,20 +1,20 @@
-// A round that is stopped behind each of its events in turn, and then a round to the end: the journal is the same.
+// A round that is stopped after each of its events in turn, and then a round to the end: the journal is the same.
 use crate::bench::{V6, V7, assert_report_ends};
 use std::alloc::Global;
 use std::process::Abort;
 use std::test::Fail;
 
-/// A round that is stopped, and what comes behind it.
+/// A round that is stopped, and what comes after it.
 #[derive(Clone, Copy)]
 struct Stopped {
     handler: &'static str,
     /// The lines of the round that is stopped.
     first: &'static [&'static str],
-    /// Behind so many of them what the handler awaits is stored.
+    /// After so many of them what the handler awaits is stored.
     stored: usize,
     /// The round to the end, in which it comes.
     brings: &'static str,
-    /// The round to the end, where it is stored before.
+    /// The round to the end, if it is stored before.
     replays: &'static str,
     /// How the report ends.
     journal: &'static str,

@@ -16,6 +16,8 @@ mod commands;
 #[cfg(test)]
 mod deadlines;
 #[cfg(test)]
+mod ephemerals;
+#[cfg(test)]
 mod executed_runs;
 #[cfg(test)]
 mod journals;

@@ -4,7 +4,7 @@ use std::test::Fail;
 
 const EACH_VERSION: &[u8] = &[5, 6, 7, 8];
 
-/// A sleep behind the dropped commands, with its index and its id.
+/// A sleep after the dropped commands, with its index and its id.
 const GO_ON: Rows = Rows {
     options: "replay=off",
     before: "",
@@ -19,7 +19,7 @@ index => ok 3
 output => ok 0x0012000000000000001400000000000007d0000000040000000000000000
 awakeable => err 573 "UNSUPPORTED_FEATURE"
 
-# nothing is recorded behind the input
+# nothing is recorded after the input
 input 0x00010000000000000042000000000000000361626300000000000000036162630000000000000000000000010000000000000000010000000000000000000000000000000000000000000000000a00000000000000140000000000000000000000000000000454696c6c => ok
 sys_input => ok id="abc" seed=0 key="" headers=[] value="Till" scope=- limit=- idem=-
 state => ok Processing
@@ -173,7 +173,7 @@ index => ok 2
     behind: "",
 };
 
-/// Inputs that are refused, and where numbers end.
+/// Inputs that are refused, and the end of the numbers.
 const REFUSED: Rows = Rows {
     options: "replay=off",
     before: "",
@@ -196,7 +196,7 @@ output => ok 0x0003000000000000003a000001f400000000000000196578686175737465643a2
 output => ok 0x
 failed => err 500 "exhausted: completion ids"
 
-# a command that can't be read, behind it one without a next id
+# a command that can't be read, after it one without a next id
 input 0x00010000000000000042000000000000000361626300000000000000036162630000000000000000000000030000000000000000010000000000000000000000000000000000000000000000000a00000000000000140000000000000000000000000000000454696c6c00120000000000000001000012000000000000001400000000000003e8ffffffff0000000000000000 => ok
 sys_input => err 571 "BadMessage"
 state => ok Closed
@@ -214,7 +214,7 @@ output => ok 0x0003000000000000002b0000023b000000000000000a4261644d6573736167650
 output => ok 0x
 failed => err 571 "BadMessage"
 
-# a command that can't be read behind one that can
+# a command that can't be read after one that can
 input 0x00010000000000000042000000000000000361626300000000000000036162630000000000000000000000030000000000000000010000000000000000000000000000000000000000000000000a00000000000000140000000000000000000000000000000454696c6c0012000000000000001400000000000003e8000000010000000000000000001d0000000000000000 => ok
 sys_input => err 571 "BadMessage"
 state => ok Closed

@@ -15,6 +15,7 @@ use Rattle.vm_asks.specs.Asks.{answer_by, ask_of, command_answer}
 use Rattle.vm_machine.specs.Takes.{is_completed, take_step}
 use Rattle.vm_machine.specs.Queries.{IsReadyAt, last_index, state_of}
 use Rattle.vm_machine.specs.Commands.{commanded}
+use Rattle.vm_machine.specs.Ephemerals.{ephemeral_step, take_ephemeral_step}
 use Rattle.vm_machine.specs.Inputs.{end_step, input_step}
 use Rattle.vm_machine.specs.Outcomes.{Outcome}
 use Rattle.vm_machine.specs.Reads.{read_step}
@@ -102,4 +103,6 @@ Called (call.Error error relationship) told old new = Feeds [] (after_error old 
 Called call.SysInput told old new = Answers (λ input. reply.Answer (answer.Input input)) input_step told old new
 Called (call.Run name) told old new = Tells reply.Run (CallsRun name) told old new
 Called (call.Propose handle exit policy) told old new = Tells (λ _. reply.Answer answer.Unit) (CallsProposal handle exit policy) told old new
+Called (call.EphemeralGet key) told old new = Answers reply.Ephemeral (ephemeral_step key) told old new
+Called (call.TakeEphemeral id) told old new = Answers (λ value. reply.Answer (answer.Taken value)) (take_ephemeral_step id.0) told old new
 Called (call.Step step) told old new = StepDone step told old new

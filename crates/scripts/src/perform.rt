@@ -13,8 +13,8 @@ ghost use Rattle.scripts.specs.Performed.{Made, Performed};
 
 use bytes::Bytes;
 use invocation_vm::{
-    AwaitResponse, AwakeableHandle, CoreVM, Error, Input, NotificationHandle, ResponseHead,
-    RunHandle, VM, VMOptions, VMResult, Value,
+    AwaitResponse, AwakeableHandle, CoreVM, EphemeralCompletionId, Error, Input,
+    NotificationHandle, ResponseHead, RunHandle, VM, VMOptions, VMResult, Value,
 };
 use replies::Reply;
 use requests::content_type::ContentType;
@@ -111,6 +111,15 @@ fn ended(given: VMResult<()>) -> Reply
 {
     match given {
         Ok(()) => Reply::Answer(Answer::Unit),
+        Err(error) => Reply::Refused(error),
+    }
+}
+
+fn ephemeral(given: VMResult<EphemeralCompletionId>) -> Reply
+    ensures { result ≡ reply_of reply.Ephemeral given }
+{
+    match given {
+        Ok(id) => Reply::Ephemeral(id),
         Err(error) => Reply::Refused(error),
     }
 }
@@ -213,6 +222,8 @@ fn perform_any(vm: &mut CoreVM, call: Call) -> Reply
             result,
             policy,
         } => ended(vm.propose_run_completion(handle, result.into_inner(), policy)),
+        Call::EphemeralGet(key) => ephemeral(vm.ephemeral_state_get(key.into_string())),
+        Call::TakeEphemeral(id) => taken(vm.take_ephemeral_notification(id)),
         Call::Step(step) => perform_step(vm, step),
     }
 }

@@ -27,7 +27,7 @@ fn event(happens: Happens) -> Event {
     }
 }
 
-fn identity(alloc: Global) -> Result<Identity, AllocError> {
+pub fn identity(alloc: Global) -> Result<Identity, AllocError> {
     Ok(Identity {
         id: Bytes::from_static(b"abc"),
         debug_id: Text::from_str(alloc, "abc")?,

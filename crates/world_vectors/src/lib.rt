@@ -11,6 +11,8 @@ mod counts;
 #[cfg(test)]
 mod cuts;
 #[cfg(test)]
+mod given;
+#[cfg(test)]
 mod histories;
 #[cfg(test)]
 mod mismatches;

@@ -2,9 +2,11 @@
 // commands of each journal are a beginning of those of a run that nothing stops.
 use crate::bench::world;
 use crate::counts::{LAZY_COUNT, OUTPUT_42, READ_41, SET_42, state_of_41};
+use crate::vmrun::frames::{OUTPUT_HI, OUTPUT_TIMEOUT, RESULT_2, VOID_3};
 use bytes::Bytes;
 use handlers::charge::Charge;
 use handlers::counter::Counter;
+use handlers::deadline::Deadline;
 use handlers::sleeper::Sleeper;
 use retries::RetryPolicy;
 use runs::RunExitResult;
@@ -22,6 +24,26 @@ const COUNT_COMES: &[u8] = b"\0\x1e\0\0\0\0\0\0\0\x10\
     \0\0\0\0\x01\
     \x01\
     \0\0\0\0\0\0\0\x0241";
+
+/// Calls "greet" of "Greeter" with the input; its invocation comes under id 1, its result under id 2.
+const CALL_GREET: &[u8] = b"\0\x13\0\0\0\0\0\0\0\x4b\
+    \0\0\0\0\0\0\0\x07Greeter\
+    \0\0\0\0\0\0\0\x05greet\
+    \0\0\0\0\0\0\0\0\
+    \0\
+    \0\
+    \0\
+    \0\0\0\0\0\0\0\0\
+    \0\0\0\0\0\0\0\x04Till\
+    \0\0\0\x01\
+    \0\0\0\0\0\0\0\0\
+    \0\0\0\x02";
+
+/// The time of that call, which is over under id 3.
+const DEADLINE: &[u8] = b"\0\x12\0\0\0\0\0\0\0\x14\
+    \0\0\0\0\0\0\x03\xe8\
+    \0\0\0\x03\
+    \0\0\0\0\0\0\0\0";
 
 /// The run "charge", whose result comes under id 1.
 const RUN_CHARGE: &[u8] = b"\0\x1a\0\0\0\0\0\0\0\x12\
@@ -291,6 +313,36 @@ fn counts_leave_one_history(rt: HostRuntime) -> Result<(), Fail> {
         }
     }
     assert_tally(&rt, tally, 2501);
+    Ok(())
+}
+
+/// The result of the call arrives, or its time is over: one of them, which the output tells.
+#[test]
+fn calls_with_a_deadline_leave_one_history(rt: HostRuntime) -> Result<(), Fail> {
+    let alloc = rt.alloc();
+    let handler = Deadline { alloc };
+    let mut tally = NOTHING;
+    for seed in 0..RUNS {
+        let has_result = seed % 2 == 0;
+        let dice = Dice {
+            state: seed,
+            note: Some(if has_result { RESULT_2 } else { VOID_3 }),
+            has_stored: false,
+            lacks_count: false,
+            executes: false,
+        };
+        let output = if has_result {
+            OUTPUT_HI
+        } else {
+            OUTPUT_TIMEOUT
+        };
+        let runs: &[&[&[u8]]] = &[&[INPUT_TILL, CALL_GREET, DEADLINE, output]];
+        if let Some(left) = played(alloc, &handler, Vec::new(alloc), dice, runs)? {
+            assert_begins(&rt, left, seed);
+            tally.count(left.entries == 5);
+        }
+    }
+    assert_tally(&rt, tally, 2001);
     Ok(())
 }
 

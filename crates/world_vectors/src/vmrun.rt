@@ -4,4 +4,4 @@ mod bench;
 mod children;
 mod counts;
 mod ends;
-mod frames;
+pub mod frames;

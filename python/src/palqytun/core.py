@@ -61,6 +61,7 @@ from palqytun.values import (
     Awakeable,
     Behaviour,
     Data,
+    EphemeralReady,
     ExecuteRun,
     Failure,
     IdempotencyId,
@@ -86,6 +87,7 @@ __all__ = [
     "Closed",
     "Code",
     "Data",
+    "EphemeralReady",
     "ExecuteRun",
     "Failure",
     "Future",
@@ -330,12 +332,12 @@ class VM:
         """Whether a take of the handle would answer a value."""
         return self.call(f"completed {whole('handle', handle, HANDLE)}") == "true"
 
-    def do_await(self, future: int | Future) -> Literal[True] | ExecuteRun | Waiting:
+    def do_await(self, future: int | Future) -> Literal[True] | ExecuteRun | EphemeralReady | Waiting:
         """Whether the future, a handle or a `Future`, is awake.
 
         If it isn't, `Waiting` says what may wake it: more input, or the result of a run that executes, which is to be proposed. If neither can
         come the invocation is suspended, and `Suspended` is raised. An `ExecuteRun` names a run to execute first: propose its result and await
-        again. Both count as false. `Cancelled` is raised if the invocation was cancelled.
+        again. An `EphemeralReady` names an ephemeral read whose value is there: take it and await again. These count as false. `Cancelled` is raised if the invocation was cancelled.
 
         >>> vm.do_await(first_completed(vm.sys_sleep(1000), vm.sys_state_get("visits")))
         True
@@ -354,6 +356,8 @@ class VM:
             raise Cancelled("the invocation was cancelled")
         if answer.startswith("run "):
             return ExecuteRun(int(answer[4:]))
+        if answer.startswith("ephemeral "):
+            return EphemeralReady(int(answer[10:]))
         return _WAITS[answer]
 
     def take_notification(self, handle: int) -> Result | None:
@@ -399,6 +403,24 @@ class VM:
         ['visits']
         """
         return int(self.call(f"keys{named(name)}"))
+
+    def ephemeral_state_get(self, key: str) -> int:
+        """Reads the value of a state key, and leaves nothing of it in the journal: for what doesn't steer the handler. Answers the read's id.
+
+        It needs version 8, and is refused in replay.
+
+        >>> vm.ephemeral_state_get("visits")
+        Traceback (most recent call last):
+        palqytun.errors.VMError: 573 UnsupportedFeatureForNegotiatedVersion
+        """
+        return int(self.call(f"ephemeral_get {text('key', key)}"))
+
+    def take_ephemeral_notification(self, id: int) -> Result | None:
+        """Takes the value of an ephemeral read: `bytes`, or `VOID` if the key has none; `None` if it isn't there.
+
+        >>> vm.take_ephemeral_notification(1)
+        """
+        return result_of(self.call(f"take_ephemeral {whole('id', id, HANDLE)}"))
 
     def sys_state_set(self, key: str, value: Data, *, name: str | None = None, unstable: bool = False) -> None:
         """Gives a state key a value.

@@ -130,6 +130,17 @@ class ExecuteRun:
 
 
 @dataclass(frozen=True)
+class EphemeralReady:
+    """What an await answers if the value of an ephemeral read is there and wasn't taken yet: the read's id. It counts as false: take the value
+    by `VM.take_ephemeral_notification`, and await again."""
+
+    id: int
+
+    def __bool__(self) -> Literal[False]:
+        return False
+
+
+@dataclass(frozen=True)
 class Waiting:
     """What an await answers if nothing awaited is there yet: whether `input` may bring it, and whether a `run` that executes may, whose result
     is to be proposed. It counts as false.

@@ -8,7 +8,7 @@ use Rattle.requests.proofs.verb.verb_of_word.Goals as goal
 pub returns-clause-none : goal.returns-clause-none
 unfolding verb_named
 returns-clause-none c =
-    let all : c.loop-verb.verb-index ≡ 35 = omega arith in
+    let all : c.loop-verb.verb-index ≡ 37 = omega arith in
     subst (λ n. find (λ verb. pointwise nat_eq c.args.word.now (verb_name verb)) (take n verbs) ≡ None) all c.loop-verb.invariant
 
 pub returns-then-eq-clause-named : goal.returns-then-eq-clause-named
