@@ -67,6 +67,10 @@ class Errors(unittest.TestCase):
     def test_a_second_input(self) -> None:
         self.assertEqual(self.refusal(begun().sys_input).hint, "sys_input was called before")
 
+    def test_a_journal_without_an_input_gets_no_hint(self) -> None:
+        error = self.refusal(fed(start(), sleep_frame(1000, 1)).sys_input)
+        self.assertEqual((error.code, error.hint), (Code.JOURNAL_MISMATCH, None))
+
     def test_a_first_await_that_the_journal_lacks_gets_no_hint(self) -> None:
         vm = fed(start(2), input_frame(), sleep_frame(1000, 1))
         vm.sys_input()
