@@ -1,5 +1,6 @@
 """What a VM answers, raises and hints at, in attempts."""
 
+import ctypes.util
 import os
 import pathlib
 import subprocess
@@ -143,6 +144,11 @@ class Loading(unittest.TestCase):
         ran = self.run_python("import palqytun; palqytun.VM(None)", "/nowhere.so")
         self.assertEqual(ran.returncode, 1)
         self.assertRegex(ran.stderr.splitlines()[-1], "^ImportError: /nowhere.so: .*: ./bindings/build makes it")
+
+    def test_another_library(self) -> None:
+        other = ctypes.util.find_library("c")
+        ran = self.run_python("import palqytun; palqytun.VM(None)", str(other))
+        self.assertRegex(ran.stderr.splitlines()[-1], "^ImportError: .*palqytun_new: ./bindings/build makes it")
 
     def test_arguments_are_checked_first(self) -> None:
         ran = self.run_python("import palqytun; palqytun.VM(None, wait='x')", "/nowhere.so")
