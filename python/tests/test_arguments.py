@@ -6,6 +6,7 @@ import palqytun
 from attempt import CONTENT_TYPE, begun
 from palqytun import VM, BadLine, Failure, IdempotencyId, InvocationId, Retryable, WorkflowId
 from palqytun import first_completed, retry_exponential, retry_fixed
+from palqytun._words import text
 
 HALF = "file-\udcff"
 
@@ -171,6 +172,10 @@ class Arguments(unittest.TestCase):
             with self.subTest(key), begun() as vm:
                 vm.sys_state_set(key, b"v")
                 self.assertEqual(vm.take_notification(vm.sys_state_get_keys()), [key])
+
+    def test_a_text_has_no_line_end(self) -> None:
+        """So that a line which is printed is one of a script."""
+        self.assertEqual(text("name", "a\r\nb"), '"a\\x0d\\x0ab"')
 
     def test_an_error_gets_through(self) -> None:
         """The error of a file whose name is no UTF-8 is notified, with the half pair written out."""

@@ -1,5 +1,6 @@
 """What a VM answers, raises and hints at, in attempts."""
 
+import ctypes.util
 import os
 import pathlib
 import subprocess
@@ -66,6 +67,10 @@ class Errors(unittest.TestCase):
 
     def test_a_second_input(self) -> None:
         self.assertEqual(self.refusal(begun().sys_input).hint, "sys_input was called before")
+
+    def test_a_journal_without_an_input_gets_no_hint(self) -> None:
+        error = self.refusal(fed(start(), sleep_frame(1000, 1)).sys_input)
+        self.assertEqual((error.code, error.hint), (Code.JOURNAL_MISMATCH, None))
 
     def test_a_first_await_that_the_journal_lacks_gets_no_hint(self) -> None:
         vm = fed(start(2), input_frame(), sleep_frame(1000, 1))
@@ -139,6 +144,11 @@ class Loading(unittest.TestCase):
         ran = self.run_python("import palqytun; palqytun.VM(None)", "/nowhere.so")
         self.assertEqual(ran.returncode, 1)
         self.assertRegex(ran.stderr.splitlines()[-1], "^ImportError: /nowhere.so: .*: ./bindings/build makes it")
+
+    def test_another_library(self) -> None:
+        other = ctypes.util.find_library("c")
+        ran = self.run_python("import palqytun; palqytun.VM(None)", str(other))
+        self.assertRegex(ran.stderr.splitlines()[-1], "^ImportError: .*palqytun_new: ./bindings/build makes it")
 
     def test_arguments_are_checked_first(self) -> None:
         ran = self.run_python("import palqytun; palqytun.VM(None, wait='x')", "/nowhere.so")

@@ -36,6 +36,17 @@ def front(room: Buffer, size: int) -> bytes:
     return cast(bytes, room[:size])
 
 
+_SESSION, _TEXT, _SIZE = ctypes.POINTER(Session), ctypes.c_char_p, ctypes.c_size_t
+_FUNCTIONS = [
+    ("new", [_SESSION], ctypes.c_uint32),
+    ("line", [_SESSION, _TEXT, _SIZE], Told),
+    ("answer", [_SESSION, _TEXT, _SIZE], Told),
+    ("feed", [_SESSION, _TEXT, _SIZE], ctypes.c_uint32),
+    ("take_output", [_SESSION, _TEXT, _SIZE], Told),
+    ("free", [_SESSION], None),
+]
+
+
 class Library:
     """The functions. None of them blocks, so they keep the interpreter's lock."""
 
@@ -49,18 +60,10 @@ class Library:
     def __init__(self, path: str) -> None:
         try:
             library = ctypes.PyDLL(path)
-        except OSError as error:
+            functions = [getattr(library, f"palqytun_{name}") for name, _, _ in _FUNCTIONS]
+        except (OSError, AttributeError) as error:
             raise ImportError(f"{error}: ./bindings/build makes it, at the top of the repository, or PALQYTUN_LIBRARY names it") from error
-        session, told, text, size = ctypes.POINTER(Session), Told, ctypes.c_char_p, ctypes.c_size_t
-        for name, arguments, result in [
-            ("new", [session], ctypes.c_uint32),
-            ("line", [session, text, size], told),
-            ("answer", [session, text, size], told),
-            ("feed", [session, text, size], ctypes.c_uint32),
-            ("take_output", [session, text, size], told),
-            ("free", [session], None),
-        ]:
-            function = getattr(library, f"palqytun_{name}")
+        for function, (name, arguments, result) in zip(functions, _FUNCTIONS):
             function.argtypes, function.restype = arguments, result
             setattr(self, name, function)
 

@@ -260,7 +260,7 @@ class VM:
         is_first = line == "sys_input"
         if self._is_begun:
             return "sys_input was called before" if is_first and said in ("UnexpectedStateError", "CommandTypeMismatchError") else None
-        if said == "UnexpectedStateError" and line[:3] != "vm ":
+        if said == "UnexpectedStateError":
             return "feed input until is_ready_to_execute() is true, and call sys_input first"
         if code == Code.JOURNAL_MISMATCH and not is_first and self.last_command_index() <= 0:
             return "call sys_input first"
