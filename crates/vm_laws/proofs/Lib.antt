@@ -1,6 +1,6 @@
 pub mod Acknowledging
 pub mod Carried
-pub mod DeadlineCalls
+pub mod SeveralCalls
 pub mod Endings
 pub mod Ephemerals
 pub mod Outputs

@@ -1,5 +1,5 @@
 //! Laws of the calls, in replay as in Processing.
-ghost use Rattle.std.specs.Prelude.{◌≡◌, ◌+◌, ℕ, Bool, true, false, find, List, [], ◌∷◌, Option, Some, None, Result};
+ghost use Rattle.std.specs.Prelude.{◌≡◌, ◌+◌, ℕ, Bool, true, false, find, List, [], ◌∷◌, Option, Some, None, Result, Ok};
 ghost use Rattle.vm_types.specs.declared.types.AwakeableHandle.{AwakeableHandle};
 ghost use Rattle.await_trees.specs.declared.handle.NotificationHandle.{NotificationHandle};
 ghost use Rattle.vm_machine.specs.declared.machine.Machine.{Machine};
@@ -15,7 +15,8 @@ ghost use Rattle.vm_types.specs.declared.steps.Step.{Step};
 ghost use Rattle.vm_asks.specs.declared.asks.Ask.TheVariants as ask;
 ghost use Rattle.vm_asks.specs.declared.asks.AnswerKind.{AnswerKind};
 ghost use Rattle.vm_asks.specs.declared.asks.Command.{Command};
-ghost use Rattle.vm_asks.specs.Asks.{ask_of};
+ghost use Rattle.vm_asks.specs.Asks.{all_ids, ask_of};
+ghost use Rattle.vm_machine.specs.Several.{MakesAll};
 ghost use Rattle.vm_machine.specs.Takes.{take_step};
 ghost use Rattle.vm_machine.specs.Commands.{issued};
 ghost use Rattle.vm_laws.specs.Endings.{EventWrites, Writes, is_over, is_terminal};
@@ -51,13 +52,16 @@ pub fn state_is_changed()
     ensures { (m : Message) (unstable : Bool) (h : NotificationHandle) (v w : Machine) → issued m unstable v ≡ Done h w → w.state ≡ changed (with_ids v.counters.completion m) v.state }
 {}
 
-/// Numbers are given in order, each once: a call takes as many completion ids and handles as its command has, an
+/// Numbers are given in order, each once: a call takes as many completion ids and handles as its commands have, an
 /// state read one of both, an awakeable one signal id and one handle, a named signal one handle; what is answered is the
 /// handle that came next. A state read leaves the state as it is. An ephemeral read is given the next of its own ids.
-#[tactic(auto, using(crate::proofs::Carried::issued_counts, crate::proofs::Carried::issued_handle, crate::proofs::Carried::awakeable_makes, crate::proofs::Carried::signal_makes, crate::proofs::Carried::read_gives, crate::proofs::Ephemerals::read_counts))]
+#[tactic(auto, using(crate::proofs::Carried::issued_counts, crate::proofs::Carried::issued_handle, crate::proofs::Carried::awakeable_makes, crate::proofs::Carried::signal_makes, crate::proofs::Carried::read_gives, crate::proofs::Ephemerals::read_counts, crate::proofs::SeveralCalls::several_count))]
 pub fn numbers_are_in_order()
     ensures calls { (m : Message) (unstable : Bool) (h : NotificationHandle) (v w : Machine) → issued m unstable v ≡ Done h w → Counted (ids_of m) 0 (ids_of m) v.counters w.counters }
     ensures handles { (m : Message) (unstable : Bool) (h : NotificationHandle) (v w : Machine) → issued m unstable v ≡ Done h w → h.0 ≡ v.counters.handle }
+    ensures several { (c : Command) (cs : List Command) (h : NotificationHandle) (v w : Machine)
+        → MakesAll c cs (Ok h) v w → Counted (all_ids c cs) 0 (all_ids c cs) v.counters w.counters
+        × (h.0 ≡ v.counters.handle) }
     ensures reads { (r : StateRead) (h : NotificationHandle) (v w : Machine) → read_step r v ≡ Done h w → Counted 1 0 1 v.counters w.counters × (h.0 ≡ v.counters.handle) × (w.state ≡ v.state) }
     ensures awakeables { (a : AwakeableHandle) (v w : Machine) → awakeable_step v ≡ Done a w → Counted 0 1 1 v.counters w.counters × (a.handle.0 ≡ v.counters.handle) }
     ensures signals { (name : List ℕ) (h : NotificationHandle) (v w : Machine) → signal_step name v ≡ Done h w → Counted 0 0 1 v.counters w.counters × (h.0 ≡ v.counters.handle) }

@@ -30,7 +30,7 @@ ghost use Rattle.vm_machine.specs.Inputs.{end_step, input_step};
 ghost use Rattle.vm_machine.specs.Outcomes.{IsStarved, Outcome};
 ghost use Rattle.vm_machine.specs.Signals.{signal_step};
 ghost use Rattle.vm_asks.specs.declared.state_read.StateRead.{StateRead};
-ghost use Rattle.invocation_vm.specs.Calls.{CallsAllFor, CallsCommand, CallsFlatAwait, CallsFor, CallsProposal, CallsRead, CallsRun, CallsUnit, new_awakeable_step};
+ghost use Rattle.invocation_vm.specs.Calls.{CallsAll, CallsAllFor, CallsCommand, CallsFlatAwait, CallsFor, CallsProposal, CallsRead, CallsRun, CallsUnit, new_awakeable_step};
 ghost use Rattle.vm_laws.specs.Outputs.{EndsOnceAfter, StaysSo};
 ghost use Rattle.invocation_vm.specs.Making.{made};
 ghost use Rattle.vm_laws.specs.Sleeps.{MaySleep, sleeping};
@@ -74,6 +74,8 @@ pub fn sleep_is_written()
 /// fed, closed or told of an error, it finds memory, since it takes none.
 pub fn first_error_is_answered<A>()
     ensures calls { (step : Machine → Outcome A) (r : Result A Error) (e : Error) (old new : View) → old.machine.failure ≡ Some e → Calls step r old new → AnswersFirst e r old new }
+    ensures several { (c : Command) (cs : List Command) (r : Result NotificationHandle Error) (e : Error)
+        (old new : View) → old.machine.failure ≡ Some e → CallsAll c cs r old new → AnswersFirst e r old new }
     ensures awaits { (future : UnresolvedFuture) (r : Result AwaitResponse Error) (e : Error) (old new : View) → old.machine.failure ≡ Some e → CallsFlatAwait future r old new → AnswersFirst e r old new }
     ensures proposals { (handle : NotificationHandle) (exit : RunExitResult) (policy : RetryPolicy) (r : Result Unit Error) (e : Error) (old new : View) → old.machine.failure ≡ Some e → CallsProposal handle exit policy r old new → AnswersFirst e r old new }
     ensures quiet { (raws : List RawMessage) (after : View) (r : Result Unit AllocError) (e : Error) (old new : View) → old.machine.failure ≡ Some e → Leaves raws after r old new → r ≡ Ok tt }

@@ -1,7 +1,9 @@
--- What a call with a deadline leaves.
-use Rattle.std.proofs.Common.{◌≡◌, inl, inr, ℕ, ◌+◌, Bool, true, false, List, [], ◌∷◌, ◌++◌, Option, Some, None, Result, Ok, Err, refl, sym, ap, subst, ◌∙◌, append_assoc}
-use Rattle.std.specs.Prelude.{if◌then◌else◌, ◌==◌, min}
+-- What a call of several commands leaves, and a call with a deadline.
+use Rattle.std.proofs.Common.{◌≡◌, inl, inr, ℕ, ◌+◌, Bool, true, false, List, [], ◌∷◌, ◌++◌, Option, Some, None, Result, Ok, Err, refl, sym, ap, subst, ◌∙◌, add_assoc, append_assoc}
+use native.Mathlib.Nat.{add-zero}
+use Rattle.std.specs.Prelude.{◌⊎◌, if◌then◌else◌, ◌==◌, min}
 use Rattle.journal_errors.specs.declared.error.Error.{Error}
+use Rattle.journal_errors.specs.Errors.{no_memory}
 use Rattle.journal_errors.specs.declared.faults.NamedFault.{NamedFault}
 use Rattle.journal_errors.specs.declared.faults.NamedFault.TheVariants as fault
 use Rattle.journal_errors.specs.Types.{type_number}
@@ -18,16 +20,20 @@ use Rattle.vm_types.specs.declared.types.DeadlineCallHandle.{DeadlineCallHandle}
 use Rattle.vm_parts.specs.declared.async_results.Mapping.{Mapping}
 use Rattle.vm_parts.specs.Counting.{missing}
 use Rattle.vm_asks.specs.declared.asks.Command.{Command}
-use Rattle.vm_asks.specs.Asks.{any_refusal, deadline_handles, sleep_command}
+use Rattle.vm_asks.specs.Asks.{all_ids, any_refusal, deadline_handles, sleep_command}
 use Rattle.vm_asks.specs.GivenIds.{IsCallWith}
 use Rattle.vm_asks.specs.Requests.{ids_of, name_of, shown_type, with_ids}
 use Rattle.vm_machine.specs.declared.machine.Machine.{Machine}
 use Rattle.vm_machine.specs.Commands.{carried_out, commanded, commanded_unless, compared, counted, entered, ignores_payloads, issued, mapped_from, phase_after, popped, popped_from, prepared, replayed, written}
 use Rattle.vm_machine.specs.Outcomes.{Does, Done, Failed, Outcome, ◌>>=◌, about_last, called, called_at}
 use Rattle.vm_machine.specs.Phases.{is_processing, is_running, state_fault}
-use Rattle.vm_machine.specs.Several.{BehindFirst, MakesAll, answered_so, commanded_before, foreseen, foreseen_unless, missing_for, numbers_left}
-use Rattle.invocation_vm.specs.Calls.{CallsAllFor, result_by}
-use Rattle.invocation_vm.specs.Views.{View}
+use Rattle.vm_machine.proofs.Calling.{answers_first}
+use Rattle.vm_machine.specs.Several.{BehindFirst, MakesAll, MakesOne, answered_so, commanded_before, foreseen, foreseen_unless, missing_for, numbers_left}
+use Rattle.invocation_vm.specs.Calls.{CallsAll, CallsAllFor, result_by}
+use Rattle.invocation_vm.specs.Views.{AnswersFirst, View}
+use Rattle.invocation_vm.proofs.Failing.{viewed}
+use Rattle.vm_parts.specs.declared.context.Counters.{Counters}
+use Rattle.vm_laws.specs.Numbers.{Counted}
 use Rattle.vm_laws.specs.Deadlines.{DeadlineCalled, IsEntered, IsSleepWith, MakesBoth, stands_for}
 use Rattle.vm_laws.specs.Replays.{ignores}
 use Rattle.vm_laws.proofs.Carried.{IsDone, answered, no_answer, same_machine}
@@ -89,6 +95,7 @@ record Made (m : Message) (unstable : Bool) (h : NotificationHandle) (v w : Mach
   how : IsEntered (with_ids v.counters.completion m) (ignores v unstable) v w
   handles : w.results.handles ≡ v.results.handles ++ mapped_from (ids_of m) v.counters.handle v.counters.completion
   options : w.options ≡ v.options
+  signals : w.counters.signal ≡ v.counters.signal
   completion : w.counters.completion ≡ v.counters.completion + ids_of m
   next_handle : w.counters.handle ≡ v.counters.handle + ids_of m
   first : h.0 ≡ v.counters.handle
@@ -109,6 +116,7 @@ counted_makes None m unstable h v w d =
       how = entered_from c m (ignores v unstable) v w k.how;
       handles = ap (λ r. r.handles) k.results;
       options = k.options;
+      signals = ap (λ x. x.signal) k.counters;
       completion = ap (λ x. x.completion) k.counters;
       next_handle = ap (λ x. x.handle) k.counters;
       first = ap (λ x. x.0) a.1;
@@ -245,3 +253,67 @@ pub makes_both : (c : Command) (call : CallCommand) (millis : ℕ) → c.message
 makes_both c call millis is h old new made =
     let sleep : SleepCommand = record { wake_up_time = min millis 18446744073709551615; result_completion_id = 0; name = [] } in
     deadline_answers c (sleep_command millis []) call sleep h old new is refl refl made
+
+-- ---- the numbers of all
+
+sum_counts : (i n : ℕ) (a b c : Counters) → b.completion ≡ a.completion + i → b.signal ≡ a.signal → b.handle ≡ a.handle + i → Counted n 0 n b c → Counted (i + n) 0 (i + n) a c
+sum_counts i n a b c completion signal handle x = record {
+  completions = x.completions ∙ ap (λ k. k + n) completion ∙ add_assoc a.completion i n;
+  signals = x.signals ∙ ap (λ k. k + 0) signal;
+  handles = x.handles ∙ ap (λ k. k + n) handle ∙ add_assoc a.handle i n;
+}
+
+one_counts : (m : Message) (unstable : Bool) (h : NotificationHandle) (v w : Machine) → Made m unstable h v w → Counted (ids_of m) 0 (ids_of m) v.counters w.counters × (h.0 ≡ v.counters.handle)
+one_counts m unstable h v w x = (
+  record { completions = x.completion; signals = x.signals ∙ sym (add-zero v.counters.signal); handles = x.next_handle },
+  x.first,
+)
+
+pub several_count : (c : Command) (cs : List Command) (h : NotificationHandle) (v w : Machine) → MakesAll c cs (Ok h) v w → Counted (all_ids c cs) 0 (all_ids c cs) v.counters w.counters × (h.0 ≡ v.counters.handle)
+several_count c [] h v w makes =
+    one_counts c.message c.unstable h v w (before_makes c [] h v w (called_done (commanded_before c [] v) h v w makes.0))
+several_count c (b ∷ bs) h v w (Err e, mid, one, behind) = absurd (let z : Ok h ≡ Err e = behind.0 in cc)
+several_count c (b ∷ bs) h v w (Ok a, mid, one, (given, rest, so)) =
+    let x = handle_so a h given so in
+    let made : Made c.message c.unstable a v mid = before_makes c (b ∷ bs) a v mid (called_done (commanded_before c (b ∷ bs) v) a v mid one.0) in
+    let Makes : Result NotificationHandle Error → Type 0 = λ r. MakesAll b bs r mid w in
+    let others = several_count b bs x.0 mid w (subst Makes x.1 rest) in (
+      sum_counts (ids_of c.message) (all_ids b bs) v.counters mid.counters w.counters made.completion made.signals made.next_handle others.0,
+      ap (λ (n : NotificationHandle). n.0) (sym x.2) ∙ made.first,
+    )
+
+-- ---- a machine that has failed
+
+same_failed : (o : Outcome NotificationHandle) (d e : Error) (v w : Machine) → o ≡ Failed d v → o ≡ Failed e w → (e ≡ d) × (w ≡ v)
+same_failed o d e v w h k = (cc, cc)
+
+-- the first error is answered, or want of memory, and the machine stays
+abbrev Stays : Error → Result NotificationHandle Error → Machine → Machine → Type 0
+Stays e r v w = ((r ≡ Err e) ⊎ (r ≡ Err no_memory)) × (w ≡ v)
+
+one_stays : (c : Command) (cs : List Command) (r : Result NotificationHandle Error) (e : Error) (v w : Machine) → v.failure ≡ Some e → MakesOne c cs r v w → Stays e r v w
+one_stays c cs (Ok a) e v w is (does, whole) = absurd (no_answer e a v w (sym (answers_first (commanded_before c cs v) e v is) ∙ does))
+one_stays c cs (Err x) e v w is (does, whole) =
+    elim does as (λ _. Stays e (Err x) v w) [
+      | inl h ↦ (let s = same_failed (called (commanded_before c cs v) v) e x v w (answers_first (commanded_before c cs v) e v is) h in (inl (ap (λ y. Err y) s.0), s.1))
+      | inr h ↦ (inr (ap (λ y. Err y) h.error), h.stays e is)
+    ]
+
+all_stay : (c : Command) (cs : List Command) (r : Result NotificationHandle Error) (e : Error) (v w : Machine) → v.failure ≡ Some e → MakesAll c cs r v w → Stays e r v w
+all_stay c [] r e v w is makes = one_stays c [] r e v w is makes
+all_stay c (b ∷ bs) r e v w is (Ok a, mid, one, behind) =
+    elim (one_stays c (b ∷ bs) (Ok a) e v mid is one).0 as (λ _. Stays e r v w) [
+      | inl h ↦ absurd (let z : Ok a ≡ Err e = h in cc)
+      | inr h ↦ absurd (let z : Ok a ≡ Err no_memory = h in cc)
+    ]
+all_stay c (b ∷ bs) r e v w is (Err x, mid, one, behind) =
+    let o = one_stays c (b ∷ bs) (Err x) e v mid is one in
+    elim o.0 as (λ _. Stays e r v w) [
+      | inl h ↦ (inl (behind.0 ∙ h), behind.1 ∙ o.1)
+      | inr h ↦ (inr (behind.0 ∙ h), behind.1 ∙ o.1)
+    ]
+
+pub several_answer_first : (c : Command) (cs : List Command) (r : Result NotificationHandle Error) (e : Error) (old new : View) → old.machine.failure ≡ Some e → CallsAll c cs r old new → AnswersFirst e r old new
+several_answer_first c cs r e old new is calls =
+    let stays = all_stay c cs r e old.machine new.machine is calls.0 in
+    (stays.0, viewed old new old.machine stays.1 calls.1)
