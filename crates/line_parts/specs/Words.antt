@@ -4,6 +4,7 @@ use Rattle.std.specs.Borrow.{Bor}
 use Rattle.std.specs.Str.Parse.{IsNumeral, digits_value}
 use Rattle.lines.specs.Atoms.{IsAtom, IsText}
 use Rattle.await_trees.specs.declared.handle.NotificationHandle.{NotificationHandle}
+use Rattle.vm_types.specs.declared.types.EphemeralCompletionId.{EphemeralCompletionId}
 
 -- the text of a word, or nothing where there are no so many words
 abbrev pub text_at : ℕ → List (Bor (List ℕ)) → List ℕ
@@ -38,3 +39,7 @@ AreThreeTexts words three = IsText (text_at 0 words) three.0 × IsText (text_at 
 -- the digits of this handle, and no other word
 abbrev pub IsHandle : List (Bor (List ℕ)) → NotificationHandle → Type 0
 IsHandle words handle = (length words ≡ 1) × IsNumberOf 32 (text_at 0 words) handle.0
+
+-- the digits of this id of an ephemeral read, and no other word
+abbrev pub IsEphemeralId : List (Bor (List ℕ)) → EphemeralCompletionId → Type 0
+IsEphemeralId words id = (length words ≡ 1) × IsNumberOf 32 (text_at 0 words) id.0

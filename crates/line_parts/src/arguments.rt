@@ -4,15 +4,15 @@ ghost use Rattle.lines.specs.Atoms.{IsText};
 ghost use Rattle.lines.specs.Readings.{Blames};
 ghost use Rattle.line_parts.specs.Fields.{IsOptional, texts};
 ghost use Rattle.line_parts.specs.Values.{HasExtras, HasFlag, HasName, HasNow, IsTime, without};
-ghost use Rattle.line_parts.specs.Words.{AreThreeTexts, AreTwoTexts, IsHandle, IsOneAtom, IsOneText};
+ghost use Rattle.line_parts.specs.Words.{AreThreeTexts, AreTwoTexts, IsEphemeralId, IsHandle, IsOneAtom, IsOneText};
 
-use crate::atoms::{duration_of, handle_of, shared_of, text_of};
+use crate::atoms::{duration_of, ephemeral_id_of, handle_of, shared_of, text_of};
 use crate::fields::{are_named, field_of};
 use crate::words::{behind, text_in};
 use bytes::Bytes;
 use std::alloc::{AllocError, Global};
 use std::time::Duration;
-use vm_parts::{NotificationHandle, PayloadOptions};
+use vm_parts::{EphemeralCompletionId, NotificationHandle, PayloadOptions};
 use wire::{Fault, Text};
 
 /// The options behind a command's arguments.
@@ -160,6 +160,17 @@ pub fn handle_alone(arguments: &[&[u8]]) -> Result<NotificationHandle, Fault>
 {
     match arguments {
         [handle] => handle_of(*handle),
+        _ => Err(Fault::Malformed),
+    }
+}
+
+/// `I` alone.
+pub fn ephemeral_id_alone(arguments: &[&[u8]]) -> Result<EphemeralCompletionId, Fault>
+    ensures value { IfOk result (IsEphemeralId arguments.now) }
+    ensures none { IfErr result (Blames (IsEphemeralId arguments.now)) }
+{
+    match arguments {
+        [id] => ephemeral_id_of(*id),
         _ => Err(Fault::Malformed),
     }
 }

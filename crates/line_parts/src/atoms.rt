@@ -3,6 +3,7 @@ ghost use Rattle.std.specs.Prelude.{◌≡◌, ◌≢◌, ◌<◌, ◌≤◌, �
 ghost use Rattle.std.specs.Duration.{as_nanos, max_nanos};
 ghost use Rattle.std.specs.Str.Parse.{IsNumeral, digits_value};
 ghost use Rattle.await_trees.specs.declared.handle.NotificationHandle.{NotificationHandle};
+ghost use Rattle.vm_types.specs.declared.types.EphemeralCompletionId.{EphemeralCompletionId};
 ghost use Rattle.lines.specs.Atoms.{IsAtom, IsText};
 ghost use Rattle.lines.specs.Readings.{Blames};
 ghost use Rattle.line_parts.specs.Values.{IsTime};
@@ -12,7 +13,7 @@ use bytes::Bytes;
 use lines::atoms::{bytes_of, number_of};
 use std::alloc::Global;
 use std::time::Duration;
-use vm_parts::NotificationHandle;
+use vm_parts::{EphemeralCompletionId, NotificationHandle};
 use wire::{Fault, Text};
 
 /// The bytes of an atom, shared.
@@ -76,6 +77,15 @@ pub fn handle_of(text: &[u8]) -> Result<NotificationHandle, Fault>
 {
     let number = u32_of(text)?;
     Ok(NotificationHandle(number))
+}
+
+/// The id of an ephemeral read, of this number.
+pub fn ephemeral_id_of(text: &[u8]) -> Result<EphemeralCompletionId, Fault>
+    ensures value { IfOk result (λ id. IsNumberOf 32 text.now id.0) }
+    ensures none { IfErr result (Blames (λ (id : EphemeralCompletionId). IsNumberOf 32 text.now id.0)) }
+{
+    let number = u32_of(text)?;
+    Ok(EphemeralCompletionId(number))
 }
 
 /// The number of decimal digits, which may be longer than a `u64`.

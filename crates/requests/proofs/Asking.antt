@@ -11,8 +11,8 @@ use Rattle.requests.specs.declared.verb.Verb.{Verb}
 use Rattle.line_parts.specs.Trees.{SpellsFuture}
 use Rattle.line_parts.proofs.Places.{word_at}
 use Rattle.requests.specs.Lines.{AskNothing, AsksNothing, HasNoWords, HasWords}
-use Rattle.requests.specs.Verbs.{IsAwaited, IsEphemeralId, IsLine, verb_name, verb_named}
-use Rattle.line_parts.specs.Words.{IsNumberOf, behind, text_at}
+use Rattle.requests.specs.Verbs.{IsAwaited, IsLine, verb_name, verb_named}
+use Rattle.line_parts.specs.Words.{behind, text_at}
 
 -- no word
 nothing_named : verb_named [] ≡ None
@@ -46,12 +46,6 @@ wordless_asks text none = inl none
 
 pub words_ask : (text : List ℕ) (words : List (Bor (List ℕ))) → HasWords text words → AskNothing words → AsksNothing text
 words_ask text words are nothing = inr (words, are, nothing)
-
--- the only word is no number
-pub ephemeral_id_blamed : (words : List (Bor (List ℕ))) (d : Bor (List ℕ)) (fault : Fault) → length words ≡ 1 → Blames (IsNumberOf 32 (get_or words 0 d).now) fault → Blames (IsEphemeralId words) fault
-ephemeral_id_blamed words d fault one blames = record {
-  nothing = λ bad id is. blames.nothing bad id.0 (subst (λ t. IsNumberOf 32 t id.0) (sym (word_at words 0 d (omega arith))) is.1);
-}
 
 -- the only word is no tree
 pub one_tree_blamed : (words : List (Bor (List ℕ))) (d : Bor (List ℕ)) (fault : Fault) → length words ≡ 1 → Blames (SpellsFuture (get_or words 0 d).now) fault → Blames (IsAwaited words) fault

@@ -8,7 +8,6 @@ use Rattle.lines.specs.Readings.{One, Two, Three}
 use Rattle.vm_types.specs.declared.options.PayloadOptions.{PayloadOptions}
 use Rattle.vm_types.specs.declared.values.Target.{Target}
 use Rattle.vm_types.specs.declared.steps.Step.TheVariants as step
-use Rattle.vm_types.specs.declared.types.EphemeralCompletionId.{EphemeralCompletionId}
 use Rattle.await_trees.specs.declared.tree.UnresolvedFuture.{UnresolvedFuture}
 use Rattle.requests.specs.declared.request.Call.{Call}
 use Rattle.requests.specs.declared.request.Call.TheVariants as call
@@ -19,7 +18,7 @@ use Rattle.line_parts.specs.Results.{IsProposal}
 use Rattle.line_parts.specs.Targets.{AreCallOptions, AreSendOptions, NamesInvocation}
 use Rattle.line_parts.specs.Trees.{SpellsFuture}
 use Rattle.line_parts.specs.Values.{HasExtras, HasName, HasNow, HasValue, IsTime, IsValue}
-use Rattle.line_parts.specs.Words.{IsHandle, IsNumberOf, IsOneAtom, IsOneText, behind, text_at}
+use Rattle.line_parts.specs.Words.{IsEphemeralId, IsHandle, IsOneAtom, IsOneText, behind, text_at}
 
 -- the word that names a call
 unfoldable pub verb_name : Verb → List ℕ
@@ -97,10 +96,6 @@ pub record IsDeadlineCall (words : List (Bor (List ℕ))) (call : Target × List
 pub record IsSend (words : List (Bor (List ℕ))) (send : Target × List ℕ × Option Duration × Option (List ℕ) × PayloadOptions) : Type 0 where
   pub callee : HasCallee words (send.0.service, send.0.handler, send.1)
   pub options : AreSendOptions (drop 3 words) send.0 send.2 send.3 send.4
-
--- the digits of this id, and no other word
-abbrev pub IsEphemeralId : List (Bor (List ℕ)) → EphemeralCompletionId → Type 0
-IsEphemeralId words id = (length words ≡ 1) × IsNumberOf 32 (text_at 0 words) id.0
 
 -- nothing stands behind the name
 abbrev pub IsBare : List (Bor (List ℕ)) → Call → Call → Type 0

@@ -5,7 +5,7 @@ ghost use Rattle.requests.specs.declared.verb.Verb.TheVariants as verb;
 ghost use Rattle.requests.specs.Lines.{Asks, AsksCall, AskNothing, AsksNothing, HasNoWords, HasWords, IsContentType, IsMade, MakesNothing, MakesWith, Reads, begins_with_vm, says_nothing};
 ghost use Rattle.lines.specs.Readings.{Blames};
 ghost use Rattle.wire.specs.declared.fault.Fault.TheVariants.{Malformed};
-ghost use Rattle.requests.specs.Verbs.{IsAsked, IsAwaited, IsBare, IsEphemeralId, IsLine};
+ghost use Rattle.requests.specs.Verbs.{IsAsked, IsAwaited, IsBare, IsLine};
 
 use crate::callees::{call_line, call_with_deadline_line, send_line};
 use crate::content_type::ContentType;
@@ -13,9 +13,9 @@ use crate::request::{Call, Request};
 use crate::verb::{Verb, verb_of_word};
 use bytes::Bytes;
 use line_parts::arguments::{
-    Extras, bytes_alone, extras_of, handle_alone, name_of, now_of, text_alone,
+    Extras, bytes_alone, ephemeral_id_alone, extras_of, handle_alone, name_of, now_of, text_alone,
 };
-use line_parts::atoms::{string_of, u32_of};
+use line_parts::atoms::string_of;
 use line_parts::options::options_of;
 use line_parts::report::report_of;
 use line_parts::results::{Proposal, proposal_of};
@@ -25,7 +25,7 @@ use line_parts::values::{value_and_payload, value_of};
 use line_parts::words::{behind, bytes_in, text_in, time_in};
 use lines::pieces::{Charset, words_in};
 use std::alloc::{AllocError, Global};
-use vm_parts::{Boxed, EphemeralCompletionId, Step, UnresolvedFuture, VMOptions};
+use vm_parts::{Boxed, Step, UnresolvedFuture, VMOptions};
 use wire::{Fault, Text};
 
 #[tactic(auto, using(lines::proofs::Blaming::first_blamed, lines::proofs::Blaming::second_blamed))]
@@ -307,21 +307,6 @@ fn ephemeral_get_of(alloc: Global, arguments: &[&[u8]]) -> Result<Call, Fault>
 {
     let key = text_alone(alloc, arguments)?;
     Ok(Call::EphemeralGet(key))
-}
-
-/// The id alone.
-#[tactic(auto, using(crate::proofs::Asking::ephemeral_id_blamed))]
-fn ephemeral_id_alone(arguments: &[&[u8]]) -> Result<EphemeralCompletionId, Fault>
-    ensures value { IfOk result (IsEphemeralId arguments.now) }
-    ensures none { IfErr result (Blames (IsEphemeralId arguments.now)) }
-{
-    match arguments {
-        [id] => {
-            let number = u32_of(*id)?;
-            Ok(EphemeralCompletionId(number))
-        }
-        _ => Err(Fault::Malformed),
-    }
 }
 
 #[tactic(auto, using(lines::proofs::Blaming::one_blamed))]

@@ -12,9 +12,16 @@ use Rattle.round_reports.specs.Printed.{fault_text}
 use Rattle.round_reports.specs.Runs.{IsPlayed, MakeNoWorld, RoundsEnd, ScriptEnds, first_journal, setting_of}
 
 -- no entry is given
-pub begins_with_input : (input : List ℕ) (entries : List (List ℕ)) (journal : List (List ℕ)) → length entries ≡ 0 → journal ≡ encoding (message.Input (record { headers = []; value = input })) ∷ [] → (journal ≡ first_journal input entries) × AreGiven [] entries
-begins_with_input input [] journal none is = (is, tt)
+pub begins_with_input : (input : List ℕ) (entries : List (List ℕ)) (journal : List (List ℕ)) → length entries ≡ 0 → journal ≡ encoding (message.Input (record { headers = []; value = input })) ∷ [] → journal ≡ first_journal input entries
+begins_with_input input [] journal none is = is
 begins_with_input input (entry ∷ entries) journal none is = absurd (omega arith)
+
+pub none_has_a_fault : (entries : List (List ℕ)) → length entries ≡ 0 → AreGiven [] entries
+none_has_a_fault [] none = tt
+none_has_a_fault (entry ∷ entries) none = absurd (omega arith)
+
+pub input_makes_no_world : (entries : List (List ℕ)) (fault : RoundFault) → fault ≡ round_fault.Memory → MakeNoWorld entries fault
+input_makes_no_world entries fault memory = inl memory
 
 -- entries are given
 pub begins_with_entries : (input : List ℕ) (entries journal : List (List ℕ)) → length entries ≢ 0 → journal ≡ entries → journal ≡ first_journal input entries

@@ -1,7 +1,6 @@
 //! A script that is played: its rounds over its world, and their report.
-ghost use Rattle.std.specs.Prelude.{◌≡◌, [], IfErr, IfOk, OnOk, Some};
+ghost use Rattle.std.specs.Prelude.{◌≡◌, [], IfErr, IfOk, OnOk};
 ghost use Rattle.vm_store.specs.Given.{AreGiven};
-ghost use Rattle.round_reports.specs.Printed.{fault_text};
 ghost use Rattle.round_scripts.specs.Scripts.{IsRead, IsUnreadFor, nothing};
 ghost use Rattle.round_reports.specs.Runs.{MakeNoWorld, Plays, RoundsEnd, ScriptEnds, first_journal, setting_of};
 
@@ -23,7 +22,7 @@ pub struct Played {
 }
 
 /// The world of a script: it begins with the entries, or with its input if there are none.
-#[tactic(auto, using(crate::proofs::Beginning::begins_with_input, crate::proofs::Beginning::begins_with_entries, crate::proofs::Beginning::entries_make_no_world))]
+#[tactic(auto, using(crate::proofs::Beginning::begins_with_input, crate::proofs::Beginning::none_has_a_fault, crate::proofs::Beginning::input_makes_no_world, crate::proofs::Beginning::begins_with_entries, crate::proofs::Beginning::entries_make_no_world))]
 fn world_of(
     alloc: Global,
     version: Version,
@@ -42,20 +41,15 @@ fn world_of(
         state,
     } = given;
     if entries.is_empty() {
-        return World::new(alloc, identity, options, version, input, state);
+        return match World::new(alloc, identity, options, version, input, state) {
+            Ok(world) => Ok(world),
+            Err(fault) => Err(fault),
+        };
     }
-    World::with_journal(alloc, identity, options, version, state, entries)
-}
-
-/// What is reported of a script that a fault has stopped.
-fn stopped_by(alloc: Global, fault: RoundFault) -> Result<Played, AllocError>
-    ensures fault { IfOk result (λ played. played.fault ≡ Some fault) }
-    ensures report { IfOk result (λ played. played.report ≡ fault_text fault) }
-{
-    Ok(Played {
-        report: report_of_fault(alloc, fault)?,
-        fault: Some(fault),
-    })
+    match World::with_journal(alloc, identity, options, version, state, entries) {
+        Ok(world) => Ok(world),
+        Err(fault) => Err(fault),
+    }
 }
 
 /// Plays rounds over a world.
@@ -72,7 +66,10 @@ fn play_rounds<H: Handler>(
             report: report_of(alloc, &world, reports.as_slice())?,
             fault: None,
         }),
-        Err(fault) => stopped_by(alloc, fault),
+        Err(fault) => Ok(Played {
+            report: report_of_fault(alloc, fault)?,
+            fault: Some(fault),
+        }),
     }
 }
 
@@ -92,8 +89,14 @@ fn play<H: Handler>(
         rounds,
     } = script;
     match world_of(alloc, version, given, entries) {
-        Ok(world) => play_rounds(alloc, handler, world, rounds.as_slice()),
-        Err(fault) => stopped_by(alloc, fault),
+        Ok(world) => {
+            let played = play_rounds(alloc, handler, world, rounds.as_slice())?;
+            Ok(played)
+        }
+        Err(fault) => Ok(Played {
+            report: report_of_fault(alloc, fault)?,
+            fault: Some(fault),
+        }),
     }
 }
 

@@ -1,5 +1,5 @@
 -- What has no place behind what was said before, and the lines in front of it.
-use Rattle.std.proofs.Common.{◌≡◌, ◌≢◌, ◌+◌, inl, inr, ℕ, List, [], ◌∷◌, ◌++◌, None, length, replicate, refl, sym, subst, ◌∙◌, arith, length-append}
+use Rattle.std.proofs.Common.{◌≡◌, ◌≢◌, ◌+◌, inl, inr, ℕ, List, [], ◌∷◌, ◌++◌, None, length, replicate, ap, refl, sym, subst, ◌∙◌, arith, length-append}
 use Rattle.scripts.specs.Transcripts.{AreFirstLines, IsFirstLine}
 use Rattle.vm_store.specs.declared.types.Event.{Event}
 use Rattle.vm_store.specs.declared.types.Event.TheVariants as event
@@ -30,8 +30,13 @@ pub world_stands : (given : Given) (before : Parts) → before.given ≢ None �
 world_stands given before some = record { nothing = λ after adds. some adds.0 }
 
 -- or an entry
-pub entries_stand : (given : Given) (before : Parts) → before.entries ≢ [] → HasNoPlace (line.World given) before
-entries_stand given before some = record { nothing = λ after adds. some adds.1 }
+pub entries_stand : (given : Given) (before : Parts) → length before.entries ≢ 0 → HasNoPlace (line.World given) before
+entries_stand given before some = record { nothing = λ after adds. some (ap length adds.1) }
+
+-- or none
+pub no_entries : (entries : List (List ℕ)) → length entries ≡ 0 → entries ≡ []
+no_entries [] none = refl
+no_entries (entry ∷ entries) none = absurd (omega arith)
 
 -- or a round
 pub round_stands : (given : Given) (before : Parts) → before.last ≢ None → HasNoPlace (line.World given) before

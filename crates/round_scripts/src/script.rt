@@ -86,7 +86,7 @@ fn add_steps(so_far: &mut SoFar, steps: u64) -> Result<(), Fault>
 }
 
 /// The world is made of this; `Malformed` if another world, an entry or a round stands before.
-#[tactic(auto, using(crate::proofs::Placing::world_stands, crate::proofs::Placing::entries_stand, crate::proofs::Placing::round_stands))]
+#[tactic(auto, using(crate::proofs::Placing::world_stands, crate::proofs::Placing::entries_stand, crate::proofs::Placing::no_entries, crate::proofs::Placing::round_stands))]
 fn add_world(so_far: &mut SoFar, given: Given) -> Result<(), Fault>
     ensures value { OnOk result (Adds (line.World given) (parts_of so_far.old) (parts_of so_far.new)) }
     ensures none { IfErr result (λ fault. fault ≡ Malformed → HasNoPlace (line.World given) (parts_of so_far.old)) }
