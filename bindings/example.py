@@ -11,12 +11,12 @@ JOURNAL = bytes.fromhex(
 )
 
 vm = VM("application/vnd.restate.invocation.v7")
-vm.notify_input(JOURNAL)
-vm.notify_input_closed()
+vm.notify_input(JOURNAL)  # bytes as they come from the runtime, cut anywhere
+vm.notify_input_closed()  # no more come in this attempt
 print(vm.sys_input().value)
-slept = vm.sys_sleep(1000)
+slept = vm.sys_sleep(1000)  # a handle
 try:
-    vm.do_await(slept)
+    vm.do_await(slept)  # true: it is awake; false: feed more, or execute a run
 except Suspended as error:
     print("suspended:", error.code)
-print(vm.take_output().hex())
+print(vm.take_output().hex())  # whole frames, for the runtime
