@@ -1,0 +1,1 @@
+"""The invocation VM for Python (`palqytun.core`), and the durable runtime over it (`palqytun.runtime`)."""

@@ -1,0 +1,1 @@
+../../../bindings/palqytun.pyi
