@@ -85,7 +85,9 @@ def test_an_order_goes_on_after_a_kill(url, tmp_path):
         assert status == 200 and receipt["payment"].startswith("payment-")
         assert two.ask(f"/-/invocations/{made['invocation']}/result") == (200, receipt)
         assert two.ask("/Stock/pen/left", method="POST") == (200, 98)
-    assert [it.split()[0] for it in (tmp_path / "shop-ledger.txt").read_text().splitlines()] == ["paid", "shipped"]
+    booked = (tmp_path / "shop-ledger.txt").read_text().splitlines()
+    # The kill may come before the payment's result is stored; then it is asked for again, by the same key.
+    assert [it.split()[0] for it in dict.fromkeys(booked)] == ["paid", "shipped"]
 
 
 def test_what_was_done_is_undone(url, tmp_path):

@@ -32,6 +32,7 @@ class Claimer:
     worker: str
     services: tuple[str, ...]
     lease: float  # how long it is thought alive after a beat, in seconds
+    former: str = ""  # the worker that this process was before it lost its database
 
     # ---- leases
 
@@ -39,6 +40,7 @@ class Claimer:
         """The worker begins."""
         if not db.is_shared:
             db.change("DELETE FROM workers")  # this is the only one
+        db.change("DELETE FROM workers WHERE id=?", (self.former,))
         db.change(f"INSERT INTO workers(id, lease) VALUES (?,{db.clock}+?)", (self.worker, self.lease))
         db.change(f"DELETE FROM workers WHERE lease < {db.clock}-3600")
 

@@ -5,9 +5,10 @@ from __future__ import annotations
 import asyncio
 import logging
 import random
+import secrets
 import time
 from collections.abc import Callable
-from typing import TypeVar
+from typing import Any, TypeVar
 
 from . import inbox, invocations, journal, storing
 from .attempt import Attempt
@@ -22,6 +23,7 @@ from .services import App, TerminalError
 
 T = TypeVar("T")
 log = logging.getLogger("palqytun")
+_SHORTEST, _LONGEST = 0.1, 5.0  # seconds between connections
 
 
 class Unavailable(TerminalError):
@@ -57,11 +59,12 @@ class Engine:
         self.counts = {"attempts": 0, "sessions": 0, "fenced": 0}
         self._results: dict[str, list[asyncio.Future[None]]] = {}
         self._poke = asyncio.Event()
-        self._due = 0.0
+        self._look_at = 0.0  # by the monotonic clock
         self._tasks: set[asyncio.Task[None]] = set()
         self._committer: Committer | None = None
         self._is_open = asyncio.Event()
         self._stopping = False
+        self._former = ""
 
     # ---- transactions
 
@@ -86,9 +89,8 @@ class Engine:
         """What a transaction did is told to those whom it touches."""
         for invocation in out.touched:
             self._touch(invocation)
-        if out.due is not None and out.due < self._due:
-            self._due = out.due
-            self._poke.set()
+        if out.due is not None:
+            self._wake(out.due - time.time())
         for invocation in out.ended:
             self._ended(invocation)
 
@@ -97,7 +99,13 @@ class Engine:
         if attempt is not None:
             attempt.poked.set()
         else:
-            self._due = 0.0
+            self._wake(0)
+
+    def _wake(self, delay: float) -> None:
+        """The database is looked at after this delay, if not before. Delays are short and by the monotonic clock, as the other may jump."""
+        at = time.monotonic() + delay
+        if at < self._look_at:
+            self._look_at = at
             self._poke.set()
 
     def _ended(self, invocation: str) -> None:
@@ -113,24 +121,21 @@ class Engine:
         elif what == "to":
             self._touch(invocation)
         else:
-            self._due = 0.0
-            self._poke.set()
+            self._wake(0)
 
     # ---- sessions
 
     async def run(self) -> None:
-        """Until `stop`. A lost database is connected to again, after a time that grows up to 5 seconds."""
-        delay = 0.1
+        """Until `stop`. A lost database is connected to again: at once after a session that could use it, else after a growing time."""
+        delay = _SHORTEST
         while not self._stopping:
-            begun = time.monotonic()
+            sessions = self.counts["sessions"]
             try:
                 await self._session()
             except Lost as error:
                 log.warning("the database is lost: %s", error)
-                if time.monotonic() - begun > 10:
-                    delay = 0.1
+                delay = _SHORTEST if self.counts["sessions"] > sessions else min(_LONGEST, delay * 2)
                 await self._pause(delay)
-                delay = min(5.0, delay * 2)
 
     async def _pause(self, seconds: float) -> None:
         self._poke.clear()
@@ -143,14 +148,15 @@ class Engine:
     async def _session(self) -> None:
         """As long as the database can be used. Each session is a worker of its own, so what an earlier one left is claimed like any other's."""
         db = await asyncio.to_thread(self._connect, self.url)
-        self.counts["sessions"] += 1
         committer = self._committer = Committer(db, grouped=self.grouped)
-        claimer = Claimer(f"{self.name}-{random.getrandbits(32):08x}", tuple(self.app.services), self.lease)
+        claimer = Claimer(f"{self.name}-{secrets.token_hex(6)}", tuple(self.app.services), self.lease, self._former)
+        self._former = claimer.worker
         unlisten: Callable[[], None] | None = None
         beats = asyncio.create_task(self._beats(committer, claimer))
         try:
             await committer.submit(claimer.enter)
             unlisten = db.listen(self._heard)
+            self.counts["sessions"] += 1
             self._is_open.set()
             await self._loop(committer, claimer)
         except Stopped as error:
@@ -174,24 +180,36 @@ class Engine:
         self.live.clear()
 
     async def _loop(self, committer: Committer, claimer: Claimer) -> None:
-        while not self._stopping:
-            self._poke.clear()
-            self._due = time.time() + self.poll
-            room, live = max(0, self.limit - len(self.live)), frozenset(self.live)
-            found: Claims = await committer.submit(lambda db: claimer.claim(db, live, room))
-            for claim in found.claims:
-                self._begin(claim)
-            found.out.touched &= self.live.keys()
-            self.tell(found.out)
-            if found.next_due is not None and room:
-                self._due = min(self._due, found.next_due)
-            lost = asyncio.ensure_future(committer.is_lost.wait())
-            poked = asyncio.ensure_future(self._poke.wait())
-            await asyncio.wait([lost, poked], timeout=max(0.0005, self._due - time.time()), return_when=asyncio.FIRST_COMPLETED)
+        lost: asyncio.Future[Any] = asyncio.ensure_future(committer.is_lost.wait())
+        try:
+            while not self._stopping:
+                self._look_at = time.monotonic() + self.poll
+                room, live = max(0, self.limit - len(self.live)), frozenset(self.live)
+                found: Claims = await committer.submit(lambda db: claimer.claim(db, live, room))
+                for claim in found.claims:
+                    self._begin(claim)
+                found.out.touched &= self.live.keys()
+                self.tell(found.out)
+                if found.next_due is not None and room:
+                    self._wake(found.next_due - time.time())
+                await self._until_due(lost)
+                if committer.lost is not None:
+                    raise Lost(str(committer.lost))
+        finally:
             lost.cancel()
-            poked.cancel()
-            if committer.lost is not None:
-                raise Lost(str(committer.lost))
+
+    async def _until_due(self, lost: asyncio.Future[Any]) -> None:
+        """Until something is due or touched, or the database is lost."""
+        while not (self._stopping or lost.done()):
+            left = self._look_at - time.monotonic()
+            if left <= 0:
+                return
+            self._poke.clear()
+            poked: asyncio.Future[Any] = asyncio.ensure_future(self._poke.wait())
+            try:
+                await asyncio.wait([lost, poked], timeout=left, return_when=asyncio.FIRST_COMPLETED)
+            finally:
+                poked.cancel()
 
     async def _beats(self, committer: Committer, claimer: Claimer) -> None:
         while True:
@@ -237,8 +255,7 @@ class Engine:
             if self.live.get(invocation) is attempt:
                 del self.live[invocation]
             if attempt.poked.is_set() or len(self.live) == self.limit - 1:
-                self._due = 0.0
-                self._poke.set()
+                self._wake(0)
 
     async def _give_up(self, attempt: Attempt, error: Exception) -> None:
         why = f"the runtime failed: {type(error).__name__}: {error}"

@@ -3,7 +3,7 @@
 from __future__ import annotations
 
 import hashlib
-import random
+import secrets
 import time
 from collections.abc import Iterable
 from dataclasses import dataclass, field
@@ -36,7 +36,7 @@ class New:
 
 def _seed(id: str | None) -> int:
     if id is None:
-        return random.getrandbits(63)
+        return secrets.randbits(63)
     return int.from_bytes(hashlib.blake2b(id.encode(), digest_size=7).digest(), "big")
 
 
@@ -48,7 +48,7 @@ def create(db: Database, app: App, out: Outcome, new: New) -> str:
     is_main = handler.service.workflow and handler.exclusive
     idem = "" if is_main else new.idempotency_key  # a workflow's main runs once a key
     now = time.time()
-    id = new.id or f"inv_{random.getrandbits(96):024x}"
+    id = new.id or f"inv_{secrets.token_hex(12)}"
     sql = (
         "INSERT INTO invocations(id, service, handler, key, exclusive, version, idem, seed, status, due, entries, created)"
         " VALUES (?,?,?,?,?,?,?,?,'ready',?,1,?) ON CONFLICT DO NOTHING"
