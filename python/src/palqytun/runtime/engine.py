@@ -14,7 +14,7 @@ from . import inbox, invocations, journal, storing
 from .attempt import Attempt
 from .claiming import Claimer, Claims
 from .committer import Committer, Stopped
-from .database import Database, Lost, connect
+from .database import Conflict, Database, Lost, connect
 from .invocations import Claim, New
 from .journal import Result
 from .lease import Fenced
@@ -218,6 +218,8 @@ class Engine:
                 await committer.submit(claimer.beat)
             except Stopped:
                 return
+            except Conflict as error:
+                log.warning("a beat wasn't stored: %s", error)
 
     def stop(self) -> None:
         """`run` ends once the transactions that are queued are committed. What isn't finished is claimed by the next worker."""
