@@ -1,4 +1,5 @@
-"""How long 100,000 lines take from Python: a call that changes nothing, and a call of a handler in an attempt that runs."""
+"""How long 100,000 lines take from Python: a call that changes nothing, and a call of a handler in an attempt that runs; and how long a
+value of a MB does, in and out."""
 
 import pathlib
 import time
@@ -25,3 +26,9 @@ timed("set", vm, ['set "key" "value"'] * LINES)
 begun = time.perf_counter()
 size = len(vm.take_output())
 print(f"take_output: {time.perf_counter() - begun:.3f} s for {size} bytes")
+for name, value in {"text": b"a" * 2**20, "every byte": bytes(range(256)) * 2**12}.items():
+    begun = time.perf_counter()
+    vm.sys_state_set("key", value)
+    between = time.perf_counter()
+    assert vm.take_notification(vm.sys_state_get("key")) == value
+    print(f"a MB of {name}: {between - begun:.3f} s in, {time.perf_counter() - between:.3f} s out")

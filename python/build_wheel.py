@@ -1,0 +1,99 @@
+"""Builds the package, for pip: a wheel with the shared object in it, an editable one that points here, or an archive of the sources.
+
+pip calls the functions that begin with `build_` (PEP 517 and PEP 660). They use Python's library alone, so no build needs a network. What the
+package is called, and all that is said of it, stands in `pyproject.toml`.
+"""
+
+from __future__ import annotations
+
+import base64
+import hashlib
+import io
+import pathlib
+import sysconfig
+import tarfile
+import tomllib
+import zipfile
+from collections.abc import Iterator, Mapping
+
+HERE = pathlib.Path(__file__).resolve().parent
+LIBRARY = "libpalqytun.so"
+Settings = Mapping[str, str | list[str]]
+
+
+def project() -> dict[str, str]:
+    """What `pyproject.toml` says of the package."""
+    with open(HERE / "pyproject.toml", "rb") as file:
+        found: dict[str, str] = tomllib.load(file)["project"]
+    return found
+
+
+def stem() -> str:
+    """The package's name and version, as the names of its files have them."""
+    return f"{project()['name']}-{project()['version']}"
+
+
+def tag() -> str:
+    """For which machines the wheel is: any Python 3, on the system and processor of this one."""
+    return f"py3-none-{sysconfig.get_platform().replace('-', '_').replace('.', '_')}"
+
+
+def metadata() -> str:
+    """The file METADATA."""
+    it = project()
+    lines = ["Metadata-Version: 2.1", f"Name: {it['name']}", f"Version: {it['version']}", f"Summary: {it['description']}"]
+    lines += [f"Requires-Python: {it['requires-python']}", *(f"Classifier: {one}" for one in it["classifiers"])]
+    lines += ["Description-Content-Type: text/markdown", "", (HERE / it["readme"]).read_text(encoding="utf-8")]
+    return "\n".join(lines)
+
+
+def sources() -> Iterator[tuple[str, bytes]]:
+    """The files of the package, by their names in a wheel, with the shared object."""
+    if not (HERE / "src/palqytun" / LIBRARY).is_file():
+        raise FileNotFoundError(f"src/palqytun/{LIBRARY} isn't there: ./bindings/build makes it, at the top of the repository")
+    for file in sorted((HERE / "src").rglob("*")):
+        if file.suffix in (".py", ".typed", ".so"):
+            yield str(file.relative_to(HERE / "src")), file.read_bytes()
+
+
+def write_wheel(folder: str, files: Iterator[tuple[str, bytes]]) -> str:
+    """Writes a wheel of these files, with what describes them, and answers its name."""
+    info, name = f"{stem()}.dist-info", f"{stem()}-{tag()}.whl"
+    about = f"Wheel-Version: 1.0\nGenerator: {__name__}\nRoot-Is-Purelib: false\nTag: {tag()}\n"
+    record = ""
+    with zipfile.ZipFile(pathlib.Path(folder) / name, "w", zipfile.ZIP_DEFLATED) as wheel:
+        for at, data in [*files, (f"{info}/METADATA", metadata().encode()), (f"{info}/WHEEL", about.encode())]:
+            sum_of = base64.urlsafe_b64encode(hashlib.sha256(data).digest()).rstrip(b"=").decode()
+            record += f"{at},sha256={sum_of},{len(data)}\n"
+            _add(wheel, at, data)
+        _add(wheel, f"{info}/RECORD", f"{record}{info}/RECORD,,\n".encode())
+    return name
+
+
+def _add(wheel: zipfile.ZipFile, at: str, data: bytes) -> None:
+    """Adds a file, with no time of its own, so that equal sources make equal wheels."""
+    entry = zipfile.ZipInfo(at, (1980, 1, 1, 0, 0, 0))
+    entry.compress_type = zipfile.ZIP_DEFLATED
+    entry.external_attr = (0o100755 if at.endswith(".so") else 0o100644) << 16
+    wheel.writestr(entry, data)
+
+
+def build_wheel(wheel_directory: str, config_settings: Settings | None = None, metadata_directory: str | None = None) -> str:
+    return write_wheel(wheel_directory, sources())
+
+
+def build_editable(wheel_directory: str, config_settings: Settings | None = None, metadata_directory: str | None = None) -> str:
+    return write_wheel(wheel_directory, iter([("palqytun.pth", f"{HERE / 'src'}\n".encode())]))
+
+
+def build_sdist(sdist_directory: str, config_settings: Settings | None = None) -> str:
+    name = f"{stem()}.tar.gz"
+    files = [(it, (HERE / it).read_bytes()) for it in ("pyproject.toml", "README.md", "build_wheel.py")]
+    files += [(f"src/{at}", data) for at, data in sources()]
+    files += [(f"tests/{it.name}", it.read_bytes()) for it in sorted((HERE / "tests").glob("*.py"))]
+    with tarfile.open(pathlib.Path(sdist_directory) / name, "w:gz") as archive:
+        for at, data in [*files, ("PKG-INFO", metadata().encode())]:
+            entry = tarfile.TarInfo(f"{stem()}/{at}")
+            entry.size = len(data)
+            archive.addfile(entry, io.BytesIO(data))
+    return name

@@ -1,1 +1,0 @@
-../../../bindings/palqytun.pyi

@@ -1,0 +1,86 @@
+"""What a call is refused by: the errors that the VM answers, and their codes."""
+
+from __future__ import annotations
+
+import enum
+
+__all__ = ["BadLine", "Cancelled", "Closed", "Code", "JournalMismatch", "Suspended", "VMError", "error_of"]
+
+
+class Code(enum.IntEnum):
+    """The codes of the VM's own errors, and the one that a cancelled handler fails with by custom.
+
+    An error's code may be another number: that of the handler's own error, as `VM.notify_error` was given it.
+
+    >>> Code.SUSPENDED == 599
+    True
+    """
+
+    BAD_REQUEST = 400
+    """The invocation isn't as the version of the VM has it."""
+    CANCELLED = 409
+    """The handler was cancelled. The VM answers no such error: a handler writes it, as `Failure(Code.CANCELLED, "cancelled")`."""
+    UNSUPPORTED_MEDIA_TYPE = 415
+    """The content type names no version that the VM has."""
+    INTERNAL = 500
+    """An argument or a count is out of its bounds, or a run's result was given that nobody waits for."""
+    JOURNAL_MISMATCH = 570
+    """The handler makes another call than the journal has recorded."""
+    PROTOCOL_VIOLATION = 571
+    """The bytes that were fed aren't what may come, or a call came where it may not."""
+    UNSUPPORTED_FEATURE = 573
+    """The version of the VM has no such call or argument."""
+    CLOSED = 598
+    """The handler has ended."""
+    SUSPENDED = 599
+    """The invocation is suspended."""
+
+
+class VMError(Exception):
+    """An error that the VM answered: its `code` and its `text`. The VM has failed, and answers the same to each later call.
+
+    `hint` says what to do in its place, where the call came out of order; else it is `None`.
+    """
+
+    def __init__(self, code: int, text: str, hint: str | None = None) -> None:
+        super().__init__(f"{code} {text}" + (f" ({hint})" if hint else ""))
+        self.code = code
+        self.text = text
+        self.hint = hint
+
+
+class JournalMismatch(VMError):
+    """The handler makes another call than the journal has recorded: its code has changed, or doesn't only depend on what it was answered."""
+
+
+class Closed(VMError):
+    """The handler has ended, so no call comes after."""
+
+
+class Suspended(VMError):
+    """The invocation is suspended: what is awaited can't come in this attempt. The output says what it waits for."""
+
+
+class Cancelled(Exception):
+    """The invocation was cancelled: the await has ended, and its children were sent the cancel signal. What the handler does then is its own."""
+
+
+class BadLine(ValueError):
+    """An argument, or a line, that the VM can't read: a text that is no UTF-8, a number that is too large, a word that isn't known.
+    Nothing was done."""
+
+
+_CLASSES: dict[int, type[VMError]] = {
+    Code.JOURNAL_MISMATCH: JournalMismatch,
+    Code.CLOSED: Closed,
+    Code.SUSPENDED: Suspended,
+}
+
+
+def error_of(code: int, text: str, hint: str | None = None) -> VMError:
+    """The error of this code, by its class.
+
+    >>> error_of(598, "ClosedError")
+    Closed('598 ClosedError')
+    """
+    return _CLASSES.get(code, VMError)(code, text, hint)

@@ -1,0 +1,192 @@
+"""Arguments are checked where they are given: each wrong one is refused by its name, and nothing was done."""
+
+import unittest
+
+import palqytun
+from attempt import CONTENT_TYPE, begun
+from palqytun import VM, BadLine, Failure, IdempotencyId, InvocationId, Retryable, WorkflowId
+from palqytun import first_completed, retry_exponential, retry_fixed
+
+HALF = "file-\udcff"
+
+# Each call with an argument of the wrong type, and what the error says.
+WRONG_TYPES = [
+    (lambda vm: vm.sys_sleep("x"), "wake_up_time must be an int, not str"),
+    (lambda vm: vm.sys_sleep(1.5), "wake_up_time must be an int, not float"),
+    (lambda vm: vm.sys_sleep(True), "wake_up_time must be an int, not bool"),
+    (lambda vm: vm.sys_sleep(1, name=None), "name must be a str, not NoneType"),
+    (lambda vm: vm.sys_sleep(1, now="x"), "now must be an int, not str"),
+    (lambda vm: vm.sys_state_get(b"k"), "key must be a str, not bytes"),
+    (lambda vm: vm.sys_state_get("k", name=1), "name must be a str, not int"),
+    (lambda vm: vm.sys_state_get("k", unstable="no"), "unstable must be a bool, not str"),
+    (lambda vm: vm.sys_state_get_keys(name=1), "name must be a str, not int"),
+    (lambda vm: vm.sys_state_set("k", 5), "value must be bytes, not int"),
+    (lambda vm: vm.sys_state_set("k", "v"), "value must be bytes, not str"),
+    (lambda vm: vm.sys_state_set("k", None), "value must be bytes, not NoneType"),
+    (lambda vm: vm.sys_state_clear(1), "key must be a str, not int"),
+    (lambda vm: vm.sys_state_clear_all(name=1), "name must be a str, not int"),
+    (lambda vm: vm.sys_call(1, "h", b""), "service must be a str, not int"),
+    (lambda vm: vm.sys_call("s", 1, b""), "handler must be a str, not int"),
+    (lambda vm: vm.sys_call("s", "h", 5), "value must be bytes, not int"),
+    (lambda vm: vm.sys_call("s", "h", b"", key=1), "key must be a str, not int"),
+    (lambda vm: vm.sys_call("s", "h", b"", idempotency_key=1), "idempotency_key must be a str, not int"),
+    (lambda vm: vm.sys_call("s", "h", b"", scope=1), "scope must be a str, not int"),
+    (lambda vm: vm.sys_call("s", "h", b"", limit_key=1), "limit_key must be a str, not int"),
+    (lambda vm: vm.sys_call("s", "h", b"", headers={"a": "b"}), "each of headers must be a pair of str, not str"),
+    (lambda vm: vm.sys_call("s", "h", b"", headers="ab"), "headers must be pairs of str, not str"),
+    (lambda vm: vm.sys_call("s", "h", b"", headers=[("a", 1)]), "a value of headers must be a str, not int"),
+    (lambda vm: vm.sys_send("s", "h", b"", at="x"), "at must be an int, not str"),
+    (lambda vm: vm.create_signal_handle(1), "name must be a str, not int"),
+    (lambda vm: vm.sys_complete_awakeable(1, b""), "id must be a str, not int"),
+    (lambda vm: vm.sys_complete_awakeable("prom_1", 5), "value must be bytes, not int"),
+    (lambda vm: vm.sys_complete_signal(1, "n", b""), "invocation_id must be a str, not int"),
+    (lambda vm: vm.sys_complete_signal("inv_1", 1, b""), "name must be a str, not int"),
+    (lambda vm: vm.sys_complete_signal("inv_1", "n", Failure("x", "no")), "value.code must be an int, not str"),
+    (lambda vm: vm.sys_run(1), "name must be a str, not int"),
+    (lambda vm: vm.propose_run_completion("17", b""), "handle must be an int, not str"),
+    (lambda vm: vm.propose_run_completion(17, 5), "result must be bytes, not int"),
+    (lambda vm: vm.propose_run_completion(17, b"", policy="none"), "policy must be a RetryPolicy, not str"),
+    (lambda vm: vm.propose_run_completion(17, Retryable(500, 5)), "result.message must be a str, not int"),
+    (lambda vm: vm.propose_run_completion(17, Retryable(500, "no", "3")), "result.duration must be an int, not str"),
+    (lambda vm: vm.sys_cancel_invocation(1), "invocation_id must be a str, not int"),
+    (lambda vm: vm.sys_get_promise(1), "key must be a str, not int"),
+    (lambda vm: vm.sys_peek_promise(1), "key must be a str, not int"),
+    (lambda vm: vm.sys_complete_promise(1, b""), "key must be a str, not int"),
+    (lambda vm: vm.sys_attach_invocation("inv_1"), "target must be an InvocationId, a WorkflowId or an IdempotencyId, not str"),
+    (lambda vm: vm.sys_attach_invocation(InvocationId(1)), "target.id must be a str, not int"),
+    (lambda vm: vm.sys_get_invocation_output(WorkflowId("w", 1)), "target.key must be a str, not int"),
+    (lambda vm: vm.sys_attach_invocation(IdempotencyId("s", "h", 1)), "target.idempotency_key must be a str, not int"),
+    (lambda vm: vm.sys_write_output(5), "value must be bytes, not int"),
+    (lambda vm: vm.sys_write_output(Failure(500, "no", (("k", 1),))), "a value of value.metadata must be a str, not int"),
+    (lambda vm: vm.do_await("17"), "future must be a handle or a Future, not str"),
+    (lambda vm: vm.do_await(True), "future must be a handle or a Future, not bool"),
+    (lambda vm: first_completed(17, "18"), "each child must be a handle or a Future, not str"),
+    (lambda vm: vm.take_notification("17"), "handle must be an int, not str"),
+    (lambda vm: vm.is_completed(None), "handle must be an int, not NoneType"),
+    (lambda vm: vm.notify_input(5), "data must be bytes, not int"),
+    (lambda vm: vm.notify_input("x"), "data must be bytes, not str"),
+    (lambda vm: vm.notify_error("x", "no"), "code must be an int, not str"),
+    (lambda vm: vm.notify_error(500, b"no"), "message must be a str, not bytes"),
+    (lambda vm: vm.notify_error(500, "no", related=1), "related must be a str, not int"),
+    (lambda vm: retry_fixed("x"), "interval must be an int, not str"),
+    (lambda vm: retry_fixed(5, pause=1), "pause must be a bool, not int"),
+    (lambda vm: retry_exponential(5, 1.5), "numerator must be an int, not float"),
+    (lambda vm: VM(7), "content_type must be a str, not int"),
+    (lambda vm: VM(CONTENT_TYPE, cancel=False), "cancel must be a str, not bool"),
+    (lambda vm: VM(CONTENT_TYPE, seed="7"), "seed must be an int, not str"),
+]
+
+# Each call with a value that the VM can't read, and what the error says.
+WRONG_VALUES = [
+    (lambda vm: vm.sys_sleep(-1), "wake_up_time must be from 0 to 18446744073709551615, not -1"),
+    (lambda vm: vm.sys_sleep(2**64), "wake_up_time must be from 0 to 18446744073709551615, not 18446744073709551616"),
+    (lambda vm: vm.sys_sleep(10**5000), "wake_up_time must be from 0 to 18446744073709551615, not a number this long"),
+    (lambda vm: vm.do_await(2**32), "future must be from 0 to 4294967295, not 4294967296"),
+    (lambda vm: vm.take_notification(-1), "handle must be from 0 to 4294967295, not -1"),
+    (lambda vm: vm.sys_write_output(Failure(65536, "no")), "value.code must be from 0 to 65535, not 65536"),
+    (lambda vm: vm.notify_error(65536, "no"), "code must be from 0 to 65535, not 65536"),
+    (lambda vm: vm.notify_error(500, "no", behaviour="retry delay=5"), "behaviour must be one of retry, pause, fail, not 'retry delay=5'"),
+    (lambda vm: vm.notify_error(500, "no", related="last delay=5"), "related must be last, next(TYPE NAME) or at(N TYPE NAME), not 'last delay=5'"),
+    (lambda vm: vm.propose_run_completion(17, Retryable(500, "no", behaviour="x")), "behaviour must be one of retry, pause, fail, not 'x'"),
+    (lambda vm: retry_fixed(5, attempts=2**32), "attempts must be from 0 to 4294967295, not 4294967296"),
+    (lambda vm: retry_exponential(5, 3, 0), "denominator must be from 1 to 4294967295, not 0"),
+    (lambda vm: VM(CONTENT_TYPE, awaiting="never cancel=off"), "awaiting must be one of norun, always, never, not 'never cancel=off'"),
+    (lambda vm: VM(CONTENT_TYPE, seed=2**64), "seed must be from 0 to 18446744073709551615, not 18446744073709551616"),
+    (lambda vm: vm.sys_sleep(1, name=HALF), "name is no UTF-8: at 5 stands '\\udcff', half of a surrogate pair"),
+    (lambda vm: vm.sys_state_set(HALF, b""), "key is no UTF-8: at 5 stands '\\udcff', half of a surrogate pair"),
+    (lambda vm: vm.sys_write_output(Failure(500, HALF)), "value.message is no UTF-8: at 5 stands '\\udcff', half of a surrogate pair"),
+    (lambda vm: vm.line(f'run "{HALF}"'), "line is no UTF-8: at 10 stands '\\udcff', half of a surrogate pair"),
+    (lambda vm: vm.call("what"), "the VM can't read this line: what"),
+]
+
+
+class Arguments(unittest.TestCase):
+    def test_wrong_types(self) -> None:
+        with begun() as vm:
+            for call, says in WRONG_TYPES:
+                with self.subTest(says), self.assertRaises(TypeError) as raised:
+                    call(vm)
+                self.assertEqual(str(raised.exception), says)
+            self.assert_untouched(vm)
+
+    def test_wrong_values(self) -> None:
+        with begun() as vm:
+            for call, says in WRONG_VALUES:
+                with self.subTest(says), self.assertRaises(BadLine) as raised:
+                    call(vm)
+                self.assertEqual(str(raised.exception), says)
+            self.assert_untouched(vm)
+
+    def assert_untouched(self, vm: VM) -> None:
+        """The VM that was asked goes on as if it hadn't been: no handle was handed out, no command made, nothing written."""
+        self.assertEqual((vm.state(), vm.last_command_index(), vm.take_output(), vm.sys_sleep(1)), ("Processing", 0, b"", 17))
+
+    def test_a_bad_value_is_a_value_error(self) -> None:
+        self.assertTrue(issubclass(BadLine, ValueError))
+
+    def test_an_unknown_option_names_the_known_ones(self) -> None:
+        with self.assertRaises(TypeError) as raised:
+            VM(CONTENT_TYPE, awaitng="never")
+        known = "cancel, checks, awaiting, mismatch, replay, delivery, seed"
+        self.assertEqual(str(raised.exception), f"VM has no option awaitng; its options are {known}")
+
+    def test_each_option_is_taken(self) -> None:
+        words = {
+            "cancel": ["calls", "none", "sends", "both", "off"],
+            "checks": ["on", "off"],
+            "awaiting": ["norun", "always", "never"],
+            "mismatch": ["follow", "pause", "fail"],
+            "replay": ["on", "off"],
+            "delivery": ["queued", "overwrite"],
+            "seed": [0, 2**64 - 1],
+        }
+        for name, values in words.items():
+            for value in values:
+                with self.subTest(name=name, value=value), VM(CONTENT_TYPE, **{name: value}) as vm:
+                    self.assertEqual(vm.version, "V7")
+
+    def test_the_bounds_are_the_vms(self) -> None:
+        """The largest numbers are read by the VM, and the next ones aren't, so no argument is refused that the VM would take."""
+        for line, most in [("completed {}", 2**32 - 1), ('error {} "no"', 2**16 - 1), (f'vm "{CONTENT_TYPE}" seed={{}}', 2**64 - 1)]:
+            with self.subTest(line), begun() as vm:
+                self.assertTrue(vm.line(line.format(most)).startswith("ok"))
+                self.assertEqual(vm.line(line.format(most + 1)), "bad")
+        with begun() as vm:
+            self.assertEqual(vm.line(f'sleep "" {2**64 - 1}'), "ok 17")
+            self.assertEqual(vm.line(f'sleep "" {2**64}'), 'err 500 "OutOfBoundsDuration"')
+
+    def test_bytes_of_every_kind(self) -> None:
+        with begun() as vm:
+            for value in (b"ab", bytearray(b"ab"), memoryview(b"ab"), memoryview(b"a-b-")[::2]):
+                vm.sys_state_set("k", value)
+                self.assertEqual(vm.take_notification(vm.sys_state_get("k")), b"ab")
+
+    def test_texts_are_one_word_each(self) -> None:
+        """Quotes, blanks, brackets, backslashes and line ends stay in the text."""
+        for key in ('" unstable', "a\\", "\n", "\r\n", "{a} [b]", "\0", "\\x41", "é 𝄞", ""):
+            with self.subTest(key), begun() as vm:
+                vm.sys_state_set(key, b"v")
+                self.assertEqual(vm.take_notification(vm.sys_state_get_keys()), [key])
+
+    def test_an_error_gets_through(self) -> None:
+        """The error of a file whose name is no UTF-8 is notified, with the half pair written out."""
+        with begun() as vm:
+            vm.notify_error(500, f"no {HALF}", stacktrace=HALF)
+            with self.assertRaises(palqytun.VMError) as raised:
+                vm.sys_sleep(1)
+            self.assertEqual(raised.exception.text, "no file-\\udcff")
+        with begun() as vm:
+            vm.do_await(vm.sys_run("charge").handle)
+            with self.assertRaises(palqytun.VMError) as raised:
+                vm.propose_run_completion(17, Retryable(500, HALF, stacktrace=HALF))
+            self.assertEqual(raised.exception.text, "file-\\udcff")
+
+    def test_the_command_of_an_error(self) -> None:
+        for related in ("last", "next(Sleep -)", 'next(Run "a) \\" delay=5")', 'at(3 GetState "k")'):
+            with self.subTest(related), begun() as vm:
+                vm.notify_error(500, "no", related=related)
+                self.assertEqual(vm.state(), "Closed")
+
+
+if __name__ == "__main__":
+    unittest.main()
