@@ -3,92 +3,114 @@
 import concurrent.futures
 import os
 import pathlib
+import shutil
+import sys
+import tempfile
+import unittest
 
-import pytest
-import scenarios
-from checked import Wrong
+sys.path.insert(0, str(pathlib.Path(__file__).parent))
+import scenarios  # noqa: E402
+from checked import Wrong  # noqa: E402
 
 MOST_COMMITS = 400  # there are fewer; a test that goes so far has a fault
+STEP = int(os.environ.get("PALQYTUN_TEST_STEP", 1))  # a death at each commit; 4: at each fourth
 
 
-@pytest.fixture(scope="module")
-def room(tmp_path_factory):
-    return scenarios.Room(tmp_path_factory.mktemp("crash") / "six")
+class InAFolder(unittest.TestCase):
+    def setUp(self) -> None:
+        self.folder = pathlib.Path(tempfile.mkdtemp(prefix="palqytun-crash-"))
+        self.addCleanup(shutil.rmtree, self.folder, True)
 
 
-@pytest.fixture(scope="module")
-def larger(tmp_path_factory):
-    return scenarios.Room(tmp_path_factory.mktemp("crash") / "more", 36)
+class Deaths(InAFolder):
+    """Six workflows, one of each kind, and a worker that dies in place of a commit."""
+
+    def setUp(self) -> None:
+        super().setUp()
+        self.room = scenarios.Room(self.folder / "room")
+
+    def each(self, **options: object) -> int:
+        """A death at each commit; answers how many there were."""
+        deaths = 0
+        with concurrent.futures.ThreadPoolExecutor(os.cpu_count()) as pool:
+            for first in range(1, MOST_COMMITS, 10 * STEP):
+                numbers = range(first, first + 10 * STEP, STEP)
+                died = list(pool.map(lambda number: scenarios.death_at_commit(self.room, number, **options), numbers))
+                deaths += sum(died)
+                if not all(died):
+                    return deaths
+        raise AssertionError("the commits have no end")
+
+    def test_at_each_commit(self) -> None:
+        deaths = self.each()
+        print(f"{deaths} deaths", file=sys.stderr)
+        self.assertGreater(deaths * STEP, 50)
+
+    def test_at_each_commit_of_attempts_that_wait(self) -> None:
+        deaths = self.each(idle=0.5)
+        print(f"{deaths} deaths", file=sys.stderr)
+        self.assertGreater(deaths * STEP, 40)
+
+    def test_two_deaths(self) -> None:
+        for number in range(1, 80, 8):
+            scenarios.death_at_commit(self.room, number, again=(number * 7) % 60 + 1)
+
+    def test_wrong_runtimes_are_found(self) -> None:
+        for wrong in ("completions_first", "timers_first", "ends_first", "states_first"):
+            with self.subTest(wrong), self.assertRaises(Wrong):
+                self.each(wrong=wrong)
 
 
-def each_death(room, **options):
-    """A death at each commit; answers how many there were."""
-    deaths = 0
-    with concurrent.futures.ThreadPoolExecutor(2) as pool:
-        for first in range(1, MOST_COMMITS, 10):
-            died = list(pool.map(lambda number: scenarios.death_at_commit(room, number, **options), range(first, first + 10)))
-            deaths += sum(died)
-            if not all(died):
-                return deaths
-    raise AssertionError("the commits have no end")
+class Storms(InAFolder):
+    """36 workflows, and a fault of the machine."""
+
+    def setUp(self) -> None:
+        super().setUp()
+        self.room = scenarios.Room(self.folder / "room", 36)
+
+    def test_torn_writes(self) -> None:
+        for seed in range(6):
+            scenarios.torn_write(self.room, seed)
+
+    def test_a_clock_that_jumps(self) -> None:
+        for seed in range(3):
+            scenarios.clock_jumps(self.room, seed)
+
+    @unittest.skipIf(os.geteuid(), "a small file system is mounted by root")
+    def test_a_full_disk(self) -> None:
+        self.assertGreater(sum(scenarios.full_disk(self.room, seed) for seed in range(2)), 0)
 
 
-def test_a_death_at_each_commit(room):
-    assert each_death(room) > 50
+class Kills(InAFolder):
+    def test_one_worker_on_sqlite(self) -> None:
+        reference = scenarios.undisturbed(str(self.folder / "reference.db"), self.folder / "reference", 60)
+        report, _ = scenarios.kills(str(self.folder / "db"), self.folder / "kills", faults=20, reference=reference)
+        print(report, file=sys.stderr)
+        self.assertEqual(report.kills, 20)
+        self.assertGreater(report.open_at_a_kill, 1)
 
 
-def test_a_death_at_each_commit_of_attempts_that_wait(room):
-    assert each_death(room, idle=0.5) > 40
+@unittest.skipUnless("PALQYTUN_TEST_POSTGRES" in os.environ, "PALQYTUN_TEST_POSTGRES names no database")
+class KillsOfMany(InAFolder):
+    """Three workers on PostgreSQL."""
+
+    def setUp(self) -> None:
+        super().setUp()
+        self.url = os.environ["PALQYTUN_TEST_POSTGRES"]
+        self.reference = scenarios.undisturbed(self.url, self.folder / "reference", 90)
+
+    def test_kills_pauses_and_lost_connections(self) -> None:
+        options = {"workers": 3, "pauses": True, "disconnects": True, "reference": self.reference}
+        report, _ = scenarios.kills(self.url, self.folder / "kills", faults=30, **options)
+        print(report, file=sys.stderr)
+        self.assertEqual((report.pauses, report.disconnects), (3, 6))
+
+    def test_a_store_without_a_fence_is_found(self) -> None:
+        options = {"workers": 3, "pauses": True, "reference": self.reference, "wrong": "unfenced", "seconds": 30}
+        with self.assertRaises(Wrong):
+            for seed in range(5):
+                scenarios.kills(self.url, self.folder / f"kills{seed}", faults=30, seed=seed, **options)
 
 
-def test_two_deaths(room):
-    for number in range(1, 80, 8):
-        scenarios.death_at_commit(room, number, again=(number * 7) % 60 + 1)
-
-
-@pytest.mark.parametrize("wrong", ["completions_first", "timers_first", "ends_first", "states_first"])
-def test_a_wrong_runtime_is_found(room, wrong):
-    with pytest.raises(Wrong):
-        each_death(room, wrong=wrong)
-
-
-@pytest.mark.parametrize("seed", range(6))
-def test_a_torn_write(larger, seed):
-    scenarios.torn_write(larger, seed)
-
-
-@pytest.mark.parametrize("seed", range(3))
-def test_a_clock_that_jumps(larger, seed):
-    scenarios.clock_jumps(larger, seed)
-
-
-@pytest.mark.skipif(os.geteuid() != 0, reason="a small file system is mounted by root")
-@pytest.mark.parametrize("seed", range(2))
-def test_a_full_disk(larger, seed):
-    assert scenarios.full_disk(larger, seed) > 0
-
-
-def test_kills(tmp_path):
-    reference = scenarios.undisturbed(str(tmp_path / "reference.db"), tmp_path / "reference", 60)
-    report, _ = scenarios.kills(str(tmp_path / "db"), tmp_path / "kills", faults=20, reference=reference)
-    print(report)
-    assert report.kills == 20 and report.open_at_a_kill > 1
-
-
-@pytest.mark.skipif("PALQYTUN_TEST_POSTGRES" not in os.environ, reason="PALQYTUN_TEST_POSTGRES names no database")
-def test_kills_pauses_and_lost_connections(tmp_path):
-    url = os.environ["PALQYTUN_TEST_POSTGRES"]
-    reference = scenarios.undisturbed(url, tmp_path / "reference", 90)
-    report, _ = scenarios.kills(url, tmp_path / "kills", faults=30, workers=3, pauses=True, disconnects=True, reference=reference)
-    print(report)
-    assert report.pauses == 3 and report.disconnects == 6
-
-
-@pytest.mark.skipif("PALQYTUN_TEST_POSTGRES" not in os.environ, reason="PALQYTUN_TEST_POSTGRES names no database")
-def test_a_store_without_a_fence_is_found(tmp_path):
-    url = os.environ["PALQYTUN_TEST_POSTGRES"]
-    reference = scenarios.undisturbed(url, tmp_path / "reference", 90)
-    with pytest.raises(Wrong):
-        for seed in range(5):
-            folder = pathlib.Path(tmp_path / f"kills{seed}")
-            scenarios.kills(url, folder, faults=30, workers=3, pauses=True, seed=seed, reference=reference, wrong="unfenced", seconds=30)
+if __name__ == "__main__":
+    unittest.main()

@@ -1,16 +1,29 @@
-"""A worker for a test, and what a test asks of it."""
+"""What the tests stand on: this tree's package, an empty database for each test, and a worker.
+
+PALQYTUN_LIBRARY may name the shared object. PALQYTUN_TEST_POSTGRES is the URL of a database that may be emptied; without it only SQLite is
+tested. PALQYTUN_TEST_IDLE is for how many seconds attempts wait before they are suspended; 0 without it.
+"""
 
 import asyncio
+import functools
 import json
 import os
+import pathlib
+import shutil
+import sys
+import tempfile
+import unittest
 
-from palqytun.runtime import journal
-from palqytun.runtime.database import connect
-from palqytun.runtime.database.schema import TABLES
-from palqytun.runtime.engine import Engine
-from palqytun.runtime.invocations import New
+PYTHON = pathlib.Path(__file__).parent.parent.parent
+sys.path[:0] = [str(PYTHON / "src"), str(pathlib.Path(__file__).parent)]
 
-DATABASES = ["sqlite", *(["postgres"] if "PALQYTUN_TEST_POSTGRES" in os.environ else [])]
+import runtime_app  # noqa: E402
+from palqytun.runtime import journal  # noqa: E402
+from palqytun.runtime.database import connect  # noqa: E402
+from palqytun.runtime.database.schema import TABLES  # noqa: E402
+from palqytun.runtime.engine import Engine  # noqa: E402
+from palqytun.runtime.invocations import New  # noqa: E402
+
 IDLE = float(os.environ.get("PALQYTUN_TEST_IDLE", 0))
 
 
@@ -25,6 +38,55 @@ def emptied(kind, folder):
     db.commit()
     db.close()
     return url
+
+
+class InAFolder:
+    """A test in a folder of its own."""
+
+    def setUp(self):
+        runtime_app.seen.clear()
+        self.folder = pathlib.Path(tempfile.mkdtemp(prefix="palqytun-test-"))
+        self.addCleanup(shutil.rmtree, self.folder, True)
+
+
+class OnADatabase(InAFolder):
+    """A test on an empty database."""
+
+    kind = "sqlite"
+
+    def setUp(self):
+        if self.kind == "postgres" and "PALQYTUN_TEST_POSTGRES" not in os.environ:
+            self.skipTest("PALQYTUN_TEST_POSTGRES names no database")
+        super().setUp()
+        self.url = emptied(self.kind, self.folder)
+
+
+def on_each_database(tests):
+    """Makes test cases of a class of tests, one for each database."""
+    for kind in ("sqlite", "postgres"):
+        name = f"{tests.__name__}_{kind}"
+        case = type(name, (tests, unittest.TestCase), {"kind": kind, "__module__": tests.__module__, "__qualname__": name})
+        setattr(sys.modules[tests.__module__], name, case)
+    return tests
+
+
+def suspends(test):
+    """A test for which attempts that wait are to be suspended."""
+    return unittest.skipIf(IDLE, "attempts that wait are to be suspended")(test)
+
+
+def with_runtime(test):
+    """A test with a worker."""
+
+    @functools.wraps(test)
+    def run(self):
+        async def go():
+            async with Runtime(runtime_app.app, self.url) as runtime:
+                await test(self, runtime)
+
+        asyncio.run(go())
+
+    return run
 
 
 class Runtime:
