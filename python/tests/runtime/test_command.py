@@ -1,7 +1,6 @@
 """The command `palqytun`, and the ingress: an app in a process of its own, killed in the middle of an order."""
 
 import contextlib
-import importlib.util
 import json
 import os
 import signal
@@ -14,8 +13,6 @@ import urllib.request
 
 import support  # isort: skip
 from support import PYTHON
-
-HAS_HTTP = importlib.util.find_spec("aiohttp") is not None
 SHOP = PYTHON / "examples" / "shop.py"
 ORDER = {"customer": "ann", "items": [{"name": "pen", "count": 2}], "card": "4242"}
 
@@ -69,7 +66,6 @@ def server(url, folder, **more):
         assert it.process.returncode in (0, -signal.SIGKILL)
 
 
-@unittest.skipUnless(HAS_HTTP, "aiohttp isn't installed")
 @support.on_each_database
 class Serving(support.OnADatabase):
     def test_an_order_goes_on_after_a_kill(self):
@@ -135,7 +131,6 @@ class Serving(support.OnADatabase):
         assert (status, said) == (2, "palqytun: there is no invocation none\n")
 
 
-@unittest.skipUnless(HAS_HTTP, "aiohttp isn't installed")
 class Commands(support.InAFolder, unittest.TestCase):
     def test_a_token(self):
         with server(str(self.folder / "db"), self.folder, PALQYTUN_TOKEN="secret") as it:

@@ -16,8 +16,11 @@ from collections.abc import Iterator
 
 from . import inbox, journal, operate
 from .database import Database, Lost, connect
+from .database.postgres import NoDriver
+from .database.schema import NewerSchema
 from .database.sqlite import InUse
 from .engine import Engine
+from .ingress import Ingress
 from .outcome import Outcome
 from .replay import replay_all
 from .services import App
@@ -47,19 +50,18 @@ async def _serve(options: argparse.Namespace) -> None:
     engine = Engine(load(options.app), options.db, name=options.name, limit=options.limit, idle=options.idle, lease=options.lease)
     for number in (signal.SIGINT, signal.SIGTERM):
         asyncio.get_running_loop().add_signal_handler(number, engine.stop)
-    async with contextlib.AsyncExitStack() as stack:
-        if options.port >= 0:
-            from aiohttp import web
-
-            from .ingress import Ingress
-
-            runner = web.AppRunner(Ingress(engine, token=os.environ.get("PALQYTUN_TOKEN")).web, access_log=None)
-            await runner.setup()
-            stack.push_async_callback(runner.cleanup)
-            await web.TCPSite(runner, options.host, options.port).start()
-            host, port = runner.addresses[0][:2]
-            print(f"http://{host}:{port}", flush=True)
+    if options.port < 0:
         await engine.run()
+        return
+    server = Ingress(engine, token=os.environ.get("PALQYTUN_TOKEN")).server
+    try:
+        print(await server.start(options.host, options.port), flush=True)
+    except OSError as error:
+        raise Refused(f"{options.host}:{options.port}: {error.strerror}") from error
+    try:
+        await engine.run()
+    finally:
+        await server.close()
 
 
 def run(options: argparse.Namespace) -> int:
@@ -175,6 +177,6 @@ def main() -> int:
     logging.basicConfig(level=logging.INFO, format="%(asctime)s %(name)s %(message)s")
     try:
         return int(options.does(options))
-    except (Refused, Lost, InUse) as error:
+    except (Refused, Lost, InUse, NewerSchema, NoDriver) as error:
         print(f"palqytun: {error}", file=sys.stderr)
         return 2

@@ -50,3 +50,18 @@ def purge(db: Database, before: float) -> int:
     ended = "SELECT id FROM invocations WHERE status='done' AND ended<?"
     db.change(f"DELETE FROM journal WHERE invocation IN ({ended})", (before,))
     return db.change("DELETE FROM invocations WHERE status='done' AND ended<?", (before,))
+
+
+def by_status(db: Database) -> dict[str, int]:
+    """How many invocations have each status."""
+    return dict(db.rows("SELECT status, COUNT(*) FROM invocations GROUP BY status"))
+
+
+def metrics(statuses: dict[str, int], live: int, counts: dict[str, int]) -> str:
+    """Numbers for Prometheus, in its text format."""
+    lines = ["# HELP palqytun_invocations Invocations in the database, by status.", "# TYPE palqytun_invocations gauge"]
+    lines += [f'palqytun_invocations{{status="{it}"}} {statuses.get(it, 0)}' for it in ("ready", "running", "suspended", "paused", "done")]
+    lines += ["# HELP palqytun_live_attempts Attempts of this worker.", "# TYPE palqytun_live_attempts gauge", f"palqytun_live_attempts {live}"]
+    for name, count in counts.items():
+        lines += [f"# HELP palqytun_{name}_total Since this worker began.", f"# TYPE palqytun_{name}_total counter", f"palqytun_{name}_total {count}"]
+    return "\n".join(lines) + "\n"

@@ -21,12 +21,22 @@ _MIGRATING = 7_401_953  # the advisory lock of whoever migrates
 _KEEPALIVE = {"keepalives": 1, "keepalives_idle": 5, "keepalives_interval": 2, "keepalives_count": 3, "connect_timeout": 5, "tcp_user_timeout": 15000}
 
 
+class NoDriver(ImportError):
+    """The driver of PostgreSQL isn't installed."""
+
+    def __init__(self) -> None:
+        super().__init__("PostgreSQL needs the package psycopg2: `pip install psycopg2`, or of Debian python3-psycopg2")
+
+
 class Postgres:
     is_shared, is_remote, skip, lock = True, True, " FOR UPDATE SKIP LOCKED", " FOR UPDATE"
     clock = "extract(epoch from clock_timestamp())::float8"
 
     def __init__(self, url: str):
-        psycopg2: Any = importlib.import_module("psycopg2")  # it has no types
+        try:
+            psycopg2: Any = importlib.import_module("psycopg2")  # it has no types
+        except ImportError as error:
+            raise NoDriver() from error
         importlib.import_module("psycopg2.errors")
         importlib.import_module("psycopg2.extras")
         self._errors = psycopg2.Error
