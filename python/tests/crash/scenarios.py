@@ -9,7 +9,9 @@
 
 from __future__ import annotations
 
+import concurrent.futures
 import contextlib
+import functools
 import logging
 import multiprocessing
 import os
@@ -20,7 +22,7 @@ import signal
 import subprocess
 import sys
 import time
-from collections.abc import Callable, Iterator
+from collections.abc import Iterable, Iterator
 from dataclasses import dataclass, field
 from typing import Any
 
@@ -33,9 +35,15 @@ from checked import Found, Wrong, check, left, rows, submit, wait  # noqa: E402
 from palqytun.runtime.database import Database, connect  # noqa: E402
 from palqytun.runtime.database.schema import TABLES  # noqa: E402
 
-_FORK = multiprocessing.get_context("forkserver")  # from a process without threads, which has imported what workers need
-_FORK.set_forkserver_preload(["faulty"])
+_FORK = multiprocessing.get_context("fork")  # this process has no threads, and has imported what workers need
 COUNT = 6  # workflows, one of each kind
+
+
+def side_by_side() -> concurrent.futures.ProcessPoolExecutor:
+    """Runs scenarios in processes of their own. (Threads won't do: each start of a process looks after those of all threads.)"""
+    context = multiprocessing.get_context("forkserver")
+    context.set_forkserver_preload(["scenarios"])
+    return concurrent.futures.ProcessPoolExecutor(os.cpu_count(), mp_context=context)
 
 
 # ---- one worker on SQLite, in a process of its own
@@ -136,6 +144,12 @@ def death_at_commit(room: Room, number: int, *, again: int = 0, idle: float = 0.
         _worker(path, effects, dies=again, **options)
     _rest(room, path, effects, **options)
     return first == faulty.DIED
+
+
+def deaths_at_commits(room: Room, numbers: Iterable[int], **options: Any) -> list[bool]:
+    """Deaths at these commits, side by side."""
+    with side_by_side() as pool:
+        return list(pool.map(functools.partial(death_at_commit, room, **options), numbers))
 
 
 def torn_write(room: Room, seed: int) -> None:
@@ -350,5 +364,3 @@ def undisturbed(url: str, folder: pathlib.Path, count: int) -> Found:
     db.close()
     return it
 
-
-Scenario = Callable[..., Any]

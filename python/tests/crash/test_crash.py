@@ -1,6 +1,5 @@
 """The crash tests of the gate: each scenario for a short time. `./chaos` runs them for hours."""
 
-import concurrent.futures
 import os
 import pathlib
 import shutil
@@ -32,13 +31,11 @@ class Deaths(InAFolder):
     def each(self, **options: object) -> int:
         """A death at each commit; answers how many there were."""
         deaths = 0
-        with concurrent.futures.ThreadPoolExecutor(os.cpu_count()) as pool:
-            for first in range(1, MOST_COMMITS, 10 * STEP):
-                numbers = range(first, first + 10 * STEP, STEP)
-                died = list(pool.map(lambda number: scenarios.death_at_commit(self.room, number, **options), numbers))
-                deaths += sum(died)
-                if not all(died):
-                    return deaths
+        for first in range(1, MOST_COMMITS, 20 * STEP):
+            died = scenarios.deaths_at_commits(self.room, range(first, first + 20 * STEP, STEP), **options)
+            deaths += sum(died)
+            if not all(died):
+                return deaths
         raise AssertionError("the commits have no end")
 
     def test_at_each_commit(self) -> None:
