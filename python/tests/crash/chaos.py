@@ -24,7 +24,10 @@ def round_on_sqlite(folder: pathlib.Path, seed: int) -> str:
     """Scenarios with one worker; answers what was done."""
     chance = random.Random(seed)
     room = scenarios.Room(folder / "room", chance.choice([6, 12, 36]))
-    deaths = sum(scenarios.death_at_commit(room, chance.randint(1, 90), again=chance.choice([0, chance.randint(1, 90)]), idle=chance.choice([0.0, 0.5])) for _ in range(20))
+    deaths = 0
+    for _ in range(20):
+        again, idle = chance.choice([0, chance.randint(1, 90)]), chance.choice([0.0, 0.5])
+        deaths += scenarios.death_at_commit(room, chance.randint(1, 90), again=again, idle=idle)
     for number in range(10):
         scenarios.torn_write(room, 1000 * seed + number)
         scenarios.clock_jumps(room, 1000 * seed + number)
@@ -50,7 +53,8 @@ def main() -> int:
             here, idle = folder / str(seed), [0.0, 0.5, 1.0][seed % 3]
             url = str(here / "db") if is_sqlite else options.db
             workers = 1 if is_sqlite else 3
-            report, _ = scenarios.kills(url, here, faults=options.kills, workers=workers, idle=idle, seed=seed, pauses=not is_sqlite, disconnects=not is_sqlite, reference=reference)
+            how = {"workers": workers, "idle": idle, "seed": seed, "pauses": not is_sqlite, "disconnects": not is_sqlite}
+            report, _ = scenarios.kills(url, here, faults=options.kills, reference=reference, **how)
             print(f"seed {seed}, idle {idle}: {report}", flush=True)
             if is_sqlite:
                 print(f"seed {seed}: {round_on_sqlite(here / 'scenarios', seed)}", flush=True)

@@ -29,7 +29,18 @@ class Dying(SQLite):
         super().commit()
 
 
-def until_all_ended(path: str, file: str, *, dies: int = 0, seed: int = 0, idle: float = 0.0, is_grouped: bool = False, jumps: bool = False, is_checkpointed: bool = False, wrong: str = "") -> None:
+def until_all_ended(
+    path: str,
+    file: str,
+    *,
+    dies: int = 0,
+    seed: int = 0,
+    idle: float = 0.0,
+    is_grouped: bool = False,
+    jumps: bool = False,
+    is_checkpointed: bool = False,
+    wrong: str = "",
+) -> None:
     """Runs a worker until each invocation has ended, or it dies at commit number `dies`. It is the whole of a process."""
     random.seed(seed)
     crash_app.Outside.file, crash_app.Outside.delay = file, 0.002
@@ -156,5 +167,5 @@ def unfenced() -> None:
     lease.Growth.write = write  # type: ignore[method-assign]
 
 
-WRONG = {"completions_first": completions_first, "timers_first": timers_first, "ends_first": ends_first, "states_first": states_first, "unfenced": unfenced}
+WRONG = {it.__name__: it for it in (completions_first, timers_first, ends_first, states_first, unfenced)}
 assert storing.invocations is invocations  # `ends_first` reaches it by this name

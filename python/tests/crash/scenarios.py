@@ -197,7 +197,8 @@ def full_disk(room: Room, seed: int) -> int:
         path, effects = disk / "db", room.folder / f"effects-{seed}"
         effects.touch()
         shutil.copy(room.folder / "begin", path)
-        process = _FORK.Process(target=_logged, args=(str(room.folder / f"disk-{seed}.log"), str(path), str(effects)), kwargs={"seed": seed, "is_grouped": True, "is_checkpointed": True})
+        arguments = (str(room.folder / f"disk-{seed}.log"), str(path), str(effects))
+        process = _FORK.Process(target=_logged, args=arguments, kwargs={"seed": seed, "is_grouped": True, "is_checkpointed": True})
         process.start()
         for _ in range(20):
             process.join(chance.uniform(0.02, 0.2))

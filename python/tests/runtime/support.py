@@ -95,7 +95,7 @@ class Runtime:
 
     async def __aenter__(self):
         self.task = asyncio.create_task(self.engine.run())
-        await asyncio.wait_for(self.engine.is_open(), 10)
+        await asyncio.wait_for(self.engine.is_open(), 60)
         return self
 
     async def __aexit__(self, *error):
@@ -107,7 +107,7 @@ class Runtime:
         data = b"" if argument is None else json.dumps(argument).encode()
         return await self.engine.submit(New(name, handler, key, data, **options))
 
-    async def result(self, id, wait=10):
+    async def result(self, id, wait=60):
         kind, it = journal.answer(await self.engine.result(id, wait))
         return (json.loads(it) if it else None) if kind == "value" else it
 
@@ -121,7 +121,7 @@ class Runtime:
         return (await self.rows("SELECT status, error FROM invocations WHERE id=?", id))[0]
 
     async def until(self, id, status):
-        for _ in range(400):
+        for _ in range(3000):
             found = await self.status(id)
             if found[0] == status:
                 return found

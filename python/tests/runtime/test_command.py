@@ -22,7 +22,7 @@ def environment(**more):
 
 
 def palqytun(*words):
-    done = subprocess.run([sys.executable, "-m", "palqytun", *words], env=environment(), capture_output=True, text=True, timeout=60)
+    done = subprocess.run([sys.executable, "-m", "palqytun", *words], env=environment(), capture_output=True, text=True, timeout=180)
     return done.returncode, done.stdout, done.stderr
 
 
@@ -38,9 +38,9 @@ class Server:
         if method == "POST" and data is None:
             data = b""
         request = urllib.request.Request(self.address + path, data, {key.replace("_", "-"): it for key, it in headers.items()}, method=method)
-        for _ in range(100):
+        for _ in range(1000):
             try:
-                with urllib.request.urlopen(request, timeout=30) as reply:
+                with urllib.request.urlopen(request, timeout=120) as reply:
                     status, body = reply.status, reply.read()
             except urllib.error.HTTPError as error:
                 status, body = error.code, error.read()
@@ -51,7 +51,7 @@ class Server:
 
     def end(self, number):
         self.process.send_signal(number)
-        self.process.wait(20)
+        self.process.wait(120)
         self.process.stdout.close()
 
 

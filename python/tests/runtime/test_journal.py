@@ -203,7 +203,8 @@ class Rules(support.InAFolder, unittest.TestCase):
         assert not journal.is_awake(future(4), won)
 
     def test_the_first_notification_of_an_id_counts(self):
-        came = [sleep(1), journal.completion(1, journal.failure(1, "x")), journal.named_signal("a", journal.void()), journal.named_signal("a", journal.failure(1, "x"))]
+        lost = journal.failure(1, "x")
+        came = [sleep(1), journal.completion(1, lost), journal.named_signal("a", journal.void()), journal.named_signal("a", lost)]
         assert journal.outcome_of(came) == {(0, 1): False, (2, "a"): True}
 
     def test_the_frames_of_the_document(self):

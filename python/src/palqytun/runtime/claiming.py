@@ -85,7 +85,8 @@ class Claimer:
         select = f"FROM invocations WHERE service IN ({served}) AND"
         rows: list[Any] = []
         if has_fresh and room:
-            suspended = f"SELECT {CLAIMED}, future {select} status='suspended' AND id IN (SELECT invocation FROM inbox WHERE fresh=1) LIMIT ?{db.skip}"
+            is_fresh = "id IN (SELECT invocation FROM inbox WHERE fresh=1)"
+            suspended = f"SELECT {CLAIMED}, future {select} status='suspended' AND {is_fresh} LIMIT ?{db.skip}"
             for *row, future in db.rows(suspended, (*self.services, room)):
                 if inbox.wakes(db, row[0], bytes(future)):
                     rows.append(tuple(row))
@@ -97,7 +98,8 @@ class Claimer:
             ready = f"SELECT {CLAIMED} {select} status='ready' AND due<=? AND {is_free} ORDER BY due, seq LIMIT ?{db.skip}"
             rows += db.rows(ready, (*self.services, now, room - len(rows)))
         if len(rows) < room:
-            orphaned = f"SELECT {CLAIMED} {select} status='running' AND worker NOT IN (SELECT id FROM workers WHERE lease>={db.clock}) LIMIT ?{db.skip}"
+            is_orphaned = f"status='running' AND worker NOT IN (SELECT id FROM workers WHERE lease>={db.clock})"
+            orphaned = f"SELECT {CLAIMED} {select} {is_orphaned} LIMIT ?{db.skip}"
             rows += db.rows(orphaned, (*self.services, room - len(rows)))
         return rows
 

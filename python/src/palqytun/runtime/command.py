@@ -141,7 +141,8 @@ def _parser() -> argparse.ArgumentParser:
     database = argparse.ArgumentParser(add_help=False)
     database.add_argument("--db", default="palqytun.db", help="a SQLite file, or postgresql://..; palqytun.db by default")
 
-    one = commands.add_parser("run", parents=[database], help="run an app: its handlers, and the ingress", epilog="PALQYTUN_TOKEN is the ingress's bearer token, if it is set.")
+    token = "The environment variable PALQYTUN_TOKEN is the ingress's bearer token, if it is set."
+    one = commands.add_parser("run", parents=[database], help="run an app: its handlers, and the ingress", epilog=token)
     one.add_argument("app", help="a Python file with an App")
     one.add_argument("--host", default="127.0.0.1")
     one.add_argument("--port", type=int, default=8080, help="of the ingress; -1: none")
@@ -157,7 +158,8 @@ def _parser() -> argparse.ArgumentParser:
     one.add_argument("--service")
     one.add_argument("--most", type=int, default=100)
     one.set_defaults(does=list_invocations)
-    for name, does, said in [("inspect", inspect, "one, with its journal"), ("cancel", cancel, "cancel one"), ("resume", resume, "try a paused one again")]:
+    of_one = [("inspect", inspect, "one, with its journal"), ("cancel", cancel, "cancel one"), ("resume", resume, "try a paused one again")]
+    for name, does, said in of_one:
         one = asked.add_parser(name, parents=[database], help=said)
         one.add_argument("id")
         one.set_defaults(does=does)

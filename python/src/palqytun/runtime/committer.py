@@ -1,14 +1,17 @@
 """Transactions, committed in groups: all operations that are queued while one transaction is committed are the next one.
 
-SQLite's statements are made in the event loop and its commit, which waits for the disk, in a thread. With PostgreSQL, where each statement
-waits for the server, the whole transaction is made in the thread. There is one transaction at a time.
+SQLite's statements are made in the event loop. So is its commit, if commits are quick here; else, as they wait for the disk, in a thread. With
+PostgreSQL, where each statement waits for the server, the whole transaction is made in the thread. There is one transaction at a time.
 """
 
 from __future__ import annotations
 
 import asyncio
+import collections
 import concurrent.futures
 import random
+import statistics
+import time
 from collections.abc import Callable
 from typing import Any, TypeVar
 
@@ -17,6 +20,7 @@ from .database import Conflict, Database, Lost
 T = TypeVar("T")
 Operation = Callable[[Database], Any]
 _TRIES = 20  # of a transaction that meets conflicts
+_QUICK = 0.001  # seconds; a commit that takes less isn't worth a thread
 
 
 class Stopped(Exception):
@@ -34,6 +38,8 @@ class Committer:
         self._thread = concurrent.futures.ThreadPoolExecutor(1, thread_name_prefix="palqytun-database")
         self._task = asyncio.create_task(self._run())
         self.is_lost = asyncio.Event()
+        self._is_busy = False
+        self._lasted: collections.deque[float] = collections.deque([0.0], maxlen=5)  # how long the last commits took
 
     def submit(self, operation: Callable[[Database], T]) -> asyncio.Future[T]:
         """Queues an operation. Its future has what the operation answered, once that is committed."""
@@ -57,8 +63,6 @@ class Committer:
             self.db.close()
         except Exception:  # it was lost before
             pass
-
-    _is_busy = False
 
     async def _run(self) -> None:
         while True:
@@ -130,11 +134,19 @@ class Committer:
             return await loop.run_in_executor(self._thread, self._whole, operations)
         answers = self._made(operations)
         try:
-            await asyncio.shield(loop.run_in_executor(self._thread, self.db.commit))
+            if statistics.median(self._lasted) < _QUICK:
+                self._end()
+            else:
+                await asyncio.shield(loop.run_in_executor(self._thread, self._end))
         except BaseException:
             self._rollback()
             raise
         return answers
+
+    def _end(self) -> None:
+        begun = time.perf_counter()
+        self.db.commit()
+        self._lasted.append(time.perf_counter() - begun)
 
     def _made(self, operations: list[Operation]) -> list[Any]:
         self.db.begin()
