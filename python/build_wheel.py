@@ -15,16 +15,17 @@ import tarfile
 import tomllib
 import zipfile
 from collections.abc import Iterator, Mapping
+from typing import Any
 
 HERE = pathlib.Path(__file__).resolve().parent
 LIBRARY = "libpalqytun.so"
 Settings = Mapping[str, str | list[str]]
 
 
-def project() -> dict[str, str]:
+def project() -> dict[str, Any]:
     """What `pyproject.toml` says of the package."""
     with open(HERE / "pyproject.toml", "rb") as file:
-        found: dict[str, str] = tomllib.load(file)["project"]
+        found: dict[str, Any] = tomllib.load(file)["project"]
     return found
 
 
@@ -43,8 +44,15 @@ def metadata() -> str:
     it = project()
     lines = ["Metadata-Version: 2.1", f"Name: {it['name']}", f"Version: {it['version']}", f"Summary: {it['description']}"]
     lines += [f"Requires-Python: {it['requires-python']}", *(f"Classifier: {one}" for one in it["classifiers"])]
+    for extra, needs in it.get("optional-dependencies", {}).items():
+        lines += [f"Provides-Extra: {extra}", *(f'Requires-Dist: {one} ; extra == "{extra}"' for one in needs)]
     lines += ["Description-Content-Type: text/markdown", "", (HERE / it["readme"]).read_text(encoding="utf-8")]
     return "\n".join(lines)
+
+
+def entry_points() -> str:
+    """The file entry_points.txt: the commands that the package installs."""
+    return "\n".join(["[console_scripts]", *(f"{name} = {at}" for name, at in project().get("scripts", {}).items())]) + "\n"
 
 
 def sources() -> Iterator[tuple[str, bytes]]:
@@ -62,7 +70,8 @@ def write_wheel(folder: str, files: Iterator[tuple[str, bytes]]) -> str:
     about = f"Wheel-Version: 1.0\nGenerator: {__name__}\nRoot-Is-Purelib: false\nTag: {tag()}\n"
     record = ""
     with zipfile.ZipFile(pathlib.Path(folder) / name, "w", zipfile.ZIP_DEFLATED) as wheel:
-        for at, data in [*files, (f"{info}/METADATA", metadata().encode()), (f"{info}/WHEEL", about.encode())]:
+        described = {"METADATA": metadata(), "WHEEL": about, "entry_points.txt": entry_points()}
+        for at, data in [*files, *((f"{info}/{it}", text.encode()) for it, text in described.items())]:
             sum_of = base64.urlsafe_b64encode(hashlib.sha256(data).digest()).rstrip(b"=").decode()
             record += f"{at},sha256={sum_of},{len(data)}\n"
             _add(wheel, at, data)

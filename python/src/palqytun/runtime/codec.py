@@ -1,0 +1,168 @@
+"""Values as bytes: arguments, results and state. JSON by default; `App(.., codec=..)` takes another one.
+
+`JsonCodec` writes what `json` writes, and dataclasses, enums, dates, UUIDs and pydantic's models (if pydantic is installed). It reads a
+value by the type that the handler's annotations name: a dataclass from an object, a tuple from a list, and so on. Without an annotation,
+and for `Any`, a value is what `json` reads. `None` is no bytes at all.
+"""
+
+from __future__ import annotations
+
+import dataclasses
+import datetime
+import enum
+import json
+import types
+import typing
+import uuid
+from collections.abc import Callable
+from typing import Any, Protocol, Union
+
+
+class Codec(Protocol):
+    """How values are stored. `decode` is given the type that is wanted, or `Any`. Both raise `ValueError` or `TypeError` for a value that
+    they can't take."""
+
+    content_type: str
+
+    def encode(self, value: Any) -> bytes: ...
+    def decode(self, data: bytes, kind: Any) -> Any: ...
+
+
+_TEXTS: dict[Any, Callable[[str], Any]] = {
+    datetime.datetime: datetime.datetime.fromisoformat,
+    datetime.date: datetime.date.fromisoformat,
+    datetime.time: datetime.time.fromisoformat,
+    uuid.UUID: uuid.UUID,
+}
+
+
+def _plain(value: Any) -> Any:
+    """What `json` can write for a value that it can't write itself."""
+    if dataclasses.is_dataclass(value) and not isinstance(value, type):
+        return {it.name: getattr(value, it.name) for it in dataclasses.fields(value)}
+    if isinstance(value, enum.Enum):
+        return value.value
+    if isinstance(value, (datetime.datetime, datetime.date, datetime.time)):
+        return value.isoformat()
+    if isinstance(value, uuid.UUID):
+        return str(value)
+    if isinstance(value, (set, frozenset)):
+        return sorted(value)
+    dump = getattr(value, "model_dump", None) or getattr(value, "dict", None)  # pydantic 2 and 1
+    if callable(dump) and _is_model(type(value)):
+        return dump()
+    raise TypeError(f"a value of type {type(value).__name__} is not JSON")
+
+
+def _is_model(kind: Any) -> bool:
+    return isinstance(kind, type) and any(it.__module__.startswith("pydantic") for it in kind.__mro__)
+
+
+def _mismatch(kind: Any, value: Any) -> ValueError:
+    return ValueError(f"{json.dumps(value)[:200]} is no {getattr(kind, '__name__', kind)}")
+
+
+def _object(kind: Any, value: Any) -> Any:
+    """A dataclass from a JSON object."""
+    if not isinstance(value, dict):
+        raise _mismatch(kind, value)
+    hints = typing.get_type_hints(kind)
+    known = {it.name: it for it in dataclasses.fields(kind) if it.init}
+    extra = value.keys() - known.keys()
+    if extra:
+        raise ValueError(f"{kind.__name__} has no field {', '.join(sorted(extra))}")
+    try:
+        return kind(**{name: typed(hints[name], it) for name, it in value.items()})
+    except TypeError as error:
+        raise ValueError(f"{kind.__name__}: {error}") from error
+
+
+def _tuple(parts: tuple[Any, ...], value: Any) -> Any:
+    if not isinstance(value, list):
+        raise _mismatch(tuple, value)
+    if len(parts) == 2 and parts[1] is Ellipsis:
+        return tuple(typed(parts[0], it) for it in value)
+    if parts and len(parts) != len(value):
+        raise ValueError(f"a tuple of {len(parts)} is wanted, and {len(value)} came")
+    return tuple(typed(part, it) for part, it in zip(parts, value)) if parts else tuple(value)
+
+
+def _union(kinds: tuple[Any, ...], value: Any) -> Any:
+    for kind in kinds:
+        try:
+            return typed(kind, value)
+        except (ValueError, TypeError):
+            continue
+    raise ValueError(f"{json.dumps(value)[:200]} is of none of the types {', '.join(map(str, kinds))}")
+
+
+def _generic(origin: Any, parts: tuple[Any, ...], value: Any) -> Any:
+    if origin in (Union, types.UnionType):
+        return _union(parts, value)
+    if origin is typing.Literal:
+        if value in parts:
+            return value
+        raise _mismatch(f"one of {parts}", value)
+    if origin is typing.Annotated:
+        return typed(parts[0], value)
+    if origin is tuple:
+        return _tuple(parts, value)
+    if origin in (list, set, frozenset):
+        if not isinstance(value, list):
+            raise _mismatch(origin, value)
+        items = [typed(parts[0], it) for it in value]
+        return items if origin is list else frozenset(items) if origin is frozenset else set(items)
+    if origin is dict:
+        if not isinstance(value, dict):
+            raise _mismatch(origin, value)
+        return {typed(parts[0], key): typed(parts[1], it) for key, it in value.items()}
+    return value
+
+
+def typed(kind: Any, value: Any) -> Any:
+    """A value that `json` read, as one of a type."""
+    if kind is Any or kind is object:
+        return value
+    if kind is None or kind is type(None):
+        if value is None:
+            return None
+        raise _mismatch(None, value)
+    origin = typing.get_origin(kind)
+    if origin is not None:
+        return _generic(origin, typing.get_args(kind), value)
+    if not isinstance(kind, type):
+        return value
+    if _is_model(kind):
+        read: Callable[[Any], Any] = getattr(kind, "model_validate", None) or getattr(kind, "parse_obj")  # pydantic 2 and 1
+        return read(value)
+    if dataclasses.is_dataclass(kind):
+        return _object(kind, value)
+    if issubclass(kind, enum.Enum):
+        return kind(value)
+    if kind in _TEXTS:
+        if not isinstance(value, str):
+            raise _mismatch(kind, value)
+        return _TEXTS[kind](value)
+    if kind in (tuple, set, frozenset):
+        if not isinstance(value, list):
+            raise _mismatch(kind, value)
+        return tuple(value) if kind is tuple else set(value) if kind is set else frozenset(value)
+    if kind is float and isinstance(value, int) and not isinstance(value, bool):
+        return float(value)
+    if kind in (int, float, str, bool, list, dict):
+        if not isinstance(value, kind) or (kind is int and isinstance(value, bool)):
+            raise _mismatch(kind, value)
+    return value
+
+
+class JsonCodec:
+    content_type = "application/json"
+
+    def encode(self, value: Any) -> bytes:
+        if value is None:
+            return b""
+        return json.dumps(value, separators=(",", ":"), default=_plain).encode()
+
+    def decode(self, data: bytes, kind: Any) -> Any:
+        value = json.loads(data) if data else None
+        return typed(kind, value)

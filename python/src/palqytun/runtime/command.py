@@ -1,0 +1,184 @@
+"""The command `palqytun`."""
+
+from __future__ import annotations
+
+import argparse
+import asyncio
+import contextlib
+import importlib.util
+import logging
+import os
+import pathlib
+import signal
+import sys
+import time
+from collections.abc import Iterator
+
+from . import inbox, journal, operate
+from .database import Database, Lost, connect
+from .database.postgres import NoDriver
+from .database.schema import NewerSchema
+from .database.sqlite import InUse
+from .engine import Engine
+from .ingress import Ingress
+from .outcome import Outcome
+from .replay import replay_all
+from .services import App
+
+
+class Refused(Exception):
+    """The command can't be done, and why."""
+
+
+def load(path: str) -> App:
+    """The `App` of a file."""
+    file = pathlib.Path(path).resolve()
+    spec = importlib.util.spec_from_file_location(file.stem, file) if file.is_file() else None
+    if spec is None or spec.loader is None:
+        raise Refused(f"{path} is no Python file")
+    sys.path.insert(0, str(file.parent))
+    module = importlib.util.module_from_spec(spec)
+    sys.modules[file.stem] = module
+    spec.loader.exec_module(module)
+    found = [it for it in vars(module).values() if isinstance(it, App)]
+    if len(found) != 1:
+        raise Refused(f"{path} has {len(found)} objects of palqytun.runtime.App; it has to have one")
+    return found[0]
+
+
+async def _serve(options: argparse.Namespace) -> None:
+    engine = Engine(load(options.app), options.db, name=options.name, limit=options.limit, idle=options.idle, lease=options.lease)
+    for number in (signal.SIGINT, signal.SIGTERM):
+        asyncio.get_running_loop().add_signal_handler(number, engine.stop)
+    if options.port < 0:
+        await engine.run()
+        return
+    server = Ingress(engine, token=os.environ.get("PALQYTUN_TOKEN")).server
+    try:
+        print(await server.start(options.host, options.port), flush=True)
+    except OSError as error:
+        raise Refused(f"{options.host}:{options.port}: {error.strerror}") from error
+    try:
+        await engine.run()
+    finally:
+        await server.close()
+
+
+def run(options: argparse.Namespace) -> int:
+    asyncio.run(_serve(options))
+    return 0
+
+
+@contextlib.contextmanager
+def _opened(url: str) -> Iterator[Database]:
+    """The database for one transaction."""
+    if "://" not in url and not pathlib.Path(url.removeprefix("sqlite:").partition("?")[0]).exists():
+        raise Refused(f"there is no database {url}")
+    db = connect(url)
+    try:
+        db.begin()
+        yield db
+        db.commit()
+    finally:
+        db.close()
+
+
+def list_invocations(options: argparse.Namespace) -> int:
+    with _opened(options.db) as db:
+        for it in operate.invocations(db, options.status, options.service, options.most):
+            age = (it["ended"] or time.time()) - it["created"]
+            target = "/".join(filter(None, (it["service"], it["key"], it["handler"])))
+            error = (it["error"] or "").splitlines()[:1] if it["status"] in ("ready", "paused") else []
+            print(f"{it['id']}  {it['status']:<9}  {target:<30}  {age:9.1f} s  {it['entries']:>5} entries  {''.join(error)}".rstrip())
+    return 0
+
+
+def inspect(options: argparse.Namespace) -> int:
+    with _opened(options.db) as db:
+        found = operate.invocation(db, options.id)
+        if found is None:
+            raise Refused(f"there is no invocation {options.id}")
+        for name, value in found.items():
+            if value is not None:
+                print(f"# {name}: {value}")
+        print("\n".join(operate.journal_of(db, options.id)))
+    return 0
+
+
+def cancel(options: argparse.Namespace) -> int:
+    with _opened(options.db) as db:
+        if not inbox.deliver(db, Outcome(), options.id, journal.signal(journal.CANCEL, journal.void())):
+            raise Refused(f"there is no invocation {options.id} that hasn't ended")
+    return 0
+
+
+def resume(options: argparse.Namespace) -> int:
+    with _opened(options.db) as db:
+        if not operate.resume(db, Outcome(), options.id):
+            raise Refused(f"there is no invocation {options.id} that is paused")
+    return 0
+
+
+def purge(options: argparse.Namespace) -> int:
+    with _opened(options.db) as db:
+        print(f"{operate.purge(db, time.time() - options.older)} invocations are purged")
+    return 0
+
+
+def replay(options: argparse.Namespace) -> int:
+    app = load(options.app)
+    with _opened(options.db) as db:
+        count, different = replay_all(app, db, options.status)
+    for it in different:
+        print(f"{it.invocation}  {it.handler}  command {it.command}: {it.error}")
+    print(f"{count} journals are replayed, {len(different)} differ")
+    return 1 if different else 0
+
+
+def _parser() -> argparse.ArgumentParser:
+    parser = argparse.ArgumentParser("palqytun", description="Durable execution: run an app, ask for its invocations, and check a new version of it.")
+    commands = parser.add_subparsers(required=True)
+    database = argparse.ArgumentParser(add_help=False)
+    database.add_argument("--db", default="palqytun.db", help="a SQLite file, or postgresql://..; palqytun.db by default")
+
+    token = "The environment variable PALQYTUN_TOKEN is the ingress's bearer token, if it is set."
+    one = commands.add_parser("run", parents=[database], help="run an app: its handlers, and the ingress", epilog=token)
+    one.add_argument("app", help="a Python file with an App")
+    one.add_argument("--host", default="127.0.0.1")
+    one.add_argument("--port", type=int, default=8080, help="of the ingress; -1: none")
+    one.add_argument("--name", default="worker")
+    one.add_argument("--limit", type=int, default=500, help="attempts at once")
+    one.add_argument("--idle", type=float, default=1.0, help="seconds until an attempt that waits is suspended")
+    one.add_argument("--lease", type=float, default=10.0, help="seconds until a worker that isn't heard of is thought dead")
+    one.set_defaults(does=run)
+
+    asked = commands.add_parser("invocations", help="list, inspect, cancel, resume or purge invocations").add_subparsers(required=True)
+    one = asked.add_parser("list", parents=[database], help="the newest first")
+    one.add_argument("--status", choices=["ready", "running", "suspended", "paused", "done"])
+    one.add_argument("--service")
+    one.add_argument("--most", type=int, default=100)
+    one.set_defaults(does=list_invocations)
+    of_one = [("inspect", inspect, "one, with its journal"), ("cancel", cancel, "cancel one"), ("resume", resume, "try a paused one again")]
+    for name, does, said in of_one:
+        one = asked.add_parser(name, parents=[database], help=said)
+        one.add_argument("id")
+        one.set_defaults(does=does)
+    one = asked.add_parser("purge", parents=[database], help="delete those that have ended")
+    one.add_argument("--older", type=float, default=86400.0, help="ended more than so many seconds ago; a day by default")
+    one.set_defaults(does=purge)
+
+    one = commands.add_parser("replay", parents=[database], help="does this code still make the stored journals? nothing is executed or stored")
+    one.add_argument("app")
+    one.add_argument("--status", choices=["ready", "running", "suspended", "paused", "done"], help="only of such invocations")
+    one.set_defaults(does=replay)
+    return parser
+
+
+def main() -> int:
+    options = _parser().parse_args()
+    logging.basicConfig(level=logging.INFO, format="%(asctime)s %(name)s %(message)s")
+    try:
+        return int(options.does(options))
+    except (Refused, Lost, InUse, NewerSchema, NoDriver) as error:
+        print(f"palqytun: {error}", file=sys.stderr)
+        return 2

@@ -1,0 +1,172 @@
+"""Transactions, committed in groups: all operations that are queued while one transaction is committed are the next one.
+
+SQLite's statements are made in the event loop. So is its commit, if commits are quick here; else, as they wait for the disk, in a thread. With
+PostgreSQL, where each statement waits for the server, the whole transaction is made in the thread. There is one transaction at a time.
+"""
+
+from __future__ import annotations
+
+import asyncio
+import collections
+import concurrent.futures
+import random
+import statistics
+import time
+from collections.abc import Callable
+from typing import Any, TypeVar
+
+from .database import Conflict, Database, Lost
+
+T = TypeVar("T")
+Operation = Callable[[Database], Any]
+_TRIES = 20  # of a transaction that meets conflicts
+_QUICK = 0.001  # seconds; a commit that takes less isn't worth a thread
+
+
+class Stopped(Exception):
+    """The worker has stopped, or has lost its database: the operation wasn't made, or it isn't known whether it was."""
+
+
+class Committer:
+    def __init__(self, db: Database, *, grouped: bool = True, most: int = 500):
+        """`grouped`: operations that wait at one time are one transaction, of `most` operations at most."""
+        self.db, self.grouped, self.most = db, grouped, most
+        self.counts = {"transactions": 0, "operations": 0, "conflicts": 0}
+        self.lost: Exception | None = None
+        self._queue: list[tuple[Operation, asyncio.Future[Any]]] = []
+        self._has_work = asyncio.Event()
+        self._thread = concurrent.futures.ThreadPoolExecutor(1, thread_name_prefix="palqytun-database")
+        self._task = asyncio.create_task(self._run())
+        self.is_lost = asyncio.Event()
+        self._is_busy = False
+        self._lasted: collections.deque[float] = collections.deque([0.0], maxlen=5)  # how long the last commits took
+
+    def submit(self, operation: Callable[[Database], T]) -> asyncio.Future[T]:
+        """Queues an operation. Its future has what the operation answered, once that is committed."""
+        future: asyncio.Future[T] = asyncio.get_running_loop().create_future()
+        if self.lost is not None:
+            future.set_exception(Stopped(str(self.lost)))
+        else:
+            self._queue.append((operation, future))
+            self._has_work.set()
+        return future
+
+    async def close(self) -> None:
+        """Makes what is queued, and closes the connection."""
+        while (self._queue or self._is_busy) and self.lost is None:
+            await asyncio.sleep(0.001)
+        self._task.cancel()
+        await asyncio.gather(self._task, return_exceptions=True)
+        self._abandon(Stopped("the worker has stopped"))
+        self._thread.shutdown(wait=True)
+        try:
+            self.db.close()
+        except Exception:  # it was lost before
+            pass
+
+    async def _run(self) -> None:
+        while True:
+            await self._has_work.wait()
+            await asyncio.sleep(0)  # those that go on by the last answers may queue more
+            count = self.most if self.grouped else 1
+            group, self._queue = self._queue[:count], self._queue[count:]
+            if not self._queue:
+                self._has_work.clear()
+            self._is_busy = True
+            try:
+                await self._commit(group)
+            except Lost as error:
+                self._abandon(error, group)
+                return
+            finally:
+                self._is_busy = False
+
+    def _abandon(self, error: Exception, group: list[tuple[Operation, asyncio.Future[Any]]] | None = None) -> None:
+        self.lost = error
+        queue, self._queue = [*(group or []), *self._queue], []
+        for _, future in queue:
+            if not future.done():
+                future.set_exception(Stopped(str(error)))
+        self.is_lost.set()
+
+    async def _commit(self, group: list[tuple[Operation, asyncio.Future[Any]]]) -> None:
+        try:
+            answers = await self._transaction([operation for operation, _ in group])
+        except Lost:
+            raise
+        except Exception as error:
+            if len(group) == 1:
+                await self._again(group[0], error)
+                return
+            for one in group:
+                await self._commit([one])
+            return
+        for (_, future), answer in zip(group, answers):
+            if not future.done():
+                future.set_result(answer)
+
+    async def _again(self, one: tuple[Operation, asyncio.Future[Any]], error: Exception) -> None:
+        """One operation failed alone. It is made again if others were in its way; else it has its error."""
+        operation, future = one
+        for count in range(_TRIES):
+            if not isinstance(error, Conflict):
+                break
+            self.counts["conflicts"] += 1
+            await asyncio.sleep(random.random() * 0.01 * (count + 1))
+            try:
+                answer = (await self._transaction([operation]))[0]
+            except Lost:
+                raise
+            except Exception as next_error:
+                error = next_error
+                continue
+            if not future.done():
+                future.set_result(answer)
+            return
+        if not future.done():
+            future.set_exception(error)
+
+    async def _transaction(self, operations: list[Operation]) -> list[Any]:
+        self.counts["transactions"] += 1
+        self.counts["operations"] += len(operations)
+        loop = asyncio.get_running_loop()
+        if self.db.is_remote:
+            return await loop.run_in_executor(self._thread, self._whole, operations)
+        answers = self._made(operations)
+        try:
+            if statistics.median(self._lasted) < _QUICK:
+                self._end()
+            else:
+                await asyncio.shield(loop.run_in_executor(self._thread, self._end))
+        except BaseException:
+            self._rollback()
+            raise
+        return answers
+
+    def _end(self) -> None:
+        begun = time.perf_counter()
+        self.db.commit()
+        self._lasted.append(time.perf_counter() - begun)
+
+    def _made(self, operations: list[Operation]) -> list[Any]:
+        self.db.begin()
+        try:
+            return [operation(self.db) for operation in operations]
+        except BaseException:
+            self._rollback()
+            raise
+
+    def _whole(self, operations: list[Operation]) -> list[Any]:
+        answers = self._made(operations)
+        try:
+            self.db.commit()
+        except BaseException:
+            self._rollback()
+            raise
+        return answers
+
+    def _rollback(self) -> None:
+        try:
+            self.db.rollback()
+        except Lost:
+            pass  # the error that led here is the one to raise

@@ -1,0 +1,320 @@
+"""A handler's context: each call is one of the VM's, made at once. What it gives is awaited when the handler likes."""
+
+from __future__ import annotations
+
+import logging
+import random
+import time
+import typing
+import uuid
+import weakref
+from collections.abc import Awaitable, Callable, Coroutine, Iterator, MutableMapping
+from contextlib import contextmanager
+from dataclasses import dataclass
+from typing import Any, NoReturn, TypeVar, cast
+
+from .. import core
+from .codec import Codec
+from .durable import Durable, Leaf, Task, Tasks, select
+from .services import App, Handler, I, O, Retry, TerminalError, to_text_headers
+
+T = TypeVar("T")
+handler_log = logging.getLogger("palqytun.handler")
+
+
+class AttemptEnds(BaseException):
+    """The VM refused a call, or the attempt is over. A handler doesn't catch this: nothing that it does from here on counts."""
+
+
+class CaughtTooMuch(Exception):
+    """A handler caught what isn't its own."""
+
+    def __init__(self) -> None:
+        super().__init__("the handler caught AttemptEnds, by `except BaseException` or a bare `except`; catch `Exception` instead")
+
+
+@dataclass
+class Action:
+    """What a run executes, and how it is retried."""
+
+    function: Callable[..., Any]
+    arguments: tuple[Any, ...]
+    policy: core.RetryPolicy
+
+
+def _ms(seconds: float) -> int:
+    return int(seconds * 1000)
+
+
+def given_failure(error: TerminalError) -> core.Failure:
+    return core.Failure(error.code, error.message, error.metadata)
+
+
+def policy_of(retry: Retry) -> core.RetryPolicy:
+    numerator, denominator = retry.factor
+    longest, most = _ms(retry.longest), None if retry.duration is None else _ms(retry.duration)
+    return core.retry_exponential(
+        _ms(retry.initial), numerator, denominator, longest=longest, attempts=retry.attempts, duration=most, pause=retry.pause
+    )
+
+
+class ReplayLog(logging.LoggerAdapter):  # type: ignore[type-arg]
+    """A logger that is silent while the journal is replayed, and names the invocation."""
+
+    def __init__(self, vm: core.VM, invocation: str):
+        super().__init__(handler_log, {"invocation": invocation})
+        self._vm = vm
+
+    def isEnabledFor(self, level: int) -> bool:
+        return super().isEnabledFor(level) and self._vm.state() == "Processing"
+
+    def process(self, msg: Any, kwargs: MutableMapping[str, Any]) -> tuple[Any, MutableMapping[str, Any]]:
+        return f"{self.extra['invocation'] if self.extra else ''} {msg}", kwargs
+
+
+class Call(Leaf[T]):
+    """The result of a call, and the id of what was called."""
+
+    def __init__(self, id: int, handle: int, read: Callable[[Any], T]):
+        super().__init__(handle, read)
+        self.invocation_id: Durable[str] = Leaf(id, lambda came: str(came.id))
+
+
+class Promise:
+    """A promise of the workflow."""
+
+    def __init__(self, context: Context, name: str, kind: Any):
+        self._context, self._name, self._read = context, name, context._reader(kind)
+
+    def value(self) -> Durable[Any]:
+        """Its value, once it is completed."""
+        return Leaf(self._context._vm_call("sys_get_promise", self._name), self._read)
+
+    def peek(self) -> Durable[Any]:
+        """Its value, or none while it isn't completed."""
+        return Leaf(self._context._vm_call("sys_peek_promise", self._name), self._read)
+
+    def resolve(self, value: Any) -> Durable[None]:
+        """Completes it. Awaited, it raises a `TerminalError` with code 409 if it was completed before."""
+        given = self._context._given(value)
+        return Leaf(self._context._vm_call("sys_complete_promise", self._name, given), lambda came: None)
+
+    def reject(self, message: str, code: int = 500) -> Durable[None]:
+        return self.resolve(TerminalError(message, code))
+
+
+class Context:
+    """The calls of a handler in one attempt."""
+
+    def __init__(self, vm: core.VM, input: core.Input, app: App, may_write: bool):
+        self._vm, self._may_write, self._app = vm, may_write, app
+        self._codec: Codec = app.codec
+        self.invocation_id, self.key, self.headers = input.invocation_id, input.key, dict(input.headers)
+        self.random = random.Random(input.random_seed)
+        self.log = ReplayLog(vm, input.invocation_id)
+        self.actions: dict[int, Action] = {}
+        self.tasks: Tasks | None = None
+        self.refused: BaseException | None = None
+        self._in_handler = False
+
+    # ---- what the attempt does with it
+
+    @contextmanager
+    def entered(self) -> Iterator[None]:
+        """The handler's own code runs."""
+        self._in_handler = True
+        try:
+            yield
+        finally:
+            self._in_handler = False
+        if self.refused is not None:
+            raise CaughtTooMuch()
+
+    def end(self) -> Exception | None:
+        """The attempt is over. Coroutines that wait are closed: their `finally` parts run, and may not use the context any more. Answers
+        what is wrong with a coroutine that doesn't let itself be closed."""
+        self.refused = self.refused or RuntimeError("the attempt is over")
+        fault: Exception | None = None
+        for task in self.tasks.all if self.tasks is not None else ():
+            try:
+                task.coroutine.close()
+            except (AttemptEnds, TerminalError):
+                pass
+            except RuntimeError as error:
+                if "ignored GeneratorExit" in str(error):
+                    fault = CaughtTooMuch()
+            except Exception:  # raised in a `finally` part, which counts as little as what it does
+                pass
+        return fault
+
+    def _vm_call(self, name: str, *arguments: Any, **options: Any) -> Any:
+        if self.refused is not None:
+            raise AttemptEnds()
+        if not self._in_handler:
+            raise RuntimeError("the context is used outside the handler's own code, as within a run")
+        try:
+            return getattr(self._vm, name)(*arguments, **options)
+        except (core.VMError, core.BadLine, UnicodeError) as error:
+            self._end(error)
+
+    def _end(self, error: Exception) -> NoReturn:
+        self.refused = error
+        raise AttemptEnds() from error
+
+    def _reader(self, kind: Any) -> Callable[[Any], Any]:
+        """Reads what the VM has for a value; there being none is None, whatever the type."""
+        return lambda came: None if came is core.VOID else self._codec.decode(came, kind)
+
+    def _given(self, value: Any) -> bytes | core.Failure:
+        if isinstance(value, TerminalError):
+            return given_failure(value)
+        return self._codec.encode(value)
+
+    # ---- time, chance, effects
+
+    def sleep(self, seconds: float) -> Durable[None]:
+        """Ends after so many seconds, across crashes."""
+        return Leaf(self._vm_call("sys_sleep", max(0, _ms(time.time() + seconds))), lambda came: None)
+
+    def run(self, name: str, function: Callable[..., Awaitable[T] | T], *arguments: Any, retry: Retry | None = None, gives: Any = None) -> Durable[T]:
+        """Executes an effect once it is awaited, and keeps its result.
+
+        It is executed at least once: a crash before the result is stored executes it again, so give what is outside an idempotency key, as
+        `ctx.uuid()`. A plain function runs in a thread. A `TerminalError` is its result; another error is tried again by `retry`, without
+        which it is tried for ever. `gives` is the result's type, if the function's annotation doesn't say it."""
+        run = self._vm_call("sys_run", name)
+        self.actions[run.handle] = Action(function, arguments, core.retry_forever() if retry is None else policy_of(retry))
+        return Leaf(run.handle, self._reader(_result_of(function) if gives is None else gives))
+
+    def uuid(self) -> str:
+        """A random UUID, the same in each attempt."""
+        return str(uuid.UUID(int=self.random.getrandbits(128), version=4))
+
+    def now(self) -> Durable[float]:
+        """The time in seconds since the epoch, as it was when this was first awaited."""
+        return self.run("now", time.time)
+
+    def timeout(self, awaited: Durable[T], seconds: float) -> Durable[tuple[int, T | None]]:
+        """Number 0 and the result, or number 1 if the time is over first. What was awaited goes on."""
+        return select(awaited, self.sleep(seconds))
+
+    def spawn(self, coroutine: Coroutine[Any, Any, T]) -> Durable[T]:
+        """Runs a coroutine of durables beside the handler. It ends with the handler."""
+        assert self.tasks is not None
+        task: Task[T] = Task(coroutine)
+        self.tasks.all.append(task)
+        return task
+
+    # ---- other handlers
+
+    def _target(self, target: Handler[Any, Any] | str) -> tuple[str, str, Any]:
+        """Service, name, and the type of the result."""
+        if isinstance(target, Handler):
+            return target.service.name, target.name, target.gives
+        service, _, name = target.partition("/")
+        known = self._app.services.get(service)
+        handler = known.handlers.get(name) if known is not None else None
+        return service, name, Any if handler is None else handler.gives
+
+    def call(
+        self,
+        target: Handler[I, O] | str,
+        argument: I | Any = None,
+        *,
+        key: str | None = None,
+        idempotency_key: str | None = None,
+        headers: dict[str, str] | None = None,
+    ) -> Call[O]:
+        """Calls a handler, or `"Service/handler"`. Awaited, it gives the handler's result."""
+        service, name, gives = self._target(target)
+        options = {"key": key, "idempotency_key": idempotency_key, "headers": to_text_headers(headers)}
+        id, handle = self._vm_call("sys_call", service, name, self._codec.encode(argument), **options)
+        return Call(id, handle, self._reader(gives))
+
+    def send(
+        self,
+        target: Handler[I, Any] | str,
+        argument: I | Any = None,
+        *,
+        key: str | None = None,
+        delay: float = 0,
+        idempotency_key: str | None = None,
+        headers: dict[str, str] | None = None,
+    ) -> Durable[str]:
+        """Calls a handler, at once or after a delay in seconds, and doesn't wait for it. Awaited, it gives the invocation's id."""
+        service, name, _ = self._target(target)
+        options = {"key": key, "idempotency_key": idempotency_key, "headers": to_text_headers(headers)}
+        at = _ms(time.time() + delay) if delay else None
+        return Leaf(self._vm_call("sys_send", service, name, self._codec.encode(argument), at=at, **options), lambda came: str(came.id))
+
+    def attach(self, invocation_id: str, gives: Any = Any) -> Durable[Any]:
+        """The result of another invocation, once it has ended."""
+        return Leaf(self._vm_call("sys_attach_invocation", core.InvocationId(invocation_id)), self._reader(gives))
+
+    def cancel(self, invocation_id: str) -> None:
+        """Cancels another invocation: what it awaits raises `Cancelled`."""
+        self._vm_call("sys_cancel_invocation", invocation_id)
+
+    # ---- state
+
+    def get(self, name: str, kind: Any = Any) -> Durable[Any]:
+        """The value of a state key, or none."""
+        return Leaf(self._vm_call("sys_state_get", name), self._reader(kind))
+
+    def keys(self) -> Durable[list[str]]:
+        """The names of the state's keys."""
+        return Leaf(self._vm_call("sys_state_get_keys"), lambda came: cast("list[str]", came))
+
+    def _write(self) -> None:
+        if not self._may_write and self._in_handler and self.refused is None:
+            self._vm.notify_error(500, "this handler only reads the state", behaviour="fail")
+            self._end(RuntimeError("this handler only reads the state"))
+
+    def set(self, name: str, value: Any) -> None:
+        self._write()
+        self._vm_call("sys_state_set", name, self._codec.encode(value))
+
+    def clear(self, name: str) -> None:
+        self._write()
+        self._vm_call("sys_state_clear", name)
+
+    def clear_all(self) -> None:
+        self._write()
+        self._vm_call("sys_state_clear_all")
+
+    # ---- what others complete
+
+    def awakeable(self, kind: Any = Any) -> tuple[str, Durable[Any]]:
+        """An id to hand out, and what comes once others complete it."""
+        awakeable = self._vm_call("sys_awakeable")
+        return awakeable.id, Leaf(awakeable.handle, self._reader(kind))
+
+    def resolve_awakeable(self, id: str, value: Any = None) -> None:
+        self._vm_call("sys_complete_awakeable", id, self._given(value))
+
+    def reject_awakeable(self, id: str, message: str, code: int = 500) -> None:
+        self.resolve_awakeable(id, TerminalError(message, code))
+
+    def signal(self, name: str, kind: Any = Any) -> Durable[Any]:
+        """The next signal of this name."""
+        return Leaf(self._vm_call("create_signal_handle", name), self._reader(kind))
+
+    def send_signal(self, invocation_id: str, name: str, value: Any = None) -> None:
+        self._vm_call("sys_complete_signal", invocation_id, name, self._given(value))
+
+    def promise(self, name: str, kind: Any = Any) -> Promise:
+        """A promise of this workflow's key."""
+        return Promise(self, name, kind)
+
+
+_results: weakref.WeakKeyDictionary[Any, Any] = weakref.WeakKeyDictionary()
+
+
+def _result_of(function: Any) -> Any:
+    """The type that a run's function says it returns."""
+    try:
+        if function not in _results:
+            _results[function] = typing.get_type_hints(function).get("return", Any)
+        return _results[function]
+    except (TypeError, NameError):
+        return Any

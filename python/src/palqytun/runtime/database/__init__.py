@@ -1,0 +1,55 @@
+"""The two databases: SQLite for one worker, PostgreSQL for several. Both take the same statements, with `?` for a value."""
+
+from __future__ import annotations
+
+from collections.abc import Callable, Iterable, Sequence
+from typing import Any, Protocol
+
+
+class Conflict(Exception):
+    """The database let this transaction not through. Nothing was stored; it is made again."""
+
+
+class Lost(Exception):
+    """The database can't be used: it can't be reached, its disk is full, or it is broken. Whether the last transaction was stored isn't known;
+    what stands in the database is what counts, and a worker goes on from there once the database can be used again."""
+
+
+class Database(Protocol):
+    """A connection. Each statement belongs to the transaction that `begin` began; any of them may raise `Conflict` or `Lost`."""
+
+    is_shared: bool  # several workers may use it at once
+    is_remote: bool  # each statement waits for a server, so it isn't made in the event loop
+    skip: str  # after a SELECT that takes rows which no other worker is taking
+    lock: str  # after a SELECT that keeps its rows until the commit
+    clock: str  # the database's time in seconds
+
+    def begin(self) -> None: ...
+    def commit(self) -> None: ...
+    def rollback(self) -> None: ...
+    def rows(self, sql: str, values: Sequence[object] = ()) -> list[Any]: ...
+    def change(self, sql: str, values: Sequence[object] = ()) -> int: ...
+    def many(self, sql: str, values: Iterable[Sequence[object]]) -> None: ...
+    def notify(self, word: str) -> None:
+        """Tells this word to the workers that listen, once the transaction is committed."""
+
+    def listen(self, heard: Callable[[str], None]) -> Callable[[], None] | None:
+        """Calls `heard` in the running event loop for each word that other workers tell; answers what ends it. None: there are no others."""
+
+    def close(self) -> None: ...
+
+
+def connect(url: str, *, worker: bool = False) -> Database:
+    """`postgresql://..`, or the path of a SQLite file, which may be followed by `?synchronous=NORMAL`. `worker` says that this connection is
+    that of a worker; a SQLite file has one at a time."""
+    if url.startswith(("postgres://", "postgresql://")):
+        from .postgres import Postgres
+
+        return Postgres(url)
+    from .sqlite import SQLite
+
+    path, _, option = url.removeprefix("sqlite:").partition("?synchronous=")
+    return SQLite(path, synchronous=option or "FULL", worker=worker)
+
+
+__all__ = ["Conflict", "Database", "Lost", "connect"]

@@ -1,0 +1,113 @@
+"""SQLite: one file, one worker."""
+
+from __future__ import annotations
+
+import contextlib
+import fcntl
+import sqlite3
+from collections.abc import Callable, Iterable, Iterator, Sequence
+from typing import Any
+
+from . import Conflict, Lost
+from .schema import VERSIONS, missing
+
+_TYPES = {"serial": "INTEGER PRIMARY KEY AUTOINCREMENT", "blob": "BLOB", "float": "REAL", "plain": " WITHOUT ROWID"}
+
+
+class InUse(Exception):
+    """Another worker uses the file."""
+
+    def __init__(self, path: str):
+        super().__init__(f"another worker uses {path}; several workers need PostgreSQL")
+
+
+@contextlib.contextmanager
+def _named() -> Iterator[None]:
+    """Errors of SQLite as those of `Database`."""
+    try:
+        yield
+    except sqlite3.IntegrityError:
+        raise
+    except sqlite3.OperationalError as error:
+        if "locked" in str(error) or "busy" in str(error):
+            raise Conflict(str(error)) from error
+        raise Lost(str(error)) from error
+    except sqlite3.Error as error:
+        raise Lost(str(error)) from error
+
+
+class SQLite:
+    is_shared, is_remote, skip, lock = False, False, "", ""
+    clock = "((julianday('now') - 2440587.5) * 86400.0)"
+
+    def __init__(self, path: str, *, synchronous: str = "FULL", worker: bool = False):
+        if synchronous not in ("FULL", "NORMAL", "OFF"):
+            raise ValueError(f"synchronous is FULL, NORMAL or OFF, and not {synchronous}")
+        self._lock = None
+        if worker:
+            self._lock = open(f"{path}.lock", "w")
+            try:
+                fcntl.flock(self._lock, fcntl.LOCK_EX | fcntl.LOCK_NB)
+            except BlockingIOError:
+                self._lock.close()
+                raise InUse(path) from None
+        try:
+            with _named():
+                self._connection = sqlite3.connect(path, isolation_level=None, timeout=10, cached_statements=500, check_same_thread=False)
+                self._connection.execute("PRAGMA journal_mode=WAL")
+                self._connection.execute(f"PRAGMA synchronous={synchronous}")
+                self._migrate()
+        except BaseException:
+            if self._lock is not None:
+                self._lock.close()
+            raise
+
+    def _migrate(self) -> None:
+        self._connection.execute("BEGIN IMMEDIATE")
+        try:
+            self._connection.execute(VERSIONS)
+            [(found,)] = self._connection.execute("SELECT COALESCE(MAX(version), 0) FROM schema_versions").fetchall()
+            for version, statements in missing(found):
+                for statement in statements.format(**_TYPES).split(";\n"):
+                    self._connection.execute(statement)
+                self._connection.execute("INSERT INTO schema_versions VALUES (?)", (version,))
+            self._connection.execute("COMMIT")
+        except BaseException:
+            self.rollback()
+            raise
+
+    def begin(self) -> None:
+        with _named():
+            self._connection.execute("BEGIN IMMEDIATE")
+
+    def commit(self) -> None:
+        with _named():
+            self._connection.execute("COMMIT")
+
+    def rollback(self) -> None:
+        with _named():
+            if self._connection.in_transaction:
+                self._connection.execute("ROLLBACK")
+
+    def rows(self, sql: str, values: Sequence[object] = ()) -> list[Any]:
+        with _named():
+            return self._connection.execute(sql, tuple(values)).fetchall()
+
+    def change(self, sql: str, values: Sequence[object] = ()) -> int:
+        with _named():
+            return self._connection.execute(sql, tuple(values)).rowcount
+
+    def many(self, sql: str, values: Iterable[Sequence[object]]) -> None:
+        with _named():
+            self._connection.executemany(sql, values)
+
+    def notify(self, word: str) -> None:
+        """There is no other worker to tell."""
+
+    def listen(self, heard: Callable[[str], None]) -> Callable[[], None] | None:
+        return None
+
+    def close(self) -> None:
+        self._connection.close()
+        if self._lock is not None:
+            self._lock.close()

@@ -1,0 +1,239 @@
+"""What a handler awaits, and the combinators over it. Each is a node of the VM's await trees."""
+
+from __future__ import annotations
+
+from collections.abc import Callable, Coroutine, Generator, Iterator
+from typing import Any, Generic, TypeVar
+
+from .. import core
+from .services import Cancelled, TerminalError
+
+T = TypeVar("T")
+
+
+class NotDurable(TypeError):
+    """A handler awaited something else than what its context gave it."""
+
+
+class Durable(Generic[T]):
+    """Something that the journal answers. `await` gives its result, or raises its failure."""
+
+    def __await__(self) -> Generator[Durable[Any], None, T]:
+        if self.outcome() is None:
+            yield self
+        return self.result()
+
+    def outcome(self) -> bool | None:
+        """Whether it has succeeded; none while it is pending."""
+        raise NotImplementedError
+
+    def result(self) -> T:
+        raise NotImplementedError
+
+    def tree(self) -> int | core.Future | None:
+        """What is left of it for the VM to await, while it is pending."""
+        raise NotImplementedError
+
+    def leaves(self) -> Iterator[Leaf[Any]]:
+        """The handles in it that are pending."""
+        raise NotImplementedError
+
+
+class Leaf(Durable[T]):
+    """A handle of the VM. `read` makes its result of what the VM has for it."""
+
+    def __init__(self, handle: int, read: Callable[[Any], T]):
+        self.handle, self.read = handle, read
+        self.came: Any = None
+
+    def outcome(self) -> bool | None:
+        return None if self.came is None else not isinstance(self.came, core.Failure)
+
+    def result(self) -> T:
+        if isinstance(self.came, core.Failure):
+            raise TerminalError(self.came.message, self.came.code, tuple(self.came.metadata))
+        return self.read(self.came)
+
+    def tree(self) -> int | core.Future | None:
+        return self.handle
+
+    def leaves(self) -> Iterator[Leaf[Any]]:
+        yield self
+
+
+class _Over(Durable[T]):
+    """A node over others."""
+
+    make: Callable[..., core.Future]
+
+    def __init__(self, *children: Durable[Any]):
+        for child in children:
+            if not isinstance(child, Durable):
+                raise NotDurable(f"what the context gives can be combined, and not {child!r}")
+        self.children = children
+
+    def tree(self) -> int | core.Future | None:
+        left = [it.tree() for it in self.children if it.outcome() is None]
+        left = [it for it in left if it is not None]
+        return type(self).make(*left) if left else None
+
+    def leaves(self) -> Iterator[Leaf[Any]]:
+        for child in self.children:
+            if child.outcome() is None:
+                yield from child.leaves()
+
+    def outcomes(self) -> list[bool | None]:
+        return [it.outcome() for it in self.children]
+
+
+class _Gather(_Over[list[Any]]):
+    make = staticmethod(core.all_succeeded_or_first_failed)
+
+    def outcome(self) -> bool | None:
+        came = self.outcomes()
+        return False if False in came else None if None in came else True
+
+    def result(self) -> list[Any]:
+        for child in self.children:
+            if child.outcome() is False:
+                child.result()
+        return [it.result() for it in self.children]
+
+
+class _Settled(_Over[list[Any]]):
+    make = staticmethod(core.all_completed)
+
+    def outcome(self) -> bool | None:
+        return None if None in self.outcomes() else True
+
+    def result(self) -> list[Any]:
+        results: list[Any] = []
+        for child in self.children:
+            try:
+                results.append(child.result())
+            except TerminalError as error:
+                results.append(error)
+        return results
+
+
+class _Select(_Over[tuple[int, Any]]):
+    make = staticmethod(core.first_completed)
+
+    def _first(self) -> int | None:
+        return next((at for at, it in enumerate(self.outcomes()) if it is not None), None)
+
+    def outcome(self) -> bool | None:
+        first = self._first()
+        return None if first is None else self.children[first].outcome()
+
+    def result(self) -> tuple[int, Any]:
+        first = self._first()
+        assert first is not None
+        return first, self.children[first].result()
+
+
+class _AnySuccess(_Over[Any]):
+    make = staticmethod(core.first_succeeded_or_all_failed)
+
+    def outcome(self) -> bool | None:
+        came = self.outcomes()
+        return True if True in came else None if None in came else False
+
+    def result(self) -> Any:
+        return next((it for it in self.children if it.outcome()), self.children[-1]).result()
+
+
+def gather(*children: Durable[Any], return_exceptions: bool = False) -> Durable[list[Any]]:
+    """All results, in order. The first failure is raised; with `return_exceptions` each failure stands as its `TerminalError`."""
+    return _Settled(*children) if return_exceptions else _Gather(*children)
+
+
+def select(*children: Durable[Any]) -> Durable[tuple[int, Any]]:
+    """The number, from 0, and the result of the first that has an outcome; a failure is raised."""
+    return _Select(*children)
+
+
+def wait_any(*children: Durable[T]) -> Durable[T]:
+    """The result of the first that succeeds. If all fail, the failure of the last is raised."""
+    return _AnySuccess(*children)
+
+
+class Task(Durable[T]):
+    """A coroutine of the handler, which awaits durables. The handler itself is one."""
+
+    def __init__(self, coroutine: Coroutine[Durable[Any], None, T]):
+        self.coroutine = coroutine
+        self.waits: Durable[Any] | None = None
+        self.value: T | None = None
+        self.failure: TerminalError | None = None
+        self.done = False
+
+    def outcome(self) -> bool | None:
+        return None if not self.done else self.failure is None
+
+    def result(self) -> T:
+        if self.failure is not None:
+            raise self.failure
+        return self.value  # type: ignore[return-value]
+
+    def tree(self) -> int | core.Future | None:
+        return None  # it awaits its own tree
+
+    def leaves(self) -> Iterator[Leaf[Any]]:
+        return iter(())
+
+    def step(self, thrown: Cancelled | None = None) -> None:
+        """Runs it until it waits or is done."""
+        while not self.done:
+            try:
+                self.waits = self.coroutine.throw(thrown) if thrown else self.coroutine.send(None)
+            except StopIteration as end:
+                self.done, self.value = True, end.value
+            except TerminalError as failure:
+                self.done, self.failure = True, failure
+            else:
+                if not isinstance(self.waits, Durable):
+                    raise NotDurable(f"a handler awaits what its context gives, and not {self.waits!r}; other work stands in ctx.run")
+                if self.waits.outcome() is None:
+                    return
+            thrown = None
+
+
+class Tasks:
+    """The coroutines of one attempt. They run in the order in which they were made, so a replay runs them alike."""
+
+    def __init__(self, main: Task[Any]):
+        self.main = main
+        self.all: list[Task[Any]] = [main]
+
+    def run(self, thrown: Cancelled | None = None) -> None:
+        """Runs each that can go on, until all wait or the handler is done. A cancellation comes to each that waits for the journal."""
+        has_moved = True
+        while has_moved and not self.main.done:
+            has_moved = False
+            for task in list(self.all):
+                waits = task.waits
+                if thrown is not None and waits is not None and waits.tree() is not None:
+                    task.step(thrown)
+                elif waits is None or waits.outcome() is not None:
+                    task.step()
+                else:
+                    continue
+                has_moved = True
+                if self.main.done:
+                    return
+            thrown = None
+            self.all = [it for it in self.all if not it.done]
+
+    def tree(self) -> int | core.Future:
+        """What the coroutines wait for, all together."""
+        trees = [it.waits.tree() for it in self.all if it.waits is not None]
+        left = [it for it in trees if it is not None]
+        if not left:
+            raise RuntimeError("the handler's coroutines wait for each other")
+        return left[0] if len(left) == 1 else core.first_completed(*left)
+
+    def leaves(self) -> Iterator[Leaf[Any]]:
+        for task in self.all:
+            if task.waits is not None:
+                yield from task.waits.leaves()

@@ -1,0 +1,154 @@
+"""What a stored command does, in the transaction that stores it; so it is done once."""
+
+from __future__ import annotations
+
+import base64
+import hashlib
+import struct
+from typing import Any
+
+from . import inbox, invocations, journal
+from .database import Database
+from .invocations import New, state_of
+from .journal import Attach, Call, Change, Command, CompleteAwakeable, Promise, Read, Result, SendSignal, Sleep
+from .lease import Growth
+from .outcome import Outcome
+from .services import App, TerminalError
+
+
+def awakeable_of(id: str) -> tuple[str, int]:
+    """Whose signal completes an awakeable, and its number."""
+    text = id.removeprefix("sign_1")
+    try:
+        data = base64.urlsafe_b64decode(text + "=" * (-len(text) % 4))
+        return data[:-4].decode(), struct.unpack(">I", data[-4:])[0]
+    except (ValueError, struct.error):
+        raise TerminalError(f"{id[:200]} is no awakeable", 400) from None
+
+
+def child_of(invocation: str, completion: int) -> str:
+    """The id of what a call makes. It follows from the call, so a call makes one invocation."""
+    return "inv_" + hashlib.blake2b(f"{invocation}/{completion}".encode(), digest_size=12).hexdigest()
+
+
+class Performer:
+    """Does what the commands of one attempt ask for, in one transaction."""
+
+    def __init__(self, db: Database, app: App, out: Outcome, growth: Growth, service: str, key: str):
+        self.db, self.app, self.out, self.growth, self.service, self.key = db, app, out, growth, service, key
+        self.own = growth.lease.invocation
+
+    def perform(self, it: Command) -> None:
+        method = _PERFORMED.get(type(it))
+        if method is not None:
+            method(self, it)
+
+    def _sleep(self, it: Sleep) -> None:
+        self.db.change("INSERT INTO timers(due, invocation, completes) VALUES (?,?,?)", (it.due / 1000, self.own, it.id))
+        self.out.is_due(it.due / 1000)
+
+    def _call(self, it: Call) -> None:
+        id = child_of(self.own, it.invocation_id)
+        new = New(it.service, it.handler, it.key, it.parameter, it.headers, it.idempotency_key, it.at / 1000, id)
+        try:
+            id = invocations.create(self.db, self.app, self.out, new)
+        except TerminalError as error:
+            self.growth.complete(it.invocation_id, journal.invocation(id))
+            if it.id is not None:
+                self.growth.complete(it.id, journal.failure(error.code, error.message))
+            return
+        self.growth.complete(it.invocation_id, journal.invocation(id))
+        if it.id is not None:
+            invocations.attach(self.db, self.growth, id, it.id)
+
+    def _change(self, it: Change) -> None:
+        place = (self.service, self.key)
+        if it.key is None:
+            self.db.change("DELETE FROM state WHERE service=? AND key=?", place)
+        elif it.value is None:
+            self.db.change("DELETE FROM state WHERE service=? AND key=? AND name=?", (*place, it.key))
+        else:
+            sql = (
+                "INSERT INTO state(service, key, name, value) VALUES (?,?,?,?)"
+                " ON CONFLICT(service, key, name) DO UPDATE SET value=excluded.value"
+            )
+            self.db.change(sql, (*place, it.key, it.value))
+
+    def _read(self, it: Read) -> None:
+        state = state_of(self.db, self.service, self.key)
+        if it.key is None:
+            self.growth.complete(it.id, journal.keys(sorted(state, key=str.encode)))
+        else:
+            self.growth.complete(it.id, journal.value(state[it.key]) if it.key in state else journal.void())
+
+    def _complete_awakeable(self, it: CompleteAwakeable) -> None:
+        try:
+            target, number = awakeable_of(it.awakeable)
+        except TerminalError:
+            return  # it names nobody
+        inbox.deliver(self.db, self.out, target, journal.signal(number, it.result))
+
+    def _send_signal(self, it: SendSignal) -> None:
+        frame = journal.named_signal(it.name, it.result) if it.name is not None else journal.signal(it.index or 0, it.result)
+        inbox.deliver(self.db, self.out, it.target, frame)
+
+    def _promise(self, it: Promise) -> None:
+        place = (self.service, self.key, it.key)
+        where = "service=? AND key=? AND name=?"
+        # The row is made and kept until the commit, so nobody completes it while another begins to wait.
+        sql = "INSERT INTO promises(service, key, name) VALUES (?,?,?) ON CONFLICT(service, key, name) DO UPDATE SET name=excluded.name"
+        self.db.change(sql, place)
+        found = self.db.rows(f"SELECT result FROM promises WHERE {where}", place)[0][0]
+        result = None if found is None else Result(bytes(found))
+        if it.result is not None:
+            self._complete_promise(it.id, it.result, result is not None, place)
+        elif result is not None or it.peek:
+            self.growth.complete(it.id, journal.void() if result is None else result)
+        else:
+            sql = "INSERT INTO promise_waiters(service, key, name, waiter, completes) VALUES (?,?,?,?,?)"
+            self.db.change(sql, (*place, self.own, it.id))
+
+    def _complete_promise(self, id: int, result: Result, was_completed: bool, place: tuple[str, str, str]) -> None:
+        if was_completed:
+            self.growth.complete(id, journal.failure(409, "the promise was completed before"))
+            return
+        where = "service=? AND key=? AND name=?"
+        self.db.change(f"UPDATE promises SET result=? WHERE {where}", (result, *place))
+        for waiter, completes in self.db.rows(f"SELECT waiter, completes FROM promise_waiters WHERE {where}", place):
+            inbox.deliver_completion(self.db, self.out, waiter, completes, result)
+        self.db.change(f"DELETE FROM promise_waiters WHERE {where}", place)
+        self.growth.complete(id, journal.void())
+
+    def _attach(self, it: Attach) -> None:
+        target = it.invocation or self._named(it)
+        if not it.peek:
+            invocations.attach(self.db, self.growth, target, it.id)
+            return
+        found = self.db.rows("SELECT result FROM invocations WHERE id=?", (target,))
+        if not found:
+            self.growth.complete(it.id, journal.failure(404, "there is no such invocation"))
+        else:
+            self.growth.complete(it.id, journal.void() if found[0][0] is None else Result(bytes(found[0][0])))
+
+    def _named(self, it: Attach) -> str | None:
+        """The invocation that an idempotency key names, or a workflow's key."""
+        handler, idem = it.handler, it.idempotency_key
+        if handler is None:
+            known = self.app.services.get(it.service)
+            handler = next((name for name, one in known.handlers.items() if one.exclusive), "") if known is not None else ""
+            idem = ""
+        sql = "SELECT id FROM invocations WHERE service=? AND handler=? AND key=? AND idem=?"
+        found = self.db.rows(sql, (it.service, handler, it.key, idem))
+        return str(found[0][0]) if found else None
+
+
+_PERFORMED: dict[type[Command], Any] = {
+    Sleep: Performer._sleep,
+    Call: Performer._call,
+    Change: Performer._change,
+    Read: Performer._read,
+    CompleteAwakeable: Performer._complete_awakeable,
+    SendSignal: Performer._send_signal,
+    Promise: Performer._promise,
+    Attach: Performer._attach,
+}

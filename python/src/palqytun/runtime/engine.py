@@ -1,0 +1,309 @@
+"""The worker: it takes leases, makes attempts, and commits what they write. It goes on when its database is lost and comes back."""
+
+from __future__ import annotations
+
+import asyncio
+import logging
+import random
+import secrets
+import time
+from collections.abc import Callable
+from typing import Any, TypeVar
+
+from . import inbox, invocations, journal, storing
+from .attempt import Attempt
+from .claiming import Claimer, Claims
+from .committer import Committer, Stopped
+from .database import Conflict, Database, Lost, connect
+from .invocations import Claim, New
+from .journal import Result
+from .lease import Fenced
+from .outcome import Outcome
+from .services import App, TerminalError
+
+T = TypeVar("T")
+log = logging.getLogger("palqytun")
+_SHORTEST, _LONGEST = 0.1, 5.0  # seconds between connections
+
+
+class Unavailable(TerminalError):
+    """The database can't be used now, or the worker stops. Whether the request was stored isn't known: ask again, with an idempotency key."""
+
+    def __init__(self, why: str):
+        super().__init__(f"the database can't be used now: {why}", 503)
+
+
+class Engine:
+    """A worker of an app.
+
+    `limit`: attempts at once. `idle`: after so many seconds an attempt that waits is suspended. `lease`: a worker that isn't heard of for
+    so many seconds is thought dead. `poll`: how often the database is looked at, in seconds, if nothing is known to be due."""
+
+    def __init__(
+        self,
+        app: App,
+        url: str,
+        *,
+        name: str = "worker",
+        limit: int = 500,
+        idle: float = 1.0,
+        lease: float = 10.0,
+        poll: float = 1.0,
+        grouped: bool = True,
+        connect: Callable[[str], Database] = lambda url: connect(url, worker=True),
+    ):
+        self.app, self.url = app, url
+        self.name, self.limit, self.idle, self.lease, self.poll, self.grouped = name, limit, idle, lease, poll, grouped
+        self._connect = connect
+        self.live: dict[str, Attempt] = {}
+        self.counts = {"attempts": 0, "sessions": 0, "fenced": 0}
+        self._results: dict[str, list[asyncio.Future[None]]] = {}
+        self._poke = asyncio.Event()
+        self._look_at = 0.0  # by the monotonic clock
+        self._tasks: set[asyncio.Task[None]] = set()
+        self._committer: Committer | None = None
+        self._is_open = asyncio.Event()
+        self._stopping = False
+        self._former = ""
+
+    # ---- transactions
+
+    async def transact(self, operation: Callable[[Database], T]) -> T:
+        """Commits an operation, in one transaction with others that are queued. Raises `Unavailable` if there is no database."""
+        if self._committer is None:
+            raise Unavailable("there is no connection")
+        try:
+            return await self._committer.submit(operation)
+        except Stopped as error:
+            raise Unavailable(str(error)) from error
+
+    async def write(self, operation: Callable[[Database], Outcome], claim: Claim) -> Outcome:
+        """Commits a transaction on a claim's journal, and tells those whom it touches."""
+        assert self._committer is not None
+        out = await self._committer.submit(operation)
+        claim.lease.journal.keep()
+        self.tell(out)
+        return out
+
+    def tell(self, out: Outcome) -> None:
+        """What a transaction did is told to those whom it touches."""
+        for invocation in out.touched:
+            self._touch(invocation)
+        if out.due is not None:
+            self._wake(out.due - time.time())
+        for invocation in out.ended:
+            self._ended(invocation)
+
+    def _touch(self, invocation: str) -> None:
+        attempt = self.live.get(invocation)
+        if attempt is not None:
+            attempt.poked.set()
+        else:
+            self._wake(0)
+
+    def _wake(self, delay: float) -> None:
+        """The database is looked at after this delay, if not before. Delays are short and by the monotonic clock, as the other may jump."""
+        at = time.monotonic() + delay
+        if at < self._look_at:
+            self._look_at = at
+            self._poke.set()
+
+    def _ended(self, invocation: str) -> None:
+        for future in self._results.pop(invocation, []):
+            if not future.done():
+                future.set_result(None)
+
+    def _heard(self, word: str) -> None:
+        """Another worker tells something: `ready`, `to INVOCATION` or `ended INVOCATION`."""
+        what, _, invocation = word.partition(" ")
+        if what == "ended":
+            self._ended(invocation)
+        elif what == "to":
+            self._touch(invocation)
+        else:
+            self._wake(0)
+
+    # ---- sessions
+
+    async def run(self) -> None:
+        """Until `stop`. A lost database is connected to again: at once after a session that could use it, else after a growing time."""
+        delay = _SHORTEST
+        while not self._stopping:
+            sessions = self.counts["sessions"]
+            try:
+                await self._session()
+            except Lost as error:
+                log.warning("the database is lost: %s", error)
+                delay = _SHORTEST if self.counts["sessions"] > sessions else min(_LONGEST, delay * 2)
+                await self._pause(delay)
+
+    async def _pause(self, seconds: float) -> None:
+        self._poke.clear()
+        if not self._stopping:
+            try:
+                await asyncio.wait_for(self._poke.wait(), seconds * (0.5 + random.random()))
+            except asyncio.TimeoutError:
+                pass
+
+    async def _session(self) -> None:
+        """As long as the database can be used. Each session is a worker of its own, so what an earlier one left is claimed like any other's."""
+        db = await asyncio.to_thread(self._connect, self.url)
+        committer = self._committer = Committer(db, grouped=self.grouped)
+        claimer = Claimer(f"{self.name}-{secrets.token_hex(6)}", tuple(self.app.services), self.lease, self._former)
+        self._former = claimer.worker
+        unlisten: Callable[[], None] | None = None
+        beats = asyncio.create_task(self._beats(committer, claimer))
+        try:
+            await committer.submit(claimer.enter)
+            unlisten = db.listen(self._heard)
+            self.counts["sessions"] += 1
+            self._is_open.set()
+            await self._loop(committer, claimer)
+        except Stopped as error:
+            raise Lost(str(error)) from error
+        finally:
+            beats.cancel()
+            self._is_open.clear()
+            if unlisten is not None:
+                unlisten()
+            await self._end_attempts()
+            if committer.lost is None:
+                await asyncio.gather(committer.submit(claimer.leave), return_exceptions=True)
+            self._committer = None
+            await committer.close()
+            await asyncio.gather(beats, return_exceptions=True)
+
+    async def _end_attempts(self) -> None:
+        for task in list(self._tasks):
+            task.cancel()
+        await asyncio.gather(*self._tasks, return_exceptions=True)
+        self.live.clear()
+
+    async def _loop(self, committer: Committer, claimer: Claimer) -> None:
+        lost: asyncio.Future[Any] = asyncio.ensure_future(committer.is_lost.wait())
+        try:
+            while not self._stopping:
+                self._look_at = time.monotonic() + self.poll
+                room, live = max(0, self.limit - len(self.live)), frozenset(self.live)
+                found: Claims = await committer.submit(lambda db: claimer.claim(db, live, room))
+                for claim in found.claims:
+                    self._begin(claim)
+                found.out.touched &= self.live.keys()
+                self.tell(found.out)
+                if found.next_due is not None and room:
+                    self._wake(found.next_due - time.time())
+                await self._until_due(lost)
+                if committer.lost is not None:
+                    raise Lost(str(committer.lost))
+        finally:
+            lost.cancel()
+
+    async def _until_due(self, lost: asyncio.Future[Any]) -> None:
+        """Until something is due or touched, or the database is lost."""
+        while not (self._stopping or lost.done()):
+            left = self._look_at - time.monotonic()
+            if left <= 0:
+                return
+            self._poke.clear()
+            poked: asyncio.Future[Any] = asyncio.ensure_future(self._poke.wait())
+            try:
+                await asyncio.wait([lost, poked], timeout=left, return_when=asyncio.FIRST_COMPLETED)
+            finally:
+                poked.cancel()
+
+    async def _beats(self, committer: Committer, claimer: Claimer) -> None:
+        while True:
+            await asyncio.sleep(self.lease / 3)
+            try:
+                await committer.submit(claimer.beat)
+            except Stopped:
+                return
+            except Conflict as error:
+                log.warning("a beat wasn't stored: %s", error)
+
+    def stop(self) -> None:
+        """`run` ends once the transactions that are queued are committed. What isn't finished is claimed by the next worker."""
+        self._stopping = True
+        self._poke.set()
+
+    # ---- attempts
+
+    @property
+    def patience(self) -> float:
+        """How long an attempt may wait now: those that wait don't keep others out."""
+        return self.idle if len(self.live) < self.limit // 2 else 0.0
+
+    def _begin(self, claim: Claim) -> None:
+        self.counts["attempts"] += 1
+        attempt = Attempt(self, claim)
+        self.live[claim.invocation] = attempt
+        task = asyncio.create_task(self._attempt(attempt))
+        self._tasks.add(task)
+        task.add_done_callback(self._tasks.discard)
+
+    async def _attempt(self, attempt: Attempt) -> None:
+        invocation = attempt.claim.invocation
+        try:
+            await attempt.run()
+        except Fenced as fenced:
+            self.counts["fenced"] += 1
+            log.warning("fenced: %s", fenced)
+        except Stopped:
+            pass  # the next worker goes on
+        except Exception as error:
+            log.exception("an attempt of %s stopped; the invocation is paused", invocation)
+            await self._give_up(attempt, error)
+        finally:
+            if self.live.get(invocation) is attempt:
+                del self.live[invocation]
+            if attempt.poked.is_set() or len(self.live) == self.limit - 1:
+                self._wake(0)
+
+    async def _give_up(self, attempt: Attempt, error: Exception) -> None:
+        why = f"the runtime failed: {type(error).__name__}: {error}"
+        if self._committer is not None:
+            await asyncio.gather(self._committer.submit(lambda db: storing.pause(db, attempt.claim, why)), return_exceptions=True)
+
+    # ---- what an ingress does
+
+    async def is_open(self) -> None:
+        """Waits until the database can be used."""
+        await self._is_open.wait()
+
+    async def submit(self, new: New) -> str:
+        """Makes an invocation. It is stored once this answers its id."""
+        out = Outcome()
+        id = await self.transact(lambda db: invocations.create(db, self.app, out, new))
+        self.tell(out)
+        return id
+
+    async def result(self, invocation: str, wait: float | None = None) -> Result | None:
+        """What an invocation ends with; none if there is no such invocation. `TimeoutError` if it hasn't ended after `wait` seconds."""
+        until = None if wait is None else time.monotonic() + wait
+        future: asyncio.Future[None] = asyncio.get_running_loop().create_future()
+        self._results.setdefault(invocation, []).append(future)
+        try:
+            while True:
+                rows = await self.transact(lambda db: db.rows("SELECT result FROM invocations WHERE id=?", (invocation,)))
+                if not rows or rows[0][0] is not None:
+                    return Result(bytes(rows[0][0])) if rows else None
+                left = 5.0 if until is None else min(5.0, until - time.monotonic())
+                if left <= 0:
+                    raise TimeoutError(f"{invocation} hasn't ended")
+                await asyncio.wait([future], timeout=left)
+        finally:
+            waiting = self._results.get(invocation, [])
+            if future in waiting:
+                waiting.remove(future)
+                if not waiting:
+                    del self._results[invocation]
+
+    async def notify(self, invocation: str, notification: bytes) -> bool:
+        """Sends a signal from outside; answers whether there is an invocation that gets it."""
+        out = Outcome()
+        is_there = await self.transact(lambda db: inbox.deliver(db, out, invocation, notification))
+        self.tell(out)
+        return is_there
+
+    async def cancel(self, invocation: str) -> bool:
+        return await self.notify(invocation, journal.signal(journal.CANCEL, journal.void()))

@@ -1,0 +1,44 @@
+"""Inboxes: what comes for an invocation, until the holder of its lease moves it to its journal.
+
+An effect on another invocation is only a row of its inbox. So a journal has one writer, and a transaction seldom waits for two invocations.
+"""
+
+from __future__ import annotations
+
+from . import journal
+from .database import Database
+from .journal import Result
+from .outcome import Outcome
+
+
+def deliver(db: Database, out: Outcome, invocation: str, notification: bytes) -> bool:
+    """Puts a notification into an invocation's inbox. One that has ended or doesn't exist gets nothing."""
+    sql = "INSERT INTO inbox(invocation, frame) SELECT ?,? WHERE EXISTS (SELECT 1 FROM invocations WHERE id=? AND status<>'done')"
+    if not db.change(sql, (invocation, notification, invocation)):
+        return False
+    out.touched.add(invocation)
+    db.notify(f"to {invocation}")
+    return True
+
+
+def deliver_completion(db: Database, out: Outcome, invocation: str, completes: int, result: Result) -> None:
+    deliver(db, out, invocation, journal.completion(completes, result))
+
+
+def peek(db: Database, invocation: str) -> list[tuple[int, bytes]]:
+    """What waits, in the order of its arrival, each with its number."""
+    return [(seq, bytes(frame)) for seq, frame in db.rows("SELECT seq, frame FROM inbox WHERE invocation=? ORDER BY seq", (invocation,))]
+
+
+def remove(db: Database, rows: list[tuple[int, bytes]]) -> None:
+    if rows:
+        db.many("DELETE FROM inbox WHERE seq=?", [(seq,) for seq, _ in rows])
+
+
+def wakes(db: Database, invocation: str, future: bytes) -> bool:
+    """Whether what waits wakes a suspended invocation. What was looked at in vain isn't looked at again, until something else comes."""
+    rows = peek(db, invocation)
+    if journal.is_awake(future, journal.outcome_of(frame for _, frame in rows)):
+        return True
+    db.many("UPDATE inbox SET fresh=0 WHERE seq=?", [(seq,) for seq, _ in rows])
+    return False

@@ -1,0 +1,97 @@
+"""The stored journal: what a runtime asks of it, and nothing else.
+
+`Journal` holds what the only writer of a stored journal has to know, and keeps the rules of honest storing. `frames` are its entries as
+typed values. The rest of the runtime names nothing of these two modules but what this file lists, and knows no layout of bytes.
+
+Both modules are tested and not proved. They stand in for the journal object that the core will have (its storing is proved, but can't be
+called from C yet): that object takes their place with this interface, and no other file changes.
+
+    entry(frame)             the next entry, at load
+    start(begin)             the bytes that a new attempt is fed: its Start, and the whole journal
+    arrive(notification)     the entry that is to be stored, or `Dishonest` with the rule that it breaks
+    store(output, at)        the entries of what an attempt wrote, its commands as typed values, and the frames to feed back
+    state(base)              the keyed state as the journal's commands leave it
+    keep(), undo()           what was stored since is committed; or it wasn't, and is taken back
+    is_awake(future, came)   whether the future of a suspension is awake by some notifications
+"""
+
+from .frames import (
+    CANCEL,
+    Attach,
+    Begin,
+    Call,
+    Change,
+    Command,
+    CompleteAwakeable,
+    End,
+    Failed,
+    Notification,
+    Output,
+    Promise,
+    Read,
+    Result,
+    Run,
+    SendSignal,
+    Sleep,
+    Suspension,
+    answer,
+    commands_in,
+    completion,
+    failure,
+    input_command,
+    invocation,
+    is_awake,
+    is_failure,
+    keys,
+    line_of,
+    messages_in,
+    named_signal,
+    only_runs,
+    outcome_of,
+    signal,
+    value,
+    void,
+)
+from .rules import Dishonest, Entry, Journal, Stored
+
+__all__ = [
+    "CANCEL",
+    "Attach",
+    "Begin",
+    "Call",
+    "Change",
+    "Command",
+    "CompleteAwakeable",
+    "Dishonest",
+    "End",
+    "Entry",
+    "Failed",
+    "Journal",
+    "Notification",
+    "Output",
+    "Promise",
+    "Read",
+    "Result",
+    "Run",
+    "SendSignal",
+    "Sleep",
+    "Stored",
+    "Suspension",
+    "answer",
+    "commands_in",
+    "completion",
+    "failure",
+    "input_command",
+    "invocation",
+    "is_awake",
+    "is_failure",
+    "keys",
+    "line_of",
+    "messages_in",
+    "named_signal",
+    "only_runs",
+    "outcome_of",
+    "signal",
+    "value",
+    "void",
+]

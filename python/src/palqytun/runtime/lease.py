@@ -1,0 +1,74 @@
+"""The lease of an invocation: who may write its journal. It is taken by raising the invocation's epoch, and each write asks for that epoch.
+
+Whoever lost a lease is fenced: the fence stands before any effect, so that nothing of a lost attempt is stored.
+"""
+
+from __future__ import annotations
+
+from dataclasses import dataclass, field
+
+from .database import Database
+from .journal import Entry, Journal, Result, Stored, completion
+
+
+class Fenced(Exception):
+    """The lease is another's by now: what this attempt still does is lost."""
+
+
+@dataclass
+class Lease:
+    """The right to write the journal of an invocation, and that journal."""
+
+    invocation: str
+    epoch: int
+    journal: Journal
+
+    def lost(self, entries: int) -> Fenced:
+        return Fenced(f"{self.invocation} is not this worker's at epoch {self.epoch} with {entries} entries")
+
+
+@dataclass
+class Growth:
+    """What one transaction appends to a journal, and what of it the attempt is fed."""
+
+    lease: Lease
+    entries: list[Entry] = field(default_factory=list)
+    feed: list[bytes] = field(default_factory=list)
+    has_progress: bool = False  # the attempt itself wrote something
+    before: int = 0
+
+    def __post_init__(self) -> None:
+        self.lease.journal.undo()  # an earlier try of this transaction failed
+        self.before = self.lease.journal.entries
+
+    def fence(self, db: Database) -> None:
+        """Keeps the invocation's row until the commit. It stands before any effect, so that a lost lease has none."""
+        sql = f"SELECT 1 FROM invocations WHERE id=? AND epoch=? AND entries=? AND status='running'{db.lock}"
+        if not db.rows(sql, (self.lease.invocation, self.lease.epoch, self.before)):
+            raise self.lease.lost(self.before)
+
+    def arrive(self, notification: bytes) -> None:
+        entry = self.lease.journal.arrive(notification)
+        self.entries.append(entry)
+        self.feed.append(entry.frame)
+
+    def complete(self, id: int, result: Result) -> None:
+        self.arrive(completion(id, result))
+
+    def store(self, output: bytes, at: int) -> Stored:
+        stored = self.lease.journal.store(output, at)
+        self.entries += stored.entries
+        self.feed += stored.feed
+        self.has_progress = bool(stored.entries)
+        return stored
+
+    def write(self, db: Database, **changed: object) -> None:
+        """Writes the entries, with further changes of the invocation's row. It is called once."""
+        names = "".join(f", {name}=?" for name in changed)
+        sql = f"UPDATE invocations SET entries=?{names} WHERE id=? AND epoch=? AND entries=? AND status='running'"
+        values = (self.lease.journal.entries, *changed.values(), self.lease.invocation, self.lease.epoch, self.before)
+        if db.change(sql, values) != 1:
+            raise self.lease.lost(self.before)
+        if self.entries:
+            rows = [(self.lease.invocation, it.at, it.completes, it.frame) for it in self.entries]
+            db.many("INSERT INTO journal(invocation, at, completes, frame) VALUES (?,?,?,?)", rows)

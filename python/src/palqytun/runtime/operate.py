@@ -1,0 +1,67 @@
+"""What an operator asks of the database."""
+
+from __future__ import annotations
+
+import time
+from typing import Any
+
+from . import journal
+from .database import Database
+from .outcome import Outcome
+
+_COLUMNS = ("id", "service", "handler", "key", "status", "created", "ended", "entries", "epoch", "retries", "worker", "error")
+
+
+def _shown(row: Any) -> dict[str, Any]:
+    return dict(zip(_COLUMNS, row))
+
+
+def invocations(db: Database, status: str | None = None, service: str | None = None, most: int = 100) -> list[dict[str, Any]]:
+    """The newest invocations first."""
+    asked = [(name, it) for name, it in (("status", status), ("service", service)) if it is not None]
+    where = " AND ".join(f"{name}=?" for name, _ in asked) or "1=1"
+    sql = f"SELECT {', '.join(_COLUMNS)} FROM invocations WHERE {where} ORDER BY seq DESC LIMIT ?"
+    return [_shown(row) for row in db.rows(sql, (*[it for _, it in asked], most))]
+
+
+def invocation(db: Database, id: str) -> dict[str, Any] | None:
+    rows = db.rows(f"SELECT {', '.join(_COLUMNS)} FROM invocations WHERE id=?", (id,))
+    return _shown(rows[0]) if rows else None
+
+
+def journal_of(db: Database, id: str) -> list[str]:
+    """The journal of an invocation, an entry a line."""
+    return [journal.line_of(bytes(row[0])) for row in db.rows("SELECT frame FROM journal WHERE invocation=? ORDER BY at", (id,))]
+
+
+def resume(db: Database, out: Outcome, id: str) -> bool:
+    """A paused invocation is tried again, as if it hadn't failed before."""
+    now = time.time()
+    sql = "UPDATE invocations SET status='ready', due=?, retries=0, failing_since=NULL WHERE id=? AND status='paused'"
+    if not db.change(sql, (now, id)):
+        return False
+    out.is_due(now)
+    db.notify("ready")
+    return True
+
+
+def purge(db: Database, before: float) -> int:
+    """Deletes the invocations that ended before a time, with their journals; answers how many."""
+    ended = "SELECT id FROM invocations WHERE status='done' AND ended<?"
+    db.change(f"DELETE FROM journal WHERE invocation IN ({ended})", (before,))
+    return db.change("DELETE FROM invocations WHERE status='done' AND ended<?", (before,))
+
+
+def by_status(db: Database) -> dict[str, int]:
+    """How many invocations have each status."""
+    return dict(db.rows("SELECT status, COUNT(*) FROM invocations GROUP BY status"))
+
+
+def metrics(statuses: dict[str, int], live: int, counts: dict[str, int]) -> str:
+    """Numbers for Prometheus, in its text format."""
+    lines = ["# HELP palqytun_invocations Invocations in the database, by status.", "# TYPE palqytun_invocations gauge"]
+    lines += [f'palqytun_invocations{{status="{it}"}} {statuses.get(it, 0)}' for it in ("ready", "running", "suspended", "paused", "done")]
+    lines += ["# HELP palqytun_live_attempts Attempts of this worker.", "# TYPE palqytun_live_attempts gauge", f"palqytun_live_attempts {live}"]
+    for name, count in counts.items():
+        lines += [f"# HELP palqytun_{name}_total Since this worker began.", f"# TYPE palqytun_{name}_total counter", f"palqytun_{name}_total {count}"]
+    return "\n".join(lines) + "\n"

@@ -1,0 +1,175 @@
+"""Services and their handlers: what an app registers."""
+
+from __future__ import annotations
+
+import inspect
+import typing
+from collections.abc import Awaitable, Callable
+from dataclasses import dataclass, field
+from typing import TYPE_CHECKING, Any, Generic, TypeVar
+
+from .codec import Codec, JsonCodec
+
+if TYPE_CHECKING:
+    from .context import Context
+
+I = TypeVar("I")
+O = TypeVar("O")
+Function = Callable[["Context", I], Awaitable[O]]
+
+
+def plain(text: str) -> str:
+    """The text, with escapes in place of lone surrogates, as those of a file's name that isn't UTF-8."""
+    return text.encode("utf-8", "backslashreplace").decode()
+
+
+def to_text_headers(headers: dict[str, str] | None) -> tuple[tuple[str, str], ...]:
+    return () if headers is None else tuple(headers.items())
+
+
+class TerminalError(Exception):
+    """Ends the handler with a failure; nothing is tried again. A failed call, promise or signal raises it. `code` is of 16 bits."""
+
+    def __init__(self, message: str, code: int = 500, metadata: tuple[tuple[str, str], ...] = ()):
+        super().__init__(message)
+        if not 0 <= code <= 0xFFFF:
+            raise ValueError(f"a failure's code is of 16 bits, not {code}")
+        self.message, self.code, self.metadata = plain(message), code, metadata
+
+
+class Cancelled(TerminalError):
+    """The invocation was cancelled. What the handler does then, as undoing what it did, is its own."""
+
+    def __init__(self, message: str = "cancelled"):
+        super().__init__(message, 409)
+
+
+@dataclass(frozen=True)
+class Retry:
+    """When what failed is tried again: a run, or the attempts of a handler. Times are in seconds.
+
+    The first delay is `initial`; each next one is larger by `factor` (numerator, denominator), up to `longest`. After so many `attempts`,
+    or so long a `duration`, it isn't tried again: `pause` pauses the invocation then, and without it the error is the result."""
+
+    initial: float = 0.05
+    factor: tuple[int, int] = (2, 1)
+    longest: float = 10.0
+    attempts: int | None = None
+    duration: float | None = None
+    pause: bool = False
+
+    def delay(self, failures: int) -> float:
+        """The delay after so many failures, in seconds."""
+        numerator, denominator = self.factor
+        if failures >= 64:
+            return self.longest
+        return min(self.longest, self.initial * (numerator / denominator) ** (failures - 1))
+
+    def is_over(self, failures: int, failing: float) -> bool:
+        """Whether it is not tried again, after so many failures in so many seconds."""
+        return (self.attempts is not None and failures >= self.attempts) or (self.duration is not None and failing >= self.duration)
+
+
+ATTEMPTS = Retry(attempts=50, pause=True)  # of a handler that says nothing else
+
+
+@dataclass
+class Handler(Generic[I, O]):
+    """A handler of a service. `exclusive` ones of a key run one at a time and may change its state."""
+
+    service: "Service"
+    name: str
+    function: Function[I, O]
+    exclusive: bool = False
+    retry: Retry = ATTEMPTS
+    takes: Any = Any
+    gives: Any = Any
+
+    @property
+    def path(self) -> str:
+        return f"{self.service.name}/{self.name}"
+
+
+def _types_of(function: Callable[..., Any]) -> tuple[Any, Any, int]:
+    """What a handler's annotations say of its argument and its result, and how many parameters it has."""
+    parameters = list(inspect.signature(function).parameters.values())
+    try:
+        hints = typing.get_type_hints(function)
+    except NameError:  # a name that is only there for the type checker
+        hints = {}
+    takes = hints.get(parameters[1].name, Any) if len(parameters) > 1 else Any
+    return takes, hints.get("return", Any), len(parameters)
+
+
+@dataclass
+class Service:
+    """Handlers without a key, which run side by side."""
+
+    name: str
+    handlers: dict[str, Handler[Any, Any]] = field(default_factory=dict)
+    keyed = False
+    workflow = False
+
+    def _add(self, exclusive: bool, **options: Any) -> Callable[[Function[I, O]], Handler[I, O]]:
+        def added(function: Function[I, O]) -> Handler[I, O]:
+            name = function.__name__
+            if not inspect.iscoroutinefunction(function):
+                raise TypeError(f"{self.name}/{name} is no `async def`")
+            takes, gives, count = _types_of(function)
+            if count != 2:
+                raise TypeError(f"{self.name}/{name} takes {count} parameters; a handler takes the context and its argument")
+            if name in self.handlers:
+                raise ValueError(f"{self.name} has two handlers with the name {name}")
+            self.handlers[name] = handler = Handler(self, name, function, exclusive, takes=takes, gives=gives, **options)
+            return handler
+
+        return added
+
+    def handler(self, **options: Any) -> Callable[[Function[I, O]], Handler[I, O]]:
+        """Registers a handler under its function's name. `retry` says when its attempts are tried again."""
+        return self._add(self.keyed and not self.workflow, **options)
+
+
+class VirtualObject(Service):
+    """Handlers with a key and its state. Of one key one handler at a time runs, but for those that are `shared`, which only read."""
+
+    keyed = True
+
+    def shared(self, **options: Any) -> Callable[[Function[I, O]], Handler[I, O]]:
+        """Registers a handler that reads the state and doesn't wait for others of its key."""
+        return self._add(False, **options)
+
+
+class Workflow(VirtualObject):
+    """A `main` that runs once a key, and handlers beside it, which look at its state and complete its promises."""
+
+    workflow = True
+
+    def main(self, **options: Any) -> Callable[[Function[I, O]], Handler[I, O]]:
+        """Registers the handler that runs once a key."""
+        return self._add(True, **options)
+
+
+class App:
+    """The services of a program, and the codec of their values."""
+
+    def __init__(self, *services: Service, codec: Codec | None = None):
+        self.services: dict[str, Service] = {}
+        for it in services:
+            if it.name in self.services:
+                raise ValueError(f"there are two services with the name {it.name}")
+            self.services[it.name] = it
+        self.codec: Codec = JsonCodec() if codec is None else codec
+
+    def retry_of(self, service: str, handler: str) -> Retry:
+        """When attempts of a handler are tried again, even if there is no such handler any more."""
+        found = self.services.get(service)
+        known = None if found is None else found.handlers.get(handler)
+        return ATTEMPTS if known is None else known.retry
+
+    def find(self, service: str, handler: str) -> Handler[Any, Any]:
+        """A handler by its name; there being none is a terminal error with code 404."""
+        found = self.services.get(service)
+        if found is None or handler not in found.handlers:
+            raise TerminalError(f"there is no handler {service}/{handler}", 404)
+        return found.handlers[handler]

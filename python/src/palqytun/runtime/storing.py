@@ -1,0 +1,100 @@
+"""The transactions of an attempt: what it wrote is stored with its effects, what came for it is moved to its journal, and it ends."""
+
+from __future__ import annotations
+
+import time
+
+from . import inbox, invocations, journal
+from .database import Database
+from .effects import Performer
+from .invocations import Claim
+from .journal import Failed, Output, Result, Suspension
+from .lease import Growth
+from .outcome import Outcome
+from .services import App
+
+
+def store(db: Database, app: App, claim: Claim, output: bytes, at: int) -> Outcome:
+    """Stores what an attempt wrote, after its first `at` bytes. If it has ended, its invocation's status follows."""
+    out, growth = Outcome(), Growth(claim.lease)
+    growth.fence(db)
+    stored = growth.store(output, at)
+    performer = Performer(db, app, out, growth, claim.service, claim.key)
+    for command in stored.commands:
+        performer.perform(command)
+    if stored.end is None:
+        changed = {"retries": 0, "failing_since": None} if growth.has_progress else {}
+        growth.write(db, **changed)
+    elif isinstance(stored.end, Suspension):
+        _suspend(db, out, growth, stored.end)
+    elif isinstance(stored.end, Failed):
+        _fail(db, app, out, claim, growth, stored.end)
+    else:
+        results = [it.result for it in stored.commands if isinstance(it, Output)]
+        _end(db, out, claim, growth, results[0] if results else _stored_output(db, claim.invocation))
+    out.feed = growth.feed
+    return out
+
+
+def _suspend(db: Database, out: Outcome, growth: Growth, suspension: Suspension) -> None:
+    """The invocation waits; or it doesn't, if what wakes it came just now."""
+    now, own = time.time(), growth.lease.invocation
+    came = journal.outcome_of(it.frame for it in growth.entries)
+    is_awake = journal.is_awake(suspension.future, came) or inbox.wakes(db, own, suspension.future)
+    out.status = "ready" if is_awake else "suspended"
+    progress = {"retries": 0, "failing_since": None} if growth.has_progress else {}
+    growth.write(db, status=out.status, due=now, future=suspension.future, worker=None, **progress)
+    if is_awake:
+        out.is_due(now)
+
+
+def _fail(db: Database, app: App, out: Outcome, claim: Claim, growth: Growth, error: Failed) -> None:
+    """The attempt failed: it is tried again, or the invocation is paused, or the error is its result."""
+    own, now = claim.invocation, time.time()
+    retry = app.retry_of(claim.service, claim.handler)
+    before, failing_since = 0, None  # what was stored before has reset them
+    if not growth.has_progress:
+        [(before, failing_since)] = db.rows("SELECT retries, failing_since FROM invocations WHERE id=?", (own,))
+    failures, since = before + 1, claim.begun if failing_since is None else failing_since
+    is_over = retry.is_over(failures, now - since)
+    if error.behaviour == "fail" or (is_over and not retry.pause and error.behaviour != "pause"):
+        _end(db, out, claim, growth, journal.failure(error.code, error.message))
+        return
+    out.status = "paused" if is_over or error.behaviour == "pause" else "ready"
+    delay = retry.delay(failures) if error.delay is None else error.delay / 1000
+    text = f"{error.code} {error.message}\n{error.stacktrace}".rstrip()
+    growth.write(db, status=out.status, due=now + delay, retries=failures, failing_since=since, error=text, worker=None)
+    out.is_due(now + delay)
+
+
+def _stored_output(db: Database, invocation: str) -> Result:
+    """The Output that an earlier attempt stored."""
+    stream = b"".join(bytes(row[0]) for row in db.rows("SELECT frame FROM journal WHERE invocation=? ORDER BY at", (invocation,)))
+    return next(it.result for it, _ in journal.commands_in(stream) if isinstance(it, Output))
+
+
+def _end(db: Database, out: Outcome, claim: Claim, growth: Growth, result: Result) -> None:
+    out.status = "done"
+    growth.write(db, status="done", ended=time.time(), result=result, worker=None)
+    invocations.end(db, out, claim.invocation, claim.service, claim.key if claim.exclusive else "", result)
+
+
+def pull(db: Database, claim: Claim) -> Outcome:
+    """Moves what came for a running invocation to its journal."""
+    out, growth = Outcome(), Growth(claim.lease)
+    growth.fence(db)
+    rows = inbox.peek(db, claim.invocation)
+    for _, frame in rows:
+        growth.arrive(frame)
+    inbox.remove(db, rows)
+    if rows:
+        growth.write(db)
+    out.feed = growth.feed
+    return out
+
+
+def pause(db: Database, claim: Claim, why: str) -> Outcome:
+    """The attempt stopped without an end: its invocation is paused, if it is still this worker's. What it wrote last isn't stored."""
+    sql = "UPDATE invocations SET status='paused', worker=NULL, error=? WHERE id=? AND epoch=? AND status='running'"
+    db.change(sql, (why, claim.invocation, claim.lease.epoch))
+    return Outcome(status="paused")

@@ -1,0 +1,149 @@
+"""What must hold of a database after crashes: everything, and just that which a run without faults leaves.
+
+The workflows have given ids, so they and all that they call have the same ids, random numbers and commands in each run.
+"""
+
+from __future__ import annotations
+
+import collections
+import json
+import pathlib
+import time
+from dataclasses import dataclass
+
+import crash_app
+from palqytun.runtime import invocations, journal
+from palqytun.runtime.database import Database
+from palqytun.runtime.invocations import New
+from palqytun.runtime.journal import frames
+from palqytun.runtime.outcome import Outcome
+
+KINDS = list(crash_app.KINDS)
+LEFTOVERS = ("inbox", "timers", "waiters", "locks", "promise_waiters")
+
+
+class Wrong(Exception):
+    """What a run left isn't what it must leave."""
+
+
+def submit(db: Database, first: int, count: int) -> None:
+    db.begin()
+    for n in range(first, first + count):
+        new = New("Load", KINDS[n % len(KINDS)], argument=json.dumps(n).encode(), id=f"inv_{n:06d}")
+        invocations.create(db, crash_app.app, Outcome(), new)
+    db.commit()
+
+
+def rows(db: Database, sql: str) -> list:
+    db.begin()
+    try:
+        return db.rows(sql)
+    finally:
+        db.rollback()
+
+
+def left(db: Database) -> int:
+    return rows(db, "SELECT COUNT(*) FROM invocations WHERE status<>'done'")[0][0]
+
+
+def wait(db: Database, seconds: float) -> None:
+    until = time.monotonic() + seconds
+    while left(db):
+        if time.monotonic() > until:
+            found = rows(db, "SELECT id, service, handler, status, worker, retries, error FROM invocations WHERE status<>'done' LIMIT 5")
+            raise Wrong(f"{left(db)} invocations haven't ended after {seconds} s, as {found}")
+        time.sleep(0.1)
+
+
+def _compared(frame: bytes, handler: str) -> str:
+    """A command without what depends on time: when a sleep or a send is due; and for coroutines side by side, which go on in the order of what
+    arrives, the ids of completions."""
+    kind = int.from_bytes(frame[:2], "big")
+    it = frames.read(kind, frame)
+    if handler == "tasks":
+        return f"{it.service}/{it.handler}" if isinstance(it, frames.Call) else frame[:-4].hex()
+    if isinstance(it, frames.Sleep):
+        frame = frame[:10] + bytes(8) + frame[18:]
+    elif isinstance(it, frames.Call) and it.id is None:
+        frame = frame[:-8] + bytes(8)
+    return frame.hex()
+
+
+@dataclass
+class Found:
+    """The commands of each invocation, and the keys of the effects that were executed, with how often."""
+
+    commands: dict[str, list[str]]
+    effects: dict[str, int]
+
+    def save(self, file: pathlib.Path) -> None:
+        file.write_text(json.dumps([self.commands, self.effects]))
+
+    @staticmethod
+    def saved(file: pathlib.Path) -> "Found":
+        return Found(*json.loads(file.read_text()))
+
+
+def found(db: Database, effects: pathlib.Path) -> Found:
+    """What a run left. Loading a journal checks the rules of storing."""
+    db.begin()
+    commands = {}
+    for id, service, handler, entries in db.rows("SELECT id, service, handler, entries FROM invocations"):
+        invocations.load(db, id, entries)
+        stream = b"".join(bytes(row[0]) for row in db.rows("SELECT frame FROM journal WHERE invocation=? ORDER BY at", (id,)))
+        kept = [_compared(frame, handler) for _, frame in journal.commands_in(stream)]
+        # What a counter reads depends on the order of its calls.
+        commands[id] = [] if service == "Counter" else sorted(kept) if handler == "tasks" else kept
+    db.rollback()
+    return Found(commands, dict(collections.Counter(effects.read_text().split())))
+
+
+def check(db: Database, count: int, effects: pathlib.Path, reference: Found | None) -> Found:
+    """Raises `Wrong` for anything that isn't as in a run without faults."""
+    for n, (kind, value) in enumerate(_results(db, count)):
+        expected = crash_app.KINDS[KINDS[n % len(KINDS)]](n)
+        if kind != "value" or json.loads(value) != expected:
+            raise Wrong(f"workflow {n} ended with {kind} {value!r}, and not {expected!r}")
+    _check_states(db, count)
+    leftover = {table: rows(db, f"SELECT COUNT(*) FROM {table}")[0][0] for table in LEFTOVERS}
+    if any(leftover.values()):
+        raise Wrong(f"something is left over: {leftover}")
+    it = found(db, effects)
+    if reference is not None:
+        _compare(it, reference)
+    return it
+
+
+def _results(db: Database, count: int) -> list[tuple[str, bytes]]:
+    ended = dict(rows(db, "SELECT id, result FROM invocations"))
+    missing = [f"inv_{n:06d}" for n in range(count) if ended.get(f"inv_{n:06d}") is None]
+    if missing:
+        raise Wrong(f"{missing[:3]} have no result")
+    return [journal.answer(journal.Result(bytes(ended[f"inv_{n:06d}"]))) for n in range(count)]
+
+
+def _check_states(db: Database, count: int) -> None:
+    expected: collections.Counter[str] = collections.Counter()
+    for n in range(0, count, len(KINDS)):
+        expected.update({str((n + i) % 7): 1 for i in range(3)})
+        expected.update({str(n % 7): 10})
+    counters = {key: json.loads(bytes(value)) for key, value in rows(db, "SELECT key, value FROM state WHERE service='Counter'")}
+    if counters != dict(expected):
+        raise Wrong(f"the counters are {counters}, and not {dict(expected)}")
+    for id, key, entries in rows(db, "SELECT id, key, entries FROM invocations WHERE service='Gate' AND handler='main'"):
+        db.begin()
+        by_commands, stored = invocations.load(db, id, entries).state({}), invocations.state_of(db, "Gate", key)
+        db.rollback()
+        if by_commands != stored:
+            raise Wrong(f"the state of {key} is {stored}, and its journal's commands leave {by_commands}")
+
+
+def _compare(it: Found, reference: Found) -> None:
+    if it.commands.keys() != reference.commands.keys():
+        raise Wrong(f"other invocations were made: {sorted(it.commands.keys() ^ reference.commands.keys())[:3]}")
+    different = [id for id, commands in reference.commands.items() if it.commands[id] != commands]
+    if different:
+        id = different[0]
+        raise Wrong(f"{len(different)} journals have other commands, as {id}: {it.commands[id]} and not {reference.commands[id]}")
+    if it.effects.keys() != reference.effects.keys():
+        raise Wrong(f"other effects were executed: {sorted(it.effects.keys() ^ reference.effects.keys())[:3]}")

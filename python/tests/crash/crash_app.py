@@ -1,0 +1,166 @@
+"""The workload of the crash tests: what a workflow does doesn't depend on when it runs, so its commands are known."""
+
+import asyncio
+import os
+import pathlib
+import random
+
+from palqytun.runtime import App, Cancelled, Context, Retry, Service, TerminalError, VirtualObject, Workflow, gather, select, wait_any
+
+load, counter, gate = Service("Load"), VirtualObject("Counter"), Workflow("Gate")
+
+
+class Outside:
+    """What effects reach: a file, to which each execution adds a line with its idempotency key."""
+
+    file = os.environ.get("CRASH_EFFECTS", "/dev/null")
+    delay = float(os.environ.get("CRASH_DELAY", 0.1))
+
+
+async def effect(key: str) -> str:
+    await asyncio.sleep(random.random() * Outside.delay)
+    file = os.open(Outside.file, os.O_WRONLY | os.O_APPEND | os.O_CREAT)
+    os.write(file, f"{key}\n".encode())
+    os.close(file)
+    return key
+
+
+async def flaky(key: str) -> str:
+    """Fails at the first two executions."""
+    await effect(key)
+    if Outside.file != "/dev/null" and pathlib.Path(Outside.file).read_text().count(key) < 3:
+        raise OSError("not yet")
+    return key
+
+
+@load.handler()
+async def leaf(ctx: Context, n: int) -> int:
+    await ctx.run("leaf", effect, ctx.uuid())
+    return n + 1
+
+
+@load.handler()
+async def order(ctx: Context, n: int) -> str:
+    """Calls of objects, runs, a sleep, and a send for later."""
+    await gather(*[ctx.call(add, 1, key=str((n + i) % 7)) for i in range(3)])
+    for name in ("reserve", "charge", "ship"):
+        await ctx.run(name, effect, ctx.uuid())
+    await ctx.sleep(0.2)
+    await ctx.send(add, 10, key=str(n % 7), delay=0.1)
+    return "ordered"
+
+
+@load.handler()
+async def tasks(ctx: Context, n: int) -> int:
+    """Coroutines side by side, each of some steps."""
+
+    async def one(i: int) -> int:
+        key = ctx.uuid()
+        first = await ctx.call(leaf, i)
+        await ctx.run(f"task {i}", effect, key)
+        return first
+
+    return sum(await gather(*[ctx.spawn(one(i)) for i in range(4)]))
+
+
+@load.handler()
+async def retried(ctx: Context, n: int) -> str:
+    await ctx.run("flaky", flaky, ctx.uuid(), retry=Retry(initial=0.02, longest=0.1))
+    try:
+        await ctx.call("Load/fails", n)
+    except TerminalError as error:
+        return error.message
+    return "no error"
+
+
+@load.handler()
+async def fails(ctx: Context, n: int) -> None:
+    raise TerminalError(f"{n} fails", 418)
+
+
+@load.handler()
+async def awaits(ctx: Context, n: int) -> list:
+    """An awakeable and a signal, which another invocation completes."""
+    id, awaited = ctx.awakeable()
+    signal = ctx.signal("go")
+    ctx.send(completes, [id, ctx.invocation_id])
+    first = await awaited
+    which, value = await select(signal, ctx.sleep(36000))
+    return [first, which, value]
+
+
+@load.handler()
+async def completes(ctx: Context, ids: list) -> None:
+    await ctx.sleep(0.03)
+    ctx.resolve_awakeable(ids[0], "awake")
+    ctx.send_signal(ids[1], "go", "gone")
+
+
+@load.handler()
+async def cancels(ctx: Context, n: int) -> str:
+    id = await ctx.send(patient, n)
+    await ctx.sleep(0.1)
+    ctx.cancel(id)
+    try:
+        await ctx.attach(id)
+    except TerminalError as error:
+        return error.message
+    return "not cancelled"
+
+
+@load.handler()
+async def patient(ctx: Context, n: int) -> None:
+    try:
+        await wait_any(ctx.call(sleeps, 1), ctx.call(sleeps, 2))
+    except Cancelled:
+        await ctx.run("undo", effect, ctx.uuid())
+        raise
+
+
+@load.handler()
+async def sleeps(ctx: Context, n: int) -> None:
+    await ctx.sleep(36000)
+
+
+@load.handler()
+async def opens(ctx: Context, n: int) -> list:
+    """A workflow that waits for a promise."""
+    main = ctx.call("Gate/main", n, key=str(n))
+    await ctx.sleep(0.02)
+    await ctx.call("Gate/open", "open", key=str(n))
+    return [await main, await ctx.call("Gate/look", None, key=str(n))]
+
+
+@gate.main()
+async def main(ctx: Context, n: int) -> str:
+    ctx.set("step", "waits")
+    word = await ctx.promise("opened").value()
+    ctx.set("step", "opened")
+    return word
+
+
+@gate.handler()
+async def open(ctx: Context, word: str) -> None:
+    await ctx.promise("opened").resolve(word)
+
+
+@gate.handler()
+async def look(ctx: Context, _: None) -> str:
+    return await ctx.get("step")
+
+
+@counter.handler()
+async def add(ctx: Context, n: int) -> None:
+    ctx.set("count", (await ctx.get("count") or 0) + n)
+
+
+# The workflows, each with what it ends with.
+KINDS = {
+    "order": lambda n: "ordered",
+    "tasks": lambda n: 10,
+    "retried": lambda n: f"{n} fails",
+    "awaits": lambda n: ["awake", 0, "gone"],
+    "cancels": lambda n: "cancelled",
+    "opens": lambda n: ["open", "opened"],
+}
+app = App(load, counter, gate)

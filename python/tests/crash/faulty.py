@@ -1,0 +1,171 @@
+"""Workers with a fault: one that dies at a commit, one whose clock jumps, and ones with a mistake that the crash tests have to find."""
+
+from __future__ import annotations
+
+import asyncio
+import os
+import random
+import time
+from collections.abc import Callable
+
+import crash_app
+from palqytun.runtime import claiming, effects, inbox, invocations, journal, lease, storing
+from palqytun.runtime.database.sqlite import SQLite
+from palqytun.runtime.engine import Engine, Unavailable
+
+DIED = 9  # the exit status of a worker that died as it was asked to
+
+
+class Dying(SQLite):
+    """Dies in place of a commit."""
+
+    dies = 0
+    commits = 0
+
+    def commit(self) -> None:
+        self.commits += 1
+        if self.commits == self.dies:
+            os._exit(DIED)
+        super().commit()
+
+
+def until_all_ended(
+    path: str,
+    file: str,
+    *,
+    dies: int = 0,
+    seed: int = 0,
+    idle: float = 0.0,
+    is_grouped: bool = False,
+    jumps: bool = False,
+    is_checkpointed: bool = False,
+    wrong: str = "",
+) -> None:
+    """Runs a worker until each invocation has ended, or it dies at commit number `dies`. It is the whole of a process."""
+    random.seed(seed)
+    crash_app.Outside.file, crash_app.Outside.delay = file, 0.002
+    if jumps:
+        time.time = jumping(seed)
+    if wrong:
+        WRONG[wrong]()
+
+    def connect(url: str) -> Dying:
+        db = Dying(url, synchronous="OFF", worker=True)
+        db.dies = dies
+        if not is_checkpointed:
+            db.change("PRAGMA wal_autocheckpoint=0")
+        return db
+
+    async def run() -> None:
+        engine = Engine(crash_app.app, path, grouped=is_grouped, idle=idle, poll=0.1, connect=connect)
+        task = asyncio.create_task(engine.run())
+        await engine.is_open()
+        while await _is_unfinished(engine):
+            await asyncio.sleep(0.02)
+        engine.stop()
+        await task
+
+    asyncio.run(run())
+
+
+async def _is_unfinished(engine: Engine) -> bool:
+    sql = "SELECT COUNT(*) FROM invocations WHERE status NOT IN ('done','paused')"
+    try:
+        return bool((await engine.transact(lambda db: db.rows(sql)))[0][0])
+    except Unavailable:
+        return True
+
+
+def jumping(seed: int) -> Callable[[], float]:
+    """A clock that jumps by up to half an hour, forward and back, many times a second."""
+    chance, real = random.Random(seed), time.time
+    offset, until = 0.0, 0.0
+
+    def now() -> float:
+        nonlocal offset, until
+        if time.monotonic() > until:
+            offset = chance.choice([chance.uniform(-900, 900), 901.0])
+            until = time.monotonic() + chance.uniform(0.01, 0.1)
+        return real() + offset
+
+    return now
+
+
+# ---- wrong runtimes
+
+
+def _between(db: object) -> None:
+    """What was done so far is committed, and the rest isn't yet."""
+    db.commit()  # type: ignore[attr-defined]
+    db.begin()  # type: ignore[attr-defined]
+
+
+def completions_first() -> None:
+    """A completion is stored before the command that it completes."""
+    write = lease.Growth.write
+
+    def wrong(self: lease.Growth, db: object, **changed: object) -> None:
+        places = [it.at for it in self.entries]
+        swapped = sorted(self.entries, key=lambda it: it.completes is None)
+        self.entries = [lease.Entry(at, it.completes, it.frame) for at, it in zip(places, swapped)]
+        write(self, db, **changed)  # type: ignore[arg-type]
+
+    lease.Growth.write = wrong  # type: ignore[method-assign]
+
+
+def timers_first() -> None:
+    """A timer is deleted in an earlier transaction than that of its delivery."""
+
+    def wrong(self: claiming.Claimer, db: object, out: object, now: float) -> None:
+        due = db.rows("SELECT seq, invocation, completes FROM timers WHERE due<=?", (now,))  # type: ignore[attr-defined]
+        if due:
+            db.many("DELETE FROM timers WHERE seq=?", [(seq,) for seq, _, _ in due])  # type: ignore[attr-defined]
+            _between(db)
+        for _, invocation, completes in due:
+            inbox.deliver_completion(db, out, invocation, completes, journal.void())  # type: ignore[arg-type]
+
+    claiming.Claimer._fire = wrong  # type: ignore[method-assign, assignment]
+
+
+def ends_first() -> None:
+    """An invocation's end is committed before those that wait for it get its result."""
+    end = invocations.end
+
+    def wrong(db: object, *arguments: object) -> None:
+        _between(db)
+        end(db, *arguments)  # type: ignore[arg-type]
+
+    invocations.end = wrong  # type: ignore[assignment]
+
+
+def states_first() -> None:
+    """A change of the state is committed before its command."""
+    change = effects.Performer._change
+
+    def wrong(self: effects.Performer, it: journal.Change) -> None:
+        change(self, it)
+        _between(self.db)
+
+    effects._PERFORMED[journal.Change] = wrong
+
+
+def unfenced() -> None:
+    """A store doesn't ask whether the lease is still this worker's."""
+
+    def fence(self: lease.Growth, db: object) -> None:
+        pass
+
+    def write(self: lease.Growth, db: object, **changed: object) -> None:
+        names = "".join(f", {name}=?" for name in changed)
+        values = (self.lease.journal.entries, *changed.values(), self.lease.invocation)
+        db.change(f"UPDATE invocations SET entries=?{names} WHERE id=?", values)  # type: ignore[attr-defined]
+        rows = [(self.lease.invocation, it.at, it.completes, it.frame) for it in self.entries]
+        sql = "INSERT INTO journal(invocation, at, completes, frame) VALUES (?,?,?,?) ON CONFLICT DO NOTHING"
+        db.many(sql, rows)  # type: ignore[attr-defined]
+
+    lease.Growth.fence = fence  # type: ignore[method-assign]
+    lease.Growth.write = write  # type: ignore[method-assign]
+
+
+WRONG = {it.__name__: it for it in (completions_first, timers_first, ends_first, states_first, unfenced)}
+assert storing.invocations is invocations  # `ends_first` reaches it by this name

@@ -1,0 +1,367 @@
+"""The crash tests. Each makes a database of workflows, lets workers meet a fault, and then looks at everything that is left.
+
+    death_at_commit   a worker dies in place of one of its commits; the next does the rest (SQLite)
+    torn_write        the log is cut at a random place, as after a loss of power; a new worker goes on (SQLite)
+    clock_jumps       the worker's clock jumps by up to half an hour, forward and back (SQLite)
+    full_disk         the disk is full again and again (SQLite, as root: on a small file system)
+    kills             workers are killed at random, or stopped for longer than their lease, or lose their connection (SQLite, PostgreSQL)
+"""
+
+from __future__ import annotations
+
+import concurrent.futures
+import contextlib
+import functools
+import logging
+import multiprocessing
+import os
+import pathlib
+import random
+import shutil
+import signal
+import subprocess
+import sys
+import time
+from collections.abc import Iterable, Iterator
+from dataclasses import dataclass, field
+from typing import Any
+
+HERE = pathlib.Path(__file__).parent
+SOURCES = HERE.parent.parent / "src"
+sys.path[:0] = [str(SOURCES), str(HERE)]
+
+import faulty  # noqa: E402
+from checked import Found, Wrong, check, left, rows, submit, wait  # noqa: E402
+from palqytun.runtime.database import Database, connect  # noqa: E402
+from palqytun.runtime.database.schema import TABLES  # noqa: E402
+
+_FORK = multiprocessing.get_context("fork")  # this process has no threads, and has imported what workers need
+COUNT = 6  # workflows, one of each kind
+
+
+def side_by_side() -> concurrent.futures.ProcessPoolExecutor:
+    """Runs scenarios in processes of their own. (Threads won't do: each start of a process looks after those of all threads.)"""
+    context = multiprocessing.get_context("forkserver")
+    context.set_forkserver_preload(["scenarios"])
+    return concurrent.futures.ProcessPoolExecutor(os.cpu_count(), mp_context=context)
+
+
+# ---- one worker on SQLite, in a process of its own
+
+
+def _worker(path: pathlib.Path, effects: pathlib.Path, seconds: float = 60, **options: Any) -> int:
+    """The exit status of a worker that runs until all has ended. None ends it after some time."""
+    process = _FORK.Process(target=_quiet, args=(str(path), str(effects)), kwargs=options)
+    process.start()
+    process.join(seconds)
+    if process.exitcode is None:
+        process.kill()
+        process.join()
+        return -1
+    return process.exitcode
+
+
+def _quiet(path: str, *arguments: Any, **options: Any) -> None:
+    _logged(f"{path}.log", path, *arguments, **options)
+
+
+def _logged(log: str, *arguments: Any, **options: Any) -> None:
+    """Runs the worker with its errors in a file."""
+    os.dup2(os.open(log, os.O_WRONLY | os.O_CREAT | os.O_APPEND, 0o644), 2)
+    logging.basicConfig(level=logging.WARNING)
+    faulty.until_all_ended(*arguments, **options)
+
+
+@dataclass
+class Room:
+    """A folder with a database of workflows that haven't begun, and what a run without faults makes of it."""
+
+    folder: pathlib.Path
+    count: int = COUNT
+    reference: Found = field(init=False)
+
+    def __post_init__(self) -> None:
+        self.folder.mkdir(parents=True, exist_ok=True)
+        db = connect(str(self.folder / "begin"))
+        submit(db, 0, self.count)
+        rows_of(db, "PRAGMA wal_checkpoint(TRUNCATE)")
+        db.close()
+        path, effects = self.copy("reference")
+        if _worker(path, effects):
+            raise Wrong(f"the run without faults failed: {_log(path)}")
+        self.reference = self.checked(path, effects, None)
+
+    def copy(self, name: str) -> tuple[pathlib.Path, pathlib.Path]:
+        """A new copy of the database, and a file for its effects."""
+        here = self.folder / name
+        here.mkdir()
+        shutil.copy(self.folder / "begin", here / "db")
+        (here / "effects").touch()
+        return here / "db", here / "effects"
+
+    def checked(self, path: pathlib.Path, effects: pathlib.Path, reference: Found | None) -> Found:
+        db = connect(str(path))
+        try:
+            unended = left(db)
+            if unended:
+                errors = rows(db, "SELECT id, status, error FROM invocations WHERE status<>'done' LIMIT 3")
+                raise Wrong(f"{unended} invocations haven't ended: {errors} {_log(path)}")
+            return check(db, self.count, effects, reference)
+        finally:
+            db.close()
+
+    def remove(self, path: pathlib.Path) -> None:
+        shutil.rmtree(path.parent)
+
+
+def rows_of(db: Database, sql: str) -> list[Any]:
+    return db.rows(sql)
+
+
+def _log(path: pathlib.Path) -> str:
+    log = pathlib.Path(f"{path}.log")
+    return log.read_text()[-2000:] if log.exists() else ""
+
+
+def _rest(room: Room, path: pathlib.Path, effects: pathlib.Path, **options: Any) -> None:
+    """A worker without a fault does the rest, and everything is looked at."""
+    status = _worker(path, effects, seconds=15 if options.get("wrong") else 90, **options)
+    if status:
+        raise Wrong(f"the last worker ended with {status}: {_log(path)}")
+    room.checked(path, effects, room.reference)
+    room.remove(path)
+
+
+def death_at_commit(room: Room, number: int, *, again: int = 0, idle: float = 0.0, wrong: str = "") -> bool:
+    """The worker dies in place of commit `number`, and if `again` is given the next one at that commit. Answers whether the first one died:
+    if not, there is no such commit."""
+    path, effects = room.copy(f"death-{number}-{again}-{idle}-{wrong}")
+    options: dict[str, Any] = {"idle": idle, "wrong": wrong}
+    first = _worker(path, effects, dies=number, **options)
+    if first not in (0, faulty.DIED):
+        raise Wrong(f"the worker that was to die at commit {number} ended with {first}: {_log(path)}")
+    if again:
+        _worker(path, effects, dies=again, **options)
+    _rest(room, path, effects, **options)
+    return first == faulty.DIED
+
+
+def deaths_at_commits(room: Room, numbers: Iterable[int], **options: Any) -> list[bool]:
+    """Deaths at these commits, side by side."""
+    with side_by_side() as pool:
+        return list(pool.map(functools.partial(death_at_commit, room, **options), numbers))
+
+
+def torn_write(room: Room, seed: int) -> None:
+    """A worker is killed at a random moment, and its log is cut at a random place, maybe with other bytes after it."""
+    chance = random.Random(seed)
+    path, effects = room.copy(f"torn-{seed}")
+    process = _FORK.Process(target=_quiet, args=(str(path), str(effects)), kwargs={"seed": seed, "is_grouped": True})
+    process.start()
+    process.join(chance.uniform(0.1, 0.8))
+    process.kill()
+    process.join()
+    log = pathlib.Path(f"{path}-wal")
+    if log.exists():
+        data = log.read_bytes()
+        data = data[: chance.randint(0, len(data))]
+        log.write_bytes(data + (chance.randbytes(chance.randint(1, 9000)) if chance.random() < 0.5 else b""))
+    pathlib.Path(f"{path}-shm").unlink(missing_ok=True)
+    _rest(room, path, effects, seed=seed)
+
+
+def clock_jumps(room: Room, seed: int) -> None:
+    path, effects = room.copy(f"clock-{seed}")
+    status = _worker(path, effects, seconds=120, seed=seed, jumps=True, idle=0.05, is_grouped=True)
+    if status:
+        raise Wrong(f"the worker whose clock jumps ended with {status}: {_log(path)}")
+    room.checked(path, effects, room.reference)
+    room.remove(path)
+
+
+@contextlib.contextmanager
+def _small_disk(folder: pathlib.Path, megabytes: int) -> Iterator[pathlib.Path]:
+    """A file system of its own."""
+    folder.mkdir()
+    subprocess.run(["mount", "-t", "tmpfs", "-o", f"size={megabytes}m", "tmpfs", str(folder)], check=True, stderr=subprocess.PIPE)
+    try:
+        yield folder
+    finally:
+        subprocess.run(["umount", "-l", str(folder)], check=True)
+
+
+def full_disk(room: Room, seed: int) -> int:
+    """The disk is full for some moments. Answers how often a worker lost its database by it."""
+    chance = random.Random(seed)
+    with _small_disk(room.folder / f"disk-{seed}", 4) as disk:
+        path, effects = disk / "db", room.folder / f"effects-{seed}"
+        effects.touch()
+        shutil.copy(room.folder / "begin", path)
+        arguments = (str(room.folder / f"disk-{seed}.log"), str(path), str(effects))
+        process = _FORK.Process(target=_logged, args=arguments, kwargs={"seed": seed, "is_grouped": True, "is_checkpointed": True})
+        process.start()
+        for _ in range(20):
+            process.join(chance.uniform(0.02, 0.2))
+            _fill(disk / "filler")
+            process.join(chance.uniform(0.02, 0.2))
+            (disk / "filler").unlink(missing_ok=True)
+        process.join(60)
+        status = process.exitcode
+        if status is None:
+            process.kill()
+            process.join()
+        log = (room.folder / f"disk-{seed}.log").read_text()
+        if status:
+            raise Wrong(f"the worker on a full disk ended with {status}: {log[-2000:]}")
+        room.checked(path, effects, room.reference)
+        return log.count("the database is lost")
+
+
+def _fill(file: pathlib.Path) -> None:
+    with contextlib.suppress(OSError):
+        with file.open("wb", buffering=0) as it:
+            while True:
+                it.write(bytes(4096))
+
+
+# ---- workers in processes of their own, killed at random
+
+
+class Workers:
+    def __init__(self, url: str, count: int, folder: pathlib.Path, *, idle: float, wrong: str = ""):
+        program = [sys.executable, "-m", "palqytun"] if not wrong else [sys.executable, str(HERE / "wrong_worker.py"), wrong]
+        self.command = [*program, "run", str(HERE / "crash_app.py"), "--db", url, "--port", "-1", "--lease", "1", "--idle", str(idle)]
+        self.environment = {**os.environ, "PYTHONPATH": f"{SOURCES}:{HERE}", "CRASH_EFFECTS": str(folder / "effects")}
+        self.log = (folder / "log").open("a")
+        self.all = [self.start() for _ in range(count)]
+
+    def start(self) -> subprocess.Popen[bytes]:
+        return subprocess.Popen(self.command, env=self.environment, stdout=self.log, stderr=self.log)
+
+    def kill(self, at: int) -> None:
+        self.all[at].kill()
+        self.all[at].wait()
+        self.all[at] = self.start()
+
+    def pause(self, at: int, seconds: float) -> None:
+        self.all[at].send_signal(signal.SIGSTOP)
+        time.sleep(seconds)
+        self.all[at].send_signal(signal.SIGCONT)
+
+    def end(self) -> None:
+        for worker in self.all:
+            worker.terminate()
+        for worker in self.all:
+            try:
+                worker.wait(20)
+            except subprocess.TimeoutExpired:
+                worker.kill()
+                worker.wait()
+        self.log.close()
+
+
+@dataclass
+class Report:
+    """What a run of kills saw."""
+
+    seconds: float = 0
+    kills: int = 0
+    pauses: int = 0
+    disconnects: int = 0
+    open_at_a_kill: float = 0
+    fenced: int = 0
+    lost: int = 0
+    invocations: int = 0
+    commands: int = 0
+    effects: int = 0
+    executions: int = 0
+
+    def __str__(self) -> str:
+        return ", ".join(f"{name} {value:.1f}" if isinstance(value, float) else f"{name} {value}" for name, value in vars(self).items())
+
+
+def emptied(url: str) -> None:
+    db = connect(url)
+    db.begin()
+    if db.is_shared:
+        db.change(f"TRUNCATE {', '.join(TABLES)}")
+    db.commit()
+    db.close()
+
+
+def _disconnect(db: Database) -> None:
+    """The server closes each connection but this one."""
+    rows(db, "SELECT pg_terminate_backend(pid) FROM pg_stat_activity WHERE datname=current_database() AND pid<>pg_backend_pid()")
+
+
+def kills(
+    url: str,
+    folder: pathlib.Path,
+    *,
+    faults: int,
+    each: int = 3,
+    workers: int = 1,
+    idle: float = 0.0,
+    seed: int = 1,
+    pauses: bool = False,
+    disconnects: bool = False,
+    reference: Found | None = None,
+    wrong: str = "",
+    seconds: float = 240,
+) -> tuple[Report, Found]:
+    """Workflows are submitted, `each` after each fault, while workers die. Without faults it makes the reference."""
+    folder.mkdir(parents=True, exist_ok=True)
+    (folder / "effects").touch()
+    emptied(url)
+    chance, report, db = random.Random(seed), Report(), connect(url)
+    running = Workers(url, workers, folder, idle=idle, wrong=wrong)
+    begun, is_open = time.monotonic(), 0
+    try:
+        for fault in range(faults):
+            submit(db, fault * each, each)
+            time.sleep(chance.uniform(0.15, 0.9) / (1 if workers == 1 else 2))
+            is_open += left(db)
+            at, kind = chance.randrange(workers), fault % 10
+            if pauses and kind == 9:
+                running.pause(at, 2.5)
+                report.pauses += 1
+            elif disconnects and kind in (4, 7):
+                _disconnect(db)
+                report.disconnects += 1
+            else:
+                running.kill(at)
+                report.kills += 1
+        count = max(faults, 0) * each
+        wait(db, seconds)
+        time.sleep(1.5)  # after the last beats
+    finally:
+        running.end()
+    report.seconds, report.open_at_a_kill = time.monotonic() - begun, is_open / max(1, faults)
+    log = (folder / "log").read_text()
+    report.fenced, report.lost = log.count("fenced:"), log.count("the database is lost")
+    if "Traceback" in log:
+        raise Wrong(f"a worker raised an error: {folder / 'log'}: {log[log.index('Traceback') :][:2000]}")
+    it = check(db, count, folder / "effects", reference)
+    db.close()
+    report.invocations, report.commands = len(it.commands), sum(map(len, it.commands.values()))
+    report.effects, report.executions = len(it.effects), sum(it.effects.values())
+    return report, it
+
+
+def undisturbed(url: str, folder: pathlib.Path, count: int) -> Found:
+    """What a run of so many workflows leaves without faults."""
+    folder.mkdir(parents=True, exist_ok=True)
+    (folder / "effects").touch()
+    emptied(url)
+    db = connect(url)
+    submit(db, 0, count)
+    running = Workers(url, 1, folder, idle=0.5)
+    try:
+        wait(db, 240)
+        time.sleep(1.5)
+    finally:
+        running.end()
+    it = check(db, count, folder / "effects", None)
+    db.close()
+    return it
+

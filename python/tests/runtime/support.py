@@ -1,0 +1,129 @@
+"""What the tests stand on: this tree's package, an empty database for each test, and a worker.
+
+PALQYTUN_LIBRARY may name the shared object. PALQYTUN_TEST_POSTGRES is the URL of a database that may be emptied; without it only SQLite is
+tested. PALQYTUN_TEST_IDLE is for how many seconds attempts wait before they are suspended; 0 without it.
+"""
+
+import asyncio
+import functools
+import json
+import os
+import pathlib
+import shutil
+import sys
+import tempfile
+import unittest
+
+PYTHON = pathlib.Path(__file__).parent.parent.parent
+sys.path[:0] = [str(PYTHON / "src"), str(pathlib.Path(__file__).parent)]
+
+import runtime_app  # noqa: E402
+from palqytun.runtime import journal  # noqa: E402
+from palqytun.runtime.database import connect  # noqa: E402
+from palqytun.runtime.database.schema import TABLES  # noqa: E402
+from palqytun.runtime.engine import Engine  # noqa: E402
+from palqytun.runtime.invocations import New  # noqa: E402
+
+IDLE = float(os.environ.get("PALQYTUN_TEST_IDLE", 0))
+
+
+def emptied(kind, folder):
+    """The URL of an empty database."""
+    if kind == "sqlite":
+        return str(folder / "db")
+    url = os.environ["PALQYTUN_TEST_POSTGRES"]
+    db = connect(url)
+    db.begin()
+    db.change(f"TRUNCATE {', '.join(TABLES)}")
+    db.commit()
+    db.close()
+    return url
+
+
+class InAFolder:
+    """A test in a folder of its own."""
+
+    def setUp(self):
+        runtime_app.seen.clear()
+        self.folder = pathlib.Path(tempfile.mkdtemp(prefix="palqytun-test-"))
+        self.addCleanup(shutil.rmtree, self.folder, True)
+
+
+class OnADatabase(InAFolder):
+    """A test on an empty database."""
+
+    kind = "sqlite"
+
+    def setUp(self):
+        if self.kind == "postgres" and "PALQYTUN_TEST_POSTGRES" not in os.environ:
+            self.skipTest("PALQYTUN_TEST_POSTGRES names no database")
+        super().setUp()
+        self.url = emptied(self.kind, self.folder)
+
+
+def on_each_database(tests):
+    """Makes test cases of a class of tests, one for each database."""
+    for kind in ("sqlite", "postgres"):
+        name = f"{tests.__name__}_{kind}"
+        case = type(name, (tests, unittest.TestCase), {"kind": kind, "__module__": tests.__module__, "__qualname__": name})
+        setattr(sys.modules[tests.__module__], name, case)
+    return tests
+
+
+def suspends(test):
+    """A test for which attempts that wait are to be suspended."""
+    return unittest.skipIf(IDLE, "attempts that wait are to be suspended")(test)
+
+
+def with_runtime(test):
+    """A test with a worker."""
+
+    @functools.wraps(test)
+    def run(self):
+        async def go():
+            async with Runtime(runtime_app.app, self.url) as runtime:
+                await test(self, runtime)
+
+        asyncio.run(go())
+
+    return run
+
+
+class Runtime:
+    def __init__(self, app, url, **options):
+        self.engine = Engine(app, url, **{"idle": IDLE, "poll": 0.2, **options})
+
+    async def __aenter__(self):
+        self.task = asyncio.create_task(self.engine.run())
+        await asyncio.wait_for(self.engine.is_open(), 60)
+        return self
+
+    async def __aexit__(self, *error):
+        self.engine.stop()
+        await self.task
+
+    async def send(self, path, argument=None, key="", **options):
+        name, handler = path.split("/")
+        data = b"" if argument is None else json.dumps(argument).encode()
+        return await self.engine.submit(New(name, handler, key, data, **options))
+
+    async def result(self, id, wait=60):
+        kind, it = journal.answer(await self.engine.result(id, wait))
+        return (json.loads(it) if it else None) if kind == "value" else it
+
+    async def call(self, *arguments, **options):
+        return await self.result(await self.send(*arguments, **options))
+
+    async def rows(self, sql, *values):
+        return await self.engine.transact(lambda db: db.rows(sql, values))
+
+    async def status(self, id):
+        return (await self.rows("SELECT status, error FROM invocations WHERE id=?", id))[0]
+
+    async def until(self, id, status):
+        for _ in range(3000):
+            found = await self.status(id)
+            if found[0] == status:
+                return found
+            await asyncio.sleep(0.02)
+        raise AssertionError(found)

@@ -1,0 +1,87 @@
+"""Values as JSON, and back by their types."""
+
+import dataclasses
+import datetime
+import enum
+import unittest
+import uuid
+from typing import Any, Literal, Optional
+
+import support  # noqa: F401
+from palqytun.runtime.codec import JsonCodec
+
+codec = JsonCodec()
+
+
+class Colour(enum.Enum):
+    RED = "red"
+
+
+@dataclasses.dataclass
+class Part:
+    name: str
+    weight: float = 1.0
+
+
+@dataclasses.dataclass
+class Whole:
+    parts: list[Part]
+    colour: Colour
+    made: datetime.datetime
+    id: uuid.UUID
+    pair: tuple[int, str] = (0, "")
+    note: Optional[str] = None
+    more: dict[str, Part] = dataclasses.field(default_factory=dict)
+
+
+WHOLE = Whole([Part("a"), Part("b", 2.5)], Colour.RED, datetime.datetime(2026, 1, 2, 3, 4), uuid.UUID(int=7), (1, "x"), more={"c": Part("c")})
+
+
+VALUES = [
+    (None, Any), (None, None), (1, int), ("é", str), ([1, None], Any), ({"a": 1}, dict[str, int]), ((1, 2, 3), tuple[int, ...]), ({1, 2}, set[int]),
+    (WHOLE, Whole), ([WHOLE], list[Whole]), (Colour.RED, Colour), ("a", Literal["a", "b"]), (None, int | None), (Part("a"), Part | None), (True, bool),
+]  # fmt: skip
+REFUSED = [
+    (b"1", str, "1 is no str"), (b"true", int, "no int"), (b'"a"', float, "no float"), (b"", int, "null is no int"), (b"{}", Part, "name"),
+    (b'{"name":"a","size":1}', Part, "Part has no field size"), (b'{"name":1}', Part, "1 is no str"), (b"[1]", tuple[int, int], "tuple of 2"),
+    (b'"c"', Literal["a", "b"], "one of"), (b"[]", dict[str, int], "no dict"), (b"{}", list[int], "no list"), (b'"blue"', Colour, "blue"),
+    (b"{", Any, "Expecting"), (b'"x"', int | None, "none of the types"), (b"1", tuple, "no tuple"),
+]  # fmt: skip
+
+
+class Codec(unittest.TestCase):
+    def test_there_and_back(self):
+        for value, kind in VALUES:
+            with self.subTest(value=value, kind=kind):
+                self.assertEqual(codec.decode(codec.encode(value), kind), value)
+
+    def test_what_is_not_of_the_type_is_refused(self):
+        for data, kind, said in REFUSED:
+            with self.subTest(data=data, kind=kind), self.assertRaisesRegex(ValueError, said):
+                codec.decode(data, kind)
+
+    def test_an_int_is_a_float(self):
+        self.assertIsInstance(codec.decode(b"1", float), float)
+
+    def test_what_is_not_json_is_refused(self):
+        with self.assertRaisesRegex(TypeError, "type object is not JSON"):
+            codec.encode(object())
+
+    def test_pydantic_models(self):
+        try:
+            import pydantic
+        except ImportError:
+            self.skipTest("pydantic isn't installed")
+
+        class Model(pydantic.BaseModel):
+            name: str
+            count: int = 1
+
+        self.assertEqual(codec.encode(Model(name="a")), b'{"name":"a","count":1}')
+        self.assertEqual(codec.decode(b'[{"name":"b","count":2}]', list[Model]), [Model(name="b", count=2)])
+        with self.assertRaises(ValueError):
+            codec.decode(b'{"count":2}', Model)
+
+
+if __name__ == "__main__":
+    unittest.main()

@@ -1,0 +1,177 @@
+"""The two databases: migrations, errors, groups of operations, and workers that hear of each other."""
+
+import asyncio
+import time
+import unittest
+from unittest import mock
+
+import support  # isort: skip
+import runtime_app
+from palqytun.runtime import App, Context, Service, TerminalError, journal
+from palqytun.runtime.committer import Committer, Stopped
+from palqytun.runtime.database import Conflict, Lost, connect, schema
+from palqytun.runtime.database.sqlite import InUse
+from support import Runtime
+
+
+def rows(db, sql):
+    db.begin()
+    found = db.rows(sql)
+    db.rollback()
+    return found
+
+
+class Files(support.InAFolder, unittest.TestCase):
+    def test_a_database_lacks_some_migrations(self):
+        url = str(self.folder / "db")
+        connect(url).close()
+        patch = mock.patch.object(schema, "MIGRATIONS", [*schema.MIGRATIONS, "CREATE TABLE more(at {float});\nCREATE INDEX more_at ON more(at)"])
+        patch.start()
+        self.addCleanup(mock.patch.stopall)
+        db = connect(url)
+        assert rows(db, "SELECT version FROM schema_versions ORDER BY version") == [(1,), (2,)] and rows(db, "SELECT * FROM more") == []
+        db.close()
+        connect(url).close()
+        patch.stop()
+        with self.assertRaisesRegex(schema.NewerSchema, "has schema version 2"):
+            connect(url)
+
+    def test_a_migration_that_fails_changes_nothing(self):
+        url = str(self.folder / "db")
+        connect(url).close()
+        patch = mock.patch.object(schema, "MIGRATIONS", [*schema.MIGRATIONS, "CREATE TABLE more(at {float});\nNO STATEMENT"])
+        patch.start()
+        self.addCleanup(mock.patch.stopall)
+        with self.assertRaises(Lost):
+            connect(url)
+        patch.stop()
+        db = connect(url)
+        assert rows(db, "SELECT COUNT(*) FROM sqlite_master WHERE name='more'") == [(0,)]
+
+    def test_one_worker_a_file(self):
+        first = connect(str(self.folder / "db"), worker=True)
+        with self.assertRaises(InUse):
+            connect(str(self.folder / "db"), worker=True)
+        connect(str(self.folder / "db")).close()
+        first.close()
+        connect(str(self.folder / "db"), worker=True).close()
+
+    def test_a_file_that_is_no_database(self):
+        (self.folder / "db").write_bytes(b"no database" * 1000)
+        with self.assertRaises(Lost):
+            connect(str(self.folder / "db"))
+        with self.assertRaises(ValueError):
+            connect(f"{self.folder / 'other'}?synchronous=SOMETIMES")
+
+
+@support.on_each_database
+class Databases(support.OnADatabase):
+    def test_operations_of_a_group(self):
+        """One that fails is made alone, and those beside it are committed; one that is in others' way is made again."""
+
+        async def go():
+            committer = Committer(connect(self.url))
+            tries = []
+
+            def insert(name):
+                return lambda db: db.change("INSERT INTO workers VALUES (?, 0)", (name,))
+
+            def fails(db):
+                insert("fails")(db)
+                raise TerminalError("no")
+
+            def conflicts(db):
+                tries.append(1)
+                insert("conflicts")(db)
+                if len(tries) < 4:
+                    raise Conflict("later")
+                return "done"
+
+            answers = await asyncio.gather(
+                *[committer.submit(it) for it in (insert("a"), fails, conflicts, insert("b"))], return_exceptions=True
+            )
+            assert answers[0] == 1 and isinstance(answers[1], TerminalError) and answers[2] == "done" and answers[3] == 1
+            assert sorted(await committer.submit(lambda db: db.rows("SELECT id FROM workers"))) == [("a",), ("b",), ("conflicts",)]
+            before = committer.counts["transactions"]
+            await asyncio.gather(*[committer.submit(insert(str(n))) for n in range(100)])
+            assert committer.counts["transactions"] - before <= 2
+            await committer.close()
+            with self.assertRaises(Stopped):
+                await committer.submit(insert("late"))
+
+        asyncio.run(go())
+
+    def test_a_signal_to_nobody(self):
+        async def go():
+            async with Runtime(runtime_app.app, self.url) as runtime:
+                assert not await runtime.engine.cancel("inv_none")
+                assert not await runtime.engine.notify("inv_none", journal.named_signal("go", journal.void()))
+                assert await runtime.engine.result("inv_none") is None
+
+        asyncio.run(go())
+
+
+class Servers(support.OnADatabase, unittest.TestCase):
+    kind = "postgres"
+
+    def test_workers_hear_of_each_other(self):
+        """Each step needs the other worker, and neither looks at the database by itself while this lasts."""
+        url = self.url
+        first, second = Service("First"), Service("Second")
+
+        @first.handler()
+        async def asks(ctx: Context, n: int) -> int:
+            return sum([await ctx.call("Second/answers", n) for _ in range(3)])
+
+        @second.handler()
+        async def answers(ctx: Context, n: int) -> int:
+            return n + 1
+
+        async def go():
+            async with Runtime(App(first, second), url, poll=30, idle=0.5) as one, Runtime(App(first, second), url, poll=30, idle=0.5) as two:
+                begun = time.monotonic()
+                ids = [await (one if n % 2 else two).send("First/asks", n) for n in range(10)]
+                results = [await (two if n % 2 else one).result(id) for n, id in enumerate(ids)]
+                assert results == [3 * (n + 1) for n in range(10)]
+                id = await one.send("First/asks", 1)
+                assert await two.result(id) == 6
+                assert time.monotonic() - begun < 15
+
+        asyncio.run(go())
+
+    def test_a_lost_connection_is_made_again(self):
+        url = self.url
+
+        async def go():
+            async with Runtime(runtime_app.app, url, lease=30) as runtime:
+                runtime_app.seen.clear()
+                id = await runtime.send("S/waits")
+                while not runtime_app.seen:
+                    await asyncio.sleep(0.01)
+                other = connect(url)
+                rows(other, "SELECT pg_terminate_backend(pid) FROM pg_stat_activity WHERE datname=current_database() AND pid<>pg_backend_pid()")
+                other.close()
+                while runtime.engine.counts["sessions"] < 2:
+                    await asyncio.sleep(0.05)
+                assert await runtime.call("S/echo", 1) == 1
+                assert await runtime.engine.cancel(id)
+                assert (await runtime.result(id))[:2] == (409, "cancelled")
+
+        asyncio.run(go())
+
+    def test_an_unreachable_database(self):
+        async def go():
+            runtime = Runtime(runtime_app.app, "postgresql://postgres@127.0.0.1:1/none")
+            task = asyncio.create_task(runtime.engine.run())
+            await asyncio.sleep(0.5)
+            with self.assertRaises(TerminalError) as caught:
+                await runtime.send("S/echo", 1)
+            assert caught.exception.code == 503
+            runtime.engine.stop()
+            await asyncio.wait_for(task, 10)
+
+        asyncio.run(go())
+
+
+if __name__ == "__main__":
+    unittest.main()

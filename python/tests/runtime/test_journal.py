@@ -1,0 +1,247 @@
+"""The rules of storing, each broken once, and the frames against those of docs/WIRE.md and of the core's own printer."""
+
+import os
+import subprocess
+import unittest
+
+import support  # isort: skip
+from palqytun.runtime import journal
+from palqytun.runtime.invocations import load
+from palqytun.runtime.database.sqlite import SQLite
+from palqytun.runtime.journal import Begin, Dishonest, Journal, frames
+from palqytun.runtime.lease import Fenced, Growth, Lease
+
+
+def frame(kind, body):
+    return kind.to_bytes(2, "big") + len(body).to_bytes(8, "big") + body
+
+
+def number(it, size=4):
+    return it.to_bytes(size, "big")
+
+
+def text(it):
+    return number(len(it), 8) + it.encode()
+
+
+def sleep(id, due=1000):
+    return frame(18, number(due, 8) + number(id) + text(""))
+
+
+def run(id):
+    return frame(26, text("run") + number(id))
+
+
+def call(invocation_id, id):
+    body = text("S") + text("h") + text("") + b"\0\0\0" + number(0, 8) + text("x") + number(invocation_id) + text("") + number(id)
+    return frame(19, body)
+
+
+def proposal(id):
+    return frame(5, number(id) + b"\0" + text("x"))
+
+
+INPUT = journal.input_command(b"x")
+
+
+def begun():
+    """A journal with an open sleep (1), an open call (2 and 3) and an open run (4), whose attempt has begun."""
+    it = Journal()
+    for entry in (INPUT, sleep(1), call(2, 3), run(4)):
+        it.entry(entry)
+    it.start(Begin("inv", "", 7))
+    return it
+
+
+def broken(rule, method, *arguments):
+    try:
+        method(*arguments)
+    except Dishonest as error:
+        assert error.rule == rule, error
+    else:
+        raise AssertionError(f"{rule} was broken, and nothing was said")
+
+
+def stored(folder):
+    db = SQLite(str(folder / "db"))
+    db.change(
+        "INSERT INTO invocations(id, service, handler, key, exclusive, version, seed, status, due, epoch, entries, created)"
+        " VALUES ('inv','s','h','',0,7,1,'running',0,1,1,0)"
+    )
+    db.change("INSERT INTO journal(invocation, at, frame) VALUES ('inv',0,?)", (INPUT,))
+    return db
+
+
+def growth(db, epoch):
+    loaded = load(db, "inv", db.rows("SELECT entries FROM invocations")[0][0])
+    loaded.start(Begin("inv", "", 7))
+    return Growth(Lease("inv", epoch, loaded))
+
+
+def future(kind, completions=(), nested=()):
+    listed = number(len(completions), 8) + b"".join(map(number, completions))
+    return bytes([kind]) + listed + bytes(16) + number(len(nested), 8) + b"".join(nested)
+
+
+# The two frames that docs/WIRE.md spells out.
+SLEEP = "0012 0000000000000014 00000190baf7798e 00000001 0000000000000000"
+FAILED = (
+    "001e 000000000000002e 00 00000001 02 00000199 0000000000000002 6e6f 0000000000000001 0000000000000001 6b 0000000000000001 76"
+)
+
+
+LINES = """\
+Input headers=[("a" "b")] value="x"
+Start id="inv" debug_id="inv" key="k" known_entries=3 state=[("n" "v")] partial=true retry_count=2 duration=7 random_seed=9 idempotency_key="i"
+Notification id=completion(1) result=void
+Notification id=completion(2) result=value("x")
+Notification id=completion(3) result=failure(code=409 message="no" metadata=[("k" "v")])
+Notification id=completion(4) result=invocation_id("inv2")
+Notification id=completion(5) result=state_keys(["a", "b"])
+Notification id=signal(17) result=void
+Notification id=name("go") result=void
+ProposeRunCompletionAck id=7
+"""
+
+
+class Rules(support.InAFolder, unittest.TestCase):
+    def test_each_id_once(self):
+        it = begun()
+        assert it.arrive(journal.completion(1, journal.void())).at == 4
+        broken("ONCE", it.arrive, journal.completion(1, journal.void()))
+        broken("ONCE", it.arrive, journal.completion(9, journal.void()))
+        broken("ONCE", it.store, sleep(2), 0)
+
+    def test_the_right_kind(self):
+        it = begun()
+        broken("KIND", it.arrive, journal.completion(2, journal.void()))
+        broken("KIND", it.arrive, journal.completion(4, journal.value(b"x")))
+        broken("KIND", it.arrive, sleep(9))
+        broken("PROPOSAL", it.store, proposal(1), 0)
+        assert it.arrive(journal.completion(2, journal.invocation("inv2"))).completes == 2
+
+    def test_the_output_in_order(self):
+        it = begun()
+        broken("IN-ORDER", it.store, sleep(5), 1)
+        it.store(sleep(5), 0)
+        broken("IN-ORDER", it.store, sleep(6), 0)
+        it.store(sleep(6), len(sleep(5)))
+
+    def test_a_proposal_is_stored_as_its_completion_and_acknowledged(self):
+        stored = begun().store(proposal(4), 0)
+        assert [(it.at, it.completes, it.frame) for it in stored.entries] == [(4, 4, journal.completion(4, journal.value(b"x")))]
+        assert stored.feed == [frame(6, number(4))]
+
+    def test_the_whole_journal_is_handed_out(self):
+        it = Journal()
+        broken("WHOLE", it.start, Begin("inv", "", 7))
+        broken("WHOLE", it.entry, sleep(1))
+        it = Journal()
+        it.entry(INPUT)
+        broken("WHOLE", it.entry, INPUT)
+        it.entry(sleep(1))
+        begin = it.start(Begin("inv", "", 7))
+        assert begin.endswith(INPUT + sleep(1)) and begin[:2] == b"\0\1"
+        broken("WHOLE", it.entry, sleep(2))
+
+    def test_what_is_not_committed_is_taken_back(self):
+        it = begun()
+        it.keep()
+        it.store(proposal(4) + sleep(5), 0)
+        it.arrive(journal.completion(5, journal.void()))
+        it.undo()
+        assert (it.entries, it.written) == (4, 0)
+        stored = it.store(proposal(4) + sleep(5), 0)
+        assert [entry.at for entry in stored.entries] == [4, 5]
+        it.keep()
+        it.undo()
+        broken("ONCE", it.store, sleep(5), it.written)
+        it.undo()
+        assert it.arrive(journal.completion(5, journal.void())).at == 6
+
+    def test_the_state_as_the_commands_leave_it(self):
+        it = Journal()
+        it.entry(INPUT)
+        it.entry(frame(15, text("") + text("a") + text("1")))
+        it.entry(frame(17, text("")))
+        it.entry(frame(15, text("") + text("b") + text("2")) + frame(15, text("") + text("c") + text("3")) + frame(16, text("") + text("c")))
+        assert it.state({"z": b"0"}) == {"b": b"2"}
+
+    def test_the_new_journal_begins_with_the_old(self):
+        db = stored(self.folder)
+        first, second = growth(db, 1), growth(db, 1)
+        for one in (first, second):
+            one.store(sleep(1), 0)
+        first.fence(db)
+        first.write(db)
+        for step in (second.fence, second.write):
+            with self.assertRaises(Fenced):
+                step(db)
+        other = growth(db, 1)
+        db.change("UPDATE invocations SET epoch=2")
+        other.store(sleep(2), 0)
+        for step in (other.fence, other.write):
+            with self.assertRaises(Fenced):
+                step(db)
+        assert db.rows("SELECT COUNT(*) FROM journal") == [(2,)]
+
+    def test_a_journal_with_a_gap_is_refused(self):
+        db = stored(self.folder)
+        broken("WHOLE", load, db, "inv", 2)
+        db.change("INSERT INTO journal(invocation, at, frame) VALUES ('inv',2,?)", (sleep(1),))
+        broken("WHOLE", load, db, "inv", 2)
+
+    def test_a_future_of_a_suspension(self):
+        won, lost = {(0, 1): True}, {(0, 1): False}
+        first, all_of, any_of, every = range(4)
+        assert journal.is_awake(future(first, [1, 2]), won) and not journal.is_awake(future(first, [2]), won)
+        assert not journal.is_awake(future(all_of, [1, 2]), won) and journal.is_awake(future(all_of, [1, 2]), {**won, (0, 2): False})
+        assert journal.is_awake(future(any_of, [1, 2]), won) and not journal.is_awake(future(any_of, [1, 2]), lost)
+        assert journal.is_awake(future(every, [1, 2]), lost) and not journal.is_awake(future(every, [1, 2]), won)
+        assert journal.is_awake(future(all_of, [], [future(first, [1, 2]), future(first, [3])]), won)
+        assert not journal.is_awake(future(first, [], [future(all_of, [1, 2])]), won)
+        assert not journal.is_awake(future(4), won)
+
+    def test_the_first_notification_of_an_id_counts(self):
+        lost = journal.failure(1, "x")
+        came = [sleep(1), journal.completion(1, lost), journal.named_signal("a", journal.void()), journal.named_signal("a", lost)]
+        assert journal.outcome_of(came) == {(0, 1): False, (2, "a"): True}
+
+    def test_the_frames_of_the_document(self):
+        assert next(journal.commands_in(bytes.fromhex(SLEEP)))[0] == journal.Sleep(1, 1721123699086)
+        assert journal.completion(1, journal.failure(409, "no", [("k", "v")])) == bytes.fromhex(FAILED)
+
+    def test_frames_cut_short_are_refused(self):
+        whole = bytes.fromhex(SLEEP)
+        for length in range(1, len(whole)):
+            with self.assertRaises(ValueError):
+                list(frames.split(whole[:length]))
+        with self.assertRaises(ValueError):
+            frames.read(18, whole[:20])
+        with self.assertRaises(ValueError):
+            frames.read(8, frame(8, b""))
+
+    def test_lines_to_read(self):
+        assert journal.line_of(bytes.fromhex(SLEEP)) == "Sleep id=1 due=1721123699086"
+        assert "failure((409, 'no', (('k', 'v'),)))" in journal.line_of(bytes.fromhex(FAILED))
+
+    @unittest.skipUnless("PALQYTUN_FRAMES" in os.environ, "PALQYTUN_FRAMES names no program: it is the core's `frames`")
+    def test_frames_are_those_of_the_core(self):
+        written = [
+            journal.input_command(b"x", [("a", "b")]),
+            frames.start(Begin("inv", "k", 9, [("n", b"v")], True, 2, 7, "i"), 3),
+            journal.completion(1, journal.void()),
+            journal.completion(2, journal.value(b"x")),
+            journal.completion(3, journal.failure(409, "no", [("k", "v")])),
+            journal.completion(4, journal.invocation("inv2")),
+            journal.completion(5, journal.keys(["a", "b"])),
+            journal.signal(17, journal.void()),
+            journal.named_signal("go", journal.void()),
+            frames.acknowledgement(7),
+        ]
+        printed = subprocess.run([os.environ["PALQYTUN_FRAMES"]], input=b"".join(written), stdout=subprocess.PIPE, check=True).stdout.decode()
+        assert printed == LINES
+
+
+if __name__ == "__main__":
+    unittest.main()
