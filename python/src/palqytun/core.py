@@ -337,7 +337,8 @@ class VM:
 
         If it isn't, `Waiting` says what may wake it: more input, or the result of a run that executes, which is to be proposed. If neither can
         come the invocation is suspended, and `Suspended` is raised. An `ExecuteRun` names a run to execute first: propose its result and await
-        again. An `EphemeralReady` names an ephemeral read whose value is there: take it and await again. These count as false. `Cancelled` is raised if the invocation was cancelled.
+        again. An `EphemeralReady` names an ephemeral read whose value is there. All three count as false. `Cancelled` is raised if the
+        invocation was cancelled.
 
         >>> vm.do_await(first_completed(vm.sys_sleep(1000), vm.sys_state_get("visits")))
         True
@@ -405,9 +406,9 @@ class VM:
         return int(self.call(f"keys{named(name)}"))
 
     def ephemeral_state_get(self, key: str) -> int:
-        """Reads the value of a state key, and leaves nothing of it in the journal: for what doesn't steer the handler. Answers the read's id.
+        """Reads the value of a state key and leaves nothing of it in the journal, for what doesn't steer the handler; answers the read's id.
 
-        It needs version 8, and is refused in replay.
+        It needs version 8, and is refused in replay. `do_await` answers an `EphemeralReady` once the value is there.
 
         >>> vm.ephemeral_state_get("visits")
         Traceback (most recent call last):
@@ -415,12 +416,9 @@ class VM:
         """
         return int(self.call(f"ephemeral_get {text('key', key)}"))
 
-    def take_ephemeral_notification(self, id: int) -> Result | None:
-        """Takes the value of an ephemeral read: `bytes`, or `VOID` if the key has none; `None` if it isn't there.
-
-        >>> vm.take_ephemeral_notification(1)
-        """
-        return result_of(self.call(f"take_ephemeral {whole('id', id, HANDLE)}"))
+    def take_ephemeral_notification(self, id: int) -> bytes | Void | None:
+        """Takes the value of an ephemeral read: `bytes`, or `VOID` if the key has none; `None` if it isn't there."""
+        return cast(bytes | Void | None, result_of(self.call(f"take_ephemeral {whole('id', id, HANDLE)}")))
 
     def sys_state_set(self, key: str, value: Data, *, name: str | None = None, unstable: bool = False) -> None:
         """Gives a state key a value.
@@ -477,16 +475,17 @@ class VM:
         name: str | None = None,
         unstable: bool = False,
     ) -> tuple[int, int, int]:
-        """Calls another handler, and sleeps until `wake_up_time`, in one call that no crash can take apart; answers the handles of the
-        invocation's id, of the result and of the deadline. Await the first that comes of the last two.
+        """Calls another handler and sleeps until a time, in one call; answers the handles of the invocation's id, of its result and of the
+        deadline. Await the first that comes of the last two.
 
-        >>> vm.sys_call_with_deadline("Greeter", "greet", b"Ada", 1000)
-        (17, 18, 19)
+        >>> _, answer, deadline = vm.sys_call_with_deadline("Greeter", "greet", b"Ada", 1000)
+        >>> vm.do_await(first_completed(answer, deadline))
+        Waiting(input=True, run=False)
         """
         options = call_options(key, idempotency_key, scope, limit_key, headers, name, unstable)
-        time = whole("wake_up_time", wake_up_time)
-        handles = self.call(f"call_with_deadline {callee(service, handler, value)} {time}{options}").split()
-        return int(handles[0]), int(handles[1]), int(handles[2])
+        until = whole("wake_up_time", wake_up_time)
+        first, second, third = self.call(f"call_with_deadline {callee(service, handler, value)} {until}{options}").split()
+        return int(first), int(second), int(third)
 
     def sys_send(
         self,

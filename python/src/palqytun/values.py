@@ -10,6 +10,7 @@ __all__ = [
     "Awakeable",
     "Behaviour",
     "Data",
+    "EphemeralReady",
     "ExecuteRun",
     "Failure",
     "IdempotencyId",
@@ -132,7 +133,7 @@ class ExecuteRun:
 @dataclass(frozen=True)
 class EphemeralReady:
     """What an await answers if the value of an ephemeral read is there and wasn't taken yet: the read's id. It counts as false: take the value
-    by `VM.take_ephemeral_notification`, and await again."""
+    by `VM.take_ephemeral_notification` and await again."""
 
     id: int
 
