@@ -45,7 +45,7 @@ use Rattle.vm_parts.specs.Tracked.{by_id, id_of_result, if_unresolved, id_of_val
 use Rattle.vm_asks.specs.declared.asks.AnswerKind.{AnswerKind}
 use Rattle.vm_asks.specs.declared.asks.Ask.{Ask}
 use Rattle.vm_asks.specs.declared.asks.Ask.TheVariants as ask
-use Rattle.vm_asks.specs.declared.asks.Command.{Command}
+use Rattle.vm_asks.specs.declared.command.Command.{Command}
 use Rattle.vm_asks.specs.declared.state_read.StateRead.{StateRead}
 use Rattle.vm_asks.specs.Asks.{EachIs, all_ids, any_refusal, ask_of, cancel_invocation_command, early_fault, empty_fault, first_fault, scope_fault, scope_of, target_fault, time_fault, value_fault}
 use Rattle.vm_asks.specs.Requests.{ids_of, is_cancelled_with, tracked_after, with_ids}
