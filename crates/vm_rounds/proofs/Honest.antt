@@ -337,8 +337,7 @@ module _ (m : Meaning) (version : Version) (options : VMOptions) (fed : Heard) (
       sym (arriving_append fed.proposed came begins.others) ∙ ap (arriving fed.proposed) (append_assoc j.entries j.others begins.others ∙ tail) ∙ arriving_append fed.proposed J N
       ∙ (λ i. (arriving_notified fed.proposed J quiet ∙ sym (notes_same J) ∙ ap notifications_in (journal_read h.journal h.journal_is_whole)) i ++ arriving (kept_all fed.proposed J quiet i) N)
       in
-      let state : j.state ≡ h.state = same_Some j.state h.state (sym j.reads_state ∙ ap (λ (x : Start). entries_in x.state) same ∙ h.reads_state) in
-      (
+      let state : j.state ≡ h.state = same_Some j.state h.state (sym j.reads_state ∙ ap (λ (x : Start). entries_in x.state) same ∙ h.reads_state) in (
         more,
         notes,
         rest,
