@@ -68,7 +68,10 @@ called_failed {A} v o e w live is = by_outcome o (ap (λ f. called_at f o v) (sy
   where
     by_outcome : (q : Outcome A) → settled q ≡ Failed e w → (w.failure ≡ Some e) × ((d : Error) × (u : Machine) × (q ≡ Failed d u) × (e ≡ ruled u d))
     by_outcome (Done a x) h = absurd (cc)
-    by_outcome (Failed d x) h = (let at : failed (ruled x d) x ≡ w = cc in let same : ruled x d ≡ e = cc in ap (λ (z : Machine). z.failure) (sym at) ∙ ap (λ y. Some y) same, (d, x, refl, sym same))
+    by_outcome (Failed d x) h =
+        let at : failed (ruled x d) x ≡ w = cc in
+        let told : ruled x d ≡ e = cc in
+        (ap (λ (z : Machine). z.failure) (sym at) ∙ ap (λ y. Some y) told, (d, x, refl, sym told))
 
 called_done : {A : Type 0} (v : Machine) (o : Outcome A) (a : A) (w : Machine) → v.failure ≡ None → called o v ≡ Done a w → o ≡ Done a w
 unfolding called

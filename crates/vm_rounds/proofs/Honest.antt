@@ -25,7 +25,7 @@ use Rattle.invocation_vm.proofs.Cuts.{frames_of-append}
 use Rattle.vm_model.specs.Calls.{Meaning}
 use Rattle.vm_machine.specs.Inputs.{coverage_of, entries_in}
 use Rattle.vm_model.specs.Histories.{Handed, History, Made}
-use Rattle.vm_model.specs.Moves.{later, start as first_point}
+use Rattle.vm_model.specs.Moves.{Point, later, start as first_point}
 use Rattle.vm_model.specs.Carried.{AreOfTheirKind}
 use Rattle.vm_model.proofs.RightKinds.{fewer_kinds}
 use Rattle.vm_model.proofs.Runs.{made_later}
