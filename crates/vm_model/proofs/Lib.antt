@@ -28,3 +28,5 @@ pub mod Carried
 pub mod Comparing
 pub mod Rows
 pub mod Refusals
+pub mod Spans
+pub mod Gone

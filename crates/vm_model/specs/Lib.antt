@@ -11,3 +11,4 @@ pub mod Refusals
 pub mod HonestRounds
 pub mod SoundHistories
 pub mod ComparedSets
+pub mod TakenHandles
