@@ -30,3 +30,4 @@ pub mod Rows
 pub mod Refusals
 pub mod Spans
 pub mod Gone
+pub mod Named

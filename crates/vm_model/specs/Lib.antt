@@ -12,3 +12,4 @@ pub mod HonestRounds
 pub mod SoundHistories
 pub mod ComparedSets
 pub mod TakenHandles
+pub mod NamedHandles

@@ -11,7 +11,7 @@ mod reads;
 mod told;
 
 pub use awaits::{awaits_wake, cancelled_awaits, results_are_present, trees_wake};
-pub use handles::taken_handles_go;
+pub use handles::{handles_name_ids, taken_handles_go};
 pub use honest::{
     attempts_agree, commands_stand_behind, compared_histories_are_sound, honest_rounds,
     one_undisturbed, sound_histories_last, whole_rounds,
