@@ -30,4 +30,5 @@ pub mod Rows
 pub mod Refusals
 pub mod Spans
 pub mod Gone
+pub mod SaidLast
 pub mod Named

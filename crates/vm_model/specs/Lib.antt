@@ -12,4 +12,5 @@ pub mod HonestRounds
 pub mod SoundHistories
 pub mod ComparedSets
 pub mod TakenHandles
+pub mod SaidState
 pub mod NamedHandles

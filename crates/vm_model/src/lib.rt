@@ -8,6 +8,7 @@ mod honest;
 mod lists;
 mod numbers;
 mod reads;
+mod state;
 mod told;
 
 pub use awaits::{awaits_wake, cancelled_awaits, results_are_present, trees_wake};
@@ -19,6 +20,7 @@ pub use honest::{
 pub use lists::{completions_come_once, handles_stand_for_ids, lists_are_used};
 pub use numbers::numbers_are_sums;
 pub use reads::{eager_reads_are_so, handed_stays_so};
+pub use state::state_is_what_was_said;
 pub use told::{
     attempt_is_told, attempts_go_on, later_changes_nothing, none_refused, one_told,
     own_commands_stand,
