@@ -30,5 +30,6 @@ pub mod Rows
 pub mod Refusals
 pub mod Spans
 pub mod Gone
+pub mod Queueing
 pub mod SaidLast
 pub mod Named

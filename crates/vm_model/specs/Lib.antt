@@ -12,5 +12,6 @@ pub mod HonestRounds
 pub mod SoundHistories
 pub mod ComparedSets
 pub mod TakenHandles
+pub mod SignalQueues
 pub mod SaidState
 pub mod NamedHandles

@@ -8,6 +8,7 @@ mod honest;
 mod lists;
 mod numbers;
 mod reads;
+mod signals;
 mod state;
 mod told;
 
@@ -20,6 +21,7 @@ pub use honest::{
 pub use lists::{completions_come_once, handles_stand_for_ids, lists_are_used};
 pub use numbers::numbers_are_sums;
 pub use reads::{eager_reads_are_so, handed_stays_so};
+pub use signals::signals_queue_in_order;
 pub use state::state_is_what_was_said;
 pub use told::{
     attempt_is_told, attempts_go_on, later_changes_nothing, none_refused, one_told,
