@@ -52,7 +52,7 @@ use Rattle.vm_types.specs.declared.steps.Step.TheVariants as step
 use Rattle.vm_asks.specs.declared.asks.Ask.{Ask}
 use Rattle.vm_asks.specs.declared.asks.Ask.TheVariants as ask
 use Rattle.vm_asks.specs.declared.asks.AnswerKind.{AnswerKind}
-use Rattle.vm_asks.specs.declared.asks.Command.{Command}
+use Rattle.vm_asks.specs.declared.command.Command.{Command}
 use Rattle.vm_asks.specs.Asks.{EachIs, any_refusal, ask_of}
 use Rattle.vm_machine.specs.Takes.{result_taken, take_step, taken_at, value_noted, value_taken}
 use Rattle.vm_machine.specs.Inputs.{acknowledged, acknowledged_by, acknowledgement_step, close_step, closed_at, counted_entry, end_at, end_step, ended, enqueued, entries_in, entry_step, input_at, input_by, input_counted, input_numbered, input_past, input_read, input_step, malformed_step, message_step, notification_step, queued, start_step, started, started_with}

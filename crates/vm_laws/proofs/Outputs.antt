@@ -23,7 +23,7 @@ use Rattle.await_trees.specs.Tree.{Tree, tree_of}
 use Rattle.vm_types.specs.declared.values.Input.{Input}
 use Rattle.vm_types.specs.declared.values.Value.{Value}
 use Rattle.vm_machine.specs.declared.machine.Machine.{Machine}
-use Rattle.vm_asks.specs.declared.asks.Command.{Command}
+use Rattle.vm_asks.specs.declared.command.Command.{Command}
 use Rattle.vm_asks.specs.Asks.{EachIs, cancel_invocation_command, deadline_handles}
 use Rattle.vm_awaits.specs.Awaits.{Awaits}
 use Rattle.vm_awaits.specs.Cancels.{AwaitsWhole, Cancels, FinishesIf, Onward, SendsCancel, cancel_taken, sends_cancels}

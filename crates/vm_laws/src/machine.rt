@@ -14,7 +14,7 @@ ghost use Rattle.journal_errors.specs.declared.version.Version.{Version};
 ghost use Rattle.vm_types.specs.declared.steps.Step.{Step};
 ghost use Rattle.vm_asks.specs.declared.asks.Ask.TheVariants as ask;
 ghost use Rattle.vm_asks.specs.declared.asks.AnswerKind.{AnswerKind};
-ghost use Rattle.vm_asks.specs.declared.asks.Command.{Command};
+ghost use Rattle.vm_asks.specs.declared.command.Command.{Command};
 ghost use Rattle.vm_asks.specs.Asks.{all_ids, ask_of};
 ghost use Rattle.vm_machine.specs.Several.{MakesAll};
 ghost use Rattle.vm_machine.specs.Takes.{take_step};

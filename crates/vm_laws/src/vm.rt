@@ -21,7 +21,7 @@ ghost use Rattle.await_trees.specs.declared.tree.UnresolvedFuture.{UnresolvedFut
 ghost use Rattle.vm_types.specs.declared.values.Input.{Input};
 ghost use Rattle.vm_types.specs.declared.values.Value.{Value};
 ghost use Rattle.vm_machine.specs.declared.machine.Machine.{Machine};
-ghost use Rattle.vm_asks.specs.declared.asks.Command.{Command};
+ghost use Rattle.vm_asks.specs.declared.command.Command.{Command};
 ghost use Rattle.vm_asks.specs.Asks.{call_handles, deadline_handles, send_handle, sleep_command};
 ghost use Rattle.vm_machine.specs.Ephemerals.{ephemeral_step, take_ephemeral_step};
 ghost use Rattle.vm_machine.specs.Takes.{take_step};
