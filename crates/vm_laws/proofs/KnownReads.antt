@@ -1,5 +1,5 @@
 -- An ephemeral read answers what is known of its key, or is refused for the first reason that there is.
-use Rattle.std.proofs.Common.{◌≡◌, ℕ, ◌+◌, Bool, true, false, cond, List, [], ◌∷◌, Option, Some, None, refl, sym, ap, ◌∙◌, subst}
+use Rattle.std.proofs.Common.{◌≡◌, ℕ, Bool, true, false, List, [], ◌∷◌, Option, Some, None, refl, sym, ap, ◌∙◌}
 use Rattle.std.specs.Prelude.{if◌then◌else◌, ◌==◌, ◌||◌, ◌&&◌, not}
 use Rattle.std.specs.declared.cmp.Ordering.{Ordering}
 use Rattle.std.specs.declared.cmp.Ordering.TheVariants.{Less, Equal, Greater}
@@ -16,24 +16,23 @@ use Rattle.std.proofs.lemmas.Option.{same_Some}
 use Rattle.journal_errors.specs.declared.faults.NamedFault.{NamedFault}
 use Rattle.journal_errors.specs.declared.faults.NamedFault.TheVariants as fault
 use Rattle.journal_messages.specs.declared.message.RawMessage.{RawMessage}
-use Rattle.journal_state.specs.declared.state.GetStateEphemeralNotification.{GetStateEphemeralNotification}
 use Rattle.journal_state.specs.declared.state.VoidOrValue.{VoidOrValue}
 use Rattle.journal_state.specs.declared.state.VoidOrValue.TheVariants as stored
 use Rattle.vm_types.specs.declared.types.EphemeralCompletionId.{EphemeralCompletionId}
 use Rattle.vm_types.specs.declared.values.Value.{Value}
 use Rattle.vm_types.specs.declared.values.Value.TheVariants as value
-use Rattle.vm_parts.specs.Counting.{missing_ephemeral, most}
-use Rattle.vm_parts.specs.Ephemerals.{Ephemerals, completed, is_in_flight, is_ready, value_at, with_in_flight, with_ready, without_ready}
+use Rattle.vm_parts.specs.Counting.{most}
+use Rattle.vm_parts.specs.Ephemerals.{completed, is_in_flight, is_ready, value_at, without_ready}
 use Rattle.vm_parts.specs.States.{known}
 use Rattle.vm_parts.specs.declared.context.Known.{Known}
 use Rattle.vm_parts.specs.declared.context.Known.TheVariants.{Unknown, Empty, Value as Holds}
 use Rattle.vm_machine.specs.declared.machine.Machine.{Machine}
 use Rattle.vm_machine.specs.declared.phase.Phase.{Phase}
 use Rattle.vm_machine.specs.declared.phase.Phase.TheVariants.{WaitingStart, WaitingReplayEntries, Replaying, Processing, Closed}
-use Rattle.vm_machine.specs.Ephemerals.{asked_for, asking_fault, completed_by, ephemeral_notification_in, ephemeral_notification_step, ephemeral_step, found_of, read_in, read_known, read_numbered, read_of, ready_at_once, result_comes, take_ephemeral_step, value_found}
-use Rattle.vm_machine.specs.Outcomes.{Outcome, Done, Failed, refused}
+use Rattle.vm_machine.specs.Ephemerals.{asked_for, asking_fault, completed_by, ephemeral_notification_step, ephemeral_step, found_of, read_in, read_numbered, read_of, ready_at_once, take_ephemeral_step, value_found}
+use Rattle.vm_machine.specs.Outcomes.{Outcome, Done, refused}
 use Rattle.vm_machine.specs.Phases.{is_closed, is_from_v8, is_processing, is_replaying, is_waiting, state_fault}
-use Rattle.vm_laws.specs.EphemeralReads.{Brings, IsAnswered, TakeGives, first_reason, is_unknown, reason_or, reasons, value_of_result}
+use Rattle.vm_laws.specs.EphemeralReads.{Brings, IsAnswered, TakeGives, first_reason, is_unknown, reasons, value_of_result}
 
 -- ---- ids among the reads
 

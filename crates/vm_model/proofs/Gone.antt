@@ -1,7 +1,7 @@
 -- A take that was answered with a value removes its handle, and what its call's invocation was is known.
-use Rattle.std.proofs.Common.{◌≡◌, ◌≢◌, ◌<◌, ◌≤◌, ℕ, Bool, true, false, cond, List, [], ◌∷◌, ◌++◌, Option, Some, None, refl, sym, ap, ◌∙◌, subst, arith, append_assoc, append-nil}
+use Rattle.std.proofs.Common.{◌≡◌, ◌≢◌, ℕ, Bool, true, false, cond, List, [], ◌∷◌, ◌++◌, Option, Some, None, refl, sym, ap, ◌∙◌, subst, arith}
 use Rattle.std.specs.Prelude.{◌==◌, ◌||◌, if◌then◌else◌, option_map}
-use Rattle.std.proofs.lemmas.Bool.{eq-eqb, eqb-true}
+use Rattle.std.proofs.lemmas.Bool.{eqb-true}
 use Rattle.std.proofs.lemmas.Option.{same_Some}
 use Rattle.journal_attempt.specs.declared.commands.InputCommand.{InputCommand}
 use Rattle.journal_messages.specs.declared.message.RawMessage.{RawMessage}
@@ -19,7 +19,7 @@ use Rattle.vm_parts.specs.Tracked.{Above, Ascend, id_of_value, if_unresolved, is
 use Rattle.vm_types.specs.Values.{value_of}
 use Rattle.vm_model.specs.Calls.{Meaning, Setup, call_of, ready_in, result_taken, value_noted, value_taken}
 use Rattle.vm_model.specs.Calls.Move.{Answers}
-use Rattle.vm_model.specs.Moves.{Point, after, moved, next, start}
+use Rattle.vm_model.specs.Moves.{Point, after, moved, start}
 use Rattle.vm_model.specs.TakenHandles.{IsGone, TookValue, without}
 use Rattle.vm_model.proofs.Runs.{none_some}
 use Rattle.vm_model.proofs.Spans.{InOrder, Span, none_once_gone, told_in_order}

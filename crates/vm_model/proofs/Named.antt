@@ -1,5 +1,5 @@
 -- The handles of an answer stand for the ids in the fields of its call's own commands.
-use Rattle.std.proofs.Common.{◌≡◌, ◌⊎◌, ◌<◌, ◌≤◌, ℕ, zero, suc, ◌+◌, Bool, true, false, cond, List, [], ◌∷◌, ◌++◌, Option, Some, None, refl, sym, ap, ◌∙◌, subst, inl, inr, ⊎_elim, arith, append_assoc, append-nil}
+use Rattle.std.proofs.Common.{◌≡◌, ◌⊎◌, ◌<◌, ◌≤◌, ℕ, zero, suc, ◌+◌, Bool, true, false, cond, List, [], ◌∷◌, ◌++◌, Option, Some, None, refl, sym, ap, ◌∙◌, subst, inl, inr, arith, append_assoc, append-nil}
 use Rattle.std.specs.Prelude.{◌==◌, ◌/◌, min, Result, Ok, Err}
 use Rattle.std.specs.Duration.{as_nanos}
 use Rattle.std.specs.List.{AllByRecursion}
@@ -44,11 +44,11 @@ use Rattle.vm_asks.specs.Requests.{ids_of, with_ids}
 use Rattle.vm_asks.specs.StateReads.{lazy_form}
 use Rattle.vm_machine.specs.Commands.{mapped_from}
 use Rattle.vm_machine.specs.Skips.{skips_replay}
-use Rattle.vm_model.specs.Calls.{Setup, Meaning, Derived, Demand, Move, answer_of, asked, awaited, awakeable_made, awaiting, behind_command, calling, cancel_sent, cancel_taken, cancelled, cancelling, commanding, counted, demand_of, id_awaited, id_read, is_awake, is_cancelled_in, making_awakeable, numbered, part, part_unless, reading, ready_in, refused_before, result_taken, signal_made, turn_after, turn_taken, value_noted, value_taken}
-use Rattle.vm_model.specs.Calls.Demand.{Exactly, Reads}
+use Rattle.vm_model.specs.Calls.{Setup, Meaning, Derived, Demand, Move, answer_of, asked, awaited, awakeable_made, awaiting, behind_command, cancel_sent, cancelled, cancelling, commanding, counted, demand_of, id_awaited, id_read, is_awake, is_cancelled_in, making_awakeable, numbered, part_unless, reading, ready_in, refused_before, result_taken, signal_made, turn_after, turn_taken, value_noted, value_taken}
+use Rattle.vm_model.specs.Calls.Demand.{Reads}
 use Rattle.vm_model.specs.Calls.Move.{Answers, Needs, Awaits, Ends, Refuses}
-use Rattle.vm_model.specs.Moves.{Point, after, brought, command_used, found, move_at, moved, next, said_of, start, uses_arrival, uses_command}
-use Rattle.vm_model.specs.NamedHandles.{Gets, Names, NamesAwakeable, NamesCall, NamesDeadlineCall, NamesOne, NamesSend, NamesSignal}
+use Rattle.vm_model.specs.Moves.{Point, after, brought, command_used, found, moved, next, said_of, start, uses_arrival, uses_command}
+use Rattle.vm_model.specs.NamedHandles.{Gets, Names, NamesDeadlineCall, NamesOne, NamesSignal}
 use Rattle.vm_model.proofs.Parts.{IsOfOne, next_keeps}
 use Rattle.vm_model.proofs.Runs.{and_then_some, none_some}
 use Rattle.vm_model.proofs.Spans.{InOrder, Span, id_with_more, span_both, span_given, told_in_order}

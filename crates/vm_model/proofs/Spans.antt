@@ -1,7 +1,7 @@
 -- Handles ascend and are less than the next one, tracked calls ascend, and handle 1 stands for signal 1: so it is at each point of a run.
-use Rattle.std.proofs.Common.{◌≡◌, ◌≢◌, ◌<◌, ◌≤◌, ℕ, zero, suc, ◌+◌, Bool, true, false, cond, List, [], ◌∷◌, ◌++◌, Option, Some, None, refl, sym, ap, ◌∙◌, subst, arith}
-use Rattle.std.specs.Prelude.{◌==◌, ◌||◌, nat_lt, if◌then◌else◌, Result, Ok, Err, option_map}
-use Rattle.std.proofs.lemmas.Bool.{eq-eqb, eqb-true, cases_lt}
+use Rattle.std.proofs.Common.{◌≡◌, ◌<◌, ◌≤◌, ℕ, zero, suc, ◌+◌, Bool, true, false, cond, List, [], ◌∷◌, ◌++◌, Option, Some, None, refl, sym, ap, ◌∙◌, subst, arith}
+use Rattle.std.specs.Prelude.{◌==◌, nat_lt, if◌then◌else◌, Result, Ok, Err, option_map}
+use Rattle.std.proofs.lemmas.Bool.{eq-eqb, eqb-true}
 use Rattle.std.proofs.lemmas.Option.{same_Some}
 use Rattle.journal_attempt.specs.declared.commands.InputCommand.{InputCommand}
 use Rattle.journal_errors.specs.declared.faults.NamedFault.{NamedFault}
@@ -9,7 +9,7 @@ use Rattle.journal_messages.specs.declared.message.Message.{Message}
 use Rattle.journal_messages.specs.declared.message.RawMessage.{RawMessage}
 use Rattle.journal_values.specs.declared.notification.Notification.{Notification}
 use Rattle.journal_values.specs.declared.notification.NotificationId.{NotificationId}
-use Rattle.journal_values.specs.declared.notification.NotificationId.TheVariants.{CompletionId, SignalId, SignalName}
+use Rattle.journal_values.specs.declared.notification.NotificationId.TheVariants.{SignalId, SignalName}
 use Rattle.journal_values.specs.declared.notification.NotificationResult.{NotificationResult}
 use Rattle.vm_types.specs.declared.options.ImplicitCancellationOption.{ImplicitCancellationOption}
 use Rattle.vm_types.specs.declared.steps.Answer.{Answer}
@@ -20,7 +20,7 @@ use Rattle.vm_parts.specs.declared.async_results.Mapping.{Mapping}
 use Rattle.vm_parts.specs.declared.run_state.TrackedCall.{TrackedCall}
 use Rattle.vm_parts.specs.Counting.{missing, missing_signals}
 use Rattle.vm_parts.specs.Deliveries.{id_at, present_for, unmapped}
-use Rattle.vm_parts.specs.Tracked.{Above, Ascend, by_id, id_of_result, id_of_value, if_unresolved, invocation_ids, is_tracked, noted, unresolved, unresolved_call, with_call, with_id, with_next_id, without_first_call}
+use Rattle.vm_parts.specs.Tracked.{Above, Ascend, by_id, id_of_result, id_of_value, invocation_ids, is_tracked, noted, unresolved, unresolved_call, with_call, with_id, with_next_id, without_first_call}
 use Rattle.vm_types.specs.Values.{value_of}
 use Rattle.vm_asks.specs.declared.asks.Ask.{Ask}
 use Rattle.vm_asks.specs.declared.asks.Ask.TheVariants as ask
