@@ -12,7 +12,7 @@ pub use feed::any_cut;
 pub use journal_calls::{IdempotencyId, WorkflowId};
 pub use journal_errors::{Error, ErrorBehavior, HeaderMap, Version};
 pub use journal_values::Header;
-pub use retries::{Fraction, OnMaxAttempts, RetryPolicy};
+pub use retries::{EntryRetryInfo, Fraction, OnMaxAttempts, RetryPolicy};
 pub use runs::{RunExitResult, RunHandle};
 pub use vm::VM;
 pub use vm_parts::{
