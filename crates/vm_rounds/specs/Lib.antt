@@ -5,3 +5,4 @@ pub mod Told
 pub mod Blames
 pub mod Courses
 pub mod Honest
+pub mod Attempts
