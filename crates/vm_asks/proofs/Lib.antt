@@ -1,3 +1,4 @@
 pub mod GivenIds
+pub mod RecordedReads
 pub mod TrackedCommands
 mod AskedCommands

@@ -6,3 +6,4 @@ pub mod Ephemerals
 pub mod Outputs
 pub mod Replaying
 pub mod Sleeping
+pub mod KnownReads

@@ -1,5 +1,6 @@
 pub mod Deadlines
 pub mod Endings
+pub mod EphemeralReads
 pub mod Ephemerals
 pub mod Numbers
 pub mod Outputs

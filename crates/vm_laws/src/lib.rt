@@ -2,10 +2,12 @@
 #![tactic(auto)]
 
 mod deadlines;
+mod ephemeral_reads;
 mod machine;
 mod vm;
 
 pub use deadlines::deadlines_follow_their_calls;
+pub use ephemeral_reads::ephemeral_reads_answer_what_is_known;
 pub use machine::{
     acknowledgements_bring_what_was_proposed, commands_end_nothing, first_error_stays,
     nothing_follows, numbers_are_in_order, output_ends_once, replay_pops_what_is_equal,

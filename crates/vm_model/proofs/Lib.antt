@@ -29,3 +29,8 @@ pub mod RightKinds
 pub mod Comparing
 pub mod Rows
 pub mod Refusals
+pub mod Spans
+pub mod Gone
+pub mod Queueing
+pub mod SaidLast
+pub mod Named

@@ -158,7 +158,7 @@ some_within (x ∷ xs) zero e = omega arith
 some_within (x ∷ xs) (suc k) e = let i = some_within xs k e in omega (arith, i)
 
 -- no eager read gives a signal its result
-not_a_completion : (id : NotificationId) (i : ℕ) → is_listed Queued id ≡ true → same_id (CompletionId i) id ≡ false
+pub not_a_completion : (id : NotificationId) (i : ℕ) → is_listed Queued id ≡ true → same_id (CompletionId i) id ≡ false
 not_a_completion (CompletionId n) i e = absurd (cc)
 not_a_completion (SignalId n) i e = refl
 not_a_completion (SignalName name) i e = refl
@@ -231,7 +231,7 @@ rest_taken id i us listed there h = by_test (same_id i id) refl
         }
     by_test false t = record { within = rw t h.within; ready = rw t (left_kept Queued id i (ready_after Queued us).delivered t ∙ h.ready) }
 
-rest_ready : (id : NotificationId) → is_listed Queued id ≡ true → (us : List Usage) → EachTookAResult Queued us → Rest id us
+pub rest_ready : (id : NotificationId) → is_listed Queued id ≡ true → (us : List Usage) → EachTookAResult Queued us → Rest id us
 rest_ready id listed [] all = record { within = omega arith; ready = refl }
 rest_ready id listed (Used n ∷ us) all = rest_used id us n (rest_ready id listed us all)
 rest_ready id listed (Read i result ∷ us) all = rest_read id us i result listed (rest_ready id listed us all)

@@ -220,7 +220,7 @@ awakeable_made s None d =
       counters = record d.counters { signal = d.counters.signal + 1; handle = d.counters.handle + 1 };
     })
 
--- an awakeable is made, where recorded commands are replayed
+-- an awakeable is made; it isn't supported if recorded commands are skipped, and so not replayed
 abbrev pub making_awakeable : Setup → Bool → Derived → Move
 making_awakeable s true d = Refuses fault.UnsupportedFeature
 making_awakeable s false d = awakeable_made s (missing_signals 1 1 d.counters) d

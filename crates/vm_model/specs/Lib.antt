@@ -11,3 +11,7 @@ pub mod Refusals
 pub mod HonestRounds
 pub mod SoundHistories
 pub mod ComparedSets
+pub mod TakenHandles
+pub mod SignalQueues
+pub mod SaidState
+pub mod NamedHandles

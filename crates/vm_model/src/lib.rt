@@ -3,13 +3,17 @@
 #![tactic(auto)]
 
 mod awaits;
+mod handles;
 mod honest;
 mod lists;
 mod numbers;
 mod reads;
+mod signals;
+mod state;
 mod told;
 
 pub use awaits::{awaits_wake, cancelled_awaits, results_are_present, trees_wake};
+pub use handles::{handles_name_ids, taken_handles_go};
 pub use honest::{
     attempts_agree, commands_stand_behind, compared_histories_are_sound, honest_rounds,
     one_undisturbed, sound_histories_last, whole_rounds,
@@ -19,6 +23,8 @@ pub use lists::{
 };
 pub use numbers::numbers_are_sums;
 pub use reads::{eager_reads_are_so, handed_stays_so};
+pub use signals::signals_queue_in_order;
+pub use state::state_is_what_was_said;
 pub use told::{
     attempt_is_told, attempts_go_on, later_changes_nothing, none_refused, one_told,
     own_commands_stand,

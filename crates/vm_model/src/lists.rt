@@ -7,7 +7,7 @@ ghost use Rattle.journal_errors.specs.declared.faults.NamedFault.TheVariants as 
 ghost use Rattle.journal_messages.specs.declared.message.RawMessage.{RawMessage};
 ghost use Rattle.journal_values.specs.declared.notification.Notification.{Notification};
 ghost use Rattle.journal_values.specs.declared.notification.NotificationId.{NotificationId};
-ghost use Rattle.journal_values.specs.declared.notification.NotificationId.TheVariants.{CompletionId};
+ghost use Rattle.journal_values.specs.declared.notification.NotificationId.TheVariants.{CompletionId, SignalId};
 ghost use Rattle.vm_parts.specs.declared.context.StateMap.{StateMap};
 ghost use Rattle.vm_parts.specs.Deliveries.{id_at};
 ghost use Rattle.vm_model.specs.Calls.{Setup, Meaning};
@@ -33,10 +33,14 @@ pub fn lists_are_used()
 {}
 
 /// Whatever a handle stands for is what its call was given: 1 is the cancel signal, and the handles from 17 on stand for the
-/// completion ids, signal ids and names that the calls were given, in order. Each of these stands for it until it is taken.
+/// completion ids, signal ids and names that the calls were given, in order. Each of these stands for it until it is taken, and 1
+/// stands for the cancel signal at each point.
 pub fn handles_stand_for_ids()
     ensures stands { (s : Setup) (m : Meaning) (n : ℕ) (input : InputCommand) (ns : List Notification) (cs : List RawMessage) (q : Point) → after s m n (start s input ns cs) ≡ Some q
         → (handle : ℕ) (id : NotificationId) → id_at handle q.derived.handles ≡ Some id → IsGiven (ids_given s.version 0 0 (calls_for m q.answers)) handle id }
+    ensures cancel { (s : Setup) (m : Meaning) (n : ℕ) (input : InputCommand) (ns : List Notification)
+        (cs : List RawMessage) (q : Point) → after s m n (start s input ns cs) ≡ Some q
+        → id_at 1 q.derived.handles ≡ Some (SignalId 1) }
     ensures stays { (s : Setup) (m : Meaning) (n : ℕ) (input : InputCommand) (ns : List Notification) (cs : List RawMessage) (q : Point) → after s m n (start s input ns cs) ≡ Some q
         → (k : ℕ) (id : NotificationId) → item k (ids_given s.version 0 0 (calls_for m q.answers)) ≡ Some id → (id_at (17 + k) q.derived.handles ≡ Some id) ⊎ WasTaken m (17 + k) q.answers }
 {}

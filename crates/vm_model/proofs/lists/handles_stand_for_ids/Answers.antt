@@ -1,3 +1,4 @@
+use Rattle.vm_model.proofs.Spans.{told_cancel}
 use Rattle.vm_model.proofs.Uses.{handles_stand, handles_stay}
 use Rattle.vm_model.proofs.lists.handles_stand_for_ids.Goals as goal
 
@@ -6,3 +7,6 @@ returns-clause-stands c = handles_stand
 
 pub returns-clause-stays : goal.returns-clause-stays
 returns-clause-stays c = handles_stay
+
+pub returns-clause-cancel : goal.returns-clause-cancel
+returns-clause-cancel c = told_cancel
