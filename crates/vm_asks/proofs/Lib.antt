@@ -1,4 +1,3 @@
 pub mod GivenIds
-pub mod RecordedReads
 pub mod TrackedCommands
 mod AskedCommands

@@ -1,7 +1,6 @@
 pub mod Asks
 pub mod Carried
 pub mod GivenIds
-pub mod RecordedReads
 pub mod Requests
 pub mod StateReads
 pub mod TrackedCommands

@@ -1,16 +1,13 @@
 //! Laws above the tables of commands, in the words of who reads the journal. A table serves the machine and what is proved of whole
 //! runs, so a slip in one of its rows would be in both; a law says what the row is for.
-ghost use Rattle.std.specs.Prelude.{◌≡◌, ℕ, ◌+◌, Bool, List, [], Ok, Option, Some};
+ghost use Rattle.std.specs.Prelude.{◌≡◌, ℕ, ◌+◌, Bool, List, []};
 ghost use Rattle.journal_calls.specs.declared.calls.CallCommand.{CallCommand};
 ghost use Rattle.journal_calls.specs.declared.calls.OneWayCallCommand.{OneWayCallCommand};
 ghost use Rattle.journal_calls.specs.declared.signals.Signal.TheVariants.{Index};
 ghost use Rattle.journal_calls.specs.declared.signals.SignalResult.TheVariants.{Void};
 ghost use Rattle.journal_errors.specs.declared.version.Version.{Version};
-ghost use Rattle.journal_messages.specs.Reading.{message_in};
 ghost use Rattle.journal_messages.specs.declared.message.Message.{Message};
 ghost use Rattle.journal_messages.specs.declared.message.Message.TheVariants as message;
-ghost use Rattle.journal_messages.specs.declared.message.RawMessage.{RawMessage};
-ghost use Rattle.journal_values.specs.declared.notification.NotificationResult.{NotificationResult};
 ghost use Rattle.vm_types.specs.declared.options.ImplicitCancellationOption.{ImplicitCancellationOption};
 ghost use Rattle.vm_types.specs.declared.options.ImplicitCancellationOption.TheVariants.{Disabled};
 ghost use Rattle.vm_types.specs.declared.steps.Step.{Step};
@@ -18,9 +15,8 @@ ghost use Rattle.vm_asks.specs.declared.state_read.StateRead.{StateRead};
 ghost use Rattle.vm_asks.specs.Asks.{ask_of, cancel_invocation_command};
 ghost use Rattle.vm_asks.specs.Carried.{carried};
 ghost use Rattle.vm_asks.specs.GivenIds.{CarriesGiven, IsCallWith, IsSendWith, ids_given};
-ghost use Rattle.vm_asks.specs.RecordedReads.{IsRead};
 ghost use Rattle.vm_asks.specs.Requests.{with_ids};
-ghost use Rattle.vm_asks.specs.StateReads.{eager_form, recorded_as};
+ghost use Rattle.vm_asks.specs.StateReads.{eager_form};
 ghost use Rattle.vm_asks.specs.TrackedCommands.{TracksCalls, TracksNothing, TracksNothingElse, TracksSends};
 
 /// The commands of a step carry just the completion ids that the step is given, in their order. A call's first one is for the
@@ -45,13 +41,4 @@ pub fn calls_and_sends_are_tracked()
 /// An invocation is cancelled by the signal with index 1, without a value, that is sent to it.
 pub fn cancel_commands_send_signal_one()
     ensures { (target : List ℕ) → (cancel_invocation_command target).message ≡ message.SendSignal (record { target_invocation_id = target; signal = Index 1; result = Void }) }
-{}
-
-/// A recorded command stands for a read of the state only if it is a read of the same key, or of the keys, with the same name: a lazy
-/// one with the completion id of the read, or an eager one, whose recorded result it brings.
-#[tactic(auto, using(crate::proofs::RecordedReads::recorded_stands))]
-pub fn recorded_reads_stand_for_their_own()
-    ensures { (read : StateRead) (id : ℕ) (raw : RawMessage) (result : Option NotificationResult)
-        → recorded_as read id raw ≡ Ok result
-        → (m : Message) × (message_in raw.ty raw.body ≡ Some m) × IsRead read id result m }
 {}

@@ -7,3 +7,4 @@ pub mod Outputs
 pub mod Replaying
 pub mod Sleeping
 pub mod KnownReads
+pub mod RecordedReads

@@ -6,3 +6,4 @@ pub mod Numbers
 pub mod Outputs
 pub mod Replays
 pub mod Sleeps
+pub mod RecordedReads

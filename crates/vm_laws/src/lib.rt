@@ -4,6 +4,7 @@
 mod deadlines;
 mod ephemeral_reads;
 mod machine;
+mod recorded_reads;
 mod vm;
 
 pub use deadlines::deadlines_follow_their_calls;
@@ -13,4 +14,5 @@ pub use machine::{
     nothing_follows, numbers_are_in_order, output_ends_once, replay_pops_what_is_equal,
     state_is_changed,
 };
+pub use recorded_reads::recorded_reads_stand_for_their_own;
 pub use vm::{all_output_ends_once, first_error_is_answered, sleep_is_written};

@@ -15,7 +15,7 @@ use Rattle.journal_state.specs.declared.state.VoidOrValue.{VoidOrValue}
 use Rattle.journal_state.specs.declared.state.VoidOrValue.TheVariants as stored
 use Rattle.journal_values.specs.declared.notification.NotificationResult.{NotificationResult}
 use Rattle.journal_values.specs.declared.notification.NotificationResult.TheVariants as gives
-use Rattle.vm_asks.specs.RecordedReads.{IsFound, IsKeysRead, IsRead, IsValueRead, Records}
+use Rattle.vm_laws.specs.RecordedReads.{IsFound, IsKeysRead, IsRead, IsValueRead, Records}
 use Rattle.vm_asks.specs.StateReads.{eager_form, eager_type, lazy_form, lazy_type, read_as, recorded_as, result_in, result_or, value_result}
 use Rattle.vm_asks.specs.declared.state_read.StateRead.{StateRead}
 use Rattle.vm_asks.specs.declared.state_read.StateRead.TheVariants as reads
