@@ -1,0 +1,5 @@
+pub mod Given
+pub mod Nodes
+pub mod Makes
+pub mod Values
+pub mod Callees
