@@ -1,6 +1,8 @@
 //! A VM for callers of C: the functions that C calls. What each does stands in `sessions`.
 #![tactic(auto)]
 
+mod typed;
+
 ghost use Rattle.std.specs.Prelude.{◌≡◌, ◌≤◌, None};
 ghost use Rattle.sessions.specs.Sessions.{AnswerRead, InputFed, IsMade, LineSent, OutputTaken};
 ghost use Rattle.sessions.specs.Statuses.{status_of};

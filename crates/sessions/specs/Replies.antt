@@ -73,24 +73,64 @@ version_code version.V8 = 8
 -- a reply of this kind, with these three numbers
 abbrev pub told : Kind → ℕ → ℕ → ℕ → Replied
 told kind first second third = record {
-  status = 0; kind = kind_code kind; first = first; second = second; third = third; number = 0; rows = 0; len = 0 }
+  status = 0;
+  kind = kind_code kind;
+  first = first;
+  second = second;
+  third = third;
+  number = 0;
+  rows = 0;
+  len = 0;
+}
 
 -- a reply of this kind, with a large number and so many keys or pairs
 abbrev pub counted : Kind → ℕ → ℕ → Replied
 counted kind number rows = record {
-  status = 0; kind = kind_code kind; first = 0; second = 0; third = 0; number = number; rows = rows; len = 0 }
+  status = 0;
+  kind = kind_code kind;
+  first = 0;
+  second = 0;
+  third = 0;
+  number = number;
+  rows = rows;
+  len = 0;
+}
 
 -- a call isn't made
 abbrev pub kept_told : Status → Replied
 kept_told status = record {
-  status = code_of status; kind = 0; first = 0; second = 0; third = 0; number = 0; rows = 0; len = 0 }
+  status = code_of status;
+  kind = 0;
+  first = 0;
+  second = 0;
+  third = 0;
+  number = 0;
+  rows = 0;
+  len = 0;
+}
 
 -- an error, with a command that it relates to or none
 abbrev pub failed_told : ℕ → Option RelatedCommand → Replied
 failed_told code (Some command) = record {
-  status = 5; kind = kind_code kind.Error; first = 1; second = command.index; third = type_number command.ty; number = code; rows = 0; len = 0 }
+  status = 5;
+  kind = kind_code kind.Error;
+  first = 1;
+  second = command.index;
+  third = type_number command.ty;
+  number = code;
+  rows = 0;
+  len = 0;
+}
 failed_told code None = record {
-  status = 5; kind = kind_code kind.Error; first = 0; second = 0; third = 0; number = code; rows = 0; len = 0 }
+  status = 5;
+  kind = kind_code kind.Error;
+  first = 0;
+  second = 0;
+  third = 0;
+  number = code;
+  rows = 0;
+  len = 0;
+}
 
 -- an error: the call is refused; its code, and whether it relates to a command, of which index and which type
 abbrev pub error_told : Error → Replied

@@ -114,7 +114,11 @@ fn tell_value(value: &Value) -> Replied
         Value::Void => told(Kind::Void, 0, 0, 0),
         Value::Success(_) => told(Kind::Value, 0, 0, 0),
         Value::Failure(failure) => {
-            counted(Kind::Failure, u64::from(failure.code), failure.metadata.len())
+            counted(
+                Kind::Failure,
+                u64::from(failure.code),
+                failure.metadata.len(),
+            )
         },
         Value::StateKeys(keys) => counted(Kind::Keys, 0, keys.len()),
         Value::InvocationId(_) => told(Kind::InvocationId, 0, 0, 0),
@@ -138,7 +142,12 @@ fn tell_response(response: &AwaitResponse) -> Replied
         AwaitResponse::WaitingExternalProgress {
             waiting_input,
             waiting_run_proposal,
-        } => told(Kind::Waiting, flag(*waiting_input), flag(*waiting_run_proposal), 0),
+        } => told(
+            Kind::Waiting,
+            flag(*waiting_input),
+            flag(*waiting_run_proposal),
+            0,
+        ),
         AwaitResponse::ExecuteRun(handle) => told(Kind::ExecuteRun, handle.0, 0, 0),
         AwaitResponse::CancelSignalReceived => told(Kind::Cancelled, 0, 0, 0),
         AwaitResponse::EphemeralNotificationReady(id) => told(Kind::Ephemeral, id.0, 0, 0),
@@ -203,9 +212,7 @@ pub(crate) fn tell(reply: &Reply) -> Replied
         Reply::Run(run) => told(Kind::Run, run.handle.0, flag(run.replayed), 0),
         Reply::Ephemeral(id) => told(Kind::Ephemeral, id.0, 0, 0),
         Reply::Answer(answer) => tell_answer(answer),
-        Reply::Nothing | Reply::Bad | Reply::NoVm | Reply::Done => {
-            told(Kind::Nothing, 0, 0, 0)
-        },
+        Reply::Nothing | Reply::Bad | Reply::NoVm | Reply::Done => { told(Kind::Nothing, 0, 0, 0) },
     }
 }
 

@@ -3,3 +3,4 @@ pub mod Nodes
 pub mod Makes
 pub mod Values
 pub mod Callees
+pub mod Calls

@@ -15,13 +15,9 @@ pub struct AwaitCall {
 }
 
 impl VmCall for AwaitCall {
-    ghost use Rattle.invocation_vm.specs.Calls.{CallsFlatAwait};
-    ghost use Rattle.replies.specs.declared.reply.Reply.TheVariants as reply;
-    ghost use Rattle.await_trees.specs.declared.tree.UnresolvedFuture.TheVariants.{Single};
-    ghost use Rattle.scripts.specs.Called.{Tells};
-    ghost use Rattle.typed_calls.specs.Makes.{IsMade};
+    ghost use Rattle.typed_calls.specs.Calls.{AwaitsHandle};
 
-    ghost does = { λ it. IsMade (Tells reply.Awaited (CallsFlatAwait (Single (record { 0 = it.handle })))) };
+    ghost does = { λ it. AwaitsHandle it.handle };
 
     fn make(self, alloc: Global, vm: &mut CoreVM) -> Result<Reply, Status> {
         let future = UnresolvedFuture::Single(NotificationHandle(self.handle));
@@ -36,10 +32,9 @@ pub struct AwaitTreeCall<'a> {
 }
 
 impl<'a> VmCall for AwaitTreeCall<'a> {
-    ghost use Rattle.typed_calls.specs.Nodes.{AwaitsTree, FailsAsTree};
-    ghost use Rattle.typed_calls.specs.Makes.{MadeUnless};
+    ghost use Rattle.typed_calls.specs.Calls.{AwaitsNodes};
 
-    ghost does = { λ it. MadeUnless FailsAsTree (AwaitsTree it.nodes.now) };
+    ghost does = { λ it. AwaitsNodes it.nodes.now };
 
     fn make(self, alloc: Global, vm: &mut CoreVM) -> Result<Reply, Status> {
         let future = future_of(alloc, self.nodes)?;
@@ -54,11 +49,9 @@ pub struct TakeCall {
 }
 
 impl VmCall for TakeCall {
-    ghost use Rattle.vm_machine.specs.Takes.{take_step};
-    ghost use Rattle.scripts.specs.Called.{Answers};
-    ghost use Rattle.typed_calls.specs.Makes.{IsMade, taken};
+    ghost use Rattle.typed_calls.specs.Calls.{Takes};
 
-    ghost does = { λ it. IsMade (Answers taken (take_step it.handle)) };
+    ghost does = { λ it. Takes it.handle };
 
     fn make(self, alloc: Global, vm: &mut CoreVM) -> Result<Reply, Status> {
         Ok(taken(vm.take_notification(NotificationHandle(self.handle))))

@@ -123,13 +123,9 @@ pub struct CallCall<'a> {
 }
 
 impl<'a> VmCall for CallCall<'a> {
-    ghost use Rattle.vm_asks.specs.Asks.{call_command, call_handles};
-    ghost use Rattle.invocation_vm.specs.Calls.{CallsFor};
-    ghost use Rattle.scripts.specs.Called.{Tells};
-    ghost use Rattle.typed_calls.specs.Callees.{target_of, texts_of_call};
-    ghost use Rattle.typed_calls.specs.Makes.{MadeWith, handles};
+    ghost use Rattle.typed_calls.specs.Calls.{CallsHandler};
 
-    ghost does = { λ it outcome old new. MadeWith (texts_of_call it.target it.name.bytes.now) (Tells handles (CallsFor call_handles (call_command (target_of it.target) it.input.bytes.now it.name.bytes.now (record { unstable_serialization = it.unstable }) old.machine.version))) outcome old new };
+    ghost does = { λ it. CallsHandler it.target it.input.bytes.now it.name.bytes.now it.unstable };
 
     fn make(self, alloc: Global, vm: &mut CoreVM) -> Result<Reply, Status> {
         let Callee {
@@ -153,14 +149,9 @@ pub struct DeadlineCall<'a> {
 }
 
 impl<'a> VmCall for DeadlineCall<'a> {
-    ghost use Rattle.std.specs.Prelude.{[], ◌∷◌};
-    ghost use Rattle.vm_asks.specs.Asks.{call_command, deadline_handles, sleep_command};
-    ghost use Rattle.invocation_vm.specs.Calls.{CallsAllFor};
-    ghost use Rattle.scripts.specs.Called.{Tells};
-    ghost use Rattle.typed_calls.specs.Callees.{target_of, texts_of_call};
-    ghost use Rattle.typed_calls.specs.Makes.{MadeWith, all_handles};
+    ghost use Rattle.typed_calls.specs.Calls.{CallsWithDeadline};
 
-    ghost does = { λ it outcome old new. MadeWith (texts_of_call it.target it.name.bytes.now) (Tells all_handles (CallsAllFor deadline_handles (call_command (target_of it.target) it.input.bytes.now it.name.bytes.now (record { unstable_serialization = it.unstable }) old.machine.version) (sleep_command it.deadline_millis [] ∷ []))) outcome old new };
+    ghost does = { λ it. CallsWithDeadline it.target it.input.bytes.now it.deadline_millis it.name.bytes.now it.unstable };
 
     fn make(self, alloc: Global, vm: &mut CoreVM) -> Result<Reply, Status> {
         let Callee {
@@ -186,14 +177,9 @@ pub struct SendCall<'a> {
 }
 
 impl<'a> VmCall for SendCall<'a> {
-    ghost use Rattle.vm_asks.specs.Asks.{send_command, send_handle};
-    ghost use Rattle.invocation_vm.specs.Calls.{CallsFor};
-    ghost use Rattle.scripts.specs.Called.{Tells};
-    ghost use Rattle.typed_calls.specs.Callees.{target_of, texts_of_call};
-    ghost use Rattle.typed_calls.specs.Given.{millis_in};
-    ghost use Rattle.typed_calls.specs.Makes.{MadeWith, sent};
+    ghost use Rattle.typed_calls.specs.Calls.{SendsTo};
 
-    ghost does = { λ it outcome old new. MadeWith (texts_of_call it.target it.name.bytes.now) (Tells sent (CallsFor send_handle (send_command (target_of it.target) it.input.bytes.now (millis_in it.at) it.name.bytes.now (record { unstable_serialization = it.unstable }) old.machine.version))) outcome old new };
+    ghost does = { λ it. SendsTo it.target it.input.bytes.now it.at it.name.bytes.now it.unstable };
 
     fn make(self, alloc: Global, vm: &mut CoreVM) -> Result<Reply, Status> {
         let Callee {

@@ -16,13 +16,9 @@ pub struct SleepCall<'a> {
 }
 
 impl<'a> VmCall for SleepCall<'a> {
-    ghost use Rattle.std.specs.Prelude.{◌∷◌, []};
-    ghost use Rattle.vm_asks.specs.Asks.{sleep_command};
-    ghost use Rattle.invocation_vm.specs.Calls.{CallsCommand};
-    ghost use Rattle.scripts.specs.Called.{Tells};
-    ghost use Rattle.typed_calls.specs.Makes.{MadeWith, handle};
+    ghost use Rattle.typed_calls.specs.Calls.{Sleeps};
 
-    ghost does = { λ sleep. MadeWith (sleep.name.bytes.now ∷ []) (Tells handle (CallsCommand (sleep_command sleep.wake_up_millis sleep.name.bytes.now))) };
+    ghost does = { λ it. Sleeps it.name.bytes.now it.wake_up_millis };
 
     fn make(self, alloc: Global, vm: &mut CoreVM) -> Result<Reply, Status> {
         let name = string_of(alloc, self.name.bytes)?;
@@ -35,11 +31,9 @@ impl<'a> VmCall for SleepCall<'a> {
 pub struct AwakeableCall;
 
 impl VmCall for AwakeableCall {
-    ghost use Rattle.invocation_vm.specs.Calls.{new_awakeable_step};
-    ghost use Rattle.scripts.specs.Called.{Answers};
-    ghost use Rattle.typed_calls.specs.Makes.{IsMade, awakeable};
+    ghost use Rattle.typed_calls.specs.Calls.{MakesAwakeable};
 
-    ghost does = { λ it. IsMade (Answers awakeable new_awakeable_step) };
+    ghost does = { λ it. MakesAwakeable };
 
     fn make(self, alloc: Global, vm: &mut CoreVM) -> Result<Reply, Status> {
         Ok(awakeable(vm.sys_awakeable()))
@@ -53,12 +47,9 @@ pub struct SignalCall<'a> {
 }
 
 impl<'a> VmCall for SignalCall<'a> {
-    ghost use Rattle.std.specs.Prelude.{◌∷◌, []};
-    ghost use Rattle.vm_machine.specs.Signals.{signal_step};
-    ghost use Rattle.scripts.specs.Called.{Answers};
-    ghost use Rattle.typed_calls.specs.Makes.{MadeWith, handle};
+    ghost use Rattle.typed_calls.specs.Calls.{MakesSignal};
 
-    ghost does = { λ signal. MadeWith (signal.name.bytes.now ∷ []) (Answers handle (signal_step signal.name.bytes.now)) };
+    ghost does = { λ it. MakesSignal it.name.bytes.now };
 
     fn make(self, alloc: Global, vm: &mut CoreVM) -> Result<Reply, Status> {
         let name = string_of(alloc, self.name.bytes)?;
@@ -73,13 +64,9 @@ pub struct GetPromiseCall<'a> {
 }
 
 impl<'a> VmCall for GetPromiseCall<'a> {
-    ghost use Rattle.std.specs.Prelude.{◌∷◌, []};
-    ghost use Rattle.vm_asks.specs.Asks.{get_promise_command};
-    ghost use Rattle.invocation_vm.specs.Calls.{CallsCommand};
-    ghost use Rattle.scripts.specs.Called.{Tells};
-    ghost use Rattle.typed_calls.specs.Makes.{MadeWith, handle};
+    ghost use Rattle.typed_calls.specs.Calls.{GetsPromise};
 
-    ghost does = { λ it. MadeWith (it.key.bytes.now ∷ []) (Tells handle (CallsCommand (get_promise_command it.key.bytes.now))) };
+    ghost does = { λ it. GetsPromise it.key.bytes.now };
 
     fn make(self, alloc: Global, vm: &mut CoreVM) -> Result<Reply, Status> {
         let key = string_of(alloc, self.key.bytes)?;
@@ -94,13 +81,9 @@ pub struct PeekPromiseCall<'a> {
 }
 
 impl<'a> VmCall for PeekPromiseCall<'a> {
-    ghost use Rattle.std.specs.Prelude.{◌∷◌, []};
-    ghost use Rattle.vm_asks.specs.Asks.{peek_promise_command};
-    ghost use Rattle.invocation_vm.specs.Calls.{CallsCommand};
-    ghost use Rattle.scripts.specs.Called.{Tells};
-    ghost use Rattle.typed_calls.specs.Makes.{MadeWith, handle};
+    ghost use Rattle.typed_calls.specs.Calls.{PeeksPromise};
 
-    ghost does = { λ it. MadeWith (it.key.bytes.now ∷ []) (Tells handle (CallsCommand (peek_promise_command it.key.bytes.now))) };
+    ghost does = { λ it. PeeksPromise it.key.bytes.now };
 
     fn make(self, alloc: Global, vm: &mut CoreVM) -> Result<Reply, Status> {
         let key = string_of(alloc, self.key.bytes)?;
@@ -117,14 +100,9 @@ pub struct CompletePromiseCall<'a> {
 }
 
 impl<'a> VmCall for CompletePromiseCall<'a> {
-    ghost use Rattle.std.specs.Prelude.{◌∷◌, []};
-    ghost use Rattle.vm_asks.specs.Asks.{complete_promise_command};
-    ghost use Rattle.invocation_vm.specs.Calls.{CallsCommand};
-    ghost use Rattle.typed_calls.specs.Values.{texts_of_value, value_of};
-    ghost use Rattle.scripts.specs.Called.{Tells};
-    ghost use Rattle.typed_calls.specs.Makes.{MadeWith, handle};
+    ghost use Rattle.typed_calls.specs.Calls.{CompletesPromise};
 
-    ghost does = { λ it outcome old new. MadeWith (it.key.bytes.now ∷ texts_of_value it.value) (Tells handle (CallsCommand (complete_promise_command it.key.bytes.now (value_of it.value) (record { unstable_serialization = it.unstable }) old.machine.version))) outcome old new };
+    ghost does = { λ it. CompletesPromise it.key.bytes.now it.value it.unstable };
 
     fn make(self, alloc: Global, vm: &mut CoreVM) -> Result<Reply, Status> {
         let key = string_of(alloc, self.key.bytes)?;
@@ -147,14 +125,9 @@ pub struct CompleteAwakeableCall<'a> {
 }
 
 impl<'a> VmCall for CompleteAwakeableCall<'a> {
-    ghost use Rattle.std.specs.Prelude.{◌∷◌, []};
-    ghost use Rattle.vm_asks.specs.Asks.{complete_awakeable_command};
-    ghost use Rattle.invocation_vm.specs.Calls.{CallsUnit};
-    ghost use Rattle.typed_calls.specs.Values.{texts_of_value, value_of};
-    ghost use Rattle.scripts.specs.Called.{Tells};
-    ghost use Rattle.typed_calls.specs.Makes.{MadeWith, nothing};
+    ghost use Rattle.typed_calls.specs.Calls.{CompletesAwakeable};
 
-    ghost does = { λ it outcome old new. MadeWith (it.id.bytes.now ∷ texts_of_value it.value) (Tells nothing (CallsUnit (complete_awakeable_command it.id.bytes.now (value_of it.value) (record { unstable_serialization = it.unstable }) old.machine.version))) outcome old new };
+    ghost does = { λ it. CompletesAwakeable it.id.bytes.now it.value it.unstable };
 
     fn make(self, alloc: Global, vm: &mut CoreVM) -> Result<Reply, Status> {
         let id = string_of(alloc, self.id.bytes)?;
@@ -177,14 +150,9 @@ pub struct CompleteSignalCall<'a> {
 }
 
 impl<'a> VmCall for CompleteSignalCall<'a> {
-    ghost use Rattle.std.specs.Prelude.{◌∷◌, []};
-    ghost use Rattle.vm_asks.specs.Asks.{complete_signal_command};
-    ghost use Rattle.invocation_vm.specs.Calls.{CallsUnit};
-    ghost use Rattle.typed_calls.specs.Values.{texts_of_value, value_of};
-    ghost use Rattle.scripts.specs.Called.{Tells};
-    ghost use Rattle.typed_calls.specs.Makes.{MadeWith, nothing};
+    ghost use Rattle.typed_calls.specs.Calls.{CompletesSignal};
 
-    ghost does = { λ it outcome old new. MadeWith (it.target.bytes.now ∷ it.name.bytes.now ∷ texts_of_value it.value) (Tells nothing (CallsUnit (complete_signal_command it.target.bytes.now it.name.bytes.now (value_of it.value) old.machine.version))) outcome old new };
+    ghost does = { λ it. CompletesSignal it.target.bytes.now it.name.bytes.now it.value };
 
     fn make(self, alloc: Global, vm: &mut CoreVM) -> Result<Reply, Status> {
         let (target, name) = two_strings(alloc, self.target.bytes, self.name.bytes)?;
@@ -206,13 +174,9 @@ pub struct CancelCall<'a> {
 }
 
 impl<'a> VmCall for CancelCall<'a> {
-    ghost use Rattle.std.specs.Prelude.{◌∷◌, []};
-    ghost use Rattle.vm_asks.specs.Asks.{cancel_invocation_command};
-    ghost use Rattle.invocation_vm.specs.Calls.{CallsUnit};
-    ghost use Rattle.scripts.specs.Called.{Tells};
-    ghost use Rattle.typed_calls.specs.Makes.{MadeWith, nothing};
+    ghost use Rattle.typed_calls.specs.Calls.{CancelsInvocation};
 
-    ghost does = { λ it. MadeWith (it.target.bytes.now ∷ []) (Tells nothing (CallsUnit (cancel_invocation_command it.target.bytes.now))) };
+    ghost does = { λ it. CancelsInvocation it.target.bytes.now };
 
     fn make(self, alloc: Global, vm: &mut CoreVM) -> Result<Reply, Status> {
         let target = string_of(alloc, self.target.bytes)?;
@@ -228,13 +192,9 @@ pub struct WriteOutputCall<'a> {
 }
 
 impl<'a> VmCall for WriteOutputCall<'a> {
-    ghost use Rattle.vm_asks.specs.Asks.{output_command};
-    ghost use Rattle.invocation_vm.specs.Calls.{CallsUnit};
-    ghost use Rattle.typed_calls.specs.Values.{texts_of_value, value_of};
-    ghost use Rattle.scripts.specs.Called.{Tells};
-    ghost use Rattle.typed_calls.specs.Makes.{MadeWith, nothing};
+    ghost use Rattle.typed_calls.specs.Calls.{WritesOutput};
 
-    ghost does = { λ it outcome old new. MadeWith (texts_of_value it.value) (Tells nothing (CallsUnit (output_command (value_of it.value) (record { unstable_serialization = it.unstable }) old.machine.version))) outcome old new };
+    ghost does = { λ it. WritesOutput it.value it.unstable };
 
     fn make(self, alloc: Global, vm: &mut CoreVM) -> Result<Reply, Status> {
         let value = value_of(alloc, &self.value)?;
@@ -247,11 +207,9 @@ impl<'a> VmCall for WriteOutputCall<'a> {
 pub struct EndCall;
 
 impl VmCall for EndCall {
-    ghost use Rattle.vm_machine.specs.Inputs.{end_step};
-    ghost use Rattle.scripts.specs.Called.{Answers};
-    ghost use Rattle.typed_calls.specs.Makes.{IsMade, nothing};
+    ghost use Rattle.typed_calls.specs.Calls.{Ends};
 
-    ghost does = { λ it. IsMade (Answers nothing end_step) };
+    ghost does = { λ it. Ends };
 
     fn make(self, alloc: Global, vm: &mut CoreVM) -> Result<Reply, Status> {
         Ok(ended(vm.sys_end()))

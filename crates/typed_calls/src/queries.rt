@@ -12,11 +12,9 @@ use vm_parts::Answer;
 pub struct HeadCall;
 
 impl VmCall for HeadCall {
-    ghost use Rattle.std.specs.Prelude.{◌≡◌};
-    ghost use Rattle.scripts.specs.Called.{TellsHead};
-    ghost use Rattle.typed_calls.specs.Makes.{IsMade};
+    ghost use Rattle.typed_calls.specs.Calls.{ReadsHead};
 
-    ghost does = { λ it. IsMade (λ told old new. TellsHead old.machine.version told × (new ≡ old)) };
+    ghost does = { λ it. ReadsHead };
 
     fn make(self, alloc: Global, vm: &mut CoreVM) -> Result<Reply, Status> {
         Ok(head(vm.get_response_head()))
@@ -28,12 +26,9 @@ impl VmCall for HeadCall {
 pub struct CloseCall;
 
 impl VmCall for CloseCall {
-    ghost use Rattle.std.specs.Prelude.{[]};
-    ghost use Rattle.invocation_vm.specs.Views.{after_closing};
-    ghost use Rattle.scripts.specs.Called.{Feeds};
-    ghost use Rattle.typed_calls.specs.Makes.{IsMade};
+    ghost use Rattle.typed_calls.specs.Calls.{ClosesInput};
 
-    ghost does = { λ it. IsMade (λ told old new. Feeds [] (after_closing old) told old new) };
+    ghost does = { λ it. ClosesInput };
 
     fn make(self, alloc: Global, vm: &mut CoreVM) -> Result<Reply, Status> {
         Ok(fed(vm.notify_input_closed()))
@@ -45,10 +40,9 @@ impl VmCall for CloseCall {
 pub struct OutputCall;
 
 impl VmCall for OutputCall {
-    ghost use Rattle.scripts.specs.Called.{Drains};
-    ghost use Rattle.typed_calls.specs.Makes.{IsMade};
+    ghost use Rattle.typed_calls.specs.Calls.{TakesOutputOf};
 
-    ghost does = { λ it. IsMade Drains };
+    ghost does = { λ it. TakesOutputOf };
 
     fn make(self, alloc: Global, vm: &mut CoreVM) -> Result<Reply, Status> {
         Ok(output(vm.take_output()))
@@ -60,11 +54,9 @@ impl VmCall for OutputCall {
 pub struct ReadyCall;
 
 impl VmCall for ReadyCall {
-    ghost use Rattle.std.specs.Prelude.{◌≡◌};
-    ghost use Rattle.scripts.specs.Called.{TellsReady};
-    ghost use Rattle.typed_calls.specs.Makes.{IsMade};
+    ghost use Rattle.typed_calls.specs.Calls.{AsksReady};
 
-    ghost does = { λ it. IsMade (λ told old new. TellsReady old.machine told × (new ≡ old)) };
+    ghost does = { λ it. AsksReady };
 
     fn make(self, alloc: Global, vm: &mut CoreVM) -> Result<Reply, Status> {
         Ok(ready(vm.is_ready_to_execute()))
@@ -78,13 +70,9 @@ pub struct CompletedCall {
 }
 
 impl VmCall for CompletedCall {
-    ghost use Rattle.std.specs.Prelude.{◌≡◌};
-    ghost use Rattle.vm_machine.specs.Takes.{is_completed};
-    ghost use Rattle.replies.specs.declared.reply.Reply.TheVariants as reply;
-    ghost use Rattle.vm_types.specs.declared.steps.Answer.TheVariants as answer;
-    ghost use Rattle.typed_calls.specs.Makes.{IsMade};
+    ghost use Rattle.typed_calls.specs.Calls.{AsksCompleted};
 
-    ghost does = { λ it. IsMade (λ told old new. (told ≡ reply.Answer (answer.Completed (is_completed it.handle old.machine))) × (new ≡ old)) };
+    ghost does = { λ it. AsksCompleted it.handle };
 
     fn make(self, alloc: Global, vm: &mut CoreVM) -> Result<Reply, Status> {
         let is = vm.is_completed(NotificationHandle(self.handle));
@@ -97,12 +85,9 @@ impl VmCall for CompletedCall {
 pub struct StateCall;
 
 impl VmCall for StateCall {
-    ghost use Rattle.std.specs.Prelude.{◌≡◌};
-    ghost use Rattle.vm_machine.specs.Queries.{state_of};
-    ghost use Rattle.replies.specs.declared.reply.Reply.TheVariants as reply;
-    ghost use Rattle.typed_calls.specs.Makes.{IsMade};
+    ghost use Rattle.typed_calls.specs.Calls.{AsksState};
 
-    ghost does = { λ it. IsMade (λ told old new. (told ≡ reply.State (state_of old.machine)) × (new ≡ old)) };
+    ghost does = { λ it. AsksState };
 
     fn make(self, alloc: Global, vm: &mut CoreVM) -> Result<Reply, Status> {
         Ok(Reply::State(vm.state()))
@@ -114,12 +99,9 @@ impl VmCall for StateCall {
 pub struct IndexCall;
 
 impl VmCall for IndexCall {
-    ghost use Rattle.std.specs.Prelude.{◌≡◌};
-    ghost use Rattle.vm_machine.specs.Queries.{last_index};
-    ghost use Rattle.replies.specs.declared.reply.Reply.TheVariants as reply;
-    ghost use Rattle.typed_calls.specs.Makes.{IsMade};
+    ghost use Rattle.typed_calls.specs.Calls.{AsksIndex};
 
-    ghost does = { λ it. IsMade (λ told old new. (told ≡ reply.Index (last_index old.machine.counters.command)) × (new ≡ old)) };
+    ghost does = { λ it. AsksIndex };
 
     fn make(self, alloc: Global, vm: &mut CoreVM) -> Result<Reply, Status> {
         Ok(Reply::Index(vm.last_command_index()))
@@ -131,11 +113,9 @@ impl VmCall for IndexCall {
 pub struct InputCall;
 
 impl VmCall for InputCall {
-    ghost use Rattle.vm_machine.specs.Inputs.{input_step};
-    ghost use Rattle.scripts.specs.Called.{Answers};
-    ghost use Rattle.typed_calls.specs.Makes.{IsMade, input};
+    ghost use Rattle.typed_calls.specs.Calls.{ReadsInput};
 
-    ghost does = { λ it. IsMade (Answers input input_step) };
+    ghost does = { λ it. ReadsInput };
 
     fn make(self, alloc: Global, vm: &mut CoreVM) -> Result<Reply, Status> {
         Ok(input(vm.sys_input()))

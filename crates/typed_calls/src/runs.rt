@@ -20,13 +20,9 @@ pub struct RunCall<'a> {
 }
 
 impl<'a> VmCall for RunCall<'a> {
-    ghost use Rattle.std.specs.Prelude.{◌∷◌, []};
-    ghost use Rattle.invocation_vm.specs.Calls.{CallsRun};
-    ghost use Rattle.replies.specs.declared.reply.Reply.TheVariants as reply;
-    ghost use Rattle.scripts.specs.Called.{Tells};
-    ghost use Rattle.typed_calls.specs.Makes.{MadeWith};
+    ghost use Rattle.typed_calls.specs.Calls.{Runs};
 
-    ghost does = { λ it. MadeWith (it.name.bytes.now ∷ []) (Tells reply.Run (CallsRun it.name.bytes.now)) };
+    ghost does = { λ it. Runs it.name.bytes.now };
 
     fn make(self, alloc: Global, vm: &mut CoreVM) -> Result<Reply, Status> {
         let name = string_of(alloc, self.name.bytes)?;
@@ -52,14 +48,9 @@ pub struct ProposeCall<'a> {
 }
 
 impl<'a> VmCall for ProposeCall<'a> {
-    ghost use Rattle.invocation_vm.specs.Calls.{CallsProposal};
-    ghost use Rattle.line_parts.specs.Results.{settled};
-    ghost use Rattle.retries.specs.declared.policy.RetryPolicy.TheVariants.{Infinite};
-    ghost use Rattle.scripts.specs.Called.{Tells};
-    ghost use Rattle.typed_calls.specs.Makes.{MadeWith, nothing};
-    ghost use Rattle.typed_calls.specs.Values.{texts_of_value, value_of};
+    ghost use Rattle.typed_calls.specs.Calls.{Proposes};
 
-    ghost does = { λ it. MadeWith (texts_of_value it.value) (Tells nothing (CallsProposal (record { 0 = it.handle }) (settled (value_of it.value)) Infinite)) };
+    ghost does = { λ it. Proposes it.handle it.value };
 
     fn make(self, alloc: Global, vm: &mut CoreVM) -> Result<Reply, Status> {
         let value = value_of(alloc, &self.value)?;

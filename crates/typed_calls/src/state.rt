@@ -18,13 +18,9 @@ pub struct SetCall<'a> {
 }
 
 impl<'a> VmCall for SetCall<'a> {
-    ghost use Rattle.std.specs.Prelude.{◌∷◌, []};
-    ghost use Rattle.vm_asks.specs.Asks.{set_state_command};
-    ghost use Rattle.invocation_vm.specs.Calls.{CallsUnit};
-    ghost use Rattle.scripts.specs.Called.{Tells};
-    ghost use Rattle.typed_calls.specs.Makes.{MadeWith, nothing};
+    ghost use Rattle.typed_calls.specs.Calls.{SetsState};
 
-    ghost does = { λ it. MadeWith (it.key.bytes.now ∷ it.name.bytes.now ∷ []) (Tells nothing (CallsUnit (set_state_command it.key.bytes.now it.value.bytes.now it.name.bytes.now (record { unstable_serialization = it.unstable })))) };
+    ghost does = { λ it. SetsState it.key.bytes.now it.value.bytes.now it.name.bytes.now it.unstable };
 
     fn make(self, alloc: Global, vm: &mut CoreVM) -> Result<Reply, Status> {
         let (key, name) = two_strings(alloc, self.key.bytes, self.name.bytes)?;
@@ -50,13 +46,9 @@ pub struct ClearCall<'a> {
 }
 
 impl<'a> VmCall for ClearCall<'a> {
-    ghost use Rattle.std.specs.Prelude.{◌∷◌, []};
-    ghost use Rattle.vm_asks.specs.Asks.{clear_state_command};
-    ghost use Rattle.invocation_vm.specs.Calls.{CallsUnit};
-    ghost use Rattle.scripts.specs.Called.{Tells};
-    ghost use Rattle.typed_calls.specs.Makes.{MadeWith, nothing};
+    ghost use Rattle.typed_calls.specs.Calls.{ClearsState};
 
-    ghost does = { λ it. MadeWith (it.key.bytes.now ∷ it.name.bytes.now ∷ []) (Tells nothing (CallsUnit (clear_state_command it.key.bytes.now it.name.bytes.now))) };
+    ghost does = { λ it. ClearsState it.key.bytes.now it.name.bytes.now };
 
     fn make(self, alloc: Global, vm: &mut CoreVM) -> Result<Reply, Status> {
         let (key, name) = two_strings(alloc, self.key.bytes, self.name.bytes)?;
@@ -71,13 +63,9 @@ pub struct ClearAllCall<'a> {
 }
 
 impl<'a> VmCall for ClearAllCall<'a> {
-    ghost use Rattle.std.specs.Prelude.{◌∷◌, []};
-    ghost use Rattle.vm_asks.specs.Asks.{clear_all_state_command};
-    ghost use Rattle.invocation_vm.specs.Calls.{CallsUnit};
-    ghost use Rattle.scripts.specs.Called.{Tells};
-    ghost use Rattle.typed_calls.specs.Makes.{MadeWith, nothing};
+    ghost use Rattle.typed_calls.specs.Calls.{ClearsAllState};
 
-    ghost does = { λ it. MadeWith (it.name.bytes.now ∷ []) (Tells nothing (CallsUnit (clear_all_state_command it.name.bytes.now))) };
+    ghost does = { λ it. ClearsAllState it.name.bytes.now };
 
     fn make(self, alloc: Global, vm: &mut CoreVM) -> Result<Reply, Status> {
         let name = string_of(alloc, self.name.bytes)?;
@@ -93,13 +81,9 @@ pub struct GetCall<'a> {
 }
 
 impl<'a> VmCall for GetCall<'a> {
-    ghost use Rattle.std.specs.Prelude.{◌∷◌, []};
-    ghost use Rattle.invocation_vm.specs.Calls.{CallsRead};
-    ghost use Rattle.vm_asks.specs.declared.state_read.StateRead.TheVariants as reads;
-    ghost use Rattle.scripts.specs.Called.{Tells};
-    ghost use Rattle.typed_calls.specs.Makes.{MadeWith, handle};
+    ghost use Rattle.typed_calls.specs.Calls.{ReadsState};
 
-    ghost does = { λ it. MadeWith (it.key.bytes.now ∷ it.name.bytes.now ∷ []) (Tells handle (CallsRead (reads.Value it.key.bytes.now it.name.bytes.now))) };
+    ghost does = { λ it. ReadsState it.key.bytes.now it.name.bytes.now };
 
     fn make(self, alloc: Global, vm: &mut CoreVM) -> Result<Reply, Status> {
         let (key, name) = two_strings(alloc, self.key.bytes, self.name.bytes)?;
@@ -114,13 +98,9 @@ pub struct GetKeysCall<'a> {
 }
 
 impl<'a> VmCall for GetKeysCall<'a> {
-    ghost use Rattle.std.specs.Prelude.{◌∷◌, []};
-    ghost use Rattle.invocation_vm.specs.Calls.{CallsRead};
-    ghost use Rattle.vm_asks.specs.declared.state_read.StateRead.TheVariants as reads;
-    ghost use Rattle.scripts.specs.Called.{Tells};
-    ghost use Rattle.typed_calls.specs.Makes.{MadeWith, handle};
+    ghost use Rattle.typed_calls.specs.Calls.{ReadsKeys};
 
-    ghost does = { λ it. MadeWith (it.name.bytes.now ∷ []) (Tells handle (CallsRead (reads.Keys it.name.bytes.now))) };
+    ghost does = { λ it. ReadsKeys it.name.bytes.now };
 
     fn make(self, alloc: Global, vm: &mut CoreVM) -> Result<Reply, Status> {
         let name = string_of(alloc, self.name.bytes)?;
@@ -135,13 +115,9 @@ pub struct EphemeralGetCall<'a> {
 }
 
 impl<'a> VmCall for EphemeralGetCall<'a> {
-    ghost use Rattle.std.specs.Prelude.{◌∷◌, []};
-    ghost use Rattle.vm_machine.specs.Ephemerals.{ephemeral_step};
-    ghost use Rattle.replies.specs.declared.reply.Reply.TheVariants as reply;
-    ghost use Rattle.scripts.specs.Called.{Answers};
-    ghost use Rattle.typed_calls.specs.Makes.{MadeWith};
+    ghost use Rattle.typed_calls.specs.Calls.{ReadsEphemerally};
 
-    ghost does = { λ it. MadeWith (it.key.bytes.now ∷ []) (Answers reply.Ephemeral (ephemeral_step it.key.bytes.now)) };
+    ghost does = { λ it. ReadsEphemerally it.key.bytes.now };
 
     fn make(self, alloc: Global, vm: &mut CoreVM) -> Result<Reply, Status> {
         let key = string_of(alloc, self.key.bytes)?;
@@ -156,11 +132,9 @@ pub struct TakeEphemeralCall {
 }
 
 impl VmCall for TakeEphemeralCall {
-    ghost use Rattle.vm_machine.specs.Ephemerals.{take_ephemeral_step};
-    ghost use Rattle.scripts.specs.Called.{Answers};
-    ghost use Rattle.typed_calls.specs.Makes.{IsMade, taken};
+    ghost use Rattle.typed_calls.specs.Calls.{TakesEphemeral};
 
-    ghost does = { λ it. IsMade (Answers taken (take_ephemeral_step it.id)) };
+    ghost does = { λ it. TakesEphemeral it.id };
 
     fn make(self, alloc: Global, vm: &mut CoreVM) -> Result<Reply, Status> {
         Ok(taken(vm.take_ephemeral_notification(EphemeralCompletionId(self.id))))
