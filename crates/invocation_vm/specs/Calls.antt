@@ -12,7 +12,7 @@ use Rattle.retries.specs.declared.policy.RetryPolicy.{RetryPolicy}
 use Rattle.runs.specs.declared.types.RunExitResult.{RunExitResult}
 use Rattle.runs.specs.declared.types.RunHandle.{RunHandle}
 use Rattle.await_trees.specs.declared.tree.UnresolvedFuture.{UnresolvedFuture}
-use Rattle.vm_asks.specs.declared.asks.Command.{Command}
+use Rattle.vm_asks.specs.declared.command.Command.{Command}
 use Rattle.vm_machine.specs.declared.machine.Machine.{Machine}
 use Rattle.vm_awaits.specs.Awaits.{Awaits}
 use Rattle.vm_awaits.specs.Cancels.{AwaitsWhole}

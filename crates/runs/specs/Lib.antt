@@ -2,3 +2,4 @@ pub mod Firsts
 pub mod Kept
 pub mod Pending
 pub mod Settling
+pub mod Same

@@ -3,6 +3,7 @@
 
 pub mod kept;
 pub mod run_state;
+mod same;
 pub mod settling;
 pub mod types;
 

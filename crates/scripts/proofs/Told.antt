@@ -14,7 +14,7 @@ use Rattle.vm_machine.specs.declared.machine.Machine.{Machine}
 use Rattle.vm_machine.specs.Outcomes.{Does, Outcome, called}
 use Rattle.invocation_vm.specs.declared.core_vm.CoreVM.{CoreVM}
 use Rattle.vm_asks.specs.declared.asks.AnswerKind.{AnswerKind}
-use Rattle.vm_asks.specs.declared.asks.Command.{Command}
+use Rattle.vm_asks.specs.declared.command.Command.{Command}
 use Rattle.vm_asks.specs.Asks.{answer_by}
 use Rattle.invocation_vm.specs.Calls.{CallsAll, CallsFlatAwait, CallsProposal, CallsRun}
 use Rattle.invocation_vm.specs.Views.{View, Leaves, TakesOutput}

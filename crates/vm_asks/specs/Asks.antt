@@ -1,5 +1,5 @@
 -- What each step of a handler asks of the machine: one table over steps. A command is given without its numbers.
-use Rattle.std.specs.Prelude.{ℕ, zero, suc, ◌+◌, ◌<◌, ◌≤◌, ◌^◌, ◌/◌, Bool, true, false, ◌&&◌, not, nat_lt, min, if◌then◌else◌, List, [], ◌∷◌, Option, Some, None}
+use Rattle.std.specs.Prelude.{ℕ, zero, suc, ◌+◌, ◌<◌, ◌≤◌, ◌^◌, ◌/◌, Bool, true, false, ◌&&◌, not, nat_lt, min, if◌then◌else◌, List, [], ◌∷◌, Option, Some, None, refl}
 use Rattle.std.specs.Duration.{as_nanos}
 use Rattle.std.specs.Option.{option_or}
 use Rattle.std.specs.declared.time.Duration.{Duration}
@@ -8,6 +8,7 @@ use Rattle.journal_errors.specs.declared.faults.NamedFault.{NamedFault}
 use Rattle.journal_errors.specs.declared.faults.NamedFault.TheVariants as fault
 use Rattle.journal_calls.specs.declared.invocations.InvocationTarget.{InvocationTarget}
 use Rattle.journal_calls.specs.declared.invocations.InvocationTarget.TheVariants as target
+use Rattle.journal_messages.specs.Commands.{IsCommand}
 use Rattle.journal_messages.specs.declared.message.Message.{Message}
 use Rattle.journal_messages.specs.declared.message.Message.TheVariants as message
 use Rattle.journal_values.specs.declared.parts.ValueOrFailure.{ValueOrFailure}
@@ -33,7 +34,7 @@ use Rattle.vm_asks.specs.declared.asks.AnswerKind.{AnswerKind}
 use Rattle.vm_asks.specs.declared.asks.AnswerKind.TheVariants as kind
 use Rattle.vm_asks.specs.declared.asks.Ask.{Ask}
 use Rattle.vm_asks.specs.declared.asks.Ask.TheVariants as ask
-use Rattle.vm_asks.specs.declared.asks.Command.{Command}
+use Rattle.vm_asks.specs.declared.command.Command.{Command}
 use Rattle.vm_asks.specs.declared.state_read.StateRead.TheVariants as reads
 use Rattle.journal_errors.specs.Versions.{is_from_v6, is_from_v7}
 use Rattle.vm_asks.specs.Requests.{ids_of}
@@ -90,8 +91,8 @@ target_fault target version =
 -- ---- commands
 
 -- a command that no argument refuses
-abbrev pub allowed : Message → Bool → Command
-allowed m unstable = record { refusal = None; message = m; unstable = unstable }
+abbrev pub allowed : (m : Message) → Bool → IsCommand m → Command
+allowed m unstable is = record { refusal = None; message = m; unstable = unstable; is_command = is }
 
 -- a sleep to a time in whole milliseconds
 abbrev pub sleep_command : ℕ → List ℕ → Command
@@ -99,6 +100,7 @@ sleep_command millis name = record {
   refusal = time_fault millis;
   message = message.Sleep (record { wake_up_time = min millis 18446744073709551615; result_completion_id = 0; name = name });
   unstable = false;
+  is_command = refl;
 }
 
 -- the handler's output
@@ -107,19 +109,20 @@ output_command value options version = record {
   refusal = value_fault value version;
   message = message.Output (record { result = value_message value });
   unstable = options.unstable_serialization;
+  is_command = refl;
 }
 
 -- a state key is set
 abbrev pub set_state_command : List ℕ → List ℕ → List ℕ → PayloadOptions → Command
-set_state_command key value name options = allowed (message.SetState (record { name = name; key = key; value = value })) options.unstable_serialization
+set_state_command key value name options = allowed (message.SetState (record { name = name; key = key; value = value })) options.unstable_serialization refl
 
 -- a state key is cleared
 abbrev pub clear_state_command : List ℕ → List ℕ → Command
-clear_state_command key name = allowed (message.ClearState (record { name = name; key = key })) false
+clear_state_command key name = allowed (message.ClearState (record { name = name; key = key })) false refl
 
 -- all state keys are cleared
 abbrev pub clear_all_state_command : List ℕ → Command
-clear_all_state_command name = allowed (message.ClearAllState (record { name = name })) false
+clear_all_state_command name = allowed (message.ClearAllState (record { name = name })) false refl
 
 -- an awakeable is completed
 abbrev pub complete_awakeable_command : List ℕ → NonEmptyValue → PayloadOptions → Version → Command
@@ -127,6 +130,7 @@ complete_awakeable_command id value options version = record {
   refusal = value_fault value version;
   message = message.CompleteAwakeable (record { awakeable_id = id; result = value_message value });
   unstable = options.unstable_serialization;
+  is_command = refl;
 }
 
 -- a result, as a signal's
@@ -140,19 +144,20 @@ complete_signal_command target signal value version = record {
   refusal = value_fault value version;
   message = message.SendSignal (record { target_invocation_id = target; signal = Name signal; result = signal_result (value_message value) });
   unstable = false;
+  is_command = refl;
 }
 
 -- the cancel signal is sent
 abbrev pub cancel_invocation_command : List ℕ → Command
-cancel_invocation_command target = allowed (message.SendSignal (record { target_invocation_id = target; signal = Index 1; result = sent.Void })) false
+cancel_invocation_command target = allowed (message.SendSignal (record { target_invocation_id = target; signal = Index 1; result = sent.Void })) false refl
 
 -- a promise of the workflow is awaited
 abbrev pub get_promise_command : List ℕ → Command
-get_promise_command key = allowed (message.GetPromise (record { key = key; result_completion_id = 0 })) false
+get_promise_command key = allowed (message.GetPromise (record { key = key; result_completion_id = 0 })) false refl
 
 -- the handler looks whether a promise of the workflow is completed
 abbrev pub peek_promise_command : List ℕ → Command
-peek_promise_command key = allowed (message.PeekPromise (record { key = key; result_completion_id = 0 })) false
+peek_promise_command key = allowed (message.PeekPromise (record { key = key; result_completion_id = 0 })) false refl
 
 -- a promise of the workflow is completed
 abbrev pub complete_promise_command : List ℕ → NonEmptyValue → PayloadOptions → Version → Command
@@ -160,11 +165,12 @@ complete_promise_command key value options version = record {
   refusal = value_fault value version;
   message = message.CompletePromise (record { key = key; completion = value_message value; result_completion_id = 0 });
   unstable = options.unstable_serialization;
+  is_command = refl;
 }
 
 -- an effect is executed outside, and its result is proposed
 abbrev pub run_command : List ℕ → Command
-run_command name = allowed (message.Run (record { name = name; result_completion_id = 0 })) false
+run_command name = allowed (message.Run (record { name = name; result_completion_id = 0 })) false refl
 
 -- the scope of an invocation that is named by its workflow or its idempotency key
 abbrev pub scope_of : InvocationTarget → Option (List ℕ)
@@ -178,6 +184,7 @@ attach_invocation_command target version = record {
   refusal = scope_fault (scope_of target) version;
   message = message.AttachInvocation (record { target = target; result_completion_id = 0 });
   unstable = false;
+  is_command = refl;
 }
 
 -- the handler looks whether an invocation has an output
@@ -186,6 +193,7 @@ get_invocation_output_command target version = record {
   refusal = scope_fault (scope_of target) version;
   message = message.GetInvocationOutput (record { target = target; result_completion_id = 0 });
   unstable = false;
+  is_command = refl;
 }
 
 -- an absent name is empty
@@ -214,6 +222,7 @@ call_command target input name options version = record {
   refusal = target_fault target version;
   message = message.Call (record { request = request_of target input name; result_completion_id = 0 });
   unstable = options.unstable_serialization;
+  is_command = refl;
 }
 
 -- another handler is called at a time in whole milliseconds, 0 for at once, and its result isn't waited for
@@ -222,6 +231,7 @@ send_command target input millis name options version = record {
   refusal = option_or (target_fault target version) (time_fault millis);
   message = message.OneWayCall (record { request = request_of target input name; invoke_time = min millis 18446744073709551615 });
   unstable = options.unstable_serialization;
+  is_command = refl;
 }
 
 -- a time in whole milliseconds, 0 where there is none

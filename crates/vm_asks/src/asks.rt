@@ -2,9 +2,10 @@
 ghost use Rattle.std.specs.Prelude.{◌≡◌, ◌+◌, ◌<◌, ◌^◌, ◌/◌, min};
 ghost use Rattle.std.specs.Duration.{as_nanos};
 ghost use Rattle.std.specs.Option.{option_copied};
-ghost use Rattle.vm_asks.specs.Asks.{AnswerFits, HandlesFit, allowed, answer_by, answer_kind, ask_of, attach_invocation_command, call_command, call_handles, cancel_invocation_command, clear_all_state_command, clear_state_command, complete_awakeable_command, complete_promise_command, complete_signal_command, deadline_handles, early_fault, empty_fault, get_invocation_output_command, get_promise_command, has_metadata, millis_of, name_in, output_command, peek_promise_command, request_of, run_command, scope_fault, scope_of, send_command, send_handle, set_state_command, signal_result, sleep_command, target_fault, time_fault, value_fault};
+ghost use Rattle.vm_asks.specs.Asks.{AnswerFits, HandlesFit, answer_by, answer_kind, ask_of, attach_invocation_command, call_command, call_handles, cancel_invocation_command, clear_all_state_command, clear_state_command, complete_awakeable_command, complete_promise_command, complete_signal_command, deadline_handles, early_fault, empty_fault, get_invocation_output_command, get_promise_command, has_metadata, millis_of, name_in, output_command, peek_promise_command, request_of, run_command, scope_fault, scope_of, send_command, send_handle, set_state_command, signal_result, sleep_command, target_fault, time_fault, value_fault};
 ghost use Rattle.vm_asks.specs.Requests.{ids_of};
 
+use crate::command::Command;
 use crate::request;
 use crate::state_read::StateRead;
 use bytes::Bytes;
@@ -25,28 +26,6 @@ use vm_parts::{
 };
 use vm_types::values::write_value;
 use wire::Text;
-
-/// A command that a call asks for.
-pub struct Command {
-    /// Why its arguments refuse the call, if they do.
-    pub refusal: Option<NamedFault>,
-    /// The command without its numbers.
-    pub message: Message,
-    /// Whether its payload may differ from one attempt to the next.
-    pub unstable: bool,
-}
-
-/// Written out, so that who lets a command go calls this: a derived drop is proved once more in each crate above.
-impl Drop for Command {
-    fn drop(self) {
-        let Self {
-            refusal: _,
-            message,
-            unstable: _,
-        } = self;
-        drop(message);
-    }
-}
 
 /// What a step asks for.
 #[derive(Drop)]
@@ -108,16 +87,6 @@ fn name_in(alloc: Global, name: Option<Text>) -> Text
     }
 }
 
-fn allowed(message: Message, unstable: bool) -> Command
-    ensures { result ≡ allowed message unstable }
-{
-    Command {
-        refusal: None,
-        message,
-        unstable,
-    }
-}
-
 /// A time in whole milliseconds, as far as a `u64` goes, and why it can't be sent.
 fn whole_millis(time: Duration) -> (Option<NamedFault>, u64)
     ensures fault { result.0 ≡ time_fault (as_nanos time / 1_000_000) }
@@ -161,20 +130,31 @@ pub fn output(value: NonEmptyValue, options: PayloadOptions, version: Version) -
 pub fn set_state(key: Text, value: Bytes, name: Text, options: PayloadOptions) -> Command
     ensures { result ≡ set_state_command key value name options }
 {
-    let message = Message::SetState(SetStateCommand { name, key, value });
-    allowed(message, options.unstable_serialization)
+    Command {
+        refusal: None,
+        message: Message::SetState(SetStateCommand { name, key, value }),
+        unstable: options.unstable_serialization,
+    }
 }
 
 pub fn clear_state(key: Text, name: Text) -> Command
     ensures { result ≡ clear_state_command key name }
 {
-    allowed(Message::ClearState(ClearStateCommand { name, key }), false)
+    Command {
+        refusal: None,
+        message: Message::ClearState(ClearStateCommand { name, key }),
+        unstable: false,
+    }
 }
 
 pub fn clear_all_state(name: Text) -> Command
     ensures { result ≡ clear_all_state_command name }
 {
-    allowed(Message::ClearAllState(ClearAllStateCommand { name }), false)
+    Command {
+        refusal: None,
+        message: Message::ClearAllState(ClearAllStateCommand { name }),
+        unstable: false,
+    }
 }
 
 pub fn complete_awakeable(
@@ -217,42 +197,54 @@ pub fn complete_signal(
 pub fn cancel_invocation(target_invocation_id: Text) -> Command
     ensures { result ≡ cancel_invocation_command target_invocation_id }
 {
-    let message = Message::SendSignal(SendSignalCommand {
-        target_invocation_id,
-        signal: Signal::Index(CANCEL_SIGNAL),
-        result: SignalResult::Void,
-    });
-    allowed(message, false)
+    Command {
+        refusal: None,
+        message: Message::SendSignal(SendSignalCommand {
+            target_invocation_id,
+            signal: Signal::Index(CANCEL_SIGNAL),
+            result: SignalResult::Void,
+        }),
+        unstable: false,
+    }
 }
 
 pub fn run(name: Text) -> Command
     ensures { result ≡ run_command name }
 {
-    let message = Message::Run(RunCommand {
-        name,
-        result_completion_id: 0,
-    });
-    allowed(message, false)
+    Command {
+        refusal: None,
+        message: Message::Run(RunCommand {
+            name,
+            result_completion_id: 0,
+        }),
+        unstable: false,
+    }
 }
 
 pub fn get_promise(key: Text) -> Command
     ensures { result ≡ get_promise_command key }
 {
-    let message = Message::GetPromise(PromiseCommand {
-        key,
-        result_completion_id: 0,
-    });
-    allowed(message, false)
+    Command {
+        refusal: None,
+        message: Message::GetPromise(PromiseCommand {
+            key,
+            result_completion_id: 0,
+        }),
+        unstable: false,
+    }
 }
 
 pub fn peek_promise(key: Text) -> Command
     ensures { result ≡ peek_promise_command key }
 {
-    let message = Message::PeekPromise(PromiseCommand {
-        key,
-        result_completion_id: 0,
-    });
-    allowed(message, false)
+    Command {
+        refusal: None,
+        message: Message::PeekPromise(PromiseCommand {
+            key,
+            result_completion_id: 0,
+        }),
+        unstable: false,
+    }
 }
 
 pub fn complete_promise(

@@ -2,9 +2,11 @@
 #![tactic(auto)]
 
 pub mod asks;
+pub mod command;
 pub mod laws;
 pub mod request;
 pub mod state_read;
 
-pub use asks::{Ask, Command};
+pub use asks::Ask;
+pub use command::Command;
 pub use state_read::StateRead;

@@ -52,7 +52,7 @@ use Rattle.vm_types.specs.declared.steps.Step.TheVariants as step
 use Rattle.vm_asks.specs.declared.asks.Ask.{Ask}
 use Rattle.vm_asks.specs.declared.asks.Ask.TheVariants as ask
 use Rattle.vm_asks.specs.declared.asks.AnswerKind.{AnswerKind}
-use Rattle.vm_asks.specs.declared.asks.Command.{Command}
+use Rattle.vm_asks.specs.declared.command.Command.{Command}
 use Rattle.vm_asks.specs.Asks.{EachIs, any_refusal, ask_of}
 use Rattle.vm_machine.specs.Takes.{result_taken, take_step, taken_at, value_noted, value_taken}
 use Rattle.vm_machine.specs.Inputs.{acknowledged, acknowledged_by, acknowledgement_step, close_step, closed_at, counted_entry, end_at, end_step, ended, enqueued, entries_in, entry_step, input_at, input_by, input_counted, input_numbered, input_past, input_read, input_step, malformed_step, message_step, notification_step, queued, start_step, started, started_with}
@@ -261,31 +261,13 @@ issued_event m unstable v command live = issued_at m unstable v (is_running v.ph
 pub issued_writes : (m : Message) (unstable : Bool) (v : Machine) → is_terminal m ≡ false → EventWrites v (called (issued m unstable v) v)
 issued_writes m unstable v command = called_writes v (issued m unstable v) (issued_event m unstable v command)
 
--- what a step asks for ends nothing by itself
-abbrev pub GoesOn : Ask → Type 0
-GoesOn (ask.Command c) = is_terminal c.message ≡ false
-GoesOn (ask.Commands kind first second) = EachIs (λ c. is_terminal c.message ≡ false) first (second ∷ [])
-GoesOn _ = Unit {0}
+-- a number of a command's type is none of a terminal message's
+ends_later : (n : ℕ) → nat_le 10 n && nat_lt n 30 ≡ true → nat_le 2 n && nat_le n 4 ≡ false
+ends_later n h = grind arith
 
-pub asks_go_on : (version : Version) (s : Step) → GoesOn (ask_of version s)
-asks_go_on version (step.StateGet key name options) = tt
-asks_go_on version (step.StateGetKeys name) = tt
-asks_go_on version (step.CallWithDeadline target input time name options) = (refl, refl)
-asks_go_on version step.Awakeable = tt
-asks_go_on version (step.Signal name) = tt
-asks_go_on version (step.Await future) = tt
-asks_go_on version (step.Take handle) = tt
-asks_go_on version (step.Completed handle) = tt
-asks_go_on version step.End = tt
-asks_go_on version s = refl
-
--- a command that is asked for
-pub asked_commands_go_on : (version : Version) (s : Step) (c : Command) → ask_of version s ≡ ask.Command c → is_terminal c.message ≡ false
-asked_commands_go_on version s c is = subst GoesOn is (asks_go_on version s)
-
--- and each of several
-pub asked_several_go_on : (version : Version) (s : Step) (kind : AnswerKind) (first second : Command) → ask_of version s ≡ ask.Commands kind first second → (is_terminal first.message ≡ false) × (is_terminal second.message ≡ false)
-asked_several_go_on version s kind first second is = subst GoesOn is (asks_go_on version s)
+-- a command of a call ends nothing
+pub ends_nothing : (c : Command) → is_terminal c.message ≡ false
+ends_nothing c = ends_later (type_number (type_of c.message)) c.is_command
 
 commanded_at : (refusal : Option NamedFault) (m : Message) (unstable : Bool) (v : Machine) → is_terminal m ≡ false → v.failure ≡ None → Event v (commanded_unless refusal m unstable v)
 commanded_at (Some name) m unstable v command live = same v

@@ -23,8 +23,8 @@ use Rattle.await_trees.specs.Tree.{Tree, tree_of}
 use Rattle.vm_types.specs.declared.values.Input.{Input}
 use Rattle.vm_types.specs.declared.values.Value.{Value}
 use Rattle.vm_machine.specs.declared.machine.Machine.{Machine}
-use Rattle.vm_asks.specs.declared.asks.Command.{Command}
-use Rattle.vm_asks.specs.Asks.{EachIs, cancel_invocation_command, deadline_handles}
+use Rattle.vm_asks.specs.declared.command.Command.{Command}
+use Rattle.vm_asks.specs.Asks.{cancel_invocation_command, deadline_handles}
 use Rattle.vm_awaits.specs.Awaits.{Awaits}
 use Rattle.vm_awaits.specs.Cancels.{AwaitsWhole, Cancels, FinishesIf, Onward, SendsCancel, cancel_taken, sends_cancels}
 use Rattle.vm_parts.specs.Tracked.{invocation_ids}
@@ -141,12 +141,12 @@ leaves_stay raws after (Err e) old new w l = stays old new (quiet_writes old.mac
 
 -- ---- each call
 
-pub command_stays : (c : Command) (r : Result NotificationHandle Error) (old new : View) → is_terminal c.message ≡ false → CallsCommand c r old new → StaysSo old new
-command_stays c r old new goes h = calls_stay (commanded c) r old new (called_writes old.machine (commanded c old.machine) (commanded_event c old.machine goes)) h.0
+pub command_stays : (c : Command) (r : Result NotificationHandle Error) (old new : View) → CallsCommand c r old new → StaysSo old new
+command_stays c r old new h = calls_stay (commanded c) r old new (called_writes old.machine (commanded c old.machine) (commanded_event c old.machine (ends_nothing c))) h.0
 
-pub answer_stays : {A : Type 0} (f : NotificationHandle → A) (c : Command) (r : Result A Error) (old new : View) → is_terminal c.message ≡ false → CallsFor f c r old new → StaysSo old new
-answer_stays f c r old new goes h =
-    calls_stay (λ v. answered_by f (commanded c v)) r old new (called_writes old.machine (answered_by f (commanded c old.machine)) (λ live. answered old.machine (commanded c old.machine) f (commanded_event c old.machine goes live))) h.0
+pub answer_stays : {A : Type 0} (f : NotificationHandle → A) (c : Command) (r : Result A Error) (old new : View) → CallsFor f c r old new → StaysSo old new
+answer_stays f c r old new h =
+    calls_stay (λ v. answered_by f (commanded c v)) r old new (called_writes old.machine (answered_by f (commanded c old.machine)) (λ live. answered old.machine (commanded c old.machine) f (commanded_event c old.machine (ends_nothing c) live))) h.0
 
 new_awakeable_writes : (b : Bool) (v : Machine) → EventWrites v (called (if b then refused fault.UnsupportedFeature v else awakeable_step v) v)
 new_awakeable_writes true v = called_writes v (refused {A = AwakeableHandle} fault.UnsupportedFeature v) (λ live. same v)
@@ -182,23 +182,23 @@ take_ephemeral_stays id r old new c = calls_stay (take_ephemeral_step id) r old 
 
 -- ---- several commands
 
-one_writes : (c : Command) (cs : List Command) (r : Result NotificationHandle Error) (v w : Machine) → is_terminal c.message ≡ false → MakesOne c cs r v w → Writes v w
-one_writes c cs r v w goes h = does_writes (called (commanded_before c cs v) v) r v w (called_writes v (commanded_before c cs v) (λ live. before_event c cs v goes live)) h.0
+one_writes : (c : Command) (cs : List Command) (r : Result NotificationHandle Error) (v w : Machine) → MakesOne c cs r v w → Writes v w
+one_writes c cs r v w h = does_writes (called (commanded_before c cs v) v) r v w (called_writes v (commanded_before c cs v) (λ live. before_event c cs v (ends_nothing c) live)) h.0
 
 first_writes : (Next : Result NotificationHandle Error → Machine → Machine → Type 0) (first r : Result NotificationHandle Error) (v mid w : Machine) → Writes v mid → ((given : Result NotificationHandle Error) → Next given mid w → Writes mid w) → BehindFirst Next first r mid w → Writes v w
 first_writes Next (Ok handle) r v mid w first more on = writes_then v mid w first (more on.0 on.1)
 first_writes Next (Err e) r v mid w first more on = subst (Writes v) (sym on.1) first
 
 -- the whole call
-pub all_writes : (c : Command) (cs : List Command) (r : Result NotificationHandle Error) (v w : Machine) → EachIs (λ x. is_terminal x.message ≡ false) c cs → MakesAll c cs r v w → Writes v w
-all_writes c [] r v w goes h = one_writes c [] r v w goes h
-all_writes c (b ∷ bs) r v w goes (first, mid, one, on) = first_writes (MakesAll b bs) first r v mid w (one_writes c (b ∷ bs) first v mid goes.0 one) (λ given. all_writes b bs given mid w goes.1) on
+pub all_writes : (c : Command) (cs : List Command) (r : Result NotificationHandle Error) (v w : Machine) → MakesAll c cs r v w → Writes v w
+all_writes c [] r v w h = one_writes c [] r v w h
+all_writes c (b ∷ bs) r v w (first, mid, one, on) = first_writes (MakesAll b bs) first r v mid w (one_writes c (b ∷ bs) first v mid one) (λ given. all_writes b bs given mid w) on
 
-pub several_stay : {A : Type 0} (f : NotificationHandle → A) (c : Command) (cs : List Command) (r : Result A Error) (old new : View) → EachIs (λ x. is_terminal x.message ≡ false) c cs → CallsAllFor f c cs r old new → StaysSo old new
-several_stay f c cs r old new goes (given, made, same, is) = stays old new (all_writes c cs given old.machine new.machine goes made)
+pub several_stay : {A : Type 0} (f : NotificationHandle → A) (c : Command) (cs : List Command) (r : Result A Error) (old new : View) → CallsAllFor f c cs r old new → StaysSo old new
+several_stay f c cs r old new (given, made, same, is) = stays old new (all_writes c cs given old.machine new.machine made)
 
-pub deadlines_stay : (call deadline : Command) (r : Result DeadlineCallHandle Error) (old new : View) → is_terminal call.message ≡ false → is_terminal deadline.message ≡ false → CallsAllFor deadline_handles call (deadline ∷ []) r old new → StaysSo old new
-deadlines_stay call deadline r old new first second h = several_stay deadline_handles call (deadline ∷ []) r old new (first, second) h
+pub deadlines_stay : (call deadline : Command) (r : Result DeadlineCallHandle Error) (old new : View) → CallsAllFor deadline_handles call (deadline ∷ []) r old new → StaysSo old new
+deadlines_stay call deadline r old new h = several_stay deadline_handles call (deadline ∷ []) r old new h
 
 -- ---- awaits
 

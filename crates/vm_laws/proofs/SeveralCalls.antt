@@ -19,7 +19,7 @@ use Rattle.await_trees.specs.declared.handle.NotificationHandle.{NotificationHan
 use Rattle.vm_types.specs.declared.types.DeadlineCallHandle.{DeadlineCallHandle}
 use Rattle.vm_parts.specs.declared.async_results.Mapping.{Mapping}
 use Rattle.vm_parts.specs.Counting.{missing}
-use Rattle.vm_asks.specs.declared.asks.Command.{Command}
+use Rattle.vm_asks.specs.declared.command.Command.{Command}
 use Rattle.vm_asks.specs.Asks.{all_ids, any_refusal, deadline_handles, sleep_command}
 use Rattle.vm_asks.specs.GivenIds.{IsCallWith}
 use Rattle.vm_asks.specs.Requests.{ids_of, name_of, shown_type, with_ids}

@@ -10,7 +10,7 @@ use Rattle.journal_values.specs.declared.notification.NotificationId.TheVariants
 use Rattle.await_trees.specs.declared.handle.NotificationHandle.{NotificationHandle}
 use Rattle.vm_types.specs.declared.types.DeadlineCallHandle.{DeadlineCallHandle}
 use Rattle.vm_parts.specs.declared.async_results.Mapping.{Mapping}
-use Rattle.vm_asks.specs.declared.asks.Command.{Command}
+use Rattle.vm_asks.specs.declared.command.Command.{Command}
 use Rattle.vm_asks.specs.Asks.{deadline_handles, sleep_command}
 use Rattle.vm_asks.specs.GivenIds.{IsCallWith}
 use Rattle.vm_machine.specs.declared.machine.Machine.{Machine}

@@ -2,7 +2,7 @@
 ghost use Rattle.std.specs.Prelude.{◌≡◌, ℕ};
 ghost use Rattle.journal_calls.specs.declared.calls.CallCommand.{CallCommand};
 ghost use Rattle.journal_messages.specs.declared.message.Message.TheVariants as message;
-ghost use Rattle.vm_asks.specs.declared.asks.Command.{Command};
+ghost use Rattle.vm_asks.specs.declared.command.Command.{Command};
 ghost use Rattle.vm_laws.specs.Deadlines.{MakesBoth};
 
 /// A call with a deadline that is answered made a call with the next two completion ids and after it a sleep with the third, in replay as

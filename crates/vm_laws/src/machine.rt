@@ -14,7 +14,7 @@ ghost use Rattle.journal_errors.specs.declared.version.Version.{Version};
 ghost use Rattle.vm_types.specs.declared.steps.Step.{Step};
 ghost use Rattle.vm_asks.specs.declared.asks.Ask.TheVariants as ask;
 ghost use Rattle.vm_asks.specs.declared.asks.AnswerKind.{AnswerKind};
-ghost use Rattle.vm_asks.specs.declared.asks.Command.{Command};
+ghost use Rattle.vm_asks.specs.declared.command.Command.{Command};
 ghost use Rattle.vm_asks.specs.Asks.{all_ids, ask_of};
 ghost use Rattle.vm_machine.specs.Several.{MakesAll};
 ghost use Rattle.vm_machine.specs.Takes.{take_step};
@@ -104,11 +104,10 @@ pub fn acknowledgements_bring_what_was_proposed()
     ensures early { (id : ℕ) (result : ValueOrFailure) (v : Machine) → is_from_v7 v.version ≡ false → (proposed id result v).proposals ≡ v.proposals }
 {}
 
-/// What a step asks for is no terminal message.
-#[tactic(auto, using(crate::proofs::Endings::asked_commands_go_on, crate::proofs::Endings::asked_several_go_on))]
+/// The command of a call is no Suspension, Error or End.
+#[tactic(auto, using(crate::proofs::Endings::ends_nothing))]
 pub fn commands_end_nothing()
-    ensures several { (version : Version) (s : Step) (kind : AnswerKind) (first second : Command) → ask_of version s ≡ ask.Commands kind first second → (is_terminal first.message ≡ false) × (is_terminal second.message ≡ false) }
-    ensures one { (version : Version) (s : Step) (c : Command) → ask_of version s ≡ ask.Command c → is_terminal c.message ≡ false }
+    ensures { (c : Command) → is_terminal c.message ≡ false }
 {}
 
 /// A replayed command writes nothing, and the next recorded command is popped only where it is header-equal to the

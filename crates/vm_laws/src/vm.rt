@@ -21,11 +21,10 @@ ghost use Rattle.await_trees.specs.declared.tree.UnresolvedFuture.{UnresolvedFut
 ghost use Rattle.vm_types.specs.declared.values.Input.{Input};
 ghost use Rattle.vm_types.specs.declared.values.Value.{Value};
 ghost use Rattle.vm_machine.specs.declared.machine.Machine.{Machine};
-ghost use Rattle.vm_asks.specs.declared.asks.Command.{Command};
+ghost use Rattle.vm_asks.specs.declared.command.Command.{Command};
 ghost use Rattle.vm_asks.specs.Asks.{call_handles, deadline_handles, send_handle, sleep_command};
 ghost use Rattle.vm_machine.specs.Ephemerals.{ephemeral_step, take_ephemeral_step};
 ghost use Rattle.vm_machine.specs.Takes.{take_step};
-ghost use Rattle.vm_laws.specs.Endings.{is_terminal};
 ghost use Rattle.vm_machine.specs.Inputs.{end_step, input_step};
 ghost use Rattle.vm_machine.specs.Outcomes.{IsStarved, Outcome};
 ghost use Rattle.vm_machine.specs.Signals.{signal_step};
@@ -48,11 +47,11 @@ pub fn all_output_ends_once()
     ensures awaits { (future : UnresolvedFuture) (r : Result AwaitResponse Error) (old new : View) → CallsFlatAwait future r old new → StaysSo old new }
     ensures takes { (handle : ℕ) (r : Result (Option Value) Error) (old new : View) → Calls (take_step handle) r old new → StaysSo old new }
     ensures inputs { (r : Result Input Error) (old new : View) → Calls input_step r old new → StaysSo old new }
-    ensures commands { (c : Command) (r : Result NotificationHandle Error) (old new : View) → is_terminal c.message ≡ false → CallsCommand c r old new → StaysSo old new }
-    ensures unanswered { (c : Command) (r : Result Unit Error) (old new : View) → is_terminal c.message ≡ false → CallsUnit c r old new → StaysSo old new }
-    ensures calls { (c : Command) (r : Result CallHandle Error) (old new : View) → is_terminal c.message ≡ false → CallsFor call_handles c r old new → StaysSo old new }
-    ensures deadlines { (call deadline : Command) (r : Result DeadlineCallHandle Error) (old new : View) → is_terminal call.message ≡ false → is_terminal deadline.message ≡ false → CallsAllFor deadline_handles call (deadline ∷ []) r old new → StaysSo old new }
-    ensures sends { (c : Command) (r : Result SendHandle Error) (old new : View) → is_terminal c.message ≡ false → CallsFor send_handle c r old new → StaysSo old new }
+    ensures commands { (c : Command) (r : Result NotificationHandle Error) (old new : View) → CallsCommand c r old new → StaysSo old new }
+    ensures unanswered { (c : Command) (r : Result Unit Error) (old new : View) → CallsUnit c r old new → StaysSo old new }
+    ensures calls { (c : Command) (r : Result CallHandle Error) (old new : View) → CallsFor call_handles c r old new → StaysSo old new }
+    ensures deadlines { (call deadline : Command) (r : Result DeadlineCallHandle Error) (old new : View) → CallsAllFor deadline_handles call (deadline ∷ []) r old new → StaysSo old new }
+    ensures sends { (c : Command) (r : Result SendHandle Error) (old new : View) → CallsFor send_handle c r old new → StaysSo old new }
     ensures runs { (name : List ℕ) (r : Result RunHandle Error) (old new : View) → CallsRun name r old new → StaysSo old new }
     ensures proposals { (handle : NotificationHandle) (exit : RunExitResult) (policy : RetryPolicy) (r : Result Unit Error) (old new : View) → CallsProposal handle exit policy r old new → StaysSo old new }
     ensures reads { (read : StateRead) (r : Result NotificationHandle Error) (old new : View) → CallsRead read r old new → StaysSo old new }

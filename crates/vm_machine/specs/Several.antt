@@ -7,7 +7,7 @@ use Rattle.journal_errors.specs.declared.faults.NamedFault.TheVariants.{Exhauste
 use Rattle.await_trees.specs.declared.handle.NotificationHandle.{NotificationHandle}
 use Rattle.vm_parts.specs.declared.context.Counters.{Counters}
 use Rattle.vm_parts.specs.Counting.{missing, most}
-use Rattle.vm_asks.specs.declared.asks.Command.{Command}
+use Rattle.vm_asks.specs.declared.command.Command.{Command}
 use Rattle.vm_asks.specs.Asks.{all_ids, any_refusal}
 use Rattle.vm_asks.specs.Requests.{name_of, shown_type}
 use Rattle.vm_machine.specs.declared.machine.Machine.{Machine}

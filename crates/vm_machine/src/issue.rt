@@ -1,7 +1,7 @@
 //! The event of all calls that have a command: the command is written, or in replay the recorded one is popped.
 ghost use Rattle.std.specs.Prelude.{◌≡◌, ◌<◌, ◌+◌, ◌^◌, ◌∷◌, [], true, Some, IfNone, IfSome, IfOk, OnOk, OnErr};
 ghost use Rattle.journal_errors.specs.Errors.{named_error};
-ghost use Rattle.journal_messages.specs.Message.{IsWhole};
+ghost use Rattle.journal_messages.specs.Message.{IsWhole, type_of};
 ghost use Rattle.vm_machine.specs.Outcomes.{Gives, about_last, last_related, lasting};
 ghost use Rattle.vm_machine.specs.Commands.{entered, phase_after, written, popped, replayed, carried_out, handed_out, checks_are_off, knows_next, runs_after, Carries, Issues};
 ghost use Rattle.vm_machine.specs.Phases.{is_processing};
@@ -212,13 +212,14 @@ impl Machine {
 
     /// A call that has a command, which is given without its numbers, and whether its payload may differ from one
     /// attempt to the next.
-    #[tactic(auto, unfolding(crate::specs::Commands::issued))]
+    #[tactic(auto, using(crate::proofs::Numbering::same_type), unfolding(crate::specs::Commands::issued))]
     pub fn issue(
         &mut self,
         message: &mut Message,
         unstable: bool,
     ) -> Result<NotificationHandle, Fault>
-        ensures { Issues message.old unstable result self.old self.new }
+        ensures does { Issues message.old unstable result self.old self.new }
+        ensures same { type_of message.new ≡ type_of message.old }
     {
         let ty = shown_type(message);
         let name = name_of(self.alloc, message)?;

@@ -19,7 +19,7 @@ use Rattle.vm_types.specs.declared.steps.Step.{Step}
 use Rattle.vm_types.specs.declared.steps.Step.TheVariants as step
 use Rattle.vm_asks.specs.declared.asks.Ask.{Ask}
 use Rattle.vm_asks.specs.declared.asks.Ask.TheVariants as ask
-use Rattle.vm_asks.specs.declared.asks.Command.{Command}
+use Rattle.vm_asks.specs.declared.command.Command.{Command}
 use Rattle.vm_asks.specs.Asks.{EachIs, ask_of}
 use Rattle.vm_machine.proofs.Numbering.{same_type}
 use Rattle.vm_model.specs.Calls.{Setup, Meaning, Demand, Move}

@@ -20,7 +20,7 @@ use Rattle.vm_types.specs.declared.types.AwaitResponse.TheVariants.{AnyCompleted
 use Rattle.vm_parts.specs.Deliveries.{id_at, present_for, taken_by}
 use Rattle.vm_types.specs.Options.{ends_awaits}
 use Rattle.vm_parts.specs.Tracked.{invocation_ids, unresolved, without_first_call}
-use Rattle.vm_asks.specs.declared.asks.Command.{Command}
+use Rattle.vm_asks.specs.declared.command.Command.{Command}
 use Rattle.vm_machine.specs.declared.machine.Machine.{Machine}
 use Rattle.vm_asks.specs.Asks.{ask_of, cancel_invocation_command, command_answer}
 use Rattle.vm_awaits.specs.Awaits.{Awaits, AwaitsAt}

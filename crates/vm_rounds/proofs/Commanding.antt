@@ -5,7 +5,7 @@ use Rattle.journal_messages.specs.declared.message.RawMessage.{RawMessage}
 use Rattle.vm_parts.specs.declared.context.StateMap.{StateMap}
 use Rattle.vm_types.specs.declared.steps.Answer.{Answer}
 use Rattle.vm_machine.specs.declared.machine.Machine.{Machine}
-use Rattle.vm_asks.specs.declared.asks.Command.{Command}
+use Rattle.vm_asks.specs.declared.command.Command.{Command}
 use Rattle.vm_asks.specs.Asks.{command_answer}
 use Rattle.vm_machine.specs.Commands.{CanBeRead, commanded_unless, phase_after}
 use Rattle.vm_machine.specs.Outcomes.{Outcome, Done, Failed, called, refused}

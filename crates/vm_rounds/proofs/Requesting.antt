@@ -17,7 +17,7 @@ use Rattle.await_trees.specs.declared.handle.NotificationHandle.{NotificationHan
 use Rattle.vm_parts.specs.Counting.{missing, next_index}
 use Rattle.vm_parts.specs.Deliveries.{is_known}
 use Rattle.vm_machine.specs.declared.machine.Machine.{Machine}
-use Rattle.vm_asks.specs.declared.asks.Command.{Command}
+use Rattle.vm_asks.specs.declared.command.Command.{Command}
 use Rattle.vm_machine.specs.declared.phase.Phase.TheVariants.{Replaying, Processing}
 use Rattle.vm_machine.specs.Commands.{carried_out, compared, counted as counted_event, entered, ignores_payloads, issued, phase_after, popped, popped_from, prepared, replayed, runs_after, typed, written as wrote}
 use Rattle.vm_machine.specs.Phases.{is_processing, is_running, state_fault}

@@ -34,7 +34,7 @@ use Rattle.vm_machine.specs.declared.phase.Phase.TheVariants.{Closed, Processing
 use Rattle.vm_asks.specs.declared.asks.Ask.{Ask}
 use Rattle.vm_asks.specs.declared.asks.Ask.TheVariants as ask
 use Rattle.vm_asks.specs.declared.asks.AnswerKind.{AnswerKind}
-use Rattle.vm_asks.specs.declared.asks.Command.{Command}
+use Rattle.vm_asks.specs.declared.command.Command.{Command}
 use Rattle.vm_asks.specs.Asks.{ask_of, cancel_invocation_command}
 use Rattle.journal_messages.specs.Commands.{IsCommand}
 use Rattle.vm_rounds.proofs.Own.{AsksCommand, asks_command, numbered_is, own_is}

@@ -1,3 +1,4 @@
 pub mod CommandTypes
 pub mod Options
 pub mod Values
+pub mod Same

@@ -4,6 +4,7 @@
 pub mod boxed;
 pub mod command_type;
 pub mod options;
+mod same;
 pub mod steps;
 pub mod types;
 pub mod values;

@@ -1,6 +1,6 @@
 -- The attempts of a world are made for its version.
 use Rattle.std.proofs.Common.{◌≡◌, ℕ, List, Result, Ok, Err, IfOk, refl, ap, subst, Global}
-use Rattle.std.specs.Prelude.{codes, IfErr}
+use Rattle.std.specs.Prelude.{codes, IfErr, OnOk}
 use Rattle.journal_errors.specs.declared.error.Error.{Error}
 use Rattle.journal_errors.specs.declared.version.Version.{Version}
 use Rattle.journal_errors.specs.declared.version.Version.TheVariants.{V1, V2, V3, V4, V5, V6, V7, V8}
@@ -10,7 +10,7 @@ use Rattle.invocation_vm.specs.Making.{made, supported, version_in}
 use Rattle.vm_steps.specs.Record.{AttemptView}
 use Rattle.vm_steps.specs.Stepping.{MakesAttempt, fresh_record}
 use Rattle.vm_world.specs.ContentTypes.{found}
-use Rattle.vm_world.specs.Rounds.{IsRefusal}
+use Rattle.vm_world.specs.Rounds.{IsRefusal, IsSupported}
 
 pub asked : (v : Version) → version_in (found (content_type v) (codes "content-type")) ≡ supported v
 unfolding content_type version_of
@@ -60,3 +60,19 @@ refusal_by alloc options handler (Err refusal) e h = h
 pub refusal_is : {H : Type 0} (alloc : Global) (options : VMOptions) (handler : H) (v : Version) (text : List ℕ) → text ≡ content_type v → (r : Result (AttemptView H) Error) → MakesAttempt alloc options handler (version_in (found text (codes "content-type"))) r → IfErr r (λ e. IsRefusal (supported v) e)
 refusal_is alloc options handler v text is (Ok a) h = tt
 refusal_is alloc options handler v text is (Err e) h = refusal_by alloc options handler (supported v) e (subst (λ t. MakesAttempt alloc options handler t (Err e)) (asked v) (subst (λ t. MakesAttempt alloc options handler (version_in (found t (codes "content-type"))) (Err e)) is h))
+
+-- an attempt is made in a version that is supported
+made_in : {H : Type 0} (alloc : Global) (options : VMOptions) (handler : H) (v : Version) (a : AttemptView H) → MakesAttempt alloc options handler (supported v) (Ok a) → IsSupported v
+made_in alloc options handler V1 a h = absurd h
+made_in alloc options handler V2 a h = absurd h
+made_in alloc options handler V3 a h = absurd h
+made_in alloc options handler V4 a h = absurd h
+made_in alloc options handler V5 a h = refl
+made_in alloc options handler V6 a h = refl
+made_in alloc options handler V7 a h = refl
+made_in alloc options handler V8 a h = refl
+
+pub supported_is : {H : Type 0} (alloc : Global) (options : VMOptions) (handler : H) (v : Version) (text : List ℕ) → text ≡ content_type v → (r : Result (AttemptView H) Error)
+    → MakesAttempt alloc options handler (version_in (found text (codes "content-type"))) r → OnOk r (IsSupported v)
+supported_is alloc options handler v text is (Ok a) h = made_in alloc options handler v a (subst (λ t. MakesAttempt alloc options handler t (Ok a)) (asked v) (subst (λ t. MakesAttempt alloc options handler (version_in (found t (codes "content-type"))) (Ok a)) is h))
+supported_is alloc options handler v text is (Err e) h = tt

@@ -4,3 +4,4 @@ pub mod Inside
 pub mod ContentTypes
 pub mod Fresh
 pub mod Sound
+pub mod Guarantees

@@ -188,9 +188,14 @@ pub record Ran (m : Meaning) (version : Version) (options : VMOptions) (events :
   pub told : report ≡ report_of now
   pub left : new ≡ now.journal
 
--- A round with its attempt leaves this journal and tells this report.
+-- The version is one that the VM supports.
+abbrev pub IsSupported : Version → Type 0
+IsSupported version = supported version ≡ Ok version
+
+-- A round with its attempt, in a version that the VM supports, leaves this journal and tells this report.
 pub record AttemptDoes (m : Meaning) (w : Setting) (round : Round) (old : List (List ℕ)) (report : ReportView) (new : List (List ℕ)) : Type 0 where
   pub alloc : Global
+  pub speaks : IsSupported w.version
   pub start : IsWhole (start_message w round old)
   pub ran : Ran m w.version w.options round.events (begin alloc w round old) report new
 
@@ -215,6 +220,7 @@ RoundsDo m w (r ∷ rs) old reports new =
 -- the first event of a round with its attempt that has a fault has this one
 pub record AttemptFaults (m : Meaning) (w : Setting) (round : Round) (old : List (List ℕ)) (f : RoundFault) : Type 0 where
   pub alloc : Global
+  pub speaks : IsSupported w.version
   pub faults : HappenFaults m round.events (begin alloc w round old) f
 
 -- the first arrival of a round whose attempt was refused that has a fault has this one

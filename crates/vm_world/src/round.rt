@@ -7,7 +7,7 @@ ghost use Rattle.invocation_vm.specs.Making.{made, supported};
 ghost use Rattle.vm_steps.specs.Stepping.{fresh_record};
 ghost use Rattle.vm_store.specs.Arrivals.{most};
 ghost use Rattle.vm_world.specs.Inside.{the_now, report_view};
-ghost use Rattle.vm_world.specs.Rounds.{new_now, report_of, ArrivalsDo, ArrivalsFault, EndsTold, Happen, HappenFaults, IsRefusal, IsShort, Ran, RefusedDoes, RefusedFaults, RoundDoes, RoundFaults};
+ghost use Rattle.vm_world.specs.Rounds.{new_now, report_of, ArrivalsDo, ArrivalsFault, EndsTold, Happen, HappenFaults, IsRefusal, IsShort, IsSupported, Ran, RefusedDoes, RefusedFaults, RoundDoes, RoundFaults};
 ghost use Rattle.vm_store.specs.Worlds.{IsJournal, start_message};
 ghost use Rattle.vm_store.specs.declared.types.RoundFault.TheVariants as round_fault;
 
@@ -132,6 +132,7 @@ fn new_attempt<'a, H: Handler>(
     ensures record { IfOk result (λ a. a.record_of ≡ fresh_record (made alloc setting.now.options setting.now.version)) }
     ensures handler { IfOk result (λ a. a.handler.now ≡ handler.now) }
     ensures made_for { IfOk result (λ a. (a.version ≡ setting.now.version) × (a.options ≡ setting.now.options)) }
+    ensures supported { OnOk result (IsSupported setting.now.version) }
     ensures refused { IfErr result (λ e. IsRefusal (supported setting.now.version) e) }
 {
     let headers = ContentType(setting.version.content_type());

@@ -46,7 +46,7 @@ stays : (g : given.Over) (c : goal.After-loop-round g) → IsSoundFor (g.H.Handl
 stays g c h = stays_sound (g.H.Handler.meaning c.args.handler.now) c.args.world.setting c.args.rounds.now c.args.world.journal (map report_view c.loop-round.reports.items) c.loop-round.journal.items (before g c) (all g c) h
 
 pub returns-clause-history : goal.returns-clause-history
-returns-clause-history g c h = subst (λ s. IsSoundFor (g.H.Handler.meaning c.args.handler.now) s c.loop-round.journal.items) (ap (λ (w : WorldView). w.setting) (sym c.world.view_is)) (stays g c h)
+returns-clause-history g c h = stays g c h
 
 pub returns-clause-once : goal.returns-clause-once
 returns-clause-once g c h = completes_once _ (g.H.Handler.meaning c.args.handler.now) _ c.loop-round.journal.items (grows g c).journal (stays g c h).history.history

@@ -1,0 +1,35 @@
+//! Whose `==` says whether two values are the same.
+ghost use Rattle.vm_types.specs.Same.{awakeable_exact, failure_exact, input_exact, relationship_exact, target_exact, type_exact, value_exact};
+
+use crate::{
+    AwakeableHandle, CommandRelationship, CommandType, Input, Target, TerminalFailure, Value,
+};
+use wire::Exact;
+
+impl Exact for AwakeableHandle {
+    ghost compares = { awakeable_exact };
+}
+
+impl Exact for CommandRelationship {
+    ghost compares = { relationship_exact };
+}
+
+impl Exact for CommandType {
+    ghost compares = { type_exact };
+}
+
+impl Exact for Input {
+    ghost compares = { input_exact };
+}
+
+impl Exact for Target {
+    ghost compares = { target_exact };
+}
+
+impl Exact for TerminalFailure {
+    ghost compares = { failure_exact };
+}
+
+impl Exact for Value {
+    ghost compares = { value_exact };
+}
