@@ -107,12 +107,6 @@ typedef struct {
     palqytun_bytes bytes;
 } palqytun_optional;
 
-/* A time in milliseconds since the Unix epoch, or none. */
-typedef struct {
-    bool is_given;
-    uint64_t millis;
-} palqytun_time;
-
 /* A key and its value. */
 typedef struct {
     palqytun_bytes key;
@@ -254,13 +248,13 @@ palqytun_replied palqytun_state_clear_all(palqytun_vm *vm, palqytun_bytes name);
 palqytun_replied palqytun_ephemeral_state_get(palqytun_vm *vm, palqytun_bytes key);
 palqytun_replied palqytun_take_ephemeral(palqytun_vm *vm, uint32_t id);
 
-/* Other handlers. */
+/* Other handlers. Times are in milliseconds since the Unix epoch; sent at 0 is sent at once. */
 palqytun_replied palqytun_call(
     palqytun_vm *vm, const palqytun_target *target, palqytun_bytes input, palqytun_bytes name, bool unstable);
 palqytun_replied palqytun_call_with_deadline(palqytun_vm *vm, const palqytun_target *target, palqytun_bytes input,
     uint64_t deadline_millis, palqytun_bytes name, bool unstable);
 palqytun_replied palqytun_send(
-    palqytun_vm *vm, const palqytun_target *target, palqytun_bytes input, palqytun_time at, palqytun_bytes name, bool unstable);
+    palqytun_vm *vm, const palqytun_target *target, palqytun_bytes input, uint64_t at_millis, palqytun_bytes name, bool unstable);
 palqytun_replied palqytun_cancel_invocation(palqytun_vm *vm, palqytun_bytes invocation_id);
 
 /* Awakeables, signals and promises. */

@@ -9,7 +9,7 @@ use sessions::{Replied, Told, Vm};
 use std::alloc::Global;
 use typed_calls::awaits::{AwaitCall, AwaitTreeCall, TakeCall};
 use typed_calls::callees::{CallCall, DeadlineCall, GivenTarget, SendCall};
-use typed_calls::given::{Lent, MayTime};
+use typed_calls::given::Lent;
 use typed_calls::journal::{
     AwakeableCall, CancelCall, CompleteAwakeableCall, CompletePromiseCall, CompleteSignalCall,
     EndCall, GetPromiseCall, PeekPromiseCall, SignalCall, SleepCall, WriteOutputCall,
@@ -31,7 +31,7 @@ pub extern "C" fn palqytun_part(alloc: Global, vm: &mut Vm, at: usize, out: &mut
     ensures known { result.status ≤ 9 }
     ensures read { PartRead at (status_of result.status) result.len out.old out.new vm.old.value }
 {
-    read_part(alloc, vm, at, out)
+    read_part(alloc, vm, at_millis, out)
 }
 
 /// A sleep until a time, in milliseconds since the Unix epoch.
@@ -433,11 +433,11 @@ pub extern "C" fn palqytun_send(
     vm: &mut Vm,
     target: &GivenTarget,
     input: Lent,
-    at: MayTime,
+    at_millis: u64,
     name: Lent,
     unstable: bool,
 ) -> Replied
-    ensures { CalledFromC (SendsTo target.now input.entry.bytes.now at name.entry.bytes.now unstable) result vm.old.value vm.new.value }
+    ensures { CalledFromC (SendsTo target.now input.entry.bytes.now at_millis name.entry.bytes.now unstable) result vm.old.value vm.new.value }
 {
     call(
         alloc,
@@ -445,7 +445,7 @@ pub extern "C" fn palqytun_send(
         SendCall {
             target: *target,
             input,
-            at,
+            at_millis,
             name,
             unstable,
         },

@@ -1,3 +1,3 @@
-pub mod Given
+pub mod Refusing
 pub mod Tells
-pub mod Nodes
+pub mod Rows

@@ -18,11 +18,9 @@ use Rattle.line_parts.specs.Results.{settled}
 use Rattle.scripts.specs.Called.{Answers, Drains, Feeds, Tells, TellsHead, TellsReady}
 use Rattle.sessions.specs.declared.status.Status.{Status}
 use Rattle.typed_calls.specs.declared.callees.GivenTarget.{GivenTarget}
-use Rattle.typed_calls.specs.declared.given.MayTime.{MayTime}
 use Rattle.typed_calls.specs.declared.nodes.Node.{Node}
 use Rattle.typed_calls.specs.declared.values.GivenValue.{GivenValue}
 use Rattle.typed_calls.specs.Callees.{target_of, texts_of_call}
-use Rattle.typed_calls.specs.Given.{millis_in}
 use Rattle.typed_calls.specs.Makes.{IsMade, MadeUnless, MadeWith, all_handles, awakeable, handle, handles, input, nothing, sent, taken}
 use Rattle.typed_calls.specs.Nodes.{AwaitsTree, FailsAsTree}
 use Rattle.typed_calls.specs.Values.{texts_of_value, value_of}
@@ -177,7 +175,7 @@ abbrev pub CallsWithDeadline : GivenTarget → List ℕ → ℕ → List ℕ →
 CallsWithDeadline target bytes millis name unstable outcome old new =
     MadeWith (texts_of_call target name) (Tells all_handles (CallsAllFor deadline_handles (call_command (target_of target) bytes name (record { unstable_serialization = unstable }) old.machine.version) (sleep_command millis [] ∷ []))) outcome old new
 
--- another handler is called, and nobody waits for it
-abbrev pub SendsTo : GivenTarget → List ℕ → MayTime → List ℕ → Bool → Call
-SendsTo target bytes at name unstable outcome old new =
-    MadeWith (texts_of_call target name) (Tells sent (CallsFor send_handle (send_command (target_of target) bytes (millis_in at) name (record { unstable_serialization = unstable }) old.machine.version))) outcome old new
+-- another handler is called, at a time in milliseconds, or at once where it is 0, and nobody waits for it
+abbrev pub SendsTo : GivenTarget → List ℕ → ℕ → List ℕ → Bool → Call
+SendsTo target bytes millis name unstable outcome old new =
+    MadeWith (texts_of_call target name) (Tells sent (CallsFor send_handle (send_command (target_of target) bytes millis name (record { unstable_serialization = unstable }) old.machine.version))) outcome old new

@@ -5,7 +5,6 @@ use Rattle.journal_values.specs.declared.parts.Header.{Header}
 use Rattle.sessions.specs.declared.status.Status.{Status}
 use Rattle.sessions.specs.declared.status.Status.TheVariants as status
 use Rattle.typed_calls.specs.declared.given.MayLend.{MayLend}
-use Rattle.typed_calls.specs.declared.given.MayTime.{MayTime}
 use Rattle.typed_calls.specs.declared.given.Pair.{Pair}
 
 -- one of these texts isn't UTF-8
@@ -40,7 +39,3 @@ header_of pair = record { key = pair.key.bytes.now; value = pair.value.bytes.now
 
 abbrev pub texts_of_pair : Pair → List (List ℕ)
 texts_of_pair pair = pair.key.bytes.now ∷ pair.value.bytes.now ∷ []
-
--- a time in milliseconds, if it is given
-abbrev pub millis_in : MayTime → Option ℕ
-millis_in may = if may.is_given then Some may.millis else None

@@ -6,8 +6,7 @@ ghost use Rattle.typed_calls.specs.Given.{Refuses};
 ghost use Rattle.typed_calls.specs.Makes.{all_handles, handles, sent};
 
 use crate::given::{
-    Lent, MayLend, MayTime, Pair, bytes_of, headers_of, optional_text, optional_time, string_of,
-    text_of, time_of,
+    Lent, MayLend, Pair, bytes_of, headers_of, optional_text, string_of, text_of, time_of,
 };
 use crate::values::payload;
 use bytes::Bytes;
@@ -31,7 +30,7 @@ pub struct GivenTarget<'a> {
 }
 
 /// Which handler is called, and how.
-#[tactic(auto, using(crate::proofs::Given::front_refused, crate::proofs::Given::behind_refused))]
+#[tactic(auto, using(crate::proofs::Refusing::front_refused, crate::proofs::Refusing::behind_refused))]
 fn target_of(alloc: Global, given: &GivenTarget) -> Result<Target, Status>
     ensures ok { IfOk result (λ target. target ≡ target_of given.now) }
     ensures err { IfErr result (Refuses (texts_of_target given.now)) }
@@ -91,7 +90,7 @@ struct Callee {
 }
 
 /// Which handler is called, with what, and under which name.
-#[tactic(auto, using(crate::proofs::Given::no_memory))]
+#[tactic(auto, using(crate::proofs::Refusing::no_memory))]
 fn callee_of(
     alloc: Global,
     given: &GivenTarget,
@@ -166,12 +165,13 @@ impl<'a> VmCall for DeadlineCall<'a> {
     }
 }
 
-/// Another handler is called, at once or at a time, and nobody waits for it. An empty name is none.
+/// Another handler is called, at a time in milliseconds since the Unix epoch or at once where it is 0, and nobody waits for it. An empty name is
+/// none.
 #[derive(Clone, Copy)]
 pub struct SendCall<'a> {
     pub target: GivenTarget<'a>,
     pub input: Lent<'a>,
-    pub at: MayTime,
+    pub at_millis: u64,
     pub name: Lent<'a>,
     pub unstable: bool,
 }
@@ -179,7 +179,7 @@ pub struct SendCall<'a> {
 impl<'a> VmCall for SendCall<'a> {
     ghost use Rattle.typed_calls.specs.Calls.{SendsTo};
 
-    ghost does = { λ it. SendsTo it.target it.input.bytes.now it.at it.name.bytes.now it.unstable };
+    ghost does = { λ it. SendsTo it.target it.input.bytes.now it.at_millis it.name.bytes.now it.unstable };
 
     fn make(self, alloc: Global, vm: &mut CoreVM) -> Result<Reply, Status> {
         let Callee {
@@ -188,7 +188,7 @@ impl<'a> VmCall for SendCall<'a> {
             name,
         } = callee_of(alloc, &self.target, self.input.bytes, self.name.bytes)?;
         let options = payload(self.unstable);
-        let at = optional_time(self.at);
+        let at = Some(time_of(self.at_millis));
         Ok(sent(vm.sys_send(target, input, at, Some(name), options)))
     }
 }

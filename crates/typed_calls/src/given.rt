@@ -1,9 +1,8 @@
 //! What C lends for a call, and copies of it.
-ghost use Rattle.std.specs.Prelude.{◌≡◌, ◌/◌, ◌*◌, ◌∷◌, [], map, IfOk, IfErr, string_bytes};
+ghost use Rattle.std.specs.Prelude.{◌≡◌, ◌/◌, ◌∷◌, [], map, IfOk, IfErr, string_bytes};
 ghost use Rattle.std.specs.Duration.{as_nanos};
 ghost use Rattle.std.specs.List.{flat_map};
-ghost use Rattle.vm_asks.specs.Asks.{millis_of};
-ghost use Rattle.typed_calls.specs.Given.{Refuses, header_of, millis_in, optional_of, pair_of, texts_in, texts_of_pair};
+ghost use Rattle.typed_calls.specs.Given.{Refuses, header_of, optional_of, pair_of, texts_in, texts_of_pair};
 
 use bytes::Bytes;
 use journal_values::Header;
@@ -35,16 +34,8 @@ pub struct Pair<'a> {
     pub value: Lent<'a>,
 }
 
-/// A time in whole milliseconds, or none.
-#[repr(C)]
-#[derive(Clone, Copy)]
-pub struct MayTime {
-    pub is_given: bool,
-    pub millis: u64,
-}
-
 /// A text.
-#[tactic(auto, using(crate::proofs::Given::no_text, crate::proofs::Given::no_memory))]
+#[tactic(auto, using(crate::proofs::Refusing::no_text, crate::proofs::Refusing::no_memory))]
 pub(crate) fn string_of(alloc: Global, bytes: &[u8]) -> Result<String, Status>
     ensures ok { IfOk result (λ text. string_bytes text ≡ bytes.now) }
     ensures err { IfErr result (Refuses (bytes.now ∷ [])) }
@@ -70,7 +61,7 @@ pub(crate) fn text_of(alloc: Global, bytes: &[u8]) -> Result<Text, Status>
 }
 
 /// Two texts.
-#[tactic(auto, using(crate::proofs::Given::front_refused, crate::proofs::Given::behind_refused))]
+#[tactic(auto, using(crate::proofs::Refusing::front_refused, crate::proofs::Refusing::behind_refused))]
 pub(crate) fn two_strings(
     alloc: Global,
     first: &[u8],
@@ -105,7 +96,7 @@ pub(crate) fn optional_text(alloc: Global, may: &MayLend) -> Result<Option<Text>
 }
 
 /// Bytes.
-#[tactic(auto, using(crate::proofs::Given::no_memory))]
+#[tactic(auto, using(crate::proofs::Refusing::no_memory))]
 pub(crate) fn bytes_of(alloc: Global, bytes: &[u8]) -> Result<Bytes, Status>
     ensures ok { IfOk result (λ copy. copy ≡ bytes.now) }
     ensures err { IfErr result (Refuses []) }
@@ -117,7 +108,7 @@ pub(crate) fn bytes_of(alloc: Global, bytes: &[u8]) -> Result<Bytes, Status>
 }
 
 /// A key and its value.
-#[tactic(auto, using(crate::proofs::Given::front_refused, crate::proofs::Given::behind_refused))]
+#[tactic(auto, using(crate::proofs::Refusing::front_refused, crate::proofs::Refusing::behind_refused))]
 fn key_and_value(alloc: Global, pair: &Pair) -> Result<(Text, Text), Status>
     ensures ok { IfOk result (λ texts. texts ≡ pair_of pair.now) }
     ensures err { IfErr result (Refuses (texts_of_pair pair.now)) }
@@ -133,7 +124,7 @@ fn key_and_value(alloc: Global, pair: &Pair) -> Result<(Text, Text), Status>
 }
 
 /// Pairs, in order.
-#[tactic(auto, using(crate::proofs::Given::no_memory))]
+#[tactic(auto, using(crate::proofs::Refusing::no_memory))]
 pub(crate) fn pairs_of(alloc: Global, pairs: &[Pair]) -> Result<Items<(Text, Text)>, Status>
     ensures ok { IfOk result (λ texts. texts ≡ map pair_of pairs.now) }
     ensures err { IfErr result (Refuses (flat_map texts_of_pair pairs.now)) }
@@ -149,7 +140,7 @@ pub(crate) fn pairs_of(alloc: Global, pairs: &[Pair]) -> Result<Items<(Text, Tex
 }
 
 /// Headers, in order.
-#[tactic(auto, using(crate::proofs::Given::no_memory))]
+#[tactic(auto, using(crate::proofs::Refusing::no_memory))]
 pub(crate) fn headers_of(alloc: Global, pairs: &[Pair]) -> Result<Items<Header>, Status>
     ensures ok { IfOk result (λ headers. headers ≡ map header_of pairs.now) }
     ensures err { IfErr result (Refuses (flat_map texts_of_pair pairs.now)) }
@@ -166,19 +157,7 @@ pub(crate) fn headers_of(alloc: Global, pairs: &[Pair]) -> Result<Items<Header>,
 
 /// A time since the Unix epoch.
 pub(crate) fn time_of(millis: u64) -> Duration
-    ensures nanos { as_nanos result ≡ millis * 1_000_000 }
-    ensures millis { as_nanos result / 1_000_000 ≡ millis }
+    ensures { as_nanos result / 1_000_000 ≡ millis }
 {
     Duration::from_millis(millis)
-}
-
-/// A time, if it is given.
-pub(crate) fn optional_time(may: MayTime) -> Option<Duration>
-    ensures { millis_of result ≡ millis_in may }
-{
-    if may.is_given {
-        Some(time_of(may.millis))
-    } else {
-        None
-    }
 }

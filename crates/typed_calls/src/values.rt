@@ -22,7 +22,7 @@ pub struct GivenValue<'a> {
 }
 
 /// The failure.
-#[tactic(auto, using(crate::proofs::Given::front_refused, crate::proofs::Given::behind_refused))]
+#[tactic(auto, using(crate::proofs::Refusing::front_refused, crate::proofs::Refusing::behind_refused))]
 fn failure_of(alloc: Global, given: &GivenValue) -> Result<TerminalFailure, Status>
     ensures ok { IfOk result (λ failure. failure ≡ failure_of given.now) }
     ensures err { IfErr result (Refuses (texts_of_failure given.now)) }
