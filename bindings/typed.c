@@ -53,7 +53,7 @@ static int show(palqytun_vm *vm, const char *call, palqytun_replied replied)
     if (replied.kind == PALQYTUN_ERROR && replied.number == 500 && replied.len == 0)
         return failed(PALQYTUN_NO_MEMORY);
     char line[512];
-    int end = snprintf(line, sizeof line, "%-20s %" PRIu32 "  %" PRIu32 " %" PRIu32 " %" PRIu32 " %" PRIu64 "  %zu %zu ", call,
+    int end = snprintf(line, sizeof line, "%-20s %" PRIu32 "  %" PRIu32 " %" PRIu32 " %" PRIu32 " %" PRIu64 "  %zu %zu", call,
         replied.kind, replied.first, replied.second, replied.third, replied.number, replied.rows, replied.len);
     for (size_t at = 0;; at++) {
         uint8_t part[64];
