@@ -109,32 +109,26 @@ kept_told status = record {
   len = 0;
 }
 
--- an error, with a command that it relates to or none
-abbrev pub failed_told : ℕ → Option RelatedCommand → Replied
-failed_told code (Some command) = record {
+-- an error of this code, with a command that it relates to where the first number is 1
+abbrev pub failed : ℕ → ℕ → ℕ → ℕ → Replied
+failed code is_related index ty = record {
   status = 5;
   kind = kind_code kind.Error;
-  first = 1;
-  second = command.index;
-  third = type_number command.ty;
-  number = code;
-  rows = 0;
-  len = 0;
-}
-failed_told code None = record {
-  status = 5;
-  kind = kind_code kind.Error;
-  first = 0;
-  second = 0;
-  third = 0;
+  first = is_related;
+  second = index;
+  third = ty;
   number = code;
   rows = 0;
   len = 0;
 }
 
+abbrev pub related_told : ℕ → Option RelatedCommand → Replied
+related_told code (Some command) = failed code 1 command.index (type_number command.ty)
+related_told code None = failed code 0 0 0
+
 -- an error: the call is refused; its code, and whether it relates to a command, of which index and which type
 abbrev pub error_told : Error → Replied
-error_told e = failed_told e.code e.related_command
+error_told e = related_told e.code e.related_command
 
 -- a result: a failure's code, and how many keys or pairs there are
 abbrev pub value_told : Value → Replied

@@ -27,8 +27,12 @@ fn alone(text: &[u8], at: usize) -> Option<&[u8]>
 fn in_pairs(pairs: &[(Text, Text)], at: usize) -> Option<&[u8]>
     ensures { option_copied result ≡ in_pairs pairs.now at }
 {
-    let (key, value) = pairs.get(at / 2)?;
-    Some(bytes_of(if at % 2 == 0 { key } else { value }))
+    let pair = pairs.get(at / 2)?;
+    if at % 2 == 0 {
+        Some(bytes_of(&pair.0))
+    } else {
+        Some(bytes_of(&pair.1))
+    }
 }
 
 /// The keys and values of headers in turn.
@@ -36,11 +40,11 @@ fn in_headers(headers: &[Header], at: usize) -> Option<&[u8]>
     ensures { option_copied result ≡ in_headers headers.now at }
 {
     let header = headers.get(at / 2)?;
-    Some(bytes_of(if at % 2 == 0 {
-        &header.key
+    if at % 2 == 0 {
+        Some(bytes_of(&header.key))
     } else {
-        &header.value
-    }))
+        Some(bytes_of(&header.value))
+    }
 }
 
 /// The bytes of a text that may be absent.

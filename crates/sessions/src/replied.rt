@@ -1,6 +1,6 @@
 //! What C is told of a reply at once: numbers.
 ghost use Rattle.std.specs.Prelude.{◌≡◌};
-ghost use Rattle.sessions.specs.Replies.{counted, error_told, flag_code, handles_told, kept_told, number_told, response_told, state_code, taken_told, told, told_of, value_told, version_code};
+ghost use Rattle.sessions.specs.Replies.{counted, error_told, failed, flag_code, handles_told, kept_told, number_told, response_told, state_code, taken_told, told, told_of, value_told, version_code};
 
 use crate::kind::Kind;
 use crate::status::Status;
@@ -87,23 +87,29 @@ fn version_code(version: Version) -> u32
     }
 }
 
-/// Of an error: its code, and of the command that it relates to that it is there, its index and its type.
-fn tell_error(error: &Error) -> Replied
-    ensures { result ≡ error_told error.now }
+/// Of an error with this code, and with a command that it relates to where the first number is 1.
+fn failed(code: u16, is_related: u32, index: u32, ty: u32) -> Replied
+    ensures { result ≡ failed code is_related index ty }
 {
-    let (is_related, index, ty) = match &error.related_command {
-        Some(command) => (1, command.index, u32::from(command.ty.number())),
-        None => (0, 0, 0),
-    };
     Replied {
         status: Status::Refused.code(),
         kind: Kind::Error.code(),
         first: is_related,
         second: index,
         third: ty,
-        number: u64::from(error.code),
+        number: u64::from(code),
         rows: 0,
         len: 0,
+    }
+}
+
+/// Of an error: its code, and of the command that it relates to that it is there, its index and its type.
+fn tell_error(error: &Error) -> Replied
+    ensures { result ≡ error_told error.now }
+{
+    match &error.related_command {
+        Some(command) => { failed(error.code, 1, command.index, u32::from(command.ty.number())) },
+        None => failed(error.code, 0, 0, 0),
     }
 }
 

@@ -1,7 +1,7 @@
 //! One VM, its last answer to a line, and its last reply to a call.
 ghost use Rattle.std.specs.Prelude.{◌≡◌, Some};
 ghost use Rattle.sessions.specs.Calls.{OnVm, Written, part_read};
-ghost use Rattle.sessions.specs.Replies.{part_of, summary};
+ghost use Rattle.sessions.specs.Replies.{part_len, part_of, summary};
 ghost use Rattle.sessions.specs.Sessions.{AnswerRead, Drained, Fed, IsEmpty, LineDone};
 
 use crate::parts::part_of;
@@ -35,15 +35,22 @@ fn write(bytes: &[u8], out: &mut [u8]) -> (Status, usize)
     (Status::Done, len)
 }
 
+/// How long the first part of a reply is, 0 without one.
+fn first_len(reply: &Reply) -> usize
+    ensures { result ≡ part_len (part_of reply.now 0) }
+{
+    match part_of(reply, 0) {
+        Some(part) => part.len(),
+        None => 0,
+    }
+}
+
 /// What C is told of a reply.
 fn summary(reply: &Reply) -> Replied
     ensures { result ≡ summary reply.now }
 {
     let mut replied = tell(reply);
-    replied.len = match part_of(reply, 0) {
-        Some(part) => part.len(),
-        None => 0,
-    };
+    replied.len = first_len(reply);
     replied
 }
 
