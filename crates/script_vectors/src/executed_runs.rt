@@ -150,6 +150,35 @@ output                                                                          
 await 17                                                                                                        => err 570 "UncompletedDoProgressDuringReplay"
 output                                                                                                          => ok 0x0003000000000000004b0000023a0000000000000021556e636f6d706c65746564446f50726f6772657373447572696e675265706c61790000000000000000000100000001010000001a0100000000000000017200
 
+# Of two pending runs the error relates to the last that the future names.
+vm "application/vnd.restate.invocation.v7" cancel=off                                                                                                            => ok V7
+input 0x00010000000000000042000000000000000361626300000000000000036162630000000000000000000000040000000000000000000000000000000000000000000000000000000000000000 => ok
+input <input_till>                                                                                                                                               => ok
+input 0x001a000000000000000d00000000000000016100000001                                                                                                           => ok
+input 0x001a000000000000000d00000000000000016200000002                                                                                                           => ok
+input 0x0012000000000000001400000000000003e8000000030000000000000000                                                                                             => ok
+sys_input                                                                                                                                                        => ok id="abc" seed=0 key="" headers=[] value="Till" scope=- limit=- idem=-
+run "a"                                                                                                                                                          => ok 17 false
+run "b"                                                                                                                                                          => ok 18 false
+await ac(17,18)                                                                                                                                                  => err 570 "UncompletedDoProgressDuringReplay"
+output                                                                                                                                                           => ok 0x0003000000000000004b0000023a0000000000000021556e636f6d706c65746564446f50726f6772657373447572696e675265706c61790000000000000000000100000002010000001a0100000000000000016200
+
+# A child that is done is replaced by the last one: then the last run is the second.
+vm "application/vnd.restate.invocation.v7" cancel=off                                                                                                            => ok V7
+input 0x00010000000000000042000000000000000361626300000000000000036162630000000000000000000000050000000000000000000000000000000000000000000000000000000000000000 => ok
+input <input_till>                                                                                                                                               => ok
+input 0x001a000000000000000d00000000000000016100000001                                                                                                           => ok
+input 0x001a000000000000000d00000000000000016200000002                                                                                                           => ok
+input 0x001a000000000000000d00000000000000016300000003                                                                                                           => ok
+input 0x0012000000000000001400000000000003e8000000040000000000000000                                                                                             => ok
+input 0x001e000000000000000f000000000101000000000000000178                                                                                                       => ok
+sys_input                                                                                                                                                        => ok id="abc" seed=0 key="" headers=[] value="Till" scope=- limit=- idem=-
+run "a"                                                                                                                                                          => ok 17 true
+run "b"                                                                                                                                                          => ok 18 false
+run "c"                                                                                                                                                          => ok 19 false
+await ac(17,18,19)                                                                                                                                               => err 570 "UncompletedDoProgressDuringReplay"
+output                                                                                                                                                           => ok 0x0003000000000000004b0000023a0000000000000021556e636f6d706c65746564446f50726f6772657373447572696e675265706c61790000000000000000000100000002010000001a0100000000000000016200
+
 # An acknowledgement in replay.
 vm "application/vnd.restate.invocation.v7"           => ok V7
 input <start_2 input_till sleep_to_1000>             => ok

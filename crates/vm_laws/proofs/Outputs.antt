@@ -38,7 +38,7 @@ use Rattle.vm_machine.specs.Inputs.{close_step, end_step, input_step, malformed_
 use Rattle.vm_machine.specs.Signals.{awakeable_step, signal_step}
 use Rattle.vm_machine.specs.Outcomes.{CalledBy, Does, DoesBy, Done, Failed, IsStarved, Outcome, called, refused}
 use Rattle.vm_machine.specs.Reports.{report_step}
-use Rattle.vm_laws.proofs.Endings.{answered, awaited_writes, awakeable_writes, signal_writes, read_writes, before_event, called_writes, close_writes, end_writes, input_writes, commanded_event, malformed_writes, message_writes, nothing_behind, proposed_write, report_writes, same, take_writes, writes_nothing}
+use Rattle.vm_laws.proofs.Endings.{answered, awaited_writes, awakeable_writes, signal_writes, read_writes, before_event, called_writes, close_writes, end_writes, ends_nothing, input_writes, commanded_event, malformed_writes, message_writes, nothing_behind, proposed_write, report_writes, same, take_writes, writes_nothing}
 use Rattle.vm_laws.proofs.Ephemerals.{ephemeral_writes, take_ephemeral_writes}
 use Rattle.vm_asks.specs.declared.state_read.StateRead.{StateRead}
 use Rattle.vm_machine.specs.Reads.{read_step}

@@ -4,6 +4,7 @@ use native.Mathlib.Nat.{add-zero}
 use Rattle.std.specs.Prelude.{◌==◌, nat_eq, if◌then◌else◌, Result, Ok, Err}
 use Rattle.std.specs.Cmp.Lexicographic.{pointwise}
 use Rattle.std.proofs.lemmas.Bool.{eqb-true}
+use Rattle.std.proofs.lemmas.List.{append_cancel_right}
 use Rattle.std.proofs.lemmas.Option.{same_Some}
 use Rattle.arrivals.specs.Results.{results_of}
 use Rattle.arrivals.proofs.Awaited.{results-append}
@@ -52,7 +53,7 @@ use Rattle.vm_model.specs.Calls.Move.{Answers, Needs, Awaits, Ends, Refuses}
 use Rattle.vm_model.specs.Calls.Usage.{Used, Read, Taken}
 use Rattle.vm_asks.specs.Carried.{carried}
 use Rattle.vm_model.specs.Carried.{AreCarried, ComeOnce, is_among, is_carried, read_carries}
-use Rattle.vm_model.specs.Deliveries.{HasNoTwo, deliveries}
+use Rattle.vm_model.specs.Deliveries.{HasNoTwo, deliveries, was_read}
 use Rattle.vm_model.specs.Moves.{Point, after, brought, command_used, found, move_at, moved, next, reads_as, start, uses_arrival, uses_command}
 use Rattle.vm_model.specs.Uses.{arrivals_in, needed_for}
 use Rattle.vm_model.proofs.Parts.{IsOfOne, next_keeps, next_turn, turn_splits}
@@ -64,7 +65,7 @@ use Rattle.vm_model.proofs.Uses.{arrivals_used}
 
 -- ---- tests
 
-both : (a b : Bool) → (a && b) ≡ true → (a ≡ true) × (b ≡ true)
+pub both : (a b : Bool) → (a && b) ≡ true → (a ≡ true) × (b ≡ true)
 both true b e = (refl, e)
 both false b e = absurd (cc)
 
@@ -116,7 +117,7 @@ input_carries m e = carries_none m (ap carries_ids e)
 one_id : (a b : ℕ) → (a == b) ≡ true → a ∷ [] ≡ b ∷ []
 one_id a b e = ap (λ id. id ∷ []) (eqb-true a b e)
 
-same_request : (ignore : Bool) (a b : CallRequest) → request_equal ignore a b ≡ true → a.invocation_id_notification_idx ≡ b.invocation_id_notification_idx
+pub same_request : (ignore : Bool) (a b : CallRequest) → request_equal ignore a b ≡ true → a.invocation_id_notification_idx ≡ b.invocation_id_notification_idx
 same_request ignore a b e = eqb-true a.invocation_id_notification_idx b.invocation_id_notification_idx (both _ (a.invocation_id_notification_idx == b.invocation_id_notification_idx) (both _ (pointwise nat_eq a.name b.name) e).0).1
 
 same_carried : (m n : Message) (ignore : Bool) → type_of n ≡ type_of m → header_equal n m ignore ≡ true → carried n ≡ carried m
@@ -178,11 +179,22 @@ carried_given id m i e = absurd (cc)
 -- ---- what was read of a completion id
 
 -- how many eager reads gave the id a result
-reads_at : ℕ → List Usage → ℕ
+unfoldable pub reads_at : ℕ → List Usage → ℕ
 reads_at i [] = 0
 reads_at i (Used n ∷ us) = reads_at i us
 reads_at i (Read id result ∷ us) = cond (id == i) (suc (reads_at i us)) (reads_at i us)
 reads_at i (Taken id ∷ us) = reads_at i us
+
+none_was_read : (i : ℕ) (us : List Usage) → was_read i us ≡ false → reads_at i us ≡ 0
+unfolding reads_at
+none_was_read i [] e = refl
+none_was_read i (Used n ∷ us) e = none_was_read i us e
+none_was_read i (Read id result ∷ us) e = by_test (id == i) e (none_was_read i us)
+  where
+    by_test : (b : Bool) → (b || was_read i us) ≡ false → (was_read i us ≡ false → reads_at i us ≡ 0) → cond b (suc (reads_at i us)) (reads_at i us) ≡ 0
+    by_test true h ih = absurd (let z : true ≡ false = h in cc)
+    by_test false h ih = ih h
+none_was_read i (Taken id ∷ us) e = none_was_read i us e
 
 -- what came for a completion id was read or delivered
 came : (i : ℕ) (us : List Usage) → length (deliveries (CompletionId i) us) ≡ reads_at i us + length (results_of (CompletionId i) (arrivals_in us))
@@ -523,15 +535,15 @@ next_id : Setup → Meaning → Point → ℕ
 next_id s m p = p.derived.counters.completion + made_ids p.derived.parts (ask_of s.version (m p.answers))
 
 -- none of them are made but of a call that asks for several
-abbrev RestsAt : Ask → ℕ → Type 0
+abbrev pub RestsAt : Ask → ℕ → Type 0
 RestsAt (ask.Commands kind first second) n = Unit {0}
 RestsAt a n = n ≡ 0
 
-rests_none : (a : Ask) (n : ℕ) → n ≡ 0 → RestsAt a n
+pub rests_none : (a : Ask) (n : ℕ) → n ≡ 0 → RestsAt a n
 rests_none (ask.Commands kind first second) n none = tt
 rests_none a n none = none
 
-rests_one : (a : Ask) (n : ℕ) → IsOfOne a → RestsAt a n → n ≡ 0
+pub rests_one : (a : Ask) (n : ℕ) → IsOfOne a → RestsAt a n → n ≡ 0
 rests_one (ask.Commands kind first second) n one h = absurd one
 rests_one (ask.Command c) n one h = h
 rests_one (ask.Read r) n one h = h
@@ -601,6 +613,10 @@ module _ (i : ℕ) (s : Setup) (m : Meaning) (p q : Point) where
       part_goes kind first second is (part_moves s kind (refused_before t.command t.behind t.before.counters) t p q (subst (λ a. moved (asked s a p.derived) p ≡ Some q) is e))
   next_goes a is rests e = plain_goes (subst IsOfOne (sym is) tt) rests e
 
+-- none are made but of a call that asks for several, one move later
+pub next_rests : (s : Setup) (m : Meaning) (p q : Point) → RestsAt (ask_of s.version (m p.answers)) p.derived.parts → next s m p ≡ Some q → RestsAt (ask_of s.version (m q.answers)) q.derived.parts
+next_rests s m p q rests e = (next_goes 0 s m p q (ask_of s.version (m p.answers)) refl rests e).1
+
 -- ---- so many moves
 
 between_here : (i : ℕ) (p : Point) (first : ℕ) → Between i p p first first
@@ -647,8 +663,21 @@ module _ (s : Setup) (m : Meaning) (input : InputCommand) (ns : List Notificatio
   first_rests : RestsAt (ask_of s.version (m begun.answers)) begun.derived.parts
   first_rests = rests_none (ask_of s.version (m begun.answers)) 0 refl
 
-  rests_there : (n : ℕ) (p : Point) → after s m n begun ≡ Some p → RestsAt (ask_of s.version (m p.answers)) p.derived.parts
+  pub rests_there : (n : ℕ) (p : Point) → after s m n begun ≡ Some p → RestsAt (ask_of s.version (m p.answers)) p.derived.parts
   rests_there n p e = (after_between 0 s m n begun p first_rests e).1
+
+  -- nothing was read for an id that a used command carries
+  pub none_read : (n : ℕ) (q : Point) → after s m n begun ≡ Some q → (us : List RawMessage) → cs ≡ us ++ q.left → (i : ℕ) → is_carried i us ≡ true → reads_at i q.derived.usage ≡ 0
+  unfolding reads_at
+  none_read n q e us is i carry =
+      let b = (after_between i s m n begun q first_rests e).0 in
+      let same : b.used ≡ us = append_cancel_right b.used us q.left (sym b.left ∙ is) in
+      by_claim b.used _ _ b.claim (ap (is_carried i) same ∙ carry)
+    where
+      by_claim : (used : List RawMessage) (first past : ℕ) → Claim i first past 0 (reads_at i q.derived.usage) used → is_carried i used ≡ true → reads_at i q.derived.usage ≡ 0
+      by_claim used first past (inl c) h = c.0
+      by_claim used first past (inr (a, b, inl c)) h = c
+      by_claim used first past (inr (a, b, inr c)) h = absurd (let z : true ≡ false = sym h ∙ c.1 in cc)
 
   -- all that came for an id
   total : (n : ℕ) (p : Point) → after s m n begun ≡ Some p → (i : ℕ) → length (deliveries (CompletionId i) p.derived.usage) + length (results_of (CompletionId i) p.queue) ≡ reads_at i p.derived.usage + length (results_of (CompletionId i) ns)
@@ -657,6 +686,26 @@ module _ (s : Setup) (m : Meaning) (input : InputCommand) (ns : List Notificatio
       ap (λ l. length (results_of (CompletionId i) l)) (arrivals_used s m n input ns cs p e) ∙ ap length (results-append (CompletionId i) (arrivals_in p.derived.usage) p.queue) ∙ length-append (results_of (CompletionId i) (arrivals_in p.derived.usage)) (results_of (CompletionId i) p.queue) in
       let some = came i p.derived.usage in
       omega (arith, all, some)
+
+  -- where no result came for what was read, and one at most for each other id
+  pub replays_once : ComeOnce ns → (n : ℕ) (p : Point) → after s m n begun ≡ Some p → ((i : ℕ) → was_read i p.derived.usage ≡ true → results_of (CompletionId i) ns ≡ []) → HasNoTwo p
+  unfolding reads_at
+  replays_once once n p e none i =
+      let b = (after_between i s m n begun p first_rests e).0 in
+      let sum = total n p e i in
+      by_read (was_read i p.derived.usage) refl (read_at_most b.used _ _ b.claim) sum (once i)
+    where
+      bound : ℕ
+      bound = length (deliveries (CompletionId i) p.derived.usage) + length (results_of (CompletionId i) p.queue)
+
+      read_at_most : (used : List RawMessage) (first past : ℕ) → Claim i first past 0 (reads_at i p.derived.usage) used → reads_at i p.derived.usage ≤ 1
+      read_at_most used first past (inl c) = let x = c.0 in omega (arith, x)
+      read_at_most used first past (inr (a, b, inl c)) = omega (arith, c)
+      read_at_most used first past (inr (a, b, inr c)) = let x = c.0 in omega (arith, x)
+
+      by_read : (b : Bool) → was_read i p.derived.usage ≡ b → reads_at i p.derived.usage ≤ 1 → bound ≡ reads_at i p.derived.usage + length (results_of (CompletionId i) ns) → length (results_of (CompletionId i) ns) ≤ 1 → bound ≤ 1
+      by_read true is most sum one = let nothing : length (results_of (CompletionId i) ns) ≡ 0 = ap length (none i is) in omega (arith, most, sum, nothing)
+      by_read false is most sum one = let unread = none_was_read i p.derived.usage is in omega (arith, unread, sum, one)
 
   module _ (once : ComeOnce ns) (carry : AreCarried ns cs) where
     at_end : (n : ℕ) (p : Point) → after s m n begun ≡ Some p → p.left ≡ [] → HasNoTwo p

@@ -25,6 +25,7 @@ pub mod Sums
 pub mod Uses
 pub mod Rests
 pub mod Carried
+pub mod RightKinds
 pub mod Comparing
 pub mod Rows
 pub mod Refusals

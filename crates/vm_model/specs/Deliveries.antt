@@ -1,5 +1,5 @@
 -- What came for an id and how often its results were taken, by the arrivals that awaits have used, and those that wait.
-use Rattle.std.specs.Prelude.{◌≡◌, ◌⊎◌, ◌≤◌, ◌+◌, ℕ, zero, suc, length, true, cond, is_some, List, [], ◌∷◌, ◌++◌, drop, Option, Some, None}
+use Rattle.std.specs.Prelude.{◌≡◌, ◌⊎◌, ◌≤◌, ◌+◌, ◌==◌, ◌||◌, ℕ, zero, suc, length, Bool, true, false, cond, is_some, List, [], ◌∷◌, ◌++◌, drop, Option, Some, None}
 use Rattle.arrivals.specs.Results.{results_of}
 use Rattle.journal_values.specs.declared.notification.NotificationId.{NotificationId}
 use Rattle.journal_values.specs.declared.notification.NotificationId.TheVariants.{CompletionId}
@@ -59,6 +59,13 @@ TakeIsAnswered s handle p q =
 -- the notifications of a point, as an await finds them
 abbrev pub arrived_at : Setup → Point → Arrived
 arrived_at s p = record { queued = p.queue; ready = ready_in s p.derived; handles = p.derived.handles }
+
+-- an eager read gave the completion id its result
+abbrev pub was_read : ℕ → List Usage → Bool
+was_read i [] = false
+was_read i (Used n ∷ us) = was_read i us
+was_read i (Read id result ∷ us) = (id == i) || was_read i us
+was_read i (Taken id ∷ us) = was_read i us
 
 -- No completion id has two results: of what an eager read gave, of the arrivals that awaits have used, and of those that wait.
 abbrev pub HasNoTwo : Point → Type 0

@@ -14,7 +14,9 @@ pub use honest::{
     attempts_agree, commands_stand_behind, compared_histories_are_sound, honest_rounds,
     one_undisturbed, sound_histories_last, whole_rounds,
 };
-pub use lists::{completions_come_once, handles_stand_for_ids, lists_are_used};
+pub use lists::{
+    completions_come_once, handles_stand_for_ids, lists_are_used, no_result_is_unexpected,
+};
 pub use numbers::numbers_are_sums;
 pub use reads::{eager_reads_are_so, handed_stays_so};
 pub use told::{

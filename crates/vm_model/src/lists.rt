@@ -1,18 +1,22 @@
 //! Laws of what a run used of its journal, and of what its handles stand for.
-ghost use Rattle.std.specs.Prelude.{◌≡◌, ◌⊎◌, ◌+◌, ◌++◌, [], List, ℕ, Some, take};
+ghost use Rattle.std.specs.Prelude.{◌≡◌, ◌≢◌, ◌⊎◌, ◌+◌, ◌++◌, [], List, ℕ, Some, take, true};
+ghost use Rattle.arrivals.specs.Results.{results_of};
 ghost use Rattle.vm_asks.specs.Asks.{ask_of};
 ghost use Rattle.journal_attempt.specs.declared.commands.InputCommand.{InputCommand};
+ghost use Rattle.journal_errors.specs.declared.faults.NamedFault.TheVariants as fault;
 ghost use Rattle.journal_messages.specs.declared.message.RawMessage.{RawMessage};
 ghost use Rattle.journal_values.specs.declared.notification.Notification.{Notification};
 ghost use Rattle.journal_values.specs.declared.notification.NotificationId.{NotificationId};
+ghost use Rattle.journal_values.specs.declared.notification.NotificationId.TheVariants.{CompletionId};
 ghost use Rattle.vm_parts.specs.declared.context.StateMap.{StateMap};
 ghost use Rattle.vm_parts.specs.Deliveries.{id_at};
 ghost use Rattle.vm_model.specs.Calls.{Setup, Meaning};
-ghost use Rattle.vm_model.specs.Carried.{AreCarried, ComeOnce};
+ghost use Rattle.vm_model.specs.Calls.Move.{Refuses};
+ghost use Rattle.vm_model.specs.Carried.{AreCarried, AreOfTheirKind, ComeOnce};
 ghost use Rattle.vm_model.specs.Histories.{Handed, Made, behind};
-ghost use Rattle.vm_model.specs.Moves.{Point, after, start};
+ghost use Rattle.vm_model.specs.Moves.{Point, after, move_at, start};
 ghost use Rattle.vm_model.specs.Sums.{calls_for};
-ghost use Rattle.vm_model.specs.Deliveries.{HasNoTwo};
+ghost use Rattle.vm_model.specs.Deliveries.{HasNoTwo, was_read};
 ghost use Rattle.vm_model.specs.Uses.{AreSentBy, IsGiven, IsSentFor, StandFor, WasTaken, arrivals_in, cancels_needed, ids_given, item, needed, needed_by};
 
 /// Both lists of a journal are used from the front. The recorded commands are those that were used and those that are left; each
@@ -40,11 +44,22 @@ pub fn handles_stand_for_ids()
 /// No completion id has two results at any point of a run, where some point uses all recorded commands, and the arrivals have one
 /// result at most for each completion id, and only for ids that the commands carry: an eager read has an id of its own.
 /// The same is so of an attempt, whose written commands count as the recorded ones do: it has the results of its own commands,
-/// and at each point of its run, before it wrote them and behind, no completion id has two.
+/// and at each point of its run, before it wrote them and behind, no completion id has two. It is so too at each point of a run over
+/// commands that don't all fit, where the arrivals have one result at most for each completion id, and none for an id to which the run
+/// itself has given the result of an eager read.
 pub fn completions_come_once()
     ensures told { (s : Setup) (m : Meaning) (n k : ℕ) (input : InputCommand) (ns : List Notification) (cs : List RawMessage) (p q : Point) → after s m n (start s input ns cs) ≡ Some p → after s m k (start s input ns cs) ≡ Some q → q.left ≡ []
         → ComeOnce ns → AreCarried ns cs → HasNoTwo p }
     ensures attempts { (s : Setup) (m : Meaning) (given : StateMap) (input : InputCommand) (ns : List Notification) (cs : List RawMessage) (k : ℕ) (q : Point) → after s m k (start s input ns cs) ≡ Some q → q.left ≡ [] → ComeOnce ns
         → (l : ℕ) (written : List RawMessage) (at : Point) → Made s m (Handed given) l (start s input ns cs) written at → AreCarried ns (cs ++ written)
         → (n : ℕ) (made : List RawMessage) (p : Point) → Made s m (Handed given) n (start s input ns cs) made p → HasNoTwo p }
+    ensures replayed { (s : Setup) (m : Meaning) (n : ℕ) (input : InputCommand) (ns : List Notification) (cs : List RawMessage) (p : Point) → after s m n (start s input ns cs) ≡ Some p → ComeOnce ns
+        → ((id : ℕ) → was_read id p.derived.usage ≡ true → results_of (CompletionId id) ns ≡ []) → HasNoTwo p }
+{}
+
+/// Where each result of an id that a call or a one-way call carries for its invocation's is an invocation's id, no take and no cancelled
+/// await of a run is refused since it is none.
+pub fn no_result_is_unexpected()
+    ensures { (s : Setup) (m : Meaning) (n : ℕ) (input : InputCommand) (ns : List Notification) (cs : List RawMessage) (q : Point) → after s m n (start s input ns cs) ≡ Some q
+        → AreOfTheirKind ns cs → move_at s m q ≢ Refuses fault.UnexpectedInvocationIdResult }
 {}

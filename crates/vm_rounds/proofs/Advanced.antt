@@ -30,6 +30,8 @@ use Rattle.vm_machine.proofs.Skipping.{input_is}
 use Rattle.vm_asks.specs.Carried.{past_all}
 use Rattle.vm_parts.specs.declared.context.Counters.{Counters}
 use Rattle.vm_types.specs.declared.options.JournalReplay.TheVariants.{Enabled}
+use Rattle.vm_types.specs.declared.options.SignalDelivery.TheVariants.{Queued}
+use Rattle.vm_model.specs.Deliveries.{HasNoTwo}
 use Rattle.vm_machine.specs.Making.{fresh}
 use Rattle.vm_machine.specs.Outcomes.{IsStarved, Outcome, Done, Failed, ◌>>=◌, about_last, called, called_at, settled, ruled, failed}
 use Rattle.vm_machine.specs.Phases.{is_closed, is_running}
@@ -217,7 +219,7 @@ read_begins m version options fed replays nothing before taken v w b h i is none
           nothing,
         )
 
-reads_done : (m : Meaning) (version : Version) (options : VMOptions) (fed : Heard) (replays : options.journal_replay ≡ Enabled) (nothing : fed.proposed ≡ []) (before : Option UnresolvedFuture) (taken : List (List ℕ)) (v w : View) (i : Input) → Comes version options fed v.machine → input_step v.machine ≡ Done i w.machine → before ≡ None → Wrote taken v.machine.output [] → (frames_of (bytes_fed fed)).1 ≡ Rest w.undecoded → Begins m version options fed (answer.Input i ∷ []) before taken w
+pub reads_done : (m : Meaning) (version : Version) (options : VMOptions) (fed : Heard) (replays : options.journal_replay ≡ Enabled) (nothing : fed.proposed ≡ []) (before : Option UnresolvedFuture) (taken : List (List ℕ)) (v w : View) (i : Input) → Comes version options fed v.machine → input_step v.machine ≡ Done i w.machine → before ≡ None → Wrote taken v.machine.output [] → (frames_of (bytes_fed fed)).1 ≡ Rest w.undecoded → Begins m version options fed (answer.Input i ∷ []) before taken w
 reads_done m version options fed replays nothing before taken v w i comes is none wrote tail =
     ⊎_elim
     (λ (x : (frames_fed fed ≡ []) × ((alloc : Global) × (v.machine ≡ fresh alloc version options))). waits_reads v.machine i w.machine (ap (λ (z : Machine). is_running z.phase) x.1.1) is)
@@ -299,7 +301,7 @@ module _ (R : Reading) (P : Heard → Type 0) (l : Lasts R) (m : Meaning) (versi
 
 -- the run of a handler is kept by each step
 pub step_keeps : (m : Meaning) (version : Version) (options : VMOptions) (old : Record) (result : Result Progress Error) (new : Record) → Premises m version options (heard version old) → IsKept m version options old → StepDoes m old result new → IsKept m version options new
-step_keeps m version options = steps_keep (Runs m version options) (Premises m version options) (runs_last m version options) m version options (λ fed waiting taken v w i p none comes is none_waits wrote tail. (reads_done m version options fed p.replays none waiting taken v w i comes is none_waits wrote tail).0) (runs_answered m version options) (asks_keep m version options)
+step_keeps m version options = steps_keep (Runs m version options) (Premises m version options) (runs_last m version options) m version options (λ fed waiting taken v w i p none comes is none_waits wrote tail. (reads_done m version options fed p.replays none waiting taken v w i comes is none_waits wrote tail).0) (runs_answered m version options) (λ old result new p k. asks_keep m version options old result new p.queues k (p.once k.journal k.moves k.written k.at k.run))
 
 -- ---- a step that waits
 
@@ -326,7 +328,9 @@ advances_wait m version options old result new under k live =
     (λ (o : ((old.answers ≡ []) × Reads old result new) ⊎ ((old.answers ≢ []) × Asks m old result new)).
     ⊎_elim
     (λ (x : (old.answers ≡ []) × Reads old result new). reads_wait P old result new x.1)
-    (λ (x : (old.answers ≢ []) × Asks m old result new). asks_wait m version options old result new under (runs_of m version options old k x.0) live x.1)
+    (λ (x : (old.answers ≢ []) × Asks m old result new).
+    let run = runs_of m version options old k x.0 in
+    asks_wait m version options old result new under.queues run (under.once run.journal run.moves run.written run.at run.run) live x.1)
     o)
 
 wait_at : (m : Meaning) (version : Version) (options : VMOptions) (old : Record) (result : Result Progress Error) (new : Record) → Premises m version options (heard version old) → IsKept m version options old → old.vm.machine.failure ≡ None → (ph : Phase) → old.vm.machine.phase ≡ ph → StepAt ph m old result new → IfWaits result (Sleeps m version options (heard version new) new.answers new.taken new.vm)
@@ -360,14 +364,14 @@ replays_advance m old result new is d =
     (subst (λ f. StepUnless f None m old result new) is.failure
     (subst (λ over. StepUnless old.vm.machine.failure over m old result new) is.over (subst (λ b. StepFrom b m old result new) is.starved d)))
 
-pub step_replays : (m : Meaning) (version : Version) (options : VMOptions) (old : Record) (result : Result Progress Error) (new : Record) → Premises m version options (heard version old) → IsKept m version options old → IsReplaying old → StepDoes m old result new → Replays m version options old result new
-step_replays m version options old result new under k is does =
+pub step_replays : (m : Meaning) (version : Version) (options : VMOptions) (old : Record) (result : Result Progress Error) (new : Record) → options.signal_delivery ≡ Queued → (k : Runs m version options (heard version old) old.answers old.waiting old.taken old.vm) → HasNoTwo k.at → IsReplaying old → StepDoes m old result new → Replays m version options old result new
+step_replays m version options old result new queues k two is does =
     ⊎_elim
     (λ (x : LacksMemory old result new). lacks_replay m version options old result new x)
     (λ (o : ((old.answers ≡ []) × Reads old result new) ⊎ ((old.answers ≢ []) × Asks m old result new)).
     ⊎_elim
     (λ (x : (old.answers ≡ []) × Reads old result new). absurd (is.runs x.0))
-    (λ (x : (old.answers ≢ []) × Asks m old result new). asks_replay m version options old result new under (runs_of m version options old k x.0) (record { failure = is.failure; phase = ap is_running is.phase }) is.phase x.1)
+    (λ (x : (old.answers ≢ []) × Asks m old result new). asks_replay m version options old result new queues k two (record { failure = is.failure; phase = ap is_running is.phase }) is.phase x.1)
     o)
     (replays_advance m old result new is does)
 

@@ -91,7 +91,7 @@ module _ (version : Version) (options : VMOptions) (fed : Heard) (none_proposed 
       }
 
 -- the input is read, whatever the options are
-reads_come : (version : Version) (options : VMOptions) (fed : Heard) → fed.proposed ≡ [] → (taken : List (List ℕ)) (v w : View) (i : Input) → Comes version options fed v.machine → input_step v.machine ≡ Done i w.machine → Wrote taken v.machine.output [] → (frames_of (bytes_fed fed)).1 ≡ Rest w.undecoded → Came version options fed (answer.Input i ∷ []) taken w
+pub reads_come : (version : Version) (options : VMOptions) (fed : Heard) → fed.proposed ≡ [] → (taken : List (List ℕ)) (v w : View) (i : Input) → Comes version options fed v.machine → input_step v.machine ≡ Done i w.machine → Wrote taken v.machine.output [] → (frames_of (bytes_fed fed)).1 ≡ Rest w.undecoded → Came version options fed (answer.Input i ∷ []) taken w
 reads_come version options fed none taken v w i comes is wrote tail =
     let r = input_is v.machine i w.machine is in
     let runs : is_running v.machine.phase ≡ true = ap is_running r.phase in
@@ -126,7 +126,7 @@ module _ (version : Version) (options : VMOptions) (fed : Heard) (before : List 
     tail = λ _. k.tail live ∙ ap Rest (sym und);
   }
 
-asks_come : (m : Meaning) (version : Version) (options : VMOptions) (old : Record) (result : Result Progress Error) (new : Record) → CameBy version options (heard version old) old.answers old.waiting old.taken old.vm → IsLive old.vm.machine → Asks m old result new → KeptBy (CameBy version options) version options new
+pub asks_come : (m : Meaning) (version : Version) (options : VMOptions) (old : Record) (result : Result Progress Error) (new : Record) → CameBy version options (heard version old) old.answers old.waiting old.taken old.vm → IsLive old.vm.machine → Asks m old result new → KeptBy (CameBy version options) version options new
 asks_come m version options old result new k live (x, w, does, is, made) = subst (KeptBy (CameBy version options) version options) (sym is) (inr (by_reply x (step_leaves (step_asked m old) old.vm.machine live x w.machine does.0.0)))
   where
     on : (answers : List Answer) (waits : Option UnresolvedFuture) → answers ≢ [] → Sends old.vm.machine w.machine → (w.machine.failure ≡ None → w.machine.proposals ≡ old.vm.machine.proposals) → (w.machine.failure ≡ None → old.vm.machine.phase ≡ Processing → is_running w.machine.phase ≡ true → w.machine.phase ≡ Processing) → (w.machine.failure ≡ None → (is_running w.machine.phase ≡ true) ⊎ (w.machine.phase ≡ Closed)) → CameBy version options (heard version old) answers waits old.taken w

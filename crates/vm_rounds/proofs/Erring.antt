@@ -32,7 +32,7 @@ use Rattle.vm_types.specs.declared.options.JournalReplay.{JournalReplay}
 use Rattle.vm_types.specs.declared.options.JournalReplay.TheVariants.{Enabled, Disabled}
 use Rattle.vm_types.specs.declared.values.Input.{Input}
 use Rattle.vm_machine.specs.Making.{fresh}
-use Rattle.vm_machine.specs.Outcomes.{DoesBy, IsStarved, Outcome, Done, Failed, ◌>>=◌, about_last, called, called_at, failed, ruled, settled}
+use Rattle.vm_machine.specs.Outcomes.{DoesBy, IsStarved, Outcome, Done, Failed, ◌>>=◌, about_last, called, called_at, failed, ruled, ruled_by, settled}
 use Rattle.vm_machine.specs.Phases.{is_closed, is_running}
 use Rattle.invocation_vm.specs.Views.{View}
 use Rattle.vm_model.specs.Calls.{Setup, Meaning}
@@ -43,7 +43,7 @@ use Rattle.vm_steps.specs.declared.progress.Progress.TheVariants as progress
 use Rattle.vm_steps.specs.declared.progress.Reply.{Reply}
 use Rattle.vm_steps.specs.declared.progress.Reply.TheVariants as reply
 use Rattle.vm_rounds.specs.Agreement.{IsCutShort, IsRefused}
-use Rattle.vm_rounds.specs.Blames.{Blame, BlamedAt, CannotSkip, IfError, IsBlamed, LacksInput, RefusedCall, first_input, skip_fault}
+use Rattle.vm_rounds.specs.Blames.{Blame, BlamedAt, CannotSkip, IfError, IsBlamed, LacksInput, RefusedCall, first_input, no_input_fault, skip_fault, the_input}
 use Rattle.vm_rounds.specs.Blames.Blame.{Memory, NoInput, NoSkip, Call}
 use Rattle.vm_rounds.specs.Journals.{HasAll, StillWaits, commands_among, machine_fed, missing, notifications_among, setup_for}
 use Rattle.vm_steps.specs.Record.{Record, Said, all_said, heard}
@@ -62,13 +62,13 @@ none_some : {A : Type 0} (e : Error) → None ≡ Some e → A
 none_some e h = absurd (cc)
 
 -- a call that failed has failed the machine, which hadn't
-pub called_failed : {A : Type 0} (v : Machine) (o : Outcome A) (e : Error) (w : Machine) → v.failure ≡ None → called o v ≡ Failed e w → (w.failure ≡ Some e) × ((d : Error) × (u : Machine) × (o ≡ Failed d u))
+pub called_failed : {A : Type 0} (v : Machine) (o : Outcome A) (e : Error) (w : Machine) → v.failure ≡ None → called o v ≡ Failed e w → (w.failure ≡ Some e) × ((d : Error) × (u : Machine) × (o ≡ Failed d u) × (e ≡ ruled u d))
 unfolding called
 called_failed {A} v o e w live is = by_outcome o (ap (λ f. called_at f o v) (sym live) ∙ is)
   where
-    by_outcome : (q : Outcome A) → settled q ≡ Failed e w → (w.failure ≡ Some e) × ((d : Error) × (u : Machine) × (q ≡ Failed d u))
+    by_outcome : (q : Outcome A) → settled q ≡ Failed e w → (w.failure ≡ Some e) × ((d : Error) × (u : Machine) × (q ≡ Failed d u) × (e ≡ ruled u d))
     by_outcome (Done a x) h = absurd (cc)
-    by_outcome (Failed d x) h = (let at : failed (ruled x d) x ≡ w = cc in let same : ruled x d ≡ e = cc in ap (λ (z : Machine). z.failure) (sym at) ∙ ap (λ y. Some y) same, (d, x, refl))
+    by_outcome (Failed d x) h = (let at : failed (ruled x d) x ≡ w = cc in let same : ruled x d ≡ e = cc in ap (λ (z : Machine). z.failure) (sym at) ∙ ap (λ y. Some y) same, (d, x, refl, sym same))
 
 called_done : {A : Type 0} (v : Machine) (o : Outcome A) (a : A) (w : Machine) → v.failure ≡ None → called o v ≡ Done a w → o ≡ Done a w
 unfolding called
@@ -169,16 +169,46 @@ counted_lacks cs v at d u h = from cs (subst (λ l. (popped_from l type.InputCom
         by_type true h = by_input (input_in raw.body) h
         by_type false h = refl
 
+-- the error of an event that failed, and what its machine was made for
+same_failed : (a d : Error) (w u : Machine) (o : Outcome Input) → o ≡ Failed a w → o ≡ Failed d u → (d ≡ a) × (u.version ≡ w.version) × (u.options ≡ w.options)
+same_failed a d w u o is at =
+    let error : a ≡ d = cc in
+    let machine : w ≡ u = cc in
+    (sym error, ap (λ (z : Machine). z.version) (sym machine), ap (λ (z : Machine). z.options) (sym machine))
+
+-- an input that isn't read: what the error says
+counted_says : (cs : List RawMessage) (v : Machine) → v.commands ≡ cs → (d : Error) (u : Machine) → input_counted None v ≡ Failed d u
+    → (d ≡ about_last (no_input_fault cs) (entered type.InputCommand [] v)) × (u.version ≡ v.version) × (u.options ≡ v.options)
+unfolding popped
+counted_says cs v at d u h = from cs (subst (λ l. (popped_from l type.InputCommand (entered type.InputCommand [] v) >>= λ raw w. input_read (input_in raw.body) w) ≡ Failed d u) at h)
+  where
+    from : (cs : List RawMessage) → (popped_from cs type.InputCommand (entered type.InputCommand [] v) >>= λ raw w. input_read (input_in raw.body) w) ≡ Failed d u → (d ≡ about_last (no_input_fault cs) (entered type.InputCommand [] v)) × (u.version ≡ v.version) × (u.options ≡ v.options)
+    from [] h = same_failed (about_last fault.UnavailableEntry (entered type.InputCommand [] v)) d (entered type.InputCommand [] v) u (Failed d u) (sym h) refl
+    from (raw ∷ rest) h = by_type (type_number raw.ty == type_number type.InputCommand) h
+      where
+        by_input : (o : Option InputCommand) → input_read o (popped_input rest v) ≡ Failed d u → (d ≡ about_last fault.BadMessage (entered type.InputCommand [] v)) × (u.version ≡ v.version) × (u.options ≡ v.options)
+        by_input None h = same_failed (about_last fault.BadMessage (entered type.InputCommand [] v)) d (popped_input rest v) u (Failed d u) (sym h) refl
+        by_input (Some c) h = absurd (cc)
+
+        by_type : (b : Bool) → ((if b then Done raw (popped_input rest v) else Failed (about_last fault.CommandTypeMismatch (popped_input rest v)) (popped_input rest v)) >>= λ raw x. input_read (input_in raw.body) x) ≡ Failed d u
+            → (d ≡ about_last (if b then fault.BadMessage else fault.CommandTypeMismatch) (entered type.InputCommand [] v)) × (u.version ≡ v.version) × (u.options ≡ v.options)
+        by_type true h = by_input (input_in raw.body) h
+        by_type false h = same_failed (about_last fault.CommandTypeMismatch (entered type.InputCommand [] v)) d (popped_input rest v) u (Failed d u) (sym h) refl
+
 -- recorded commands are skipped
 skips_disabled : (option : JournalReplay) → skips_replay option ≡ true → option ≡ Disabled
 skips_disabled Enabled h = absurd (cc)
 skips_disabled Disabled h = refl
 
+-- the first command is no input, or recorded commands can't be skipped; with this error
+abbrev Lacks : Version → VMOptions → Heard → Error → Type 0
+Lacks version options fed e = LacksInput version options (frames_fed fed) e ⊎ CannotSkip version options (frames_fed fed) e
+
 -- an input that isn't read: the journal has none, or its commands can't be skipped
 read_lacks : (version : Version) (options : VMOptions) (fed : Heard) (v : Machine) (b : Begun version options fed v) (h : HasAll (setup_for version options b.start) (record { entries = b.state; coverage = coverage_of b.start.partial }) b.aside b.start.known_entries [] [] b.others v)
-    → (d : Error) (u : Machine) → input_step v ≡ Failed d u → LacksInput (frames_fed fed) ⊎ CannotSkip options (frames_fed fed)
+    → (d : Error) (u : Machine) → input_step v ≡ Failed d u → (e : Error) → e ≡ ruled u d → Lacks version options fed e
 unfolding input_step
-read_lacks version options fed v b h d u is = fails (sym (ap input_step h.machine) ∙ is)
+read_lacks version options fed v b h d u is err ruling = fails (sym (ap input_step h.machine) ∙ is)
   where
     s : Setup
     s = setup_for version options b.start
@@ -195,42 +225,46 @@ read_lacks version options fed v b h d u is = fails (sym (ap input_step h.machin
     frames : frames_fed fed ≡ b.first_frame ∷ (h.entries ++ h.others)
     frames = b.frames ∙ ap (λ l. b.first_frame ∷ l) h.split
 
-    lacks : input_counted None x ≡ Failed d u → LacksInput (frames_fed fed) ⊎ CannotSkip options (frames_fed fed)
-    lacks e = inl (record { first = b.first_frame; entries = h.entries; others = h.others; is = frames; start = b.start; reads = b.reads_start; count = h.count; none = counted_lacks cs x refl d u e })
+    -- what failed says this, in a machine that was made for this version and these options
+    says : (a : Error) → (d ≡ a) × (u.version ≡ version) × (u.options ≡ options) → err ≡ ruled_by version options a
+    says a p = ruling ∙ λ i. ruled_by (p.1 i) (p.2 i) (p.0 i)
 
-    cannot : skips_replay options.journal_replay ≡ true → (why : NamedFault) → skip_fault (length (drop 1 cs)) (past_all 1 (drop 1 cs)) ≡ Some why → LacksInput (frames_fed fed) ⊎ CannotSkip options (frames_fed fed)
-    cannot skips why reason = inr (record { skips = skips_disabled options.journal_replay skips; first = b.first_frame; entries = h.entries; others = h.others; is = frames; start = b.start; reads = b.reads_start; count = h.count; why = why; reason = reason })
+    lacks : input_counted None x ≡ Failed d u → Lacks version options fed err
+    lacks e = inl (record { first = b.first_frame; entries = h.entries; others = h.others; is = frames; start = b.start; reads = b.reads_start; count = h.count; none = counted_lacks cs x refl d u e; error = says (named_error (no_input_fault cs) (Some the_input)) (counted_says cs x refl d u e) })
+
+    cannot : skips_replay options.journal_replay ≡ true → (why : NamedFault) → skip_fault (length (drop 1 cs)) (past_all 1 (drop 1 cs)) ≡ Some why → (d ≡ named_error why (Some the_input)) × (u.version ≡ version) × (u.options ≡ options) → Lacks version options fed err
+    cannot skips why reason p = inr (record { skips = skips_disabled options.journal_replay skips; first = b.first_frame; entries = h.entries; others = h.others; is = frames; start = b.start; reads = b.reads_start; count = h.count; why = why; reason = reason; error = says (named_error why (Some the_input)) p })
 
     behind_input : (counters : Counters) (o : Outcome Input) → input_counted None x ≡ o → (o >>= λ input w. Done input (skipped counters w)) ≡ Failed d u → input_counted None x ≡ Failed d u
     behind_input counters (Done input w) at e = absurd (cc)
     behind_input counters (Failed f w) at e = at ∙ e
 
-    by_counters : skips_replay options.journal_replay ≡ true → (id : ℕ) → past_all 1 (drop 1 cs) ≡ Some id → (r : Result Counters NamedFault) → counters_past (length (drop 1 cs)) id fresh_counters ≡ r → input_numbered r x ≡ Failed d u → LacksInput (frames_fed fed) ⊎ CannotSkip options (frames_fed fed)
-    by_counters skips id past (Err name) counts e = cannot skips name (ap (skip_fault (length (drop 1 cs))) past ∙ ap result_err counts)
+    by_counters : skips_replay options.journal_replay ≡ true → (id : ℕ) → past_all 1 (drop 1 cs) ≡ Some id → (r : Result Counters NamedFault) → counters_past (length (drop 1 cs)) id fresh_counters ≡ r → input_numbered r x ≡ Failed d u → Lacks version options fed err
+    by_counters skips id past (Err name) counts e = cannot skips name (ap (skip_fault (length (drop 1 cs))) past ∙ ap result_err counts) (same_failed (named_error name (Some the_input)) d x u (Failed d u) (sym e) refl)
     by_counters skips id past (Ok counters) counts e = lacks (behind_input counters (input_counted None x) refl e)
 
-    by_past : skips_replay options.journal_replay ≡ true → (o : Option ℕ) → past_all 1 (drop 1 cs) ≡ o → input_past o x ≡ Failed d u → LacksInput (frames_fed fed) ⊎ CannotSkip options (frames_fed fed)
-    by_past skips None past e = cannot skips fault.BadMessage (ap (skip_fault (length (drop 1 cs))) past)
+    by_past : skips_replay options.journal_replay ≡ true → (o : Option ℕ) → past_all 1 (drop 1 cs) ≡ o → input_past o x ≡ Failed d u → Lacks version options fed err
+    by_past skips None past e = cannot skips fault.BadMessage (ap (skip_fault (length (drop 1 cs))) past) (same_failed (named_error fault.BadMessage (Some the_input)) d (entered type.InputCommand [] x) u (Failed d u) (sym e) refl)
     by_past skips (Some id) past e = by_counters skips id past (counters_past (length (drop 1 cs)) id fresh_counters) refl e
 
-    by_skip : (b : Bool) → skips_replay options.journal_replay ≡ b → input_by b x ≡ Failed d u → LacksInput (frames_fed fed) ⊎ CannotSkip options (frames_fed fed)
+    by_skip : (b : Bool) → skips_replay options.journal_replay ≡ b → input_by b x ≡ Failed d u → Lacks version options fed err
     by_skip false skips e = lacks e
     by_skip true skips e = by_past skips (past_all 1 (drop 1 cs)) refl e
 
-    fails : input_step x ≡ Failed d u → LacksInput (frames_fed fed) ⊎ CannotSkip options (frames_fed fed)
+    fails : input_step x ≡ Failed d u → Lacks version options fed err
     fails e = by_skip (skips_replay options.journal_replay) refl e
 
 waits_not : {A : Type 0} (v : Machine) → is_running v.phase ≡ true → is_running v.phase ≡ false → A
 waits_not v runs not_yet = absurd (let z : true ≡ false = sym runs ∙ not_yet in cc)
 
-input_lacks : (version : Version) (options : VMOptions) (fed : Heard) (v : Machine) → is_running v.phase ≡ true → (d : Error) (u : Machine) → input_step v ≡ Failed d u → Comes version options fed v → LacksInput (frames_fed fed) ⊎ CannotSkip options (frames_fed fed)
-input_lacks version options fed v runs d u is =
+input_lacks : (version : Version) (options : VMOptions) (fed : Heard) (v : Machine) → is_running v.phase ≡ true → (d : Error) (u : Machine) → input_step v ≡ Failed d u → (e : Error) → e ≡ ruled u d → Comes version options fed v → Lacks version options fed e
+input_lacks version options fed v runs d u is e ruling =
     ⊎_elim
     (λ (x : (frames_fed fed ≡ []) × ((alloc : Global) × (v ≡ fresh alloc version options))). waits_not v runs (ap (λ (z : Machine). is_running z.phase) x.1.1))
     (λ (b : Begun version options fed v).
     ⊎_elim
     (λ (x : StillWaits (setup_for version options b.start) (record { entries = b.state; coverage = coverage_of b.start.partial }) b.aside b.start.known_entries [] [] b.others v). waits_not v runs (ap (λ (z : Machine). is_running z.phase) x.machine))
-    (λ (x : HasAll (setup_for version options b.start) (record { entries = b.state; coverage = coverage_of b.start.partial }) b.aside b.start.known_entries [] [] b.others v). read_lacks version options fed v b x d u is)
+    (λ (x : HasAll (setup_for version options b.start) (record { entries = b.state; coverage = coverage_of b.start.partial }) b.aside b.start.known_entries [] [] b.others v). read_lacks version options fed v b x d u is e ruling)
     b.waits)
 
 reads_blamed : (m : Meaning) (version : Version) (options : VMOptions) (old : Record) (result : Result Progress Error) (new : Record) → BeforeInput version options (heard version old) old.answers old.waiting old.taken old.vm → IsLive old.vm.machine → Reads old result new → IsBlamed m version options new
@@ -243,7 +277,7 @@ reads_blamed m version options old (Err e) new b live (w, does, is) =
     (λ (x : called (input_step old.vm.machine) old.vm.machine ≡ Failed e w.machine).
     let f = called_failed old.vm.machine (input_step old.vm.machine) e w.machine live.failure x in
     error_blamed m version options _ _ _ _ w.machine e f.0
-    (⊎_elim (λ (y : LacksInput (frames_fed (heard version old))). NoInput y) (λ (y : CannotSkip options (frames_fed (heard version old))). NoSkip y) (input_lacks version options (heard version old) old.vm.machine live.phase f.1.0 f.1.1 f.1.2 (b.comes live.failure))))
+    (⊎_elim (λ (y : LacksInput version options (frames_fed (heard version old)) e). NoInput y) (λ (y : CannotSkip version options (frames_fed (heard version old)) e). NoSkip y) (input_lacks version options (heard version old) old.vm.machine live.phase f.1.0 f.1.1 f.1.2 e f.1.3 (b.comes live.failure))))
     (λ (x : IsStarved old.vm.machine e w.machine). starves m version options old w e live.failure x)
     does.0)
   where

@@ -50,13 +50,14 @@ use Rattle.vm_steps.specs.Heard.{Heard, acknowledged_from, proposals_among, prop
 use Rattle.vm_rounds.specs.Journals.{HasAll, StillWaits, setup_for}
 use Rattle.vm_steps.specs.Record.{Record, Said, all_heard, all_said, heard}
 use Rattle.vm_steps.specs.Stepping.{FinishDoes, Finishes, Tells, TellsUnless, newly_proposed, noted, noted_at, with_vm}
-use Rattle.vm_rounds.specs.Told.{BeforeInput, Begun, Came, Comes, HasCome, IsKept, IsKeptUnder, IsLive, Journal, Premises, Quiet, Runs, StillSleeps, Wrote, arrivals, frames_fed, handed_out}
+use Rattle.vm_rounds.specs.Told.{BeforeInput, Begun, Came, Comes, HasCome, InReplay, IsKept, IsKeptInReplay, IsKeptUnder, IsLive, Journal, Premises, Quiet, ReplayPremises, Runs, StillSleeps, Wrote, arrivals, frames_fed, handed_out}
 use Rattle.vm_rounds.proofs.Advanced.{done_of}
 use Rattle.vm_rounds.proofs.Ahead.{Fewer, LivesOn, ended_fewer, fewer_same}
 use Rattle.vm_rounds.proofs.Blamed.{alive_blamed, none_some, over_blamed}
 use Rattle.vm_rounds.proofs.Erring.{error_blamed}
 use Rattle.vm_rounds.proofs.Fresh.{on_still}
-use Rattle.vm_rounds.proofs.Kept.{dead_same}
+use Rattle.vm_rounds.proofs.InReplay.{replay_last}
+use Rattle.vm_rounds.proofs.Kept.{KeptBy, dead_same}
 use Rattle.vm_rounds.proofs.Lasting.{CameBy, came_last, runs_last}
 use Rattle.vm_rounds.proofs.Placing.{come_stands}
 use Rattle.vm_rounds.proofs.Proposed.{arriving_more, found_more, kept_more}
@@ -196,24 +197,19 @@ module _ (handle : NotificationHandle) (exit : RunExitResult) (policy : RetryPol
 
 -- the record where the run is noted
 abbrev noting : NotificationHandle → Record → Record
-noting handle r = record r { told = Some handle }
+noting handle r = record r { failed_by = Some handle }
 
--- a VM that hasn't failed is told, so the run is noted
-noted_live : (handle : NotificationHandle) (r : Record) → r.vm.machine.failure ≡ None → noted handle r ≡ noting handle r
+-- a VM that hadn't failed is failed by the result, so the run is noted
+noted_live : (handle : NotificationHandle) (r : Record) → r.vm.machine.failure ≡ None → noted_at r.vm.machine.failure handle r ≡ noting handle r
 noted_live handle r live = ap (λ f. noted_at f handle r) live
 
--- of one that has failed nothing is noted
-noted_dead : (handle : NotificationHandle) (r : Record) (e : Error) → r.vm.machine.failure ≡ Some e → noted handle r ≡ r
+-- of one that had failed nothing is noted
+noted_dead : (handle : NotificationHandle) (r : Record) (e : Error) → r.vm.machine.failure ≡ Some e → noted_at r.vm.machine.failure handle r ≡ r
 noted_dead handle r e dead = ap (λ f. noted_at f handle r) dead
 
 -- what the record is once a result was proposed
 abbrev proposed_to : NotificationHandle → ℕ → ValueOrFailure → Record → Record
-proposed_to handle id result r = record (noting handle r) { proposed = r.proposed ++ kept_as id result ∷ []; vm = record r.vm { machine = proposed id result (without_run handle r.vm.machine) } }
-
--- the VM ignores it, and the run is noted
-record Ignores (handle : NotificationHandle) (old new : Record) : Type 0 where
-  live : old.vm.machine.failure ≡ None
-  is : new ≡ noting handle old
+proposed_to handle id result r = record r { proposed = r.proposed ++ kept_as id result ∷ []; vm = record r.vm { machine = proposed id result (without_run handle r.vm.machine) } }
 
 record ProposesOne (handle : NotificationHandle) (old new : Record) : Type 0 where
   live : old.vm.machine.failure ≡ None
@@ -230,9 +226,9 @@ record FailsBy (handle : NotificationHandle) (exit : RunExitResult) (policy : Re
   fails : Fails handle exit policy old.vm.machine error vm.machine
   is : new ≡ with_vm vm (noting handle old)
 
--- nothing changes, the VM ignores it, a result is proposed, or the VM fails
+-- nothing changes, a result is proposed, or the VM fails
 abbrev Cases : NotificationHandle → RunExitResult → RetryPolicy → Record → Record → Type 0
-Cases handle exit policy old new = (new ≡ old) ⊎ (Ignores handle old new ⊎ (ProposesOne handle old new ⊎ FailsBy handle exit policy old new))
+Cases handle exit policy old new = (new ≡ old) ⊎ (ProposesOne handle old new ⊎ FailsBy handle exit policy old new)
 
 same_view : (v w : View) → w.machine ≡ v.machine → w.undecoded ≡ v.undecoded → w ≡ v
 same_view v w machine undecoded = λ i. record { undecoded = undecoded i; machine = machine i }
@@ -250,24 +246,21 @@ one_newly handle id result v whole =
 module _ (handle : NotificationHandle) (exit : RunExitResult) (policy : RetryPolicy) (old : Record) where
   -- where it answers
   ends_ok : (w : View) (new : Record) → w.undecoded ≡ old.vm.undecoded → (w.machine ≡ old.vm.machine) ⊎ IsProposed handle old.vm.machine w.machine → old.vm.machine.failure ≡ None
-      → new ≡ record (noted handle old) { proposed = old.proposed ++ newly_proposed old.vm.machine w.machine; vm = w } → Cases handle exit policy old new
+      → new ≡ record old { proposed = old.proposed ++ newly_proposed old.vm.machine w.machine; vm = w } → Cases handle exit policy old new
   ends_ok w new und ends live is =
       ⊎_elim
       (λ (x : w.machine ≡ old.vm.machine).
-      inr (inl (record {
-        live = live;
-        is = is ∙ λ i. record (noted_live handle old live i) { proposed = (ap (λ m. old.proposed ++ newly_proposed old.vm.machine m) x ∙ ap (λ l. old.proposed ++ l) (none_newly old.vm.machine) ∙ append-nil old.proposed) i; vm = same_view old.vm w x und i };
-      })))
+      inl (is ∙ λ i. record old { proposed = (ap (λ m. old.proposed ++ newly_proposed old.vm.machine m) x ∙ ap (λ l. old.proposed ++ l) (none_newly old.vm.machine) ∙ append-nil old.proposed) i; vm = same_view old.vm w x und i }))
       (λ (x : IsProposed handle old.vm.machine w.machine).
       let there : View = record old.vm { machine = proposed x.id x.result (without_run handle old.vm.machine) } in
-      inr (inr (inl (record {
+      inr (inl (record {
         live = live;
         id = x.id;
         result = x.result;
         whole = x.whole;
         phase = x.phase;
-        is = is ∙ λ i. record (noted_live handle old live i) { proposed = (ap (λ m. old.proposed ++ newly_proposed old.vm.machine m) x.machine ∙ ap (λ l. old.proposed ++ l) (one_newly handle x.id x.result old.vm.machine x.whole)) i; vm = same_view there w x.machine und i };
-      }))))
+        is = is ∙ λ i. record old { proposed = (ap (λ m. old.proposed ++ newly_proposed old.vm.machine m) x.machine ∙ ap (λ l. old.proposed ++ l) (one_newly handle x.id x.result old.vm.machine x.whole)) i; vm = same_view there w x.machine und i };
+      })))
       ends
 
   by_failure : (f : Option Error) → old.vm.machine.failure ≡ f → (result : Result Unit Error) (new : Record) → Finishes handle exit policy old result new → Cases handle exit policy old new
@@ -279,7 +272,7 @@ module _ (handle : NotificationHandle) (exit : RunExitResult) (policy : RetryPol
       inl (is ∙ λ i. with_vm (first.1 i) (noted_dead handle old e dead i))
   by_failure None live (Ok t) new (w, does, is) = ends_ok w new does.1 (tells_ok handle exit policy old.vm.machine t w.machine live does.0) live is
   by_failure None live (Err e) new (w, does, is) =
-      inr (inr (inr (record {
+      inr (inr (record {
         live = live;
         vm = w;
         error = e;
@@ -288,7 +281,7 @@ module _ (handle : NotificationHandle) (exit : RunExitResult) (policy : RetryPol
             (λ (x : IsStarved old.vm.machine e w.machine). starves handle exit policy old.vm.machine e w.machine live x)
             does.0;
         is = is ∙ ap (with_vm w) (noted_live handle old live);
-      })))
+      }))
 
   finish_cases : (result : Result Unit Error) (new : Record) → FinishDoes old.starved handle exit policy old result new → Cases handle exit policy old new
   finish_cases result new does = by_test old.starved does
@@ -298,15 +291,11 @@ module _ (handle : NotificationHandle) (exit : RunExitResult) (policy : RetryPol
       by_test false d = by_failure old.vm.machine.failure refl result new d
 
   -- what each of them comes to
-  in_case : (result : Result Unit Error) (new : Record) → FinishDoes old.starved handle exit policy old result new → (K : Record → Type 0) → K old → (old.vm.machine.failure ≡ None → K (noting handle old)) → (ProposesOne handle old new → K new) → (FailsBy handle exit policy old new → K new) → K new
-  in_case result new does K same ignores proposes fails =
+  in_case : (result : Result Unit Error) (new : Record) → FinishDoes old.starved handle exit policy old result new → (K : Record → Type 0) → K old → (ProposesOne handle old new → K new) → (FailsBy handle exit policy old new → K new) → K new
+  in_case result new does K same proposes fails =
       ⊎_elim
       (λ (x : new ≡ old). subst K (sym x) same)
-      (λ (x : Ignores handle old new ⊎ (ProposesOne handle old new ⊎ FailsBy handle exit policy old new)).
-      ⊎_elim
-      (λ (y : Ignores handle old new). subst K (sym y.is) (ignores y.live))
-      (λ (y : ProposesOne handle old new ⊎ FailsBy handle exit policy old new). ⊎_elim (λ (z : ProposesOne handle old new). proposes z) (λ (z : FailsBy handle exit policy old new). fails z) y)
-      x)
+      (λ (x : ProposesOne handle old new ⊎ FailsBy handle exit policy old new). ⊎_elim (λ (y : ProposesOne handle old new). proposes y) (λ (y : FailsBy handle exit policy old new). fails y) x)
       (finish_cases result new does)
 
 -- ---- one proposal more
@@ -502,10 +491,29 @@ module _ (version : Version) (options : VMOptions) (handle : NotificationHandle)
   fails_under : (m : Meaning) → IsKeptUnder m version options old → FailsBy handle exit policy old new → IsKeptUnder m version options new
   fails_under m u f q = fails_keeps m (u (subst (λ r. Premises m version options (heard version r)) f.is q)) f
 
+  -- ---- replay
+
+  -- a result is proposed only where no recorded command is left
+  proposes_in_replay : (m : Meaning) → ProposesOne handle old new → IsKeptInReplay m version options new
+  proposes_in_replay m p q =
+      ⊎_elim
+      (λ (b : BeforeInput version options (heard version new) new.answers new.waiting new.taken new.vm). inl b)
+      (λ (c : Came version options (heard version new) new.answers new.taken new.vm).
+      inr (record {
+        came = c;
+        run = λ alive at. absurd (let z : Processing ≡ Replaying = sym p.phase ∙ ap (λ (w : Machine). w.phase) (sym (machine_is p)) ∙ ap (λ (r : Record). r.vm.machine.phase) (sym p.is) ∙ at in cc);
+      }))
+      (proposes_comes p)
+
+  fails_in_replay : (m : Meaning) → IsKeptInReplay m version options old → FailsBy handle exit policy old new → IsKeptInReplay m version options new
+  fails_in_replay m u f q =
+      subst (KeptBy (InReplay m version options) version options) (sym f.is)
+      (dead_same (InReplay m version options) (replay_last m version options) version options old f.vm (u (subst (λ r. ReplayPremises m version options (heard version r)) f.is q)) f.fails.quiet (some_failed f))
+
   -- ---- why it failed
 
   -- a result was refused, or memory was lacking
-  refuses_for : (m : Meaning) (fed : Heard) (said : Said) (answers : List Answer) → said.told ≡ Some handle → (f : FailsBy handle exit policy old new) → (old.vm.machine.version ≡ version) → (old.vm.machine.options ≡ options) → Blame m version options fed said answers f.error
+  refuses_for : (m : Meaning) (fed : Heard) (said : Said) (answers : List Answer) → said.failed_by ≡ Some handle → (f : FailsBy handle exit policy old new) → (old.vm.machine.version ≡ version) → (old.vm.machine.options ≡ options) → Blame m version options fed said answers f.error
   refuses_for m fed said answers told f ver opt =
       ⊎_elim
       (λ (x : f.error ≡ no_memory). Memory x)
@@ -513,14 +521,10 @@ module _ (version : Version) (options : VMOptions) (handle : NotificationHandle)
       RunResult (record { handle = handle; is_told = told; exit = exit; policy = policy; machine = old.vm.machine; left = x.left; why = x.why; proposes = x.proposes; version_is = ver; error = x.error ∙ λ i. ruled_by (ver i) (opt i) x.why }))
       f.fails.why
 
-  -- a VM that hasn't failed is to blame for nothing
-  ignores_blames : (m : Meaning) → IsBlamed m version options old → old.vm.machine.failure ≡ None → IsBlamed m version options (noting handle old)
-  ignores_blames m b live = record { open_yet = b.open_yet; blame = λ going e some. none_some e (sym live ∙ some) }
-
   proposes_blames : (m : Meaning) → IsBlamed m version options old → ProposesOne handle old new → IsBlamed m version options new
   proposes_blames m b p =
       subst (IsBlamed m version options) (sym p.is)
-      (alive_blamed m version options old.over (heard version (proposed_to handle p.id p.result old)) (all_said (noting handle old)) old.answers (proposed_to handle p.id p.result old).vm.machine
+      (alive_blamed m version options old.over (heard version (proposed_to handle p.id p.result old)) (all_said old) old.answers (proposed_to handle p.id p.result old).vm.machine
       (ap (λ (w : Machine). w.failure) (machine_is p) ∙ p.live)
       (λ closed. absurd (let z : Processing ≡ Closed = sym p.phase ∙ ap (λ (w : Machine). w.phase) (sym (machine_is p)) ∙ closed in cc)))
 
@@ -534,13 +538,6 @@ module _ (version : Version) (options : VMOptions) (handle : NotificationHandle)
           error_blamed m version options old.over (heard version old) (all_said (noting handle old)) old.answers f.vm.machine f.error f.fails.failure (refuses_for m (heard version old) (all_said (noting handle old)) old.answers refl f stands.1.0 stands.1.1)
 
   -- ---- behind the end
-
-  ignores_late : (m : Meaning) → IsLate m version options old → old.vm.machine.failure ≡ None → IsLate m version options (noting handle old)
-  ignores_late m l live = by_over old.over l
-    where
-      by_over : (over : Option Progress) → LateBy over m version options old → LateBy over m version options (noting handle old)
-      by_over None k = k
-      by_over (Some made) k = record { phase = k.phase; place = k.place; made_for = k.made_for; tail = k.tail; blame = λ e some. none_some e (sym live ∙ some) }
 
   proposes_late : (m : Meaning) → IsLate m version options old → ProposesOne handle old new → IsLate m version options new
   proposes_late m l p = subst (IsLate m version options) (sym p.is) (by_over old.over l)
@@ -579,34 +576,37 @@ module _ (version : Version) (options : VMOptions) (handle : NotificationHandle)
 -- ---- the call
 
 module _ (version : Version) (options : VMOptions) (handle : NotificationHandle) (exit : RunExitResult) (policy : RetryPolicy) (old : Record) (result : Result Unit Error) (new : Record) (came : HasCome version options old) (does : FinishDoes old.starved handle exit policy old result new) where
-  by_case : (K : Record → Type 0) → K old → (old.vm.machine.failure ≡ None → K (noting handle old)) → (ProposesOne handle old new → K new) → (FailsBy handle exit policy old new → K new) → K new
+  by_case : (K : Record → Type 0) → K old → (ProposesOne handle old new → K new) → (FailsBy handle exit policy old new → K new) → K new
   by_case K = in_case handle exit policy old result new does K
 
   pub finish_comes : HasCome version options new
-  finish_comes = by_case (HasCome version options) came (λ live. came) (proposes_comes version options handle exit policy old new came) (fails_comes version options handle exit policy old new came)
+  finish_comes = by_case (HasCome version options) came (proposes_comes version options handle exit policy old new came) (fails_comes version options handle exit policy old new came)
 
   -- the handler's run goes on, whatever the premises are
   pub finish_keeps : (m : Meaning) → IsKept m version options old → IsKept m version options new
-  finish_keeps m kept = by_case (IsKept m version options) kept (λ live. kept) (proposes_keeps version options handle exit policy old new came m kept) (fails_keeps version options handle exit policy old new came m kept)
+  finish_keeps m kept = by_case (IsKept m version options) kept (proposes_keeps version options handle exit policy old new came m kept) (fails_keeps version options handle exit policy old new came m kept)
 
   pub finish_under : (m : Meaning) → IsKeptUnder m version options old → IsKeptUnder m version options new
-  finish_under m u = by_case (IsKeptUnder m version options) u (λ live. u) (proposes_under version options handle exit policy old new came m u) (fails_under version options handle exit policy old new came m u)
+  finish_under m u = by_case (IsKeptUnder m version options) u (proposes_under version options handle exit policy old new came m u) (fails_under version options handle exit policy old new came m u)
+
+  pub finish_in_replay : (m : Meaning) → IsKeptInReplay m version options old → IsKeptInReplay m version options new
+  finish_in_replay m u = by_case (IsKeptInReplay m version options) u (proposes_in_replay version options handle exit policy old new came m) (fails_in_replay version options handle exit policy old new came m u)
 
   pub finish_blames : (m : Meaning) → IsBlamed m version options old → IsBlamed m version options new
-  finish_blames m b = by_case (IsBlamed m version options) b (ignores_blames version options handle exit policy old new came m b) (proposes_blames version options handle exit policy old new came m b) (fails_blames version options handle exit policy old new came m b)
+  finish_blames m b = by_case (IsBlamed m version options) b (proposes_blames version options handle exit policy old new came m b) (fails_blames version options handle exit policy old new came m b)
 
   pub finish_late : (m : Meaning) → IsLate m version options old → IsLate m version options new
-  finish_late m l = by_case (IsLate m version options) l (ignores_late version options handle exit policy old new came m l) (proposes_late version options handle exit policy old new came m l) (fails_late version options handle exit policy old new came m l)
+  finish_late m l = by_case (IsLate m version options) l (proposes_late version options handle exit policy old new came m l) (fails_late version options handle exit policy old new came m l)
 
   pub finish_sleeps : (m : Meaning) → IsLate m version options old → StillSleeps m version options old → StillSleeps m version options new
-  finish_sleeps m l s = by_case (StillSleeps m version options) s (λ live. s) (proposes_sleeps version options handle exit policy old new came m l s) (fails_sleeps version options handle exit policy old new came m s)
+  finish_sleeps m l s = by_case (StillSleeps m version options) s (proposes_sleeps version options handle exit policy old new came m l s) (fails_sleeps version options handle exit policy old new came m s)
 
 -- ---- runs
 
 -- a run whose result is told can't be handed out more often, nor can another
 pub finish_lives : (handle : NotificationHandle) (exit : RunExitResult) (policy : RetryPolicy) (old : Record) (result : Result Unit Error) (new : Record) → FinishDoes old.starved handle exit policy old result new → LivesOn old.vm.machine new.vm.machine × (new.over ≡ old.over)
 finish_lives handle exit policy old result new does =
-    in_case handle exit policy old result new does K ((λ none. (none, fewer_same old.vm.machine)), refl) (λ live. ((λ none. (none, fewer_same old.vm.machine)), refl))
+    in_case handle exit policy old result new does K ((λ none. (none, fewer_same old.vm.machine)), refl)
     (λ p. subst K (sym p.is) ((λ none. (p.live, subst (Fewer old.vm.machine) (sym (proposed_is handle p.id p.result old.vm.machine)) (ended_fewer handle old.vm.machine))), refl))
     (λ f. subst K (sym f.is) ((λ none. none_some f.error (sym none ∙ f.fails.failure)), refl))
   where
@@ -655,11 +655,8 @@ finished_dead handle exit policy old new f = record {
   alive = λ none. none_some f.error (sym none ∙ ap (λ (r : Record). r.vm.machine.failure) f.is ∙ f.fails.failure);
 }
 
-finished_noted : (handle : NotificationHandle) (old : Record) → Finished old (noting handle old)
-finished_noted handle old = record { fed = refl; taken = refl; proposed = ([], sym (append-nil old.proposed)); output = ([], sym (append-nil old.vm.machine.output)); starved = refl; alive = λ _. inl refl }
-
 pub finished : (handle : NotificationHandle) (exit : RunExitResult) (policy : RetryPolicy) (old : Record) (result : Result Unit Error) (new : Record) → FinishDoes old.starved handle exit policy old result new → Finished old new
-finished handle exit policy old result new does = in_case handle exit policy old result new does (Finished old) (finished_same old old refl) (λ live. finished_noted handle old) (finished_one handle old new) (finished_dead handle exit policy old new)
+finished handle exit policy old result new does = in_case handle exit policy old result new does (Finished old) (finished_same old old refl) (finished_one handle old new) (finished_dead handle exit policy old new)
 
 -- ---- an error
 
@@ -718,9 +715,13 @@ noted_with : (ps : List KeptProposal) (o : Option Error) (handle : NotificationH
 noted_with ps (Some e) handle r = refl
 noted_with ps None handle r = refl
 
-noted_taken : (o : Option Error) (handle : NotificationHandle) (r : Record) → (noted_at o handle r).taken ≡ r.taken
-noted_taken (Some e) handle r = refl
-noted_taken None handle r = refl
+noted_at_taken : (o : Option Error) (handle : NotificationHandle) (r : Record) → (noted_at o handle r).taken ≡ r.taken
+noted_at_taken (Some e) handle r = refl
+noted_at_taken None handle r = refl
+
+noted_taken : (result : Result Unit Error) (handle : NotificationHandle) (r : Record) → (noted result handle r).taken ≡ r.taken
+noted_taken (Ok t) handle r = refl
+noted_taken (Err e) handle r = noted_at_taken r.vm.machine.failure handle r
 
 -- what it does to the fields, where what is written is read, is what it does to the record
 pub finish_told : (version : Version) (options : VMOptions) (handle : NotificationHandle) (exit : RunExitResult) (policy : RetryPolicy) (old : Record) (result : Result Unit Error) (new : Record) → HasCome version options (with_proposed (all_proposed old) old) → WholeFrames old.vm.machine.output → WholeFrames new.vm.machine.output
@@ -728,37 +729,34 @@ pub finish_told : (version : Version) (options : VMOptions) (handle : Notificati
 finish_told version options handle exit policy old result new came f g does = by_test old.starved does
   where
     -- what was proposed is read from what was taken and from what waits
-    told_to : (w : View) → new ≡ with_vm w (noted handle old) → all_proposed new ≡ proposals_in (concat old.taken ++ concat w.machine.output)
-    told_to w is = ap all_proposed is ∙ ap (λ t. proposals_in (concat t ++ concat w.machine.output)) (noted_taken old.vm.machine.failure handle old)
+    told_to : (result : Result Unit Error) (w : View) → new ≡ with_vm w (noted result handle old) → all_proposed new ≡ proposals_in (concat old.taken ++ concat w.machine.output)
+    told_to result w is = ap all_proposed is ∙ ap (λ t. proposals_in (concat t ++ concat w.machine.output)) (noted_taken result handle old)
 
     -- the record is noted as the fields are
-    noted_ok : (w : View) (ps : List KeptProposal) → new ≡ with_vm w (noted handle old) → all_proposed new ≡ ps → with_proposed (all_proposed new) new ≡ record (noted handle (with_proposed (all_proposed old) old)) { proposed = ps; vm = w }
-    noted_ok w ps is told = (λ i. with_proposed (told i) (is i)) ∙ ap (λ (r : Record). record r { proposed = ps; vm = w }) (noted_with (all_proposed old) old.vm.machine.failure handle old)
-
-    noted_err : (w : View) → new ≡ with_vm w (noted handle old) → all_proposed new ≡ all_proposed old → with_proposed (all_proposed new) new ≡ with_vm w (noted handle (with_proposed (all_proposed old) old))
+    noted_err : (w : View) → new ≡ with_vm w (noted_at old.vm.machine.failure handle old) → all_proposed new ≡ all_proposed old → with_proposed (all_proposed new) new ≡ with_vm w (noted_at old.vm.machine.failure handle (with_proposed (all_proposed old) old))
     noted_err w is told = (λ i. with_proposed (told i) (is i)) ∙ ap (with_vm w) (noted_with (all_proposed old) old.vm.machine.failure handle old)
 
-    quiet_told : (w : View) → new ≡ with_vm w (noted handle old) → (ms : List Message) → w.machine.output ≡ old.vm.machine.output ++ map encoding ms → all_proposed new ≡ all_proposed old ++ proposals_among (map stored_form ms)
-    quiet_told w is ms output =
+    quiet_told : (result : Result Unit Error) (w : View) → new ≡ with_vm w (noted result handle old) → (ms : List Message) → w.machine.output ≡ old.vm.machine.output ++ map encoding ms → all_proposed new ≡ all_proposed old ++ proposals_among (map stored_form ms)
+    quiet_told result w is ms output =
         let wrote = wrote_of version options (with_proposed (all_proposed old) old) came in
-        told_to w is
+        told_to result w is
         ∙ proposes_more old.taken old.vm.machine.output w.machine.output wrote.0 wrote.1 f (subst WholeFrames (ap (λ (r : Record). r.vm.machine.output) is) g) ms output
 
-    same_told : (w : View) → new ≡ with_vm w (noted handle old) → w.machine.output ≡ old.vm.machine.output → all_proposed new ≡ all_proposed old
-    same_told w is output = told_to w is ∙ ap (λ o. proposals_in (concat old.taken ++ concat o)) output
+    same_told : (result : Result Unit Error) (w : View) → new ≡ with_vm w (noted result handle old) → w.machine.output ≡ old.vm.machine.output → all_proposed new ≡ all_proposed old
+    same_told result w is output = told_to result w is ∙ ap (λ o. proposals_in (concat old.taken ++ concat o)) output
 
-    ok_told : (w : View) → new ≡ with_vm w (noted handle old) → (w.machine ≡ old.vm.machine) ⊎ IsProposed handle old.vm.machine w.machine → all_proposed new ≡ all_proposed old ++ newly_proposed old.vm.machine w.machine
+    ok_told : (w : View) → new ≡ with_vm w old → (w.machine ≡ old.vm.machine) ⊎ IsProposed handle old.vm.machine w.machine → all_proposed new ≡ all_proposed old ++ newly_proposed old.vm.machine w.machine
     ok_told w is =
         ⊎_elim
         (λ (x : w.machine ≡ old.vm.machine).
-        same_told w is (ap (λ (v : Machine). v.output) x) ∙ sym (append-nil (all_proposed old)) ∙ ap (λ l. all_proposed old ++ l) (sym (none_newly old.vm.machine)) ∙ ap (λ v. all_proposed old ++ newly_proposed old.vm.machine v) (sym x))
+        same_told (Ok tt) w is (ap (λ (v : Machine). v.output) x) ∙ sym (append-nil (all_proposed old)) ∙ ap (λ l. all_proposed old ++ l) (sym (none_newly old.vm.machine)) ∙ ap (λ v. all_proposed old ++ newly_proposed old.vm.machine v) (sym x))
         (λ (x : IsProposed handle old.vm.machine w.machine).
-        quiet_told w is (proposal x.id x.result ∷ []) (ap (λ (v : Machine). v.output) x.machine)
+        quiet_told (Ok tt) w is (proposal x.id x.result ∷ []) (ap (λ (v : Machine). v.output) x.machine)
         ∙ ap (λ l. all_proposed old ++ l) (proposes_one (record { id = x.id; result = x.result }) x.whole ∙ sym (one_newly handle x.id x.result old.vm.machine x.whole))
         ∙ ap (λ v. all_proposed old ++ newly_proposed old.vm.machine v) (sym x.machine))
 
-    err_told : (w : View) → new ≡ with_vm w (noted handle old) → Quiet old.vm.machine w.machine → all_proposed new ≡ all_proposed old
-    err_told w is q = quiet_told w is q.messages q.output ∙ ap (λ l. all_proposed old ++ l) q.proposals ∙ append-nil (all_proposed old)
+    err_told : (e : Error) (w : View) → new ≡ with_vm w (noted_at old.vm.machine.failure handle old) → Quiet old.vm.machine w.machine → all_proposed new ≡ all_proposed old
+    err_told e w is q = quiet_told (Err e) w is q.messages q.output ∙ ap (λ l. all_proposed old ++ l) q.proposals ∙ append-nil (all_proposed old)
 
     by_failure : (o : Option Error) → old.vm.machine.failure ≡ o → (result : Result Unit Error) → Tells handle exit policy old result new → Finishes handle exit policy (with_proposed (all_proposed old) old) result (with_proposed (all_proposed new) new)
     by_failure (Some e) dead (Ok t) (w, does, is) =
@@ -766,9 +764,9 @@ finish_told version options handle exit policy old result new came f g does = by
         absurd (⊎_elim (λ (x : Ok t ≡ Err e). let z : ⊥ = cc in z) (λ (x : Ok t ≡ Err no_memory). let z : ⊥ = cc in z) first.0)
     by_failure (Some e) dead (Err d) (w, does, is) =
         let first = first_proposed handle exit policy (Err d) e old.vm w dead does in
-        (w, does, noted_err w is (same_told w is (ap (λ (v : View). v.machine.output) first.1)))
+        (w, does, noted_err w is (same_told (Err d) w is (ap (λ (v : View). v.machine.output) first.1)))
     by_failure None live (Ok t) (w, does, is) =
-        (w, does, noted_ok w (all_proposed old ++ newly_proposed old.vm.machine w.machine) is (ok_told w is (tells_ok handle exit policy old.vm.machine t w.machine live does.0)))
+        (w, does, λ i. with_proposed (ok_told w is (tells_ok handle exit policy old.vm.machine t w.machine live does.0) i) (is i))
     by_failure None live (Err e) (w, does, is) =
         let fails =
         ⊎_elim
@@ -776,7 +774,7 @@ finish_told version options handle exit policy old result new came f g does = by
         (λ (x : IsStarved old.vm.machine e w.machine). starves handle exit policy old.vm.machine e w.machine live x)
         does.0
         in
-        (w, does, noted_err w is (err_told w is fails.quiet))
+        (w, does, noted_err w is (err_told e w is fails.quiet))
 
     by_test : (b : Bool) → TellsUnless b handle exit policy old result new → FinishDoes b handle exit policy (with_proposed (all_proposed old) old) result (with_proposed (all_proposed new) new)
     by_test true d = (d.0, ap (λ (r : Record). with_proposed (all_proposed r) r) d.1)

@@ -26,6 +26,8 @@ use Rattle.vm_model.specs.Calls.{Meaning}
 use Rattle.vm_machine.specs.Inputs.{coverage_of, entries_in}
 use Rattle.vm_model.specs.Histories.{Handed, History, Made}
 use Rattle.vm_model.specs.Moves.{later, start as first_point}
+use Rattle.vm_model.specs.Carried.{AreOfTheirKind}
+use Rattle.vm_model.proofs.RightKinds.{fewer_kinds}
 use Rattle.vm_model.proofs.Runs.{made_later}
 use Rattle.journal_attempt.specs.declared.commands.InputCommand.{InputCommand}
 use Rattle.vm_model.specs.Journal.{Entry, Recorded, Notified, commands_in, input_read_from, notifications_in, stored_form}
@@ -33,7 +35,7 @@ use Rattle.vm_steps.specs.Heard.{Heard}
 use Rattle.vm_rounds.specs.Blames.{Began, IsHonest, Place, fault_by, frame_fault, notification_fault, refused_start, start_fault}
 use Rattle.vm_rounds.specs.Honest.{FeedsHonestly, IsEntry, entry_frame, frame_bytes, notification_frame}
 use Rattle.vm_rounds.specs.Journals.{AcknowledgesNothing, is_acknowledgement, as_entries, is_notification, recorded_by, setup_for, told_by}
-use Rattle.vm_rounds.specs.Told.{NoneHasTwo, arrivals, begun, bytes_fed, frames_fed, handed_out}
+use Rattle.vm_rounds.specs.Told.{AreRightlyKinded, Journal, NoneHasTwo, arrivals, begun, bytes_fed, frames_fed, handed_out}
 use Rattle.std.specs.Prelude.{IsSome}
 use Rattle.std.specs.List.{find}
 use Rattle.journal_attempt.specs.Bodies.{propose_run_completion_ack_format}
@@ -311,9 +313,14 @@ module _ (m : Meaning) (version : Version) (options : VMOptions) (fed : Heard) (
   abbrev all_notes : List Notification
   all_notes = notifications_in h.journal ++ arriving fed.proposed N
 
-  -- what was fed is a beginning of the history and of all notifications, so that the handler's run over it is a beginning too
-  none_two : NoneHasTwo m version options fed
-  none_two j n made p run =
+  -- What was fed is a beginning of the history and of all notifications: so many arrivals more, and the handler's run over it is a beginning
+  -- of the run over all.
+  abbrev Along : Journal fed → Type 0
+  Along j = (more : List Notification) × (arrivals j ++ more ≡ all_notes) × (j.rest ≡ h.history.rest)
+      × ((n : ℕ) (made : List RawMessage) (p : Point) → Made (setup_for version options j.start) m (Handed (handed_out j)) n (begun version options j) made p → Made (setup_for version options h.start) m (Handed given) n (first_point (setup_for version options h.start) h.history.input all_notes h.history.rest) made (later more p))
+
+  along : (j : Journal fed) → Along j
+  along j =
       let all : j.first_frame ∷ (j.entries ++ (j.others ++ begins.others)) ≡ S ∷ (J ++ N) = sym (ap (λ l. j.first_frame ∷ l) (append_assoc j.entries j.others begins.others)) ∙ ap (λ l. l ++ begins.others) (sym j.frames) ∙ begins.all in
       let tail = tail_same j.first_frame S (j.entries ++ (j.others ++ begins.others)) (J ++ N) all in
       let same : j.start ≡ h.start = same_start j.first_frame j.start (head_same j.first_frame S (j.entries ++ (j.others ++ begins.others)) (J ++ N) all) j.reads_start in
@@ -330,18 +337,30 @@ module _ (m : Meaning) (version : Version) (options : VMOptions) (fed : Heard) (
       sym (arriving_append fed.proposed came begins.others) ∙ ap (arriving fed.proposed) (append_assoc j.entries j.others begins.others ∙ tail) ∙ arriving_append fed.proposed J N
       ∙ (λ i. (arriving_notified fed.proposed J quiet ∙ sym (notes_same J) ∙ ap notifications_in (journal_read h.journal h.journal_is_whole)) i ++ arriving (kept_all fed.proposed J quiet i) N)
       in
-      let state : j.state ≡ h.state = same_Some j.state h.state (sym j.reads_state ∙ ap (λ (x : Start). entries_in x.state) same ∙ h.reads_state) in
-      let later_run = made_later (setup_for version options j.start) m (Handed (handed_out j)) more n (begun version options j) made p run in
-      let there =
-      subst
-      (λ (x : Start × List (List ℕ × Option (List ℕ)) × InputCommand × List Notification × List RawMessage). Made (setup_for version options x.0) m (Handed (record { entries = x.1; coverage = coverage_of x.0.partial })) n (first_point (setup_for version options x.0) x.2 x.3 x.4) made (later more p))
-      (λ i. (same i, state i, input i, notes i, rest i)) later_run
-      in
-      fewer_waiting p more (h.once n made (later more p) there)
+      let state : j.state ≡ h.state = same_Some j.state h.state (sym j.reads_state ∙ ap (λ (x : Start). entries_in x.state) same ∙ h.reads_state) in (
+        more,
+        notes,
+        rest,
+        λ n made p run.
+            subst
+            (λ (x : Start × List (List ℕ × Option (List ℕ)) × InputCommand × List Notification × List RawMessage). Made (setup_for version options x.0) m (Handed (record { entries = x.1; coverage = coverage_of x.0.partial })) n (first_point (setup_for version options x.0) x.2 x.3 x.4) made (later more p))
+            (λ i. (same i, state i, input i, notes i, rest i))
+            (made_later (setup_for version options j.start) m (Handed (handed_out j)) more n (begun version options j) made p run),
+      )
+
+  none_two : NoneHasTwo m version options fed
+  none_two j n made p run = let a = along j in fewer_waiting p a.0 (h.once n made (later a.0 p) (a.3 n made p run))
+
+  rightly_kinded : AreRightlyKinded m version options fed
+  rightly_kinded j n made p run =
+      let a = along j in
+      fewer_kinds (arrivals j) a.0 (j.rest ++ made)
+      (subst (λ (x : List Notification × List RawMessage). AreOfTheirKind x.0 (x.1 ++ made)) (λ i. (sym a.1 i, sym a.2 i)) (h.kinds n made (later a.0 p) (a.3 n made p run)))
 
   pub honestly_fed : IsHonest m version options fed
   honestly_fed = record {
     premises = record { replays = h.replays; queues = h.queues; once = none_two };
+    kinds = rightly_kinded;
     frames = λ before raw rest phase k is p other. placed before raw (rest ++ begins.others) (sym begins.all ∙ ap (λ l. l ++ begins.others) is ∙ append_assoc before (raw ∷ rest) begins.others) phase k p other;
     acknowledgements = λ before raw rest is acknowledges. finds before raw (rest ++ begins.others) (sym begins.all ∙ ap (λ l. l ++ begins.others) is ∙ append_assoc before (raw ∷ rest) begins.others) acknowledges;
     whole = begins.clean;

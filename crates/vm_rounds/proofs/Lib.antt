@@ -26,6 +26,7 @@ pub mod Staying
 pub mod Stepped
 pub mod Advanced
 pub mod Coming
+pub mod InReplay
 pub mod Freshly
 pub mod Steady
 pub mod Finishing

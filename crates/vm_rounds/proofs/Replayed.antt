@@ -14,10 +14,12 @@ use Rattle.vm_types.specs.declared.options.VMOptions.{VMOptions}
 use Rattle.vm_types.specs.declared.steps.Answer.{Answer}
 use Rattle.vm_machine.specs.declared.machine.Machine.{Machine}
 use Rattle.vm_model.specs.Calls.{Setup, Meaning}
+use Rattle.vm_model.specs.Calls.Move.{Refuses}
 use Rattle.vm_model.specs.Journal.{Entry, commands_in, input_read_from, notifications_in}
 use Rattle.vm_model.specs.Moves.{Point, move_at, start}
 use Rattle.vm_model.specs.Histories.{History, Made, Handed}
-use Rattle.vm_model.proofs.Compared.{none_refused}
+use Rattle.vm_model.proofs.Compared.{attempt_is_told, none_refused}
+use Rattle.vm_model.proofs.RightKinds.{none_unexpected}
 use Rattle.vm_model.proofs.Refusals.{own_reason, refused_stuck}
 use Rattle.vm_model.specs.Refusals.{IsRefusedFor}
 use Rattle.std.specs.Prelude.{Result, Ok, Err}
@@ -114,15 +116,27 @@ no_input s m base entries h none =
     let z : Some h.input ≡ None = sym h.reads ∙ ap first_input (sym h.begins ∙ commands_same entries) ∙ none in
     absurd (cc)
 
+-- where no recorded command is left a call is refused for a reason of its own
+own_refusal : (m : Meaning) (version : Version) (options : VMOptions) (fed : Heard) (answers : List Answer) (e : Error) (x : RefusedCall m version options fed answers e) → x.at.left ≡ [] → move_at (setup_for version options x.journal.start) m x.at ≡ Refuses x.why
+own_refusal m version options fed answers e x is =
+    let move = move_at (setup_for version options x.journal.start) m x.at in
+    own_reason move x.at.queue x.why (subst (λ l. IsRefusedFor move l x.at.queue x.why) is x.reason)
+
 -- a call of an honest attempt that was refused
 honest_refused : (m : Meaning) (version : Version) (options : VMOptions) (fed : Heard) (said : Said) (answers : List Answer) (e : Error) → IsHonest m version options fed → (x : RefusedCall m version options fed answers e) → (left : List RawMessage) → x.at.left ≡ left → IsOwnError m version options fed said answers e
 honest_refused m version options fed said answers e honest x [] is = inr (inr (inl (record {
   journal = x.journal;
+  written = x.written;
   at = x.at;
+  moves = x.moves;
+  made = x.made;
   answers = x.answers;
   none_recorded = is;
   why = x.why;
-  reason = own_reason (move_at (setup_for version options x.journal.start) m x.at) x.at.queue x.why (subst (λ l. IsRefusedFor (move_at (setup_for version options x.journal.start) m x.at) l x.at.queue x.why) is x.reason);
+  reason = own_refusal m version options fed answers e x is;
+  expected = λ same.
+      let told = (attempt_is_told (setup_for version options x.journal.start) m (handed_out x.journal) x.journal.input x.moves (arrivals x.journal) x.journal.rest x.written x.at x.made).0 in
+      none_unexpected (setup_for version options x.journal.start) m told.0 x.journal.input (arrivals x.journal) (x.journal.rest ++ x.written) x.at told.1 (honest.kinds x.journal x.moves x.written x.at x.made) (own_refusal m version options fed answers e x is ∙ ap Refuses same);
   related = x.related;
   error = x.error;
 })))

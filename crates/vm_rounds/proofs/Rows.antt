@@ -1,7 +1,7 @@
 -- An honest attempt of the handler that sleeps: what it is fed, so that the premise is seen to be met.
 use Rattle.vm_parts.specs.declared.context.StateCoverage.TheVariants.{Complete, Partial}
 use Rattle.vm_parts.specs.declared.context.StateMap.{StateMap}
-use Rattle.std.proofs.Common.{◌≡◌, ◌≤◌, ℕ, Bool, true, false, cond, length, List, [], ◌∷◌, ◌++◌, Option, Some, None, refl, sym, subst, ◌∙◌, append-nil, lit<, arith}
+use Rattle.std.proofs.Common.{◌≡◌, ◌≤◌, ℕ, zero, suc, Bool, true, false, cond, length, List, [], ◌∷◌, ◌++◌, Option, Some, None, refl, sym, ap, subst, ◌∙◌, append-nil, lit<, arith}
 use Rattle.std.specs.Prelude.{◌==◌, ◌||◌, codes}
 use Rattle.std.specs.List.{flat_map}
 use Rattle.journal_attempt.specs.declared.commands.InputCommand.{InputCommand}
@@ -25,15 +25,16 @@ use Rattle.journal_values.specs.Parts.{read_value}
 use Rattle.journal_messages.specs.Reading.{body_as, input_in, message_in}
 use Rattle.std.specs.Str.{chars, is_utf8}
 use Rattle.wire.proofs.Read.{all_read}
-use Rattle.vm_model.specs.Calls.{Meaning, Setup}
+use Rattle.std.proofs.lemmas.Option.{same_Some}
+use Rattle.vm_model.specs.Calls.{Meaning, Setup, call_of}
 use Rattle.vm_parts.specs.Deliveries.{same_id}
-use Rattle.vm_model.specs.Carried.{AreCarried, ComeOnce}
+use Rattle.vm_model.specs.Carried.{AreCarried, AreOfTheirKind, ComeOnce, is_for_invocation}
 use Rattle.vm_model.specs.Deliveries.{HasNoTwo}
 use Rattle.vm_model.specs.Histories.{Handed, History, Made}
 use Rattle.vm_model.proofs.Once.{run_once}
 use Rattle.vm_rounds.proofs.Replayed.{tail_same}
 use Rattle.vm_model.specs.Journal.{Entry, Recorded, Notified, input_read_from, stored_form}
-use Rattle.vm_model.specs.Moves.{Point, after, start as began}
+use Rattle.vm_model.specs.Moves.{Point, after, longer, moved, next, start as began, supplied}
 use Rattle.vm_rounds.specs.Blames.{IsHonest}
 use Rattle.vm_rounds.proofs.Honest.{honestly_fed}
 use Rattle.vm_steps.specs.Heard.{Heard}
@@ -138,6 +139,33 @@ none_two h =
     run_once setup sleeper all_state h.input (void ∷ []) h.rest h.told.0 h.at h.told.1 h.uses_all comes_once 0 [] (began setup h.input (void ∷ []) h.rest) (refl, refl)
     (subst (AreCarried (void ∷ [])) (rest ∙ sym (append-nil h.rest)) is_carried_once)
 
+-- ---- it makes no call
+
+-- behind its sleep it ends
+then_ends : (i : InputCommand) (p : Point) → next setup sleeper (began setup i (void ∷ []) (stored_form slept ∷ [])) ≡ Some p → sleeper p.answers ≡ step.End
+unfolding sleeper is_utf8 chars header_equal message_in body_as sleep read_value bytes read_byte read_bytes read_text read_pair read_u16 read_u32 read_u64 u16s u32s u64s
+then_ends i p e = ap (λ (z : Point). sleeper z.answers) (sym (same_Some _ p e))
+
+-- so it makes no command
+makes_none : (i : InputCommand) (n : ℕ) (made : List RawMessage) (p : Point) → Made setup sleeper (Handed all_state) n (began setup i (void ∷ []) (stored_form slept ∷ [])) made p → made ≡ []
+unfolding sleeper
+makes_none i zero made p run = run.0
+makes_none i (suc zero) made p (state, r, rest, knows, is, goes, on) = is ∙ on.0
+makes_none i (suc (suc n)) made p (state, r, rest, knows, is, goes, (state', r', rest', knows', is', goes', on)) =
+    let none : next setup sleeper (longer (supplied setup sleeper state' r) r) ≡ None = ap (λ st. moved (call_of setup st r.derived) (longer (supplied setup sleeper state' r) r)) (then_ends i r goes) in
+    absurd (let z : None ≡ Some r' = sym none ∙ goes' in cc)
+
+-- no result is one of an invocation's id
+none_named : (id : ℕ) → is_for_invocation id (stored_form slept ∷ []) ≡ false
+unfolding message_in body_as sleep read_value bytes read_byte read_bytes read_text read_pair read_u16 read_u32 read_u64 u16s u32s u64s is_utf8 chars
+none_named id = refl
+
+rightly_kinded : (h : History setup sleeper no_state journal) (n : ℕ) (made : List RawMessage) (p : Point) → Made setup sleeper (Handed all_state) n (began setup h.input (void ∷ []) h.rest) made p → AreOfTheirKind (void ∷ []) (h.rest ++ made)
+rightly_kinded h n made p run id named =
+    let rest : h.rest ≡ stored_form slept ∷ [] = sym (tail_same (stored_form (message.Input input)) h.first (stored_form slept ∷ []) h.rest h.begins) in
+    let none = makes_none h.input n made p (subst (λ cs. Made setup sleeper (Handed all_state) n (began setup h.input (void ∷ []) cs) made p) rest run) in
+    absurd (let z : false ≡ true = sym (none_named id) ∙ ap (is_for_invocation id) (sym (append-nil (stored_form slept ∷ [])) ∙ λ j. sym rest j ++ sym none j) ∙ named in cc)
+
 -- all of it in one piece
 abbrev in_one : Heard
 in_one = record { pieces = record { piece = stream; answers = 0; output = 0 } ∷ []; proposed = [] }
@@ -162,6 +190,7 @@ feeds = record {
   replays = refl;
   queues = refl;
   once = none_two is_history;
+  kinds = rightly_kinded is_history;
 }
 
 is_honest : IsHonest sleeper V7 default_options in_one

@@ -26,6 +26,8 @@ use Rattle.await_trees.specs.Wires.{sent}
 use Rattle.vm_types.specs.declared.values.Value.{Value}
 use Rattle.vm_parts.specs.Counting.{missing, missing_signals}
 use Rattle.vm_parts.specs.Deliveries.{id_at, present_for}
+use Rattle.vm_types.specs.declared.options.SignalDelivery.TheVariants.{Queued}
+use Rattle.vm_model.specs.Deliveries.{HasNoTwo}
 use Rattle.vm_parts.specs.Tracked.{id_of_result, id_of_value, invocation_ids, noted, unresolved}
 use Rattle.vm_types.specs.Values.{value_of}
 use Rattle.vm_parts.specs.declared.run_state.TrackedCall.{TrackedCall}
@@ -63,7 +65,7 @@ use Rattle.vm_rounds.specs.Journals.{is_command, setup_for}
 use Rattle.vm_steps.specs.Record.{Record, heard}
 use Rattle.vm_steps.specs.Stepping.{Asks, IfWaits, step_asked, asked_from, future_in, progress_of, replied, with_vm}
 use Rattle.vm_steps.specs.Steps.{IfDone, Performs, ReadsBack, StepMade}
-use Rattle.vm_rounds.specs.Told.{IsKept, IsLive, Premises, RefusesReplay, Replays, Runs, Sleeps, StarvesReplay, StillAwaits, Wrote, arrivals, commands_of, handed_out}
+use Rattle.vm_rounds.specs.Told.{IsKept, IsLive, RefusesReplay, Replays, Runs, Sleeps, StarvesReplay, StillAwaits, Wrote, arrivals, commands_of, handed_out}
 use Rattle.vm_model.proofs.Parts.{IsOfOne, turn_is}
 use Rattle.vm_model.proofs.Rests.{made_keeps}
 use Rattle.vm_rounds.proofs.Following.{agreeing_follows}
@@ -473,15 +475,15 @@ module _ (m : Meaning) (version : Version) (options : VMOptions) (r : Record) (k
       does
 
 -- a step of a handler that runs
-pub asks_keep : (m : Meaning) (version : Version) (options : VMOptions) (old : Record) (result : Result Progress Error) (new : Record) → Premises m version options (heard version old) → (k : Runs m version options (heard version old) old.answers old.waiting old.taken old.vm) → IsLive old.vm.machine → Asks m old result new → IsKept m version options new
-asks_keep m version options old result new under k live (x, w, does, is, progress) =
+pub asks_keep : (m : Meaning) (version : Version) (options : VMOptions) (old : Record) (result : Result Progress Error) (new : Record) → options.signal_delivery ≡ Queued → (k : Runs m version options (heard version old) old.answers old.waiting old.taken old.vm) → HasNoTwo k.at → IsLive old.vm.machine → Asks m old result new → IsKept m version options new
+asks_keep m version options old result new queues k two live (x, w, does, is, progress) =
     let s = setup_for version options k.journal.start in
     let st = m k.at.answers in
     let same : step_asked m old ≡ st = asks_next m k.at old.answers old.waiting k.answers k.awaits in
     let made : StepMade st x old.vm w = subst (λ q. StepMade q x old.vm w) same does in
     subst (IsKept m version options) (sym is)
     (subst (λ q. IsKept m version options (replied old (future_in q) x w)) (sym same)
-    (replied_keeps m version options old k live w made.0.1 (ReadsBack st old.vm.machine) st refl x (Performs st old.vm.machine) (λ o. agreeing_follows s m (handed_out k.journal) k.written old.vm.machine k.at o (λ future _. (under.queues, under.once k.journal k.moves k.written k.at k.run)) (k.rests live) (k.agrees live)) made.0.0 made.1))
+    (replied_keeps m version options old k live w made.0.1 (ReadsBack st old.vm.machine) st refl x (Performs st old.vm.machine) (λ o. agreeing_follows s m (handed_out k.journal) k.written old.vm.machine k.at o (λ future _. (queues, two)) (k.rests live) (k.agrees live)) made.0.0 made.1))
 
 -- what a step that waits leaves of the record
 settled_waits : (m : Meaning) (version : Version) (options : VMOptions) (old : Record) (future : Option UnresolvedFuture) (w : View) (x : Result Reply Error) → IfWaits (progress_of x) (Sleeps m version options (heard version old) old.answers old.taken w)
@@ -493,7 +495,7 @@ settled_waits m version options old future w (Ok reply.Suspended) h = h
 settled_waits m version options old future w (Ok reply.Ended) h = tt
 settled_waits m version options old future w (Err e) h = tt
 
-module _ (m : Meaning) (version : Version) (options : VMOptions) (old : Record) (result : Result Progress Error) (new : Record) (under : Premises m version options (heard version old)) (k : Runs m version options (heard version old) old.answers old.waiting old.taken old.vm) (live : IsLive old.vm.machine) where
+module _ (m : Meaning) (version : Version) (options : VMOptions) (old : Record) (result : Result Progress Error) (new : Record) (queues : options.signal_delivery ≡ Queued) (k : Runs m version options (heard version old) old.answers old.waiting old.taken old.vm) (two : HasNoTwo k.at) (live : IsLive old.vm.machine) where
   abbrev made_here : Setup
   made_here = setup_for version options k.journal.start
 
@@ -502,7 +504,7 @@ module _ (m : Meaning) (version : Version) (options : VMOptions) (old : Record) 
   is_next = asks_next m k.at old.answers old.waiting k.answers k.awaits
 
   follows_here : (o : Outcome Reply) → Performs (m k.at.answers) old.vm.machine o → IfDone o (ReadsBack (m k.at.answers) old.vm.machine) → Follows made_here m (handed_out k.journal) k.written k.at old.vm.machine o
-  follows_here o = agreeing_follows made_here m (handed_out k.journal) k.written old.vm.machine k.at o (λ future _. (under.queues, under.once k.journal k.moves k.written k.at k.run)) (k.rests live) (k.agrees live)
+  follows_here o = agreeing_follows made_here m (handed_out k.journal) k.written old.vm.machine k.at o (λ future _. (queues, two)) (k.rests live) (k.agrees live)
 
   -- a step waits only where nothing wakes
   pub asks_wait : Asks m old result new → IfWaits result (Sleeps m version options (heard version new) new.answers new.taken new.vm)

@@ -58,7 +58,7 @@ premises_before m version options fed f p =
 -- ---- what was fed
 
 -- what was fed stays, or one piece more was kept
-abbrev Grows : Heard → Heard → Type 0
+abbrev pub Grows : Heard → Heard → Type 0
 Grows old new = (new ≡ old) ⊎ ((f : Fed) × (new ≡ and_piece old f))
 
 pub premises_of : (m : Meaning) (version : Version) (options : VMOptions) (old new : Heard) → Grows old new → Premises m version options new → Premises m version options old
@@ -85,7 +85,7 @@ module _ (version : Version) where
       (λ (x : (w : View) × StarvesAmong (brought old.vm piece) old.vm.machine w.machine × (new ≡ with_vm w (kept piece old))). subst (λ (r : Record). Grows (heard version old) (heard version r)) (sym x.2) (kept_grows old.vm.machine.failure old.vm.machine.phase piece old))
       does
 
-  feed_grows : (piece : List ℕ) (old : Record) (result : Result Unit AllocError) (new : Record) → FeedDoes old.starved piece old result new → Grows (heard version old) (heard version new)
+  pub feed_grows : (piece : List ℕ) (old : Record) (result : Result Unit AllocError) (new : Record) → FeedDoes old.starved piece old result new → Grows (heard version old) (heard version new)
   feed_grows piece old result new does = by_test old.starved does
     where
       by_test : (b : Bool) → FeedDoes b piece old result new → Grows (heard version old) (heard version new)
@@ -96,14 +96,14 @@ module _ (version : Version) where
   closes_fed old (Ok t) new does = ap (heard version) does
   closes_fed old (Err e) new does = ap (heard version) does.2
 
-  close_fed : (old : Record) (result : Result Unit AllocError) (new : Record) → CloseDoes old.starved old result new → (heard version new) ≡ (heard version old)
+  pub close_fed : (old : Record) (result : Result Unit AllocError) (new : Record) → CloseDoes old.starved old result new → (heard version new) ≡ (heard version old)
   close_fed old result new does = by_test old.starved does
     where
       by_test : (b : Bool) → CloseDoes b old result new → (heard version new) ≡ (heard version old)
       by_test true d = ap (heard version) d.1
       by_test false d = closes_fed old result new d
 
-  take_fed : (old : Record) (result : Result (List ℕ) AllocError) (new : Record) → Takes old result new → (heard version new) ≡ (heard version old)
+  pub take_fed : (old : Record) (result : Result (List ℕ) AllocError) (new : Record) → Takes old result new → (heard version new) ≡ (heard version old)
   take_fed old (Ok bytes) new does = ap (heard version) does.1
   take_fed old (Err e) new does = ap (heard version) does
 

@@ -11,6 +11,7 @@ use Rattle.journal_state.specs.declared.state.GetStateEphemeralNotification.{Get
 use Rattle.journal_state.specs.declared.state.VoidOrValue.{VoidOrValue}
 use Rattle.journal_values.specs.declared.notification.Notification.{Notification}
 use Rattle.journal_attempt.specs.declared.start.Start.{Start}
+use Rattle.journal_errors.specs.declared.types.MessageType.TheVariants as type
 use Rattle.journal_errors.specs.declared.version.Version.{Version}
 use Rattle.journal_errors.specs.Errors.{named_error, no_memory}
 use Rattle.journal_attempt.specs.declared.runs.ProposeRunCompletionAck.{ProposeRunCompletionAck}
@@ -49,7 +50,7 @@ use Rattle.vm_steps.specs.Heard.{Heard}
 use Rattle.vm_steps.specs.declared.progress.Progress.{Progress}
 use Rattle.vm_rounds.specs.Journals.{as_entries, commands_among, is_acknowledgement, is_command, is_ephemeral, is_notification, setup_for}
 use Rattle.vm_steps.specs.Record.{Record, Said, all_heard, all_said, heard}
-use Rattle.vm_rounds.specs.Told.{ProposesLate, handed_out, Journal, Premises, begun, bytes_fed, frames_fed}
+use Rattle.vm_rounds.specs.Told.{AreRightlyKinded, ProposesLate, handed_out, Journal, Premises, begun, bytes_fed, frames_fed}
 
 -- ---- frames
 
@@ -184,8 +185,17 @@ abbrev pub first_input : List RawMessage → Option InputCommand
 first_input [] = None
 first_input (c ∷ cs) = input_read_from c
 
+-- the input, as an error that relates to it shows it
+abbrev pub the_input : RelatedCommand
+the_input = record { index = 0; ty = type.InputCommand; name = [] }
+
+-- why the first of some commands is no input: there is none, or it is of another type, or it can't be read
+abbrev pub no_input_fault : List RawMessage → NamedFault
+no_input_fault [] = fault.UnavailableEntry
+no_input_fault (c ∷ cs) = if type_number c.ty == type_number type.InputCommand then fault.BadMessage else fault.CommandTypeMismatch
+
 -- the known entries have come, and the first command among them is no input
-pub record LacksInput (frames : List RawMessage) : Type 0 where
+pub record LacksInput (version : Version) (options : VMOptions) (frames : List RawMessage) (e : Error) : Type 0 where
   pub first : RawMessage
   pub entries : List RawMessage
   pub others : List RawMessage
@@ -194,6 +204,7 @@ pub record LacksInput (frames : List RawMessage) : Type 0 where
   pub reads : start_in first.body ≡ Some start
   pub count : length entries ≡ start.known_entries
   pub none : first_input (commands_among entries) ≡ None
+  pub error : e ≡ ruled_by version options (named_error (no_input_fault (commands_among entries)) (Some the_input))
 
 -- why so many commands behind the input can't be skipped, by the completion id that is next past all that they carry, if they can be read
 abbrev pub skip_fault : ℕ → Option ℕ → Option NamedFault
@@ -201,7 +212,7 @@ skip_fault dropped None = Some fault.BadMessage
 skip_fault dropped (Some id) = result_err (counters_past dropped id fresh_counters)
 
 -- Recorded commands are skipped, and one of those behind the input can't be read, or a kind of number runs out past them.
-pub record CannotSkip (options : VMOptions) (frames : List RawMessage) : Type 0 where
+pub record CannotSkip (version : Version) (options : VMOptions) (frames : List RawMessage) (e : Error) : Type 0 where
   pub skips : options.journal_replay ≡ Disabled
   pub first : RawMessage
   pub entries : List RawMessage
@@ -212,8 +223,10 @@ pub record CannotSkip (options : VMOptions) (frames : List RawMessage) : Type 0 
   pub count : length entries ≡ start.known_entries
   pub why : NamedFault
   pub reason : skip_fault (length (drop 1 (commands_among entries))) (past_all 1 (drop 1 (commands_among entries))) ≡ Some why
+  pub error : e ≡ ruled_by version options (named_error why (Some the_input))
 
--- the handler's call was refused for this reason, at a point with these answers
+-- The handler's call was refused for this reason, at the point with these answers to which the attempt's own run leads: it made what was
+-- written.
 pub record RefusedCall (m : Meaning) (version : Version) (options : VMOptions) (fed : Heard) (answers_so_far : List Answer) (e : Error) : Type 0 where
   pub journal : Journal fed
   pub written : List RawMessage
@@ -228,11 +241,11 @@ pub record RefusedCall (m : Meaning) (version : Version) (options : VMOptions) (
 
 -- ---- results of runs
 
--- What executing a run came to was refused, or fails the attempt, so that it is tried again or paused. It is the run whose result was
--- told last.
-pub record RefusedResult (version : Version) (options : VMOptions) (told : Option NotificationHandle) (e : Error) : Type 0 where
+-- What executing a run came to was refused, or fails the attempt, so that it is tried again or paused. It is the run whose result failed
+-- the VM.
+pub record RefusedResult (version : Version) (options : VMOptions) (failed_by : Option NotificationHandle) (e : Error) : Type 0 where
   pub handle : NotificationHandle
-  pub is_told : told ≡ Some handle
+  pub is_told : failed_by ≡ Some handle
   pub exit : RunExitResult
   pub policy : RetryPolicy
   pub machine : Machine
@@ -245,17 +258,17 @@ pub record RefusedResult (version : Version) (options : VMOptions) (told : Optio
 -- ---- why an attempt failed
 
 -- Memory was lacking; a frame was refused, or bytes were no frame; the input was closed while known entries were missing; the
--- journal has no input, or its commands can't be skipped; the handler's call was refused, or an await found no memory for one of its commands; or the run's result that was
--- told last was refused, or fails the attempt.
+-- journal has no input, or its commands can't be skipped; the handler's call was refused, or an await found no memory for one of its
+-- commands; or a run's result failed the VM.
 pub data Blame (m : Meaning) (version : Version) (options : VMOptions) (fed : Heard) (said : Said) (answers : List Answer) (e : Error) : Type 0 where
   Memory : e ≡ no_memory → Blame m version options fed said answers e
   Frame : BadFrame version options fed e → Blame m version options fed said answers e
   NoFrame : (frames_of (bytes_fed fed)).1 ≡ Garbage → e ≡ ruled_by version options (named_error fault.BadMessage None) → Blame m version options fed said answers e
   ClosedEarly : said.closed ≡ true → IsShort (frames_fed fed) → e ≡ ruled_by version options (named_error fault.InputClosedWhileWaitingEntries None) → Blame m version options fed said answers e
-  NoInput : LacksInput (frames_fed fed) → Blame m version options fed said answers e
-  NoSkip : CannotSkip options (frames_fed fed) → Blame m version options fed said answers e
+  NoInput : LacksInput version options (frames_fed fed) e → Blame m version options fed said answers e
+  NoSkip : CannotSkip version options (frames_fed fed) e → Blame m version options fed said answers e
   Call : (Premises m version options fed → (e ≡ no_memory) ⊎ RefusedCall m version options fed answers e) → Blame m version options fed said answers e
-  RunResult : RefusedResult version options said.told e → Blame m version options fed said answers e
+  RunResult : RefusedResult version options said.failed_by e → Blame m version options fed said answers e
 
 -- As long as an attempt is not over, its VM isn't closed, and has failed only for such a reason.
 pub record BlamedAt (m : Meaning) (version : Version) (options : VMOptions) (over : Option Progress) (fed : Heard) (said : Said) (answers : List Answer) (v : Machine) : Type 0 where
@@ -291,22 +304,28 @@ IfError (Err e) P = P e
 -- ---- honest attempts
 
 -- Each frame has its place and is whole there, or acknowledges a result that the attempt has proposed, each once; no bytes are garbage,
--- the known entries are a history of the handler, and the premises hold.
+-- the known entries are a history of the handler, the premises hold, and each result of an invocation's id is one.
 pub record IsHonest (m : Meaning) (version : Version) (options : VMOptions) (fed : Heard) : Type 0 where
   pub premises : Premises m version options fed
+  pub kinds : AreRightlyKinded m version options fed
   pub frames : (before : List RawMessage) (raw : RawMessage) (behind : List RawMessage) (phase : Phase) (k : ℕ) → frames_fed fed ≡ before ++ raw ∷ behind → Place phase k before → is_acknowledgement raw ≡ false → frame_fault phase raw ≡ None
   pub acknowledgements : (before : List RawMessage) (raw : RawMessage) (behind : List RawMessage) → frames_fed fed ≡ before ++ raw ∷ behind → is_acknowledgement raw ≡ true → read_fault (kept_after fed.proposed (behind_first before)) (acknowledgement_in raw.body) ≡ None
   pub whole : (frames_of (bytes_fed fed)).1 ≢ Garbage
   pub history : (first : RawMessage) (entries others : List RawMessage) (st : Start) → frames_fed fed ≡ first ∷ (entries ++ others) → start_in first.body ≡ Some st → length entries ≡ st.known_entries → (base : StateMap) × History (setup_for version options st) m base (as_entries entries)
 
--- the call was refused for a reason of its own: an argument or version check, numbers that ran out, a state key that is no text
+-- The call was refused for a reason of its own at the point to which the attempt's own run leads: an argument or version check, numbers that
+-- ran out, a state key that is no text. It isn't that the result of an invocation's id is none.
 pub record RefusedItself (m : Meaning) (version : Version) (options : VMOptions) (fed : Heard) (answers_so_far : List Answer) (e : Error) : Type 0 where
   pub journal : Journal fed
+  pub written : List RawMessage
   pub at : Point
+  pub moves : ℕ
+  pub made : Made (setup_for version options journal.start) m (Handed (handed_out journal)) moves (begun version options journal) written at
   pub answers : at.answers ≡ answers_so_far
   pub none_recorded : at.left ≡ []
   pub why : NamedFault
   pub reason : move_at (setup_for version options journal.start) m at ≡ Refuses why
+  pub expected : why ≢ fault.UnexpectedInvocationIdResult
   pub related : Option RelatedCommand
   pub error : e ≡ ruled_by version options (named_error why related)
 
@@ -315,4 +334,4 @@ abbrev pub IsOwnError : Meaning → Version → VMOptions → Heard → Said →
 IsOwnError m version options fed said answers e =
     (e ≡ no_memory)
     ⊎ (((said.closed ≡ true) × IsShort (frames_fed fed) × (e ≡ ruled_by version options (named_error fault.InputClosedWhileWaitingEntries None)))
-    ⊎ (RefusedItself m version options fed answers e ⊎ RefusedResult version options said.told e))
+    ⊎ (RefusedItself m version options fed answers e ⊎ RefusedResult version options said.failed_by e))

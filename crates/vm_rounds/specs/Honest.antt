@@ -14,6 +14,7 @@ use Rattle.vm_types.specs.declared.options.JournalReplay.TheVariants.{Enabled}
 use Rattle.vm_types.specs.declared.options.SignalDelivery.TheVariants.{Queued}
 use Rattle.vm_machine.specs.Inputs.{coverage_of, entries_in}
 use Rattle.vm_model.specs.Calls.{Meaning}
+use Rattle.vm_model.specs.Carried.{AreOfTheirKind}
 use Rattle.vm_model.specs.Deliveries.{HasNoTwo}
 use Rattle.vm_model.specs.Histories.{Handed, History, Made}
 use Rattle.vm_model.specs.Moves.{Point, start as first_point}
@@ -64,7 +65,7 @@ honest_frames start journal more = stored_form (message.Start start) ∷ (map en
 -- What was fed is a beginning of Start, which tells the length of the journal; of the whole journal, which is a history of the
 -- handler; and of notifications and acknowledgements that come behind it, each of a result that the attempt has proposed, and once. Each
 -- of these can be fed. Recorded commands are replayed, signals queue, and with all these arrivals no completion has two results at a
--- point that the handler's run comes to.
+-- point that the handler's run comes to, and each result of an invocation's id is one.
 pub record FeedsHonestly (m : Meaning) (version : Version) (options : VMOptions) (fed : Heard) : Type 0 where
   pub start : Start
   pub journal : List Entry
@@ -83,3 +84,4 @@ pub record FeedsHonestly (m : Meaning) (version : Version) (options : VMOptions)
   pub replays : options.journal_replay ≡ Enabled
   pub queues : options.signal_delivery ≡ Queued
   pub once : (n : ℕ) (made : List RawMessage) (p : Point) → Made (setup_for version options start) m (Handed (record { entries = state; coverage = coverage_of start.partial })) n (first_point (setup_for version options start) history.input (notifications_in journal ++ arriving fed.proposed (map further_frame more)) history.rest) made p → HasNoTwo p
+  pub kinds : (n : ℕ) (made : List RawMessage) (p : Point) → Made (setup_for version options start) m (Handed (record { entries = state; coverage = coverage_of start.partial })) n (first_point (setup_for version options start) history.input (notifications_in journal ++ arriving fed.proposed (map further_frame more)) history.rest) made p → AreOfTheirKind (notifications_in journal ++ arriving fed.proposed (map further_frame more)) (history.rest ++ made)

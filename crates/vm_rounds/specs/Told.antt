@@ -25,13 +25,14 @@ use Rattle.await_trees.specs.declared.tree.UnresolvedFuture.{UnresolvedFuture}
 use Rattle.vm_machine.specs.declared.machine.Machine.{Machine}
 use Rattle.std.proofs.Common.{Global}
 use Rattle.vm_machine.specs.declared.phase.Phase.{Phase}
-use Rattle.vm_machine.specs.declared.phase.Phase.TheVariants.{Closed, Processing}
+use Rattle.vm_machine.specs.declared.phase.Phase.TheVariants.{Closed, Processing, Replaying}
 use Rattle.vm_machine.specs.Inputs.{coverage_of, entries_in, info_of}
 use Rattle.vm_machine.specs.Making.{fresh}
 use Rattle.vm_machine.specs.Phases.{is_running}
 use Rattle.invocation_vm.specs.Frames.{Rest, frames_of}
 use Rattle.vm_model.specs.Calls.{Meaning}
 use Rattle.vm_model.specs.Calls.Move.{Awaits}
+use Rattle.vm_model.specs.Carried.{AreOfTheirKind}
 use Rattle.vm_model.specs.Deliveries.{HasNoTwo}
 use Rattle.vm_model.specs.Journal.{input_read_from, stored_form}
 use Rattle.vm_model.specs.Moves.{Point, move_at, start}
@@ -151,6 +152,24 @@ pub record Premises (m : Meaning) (version : Version) (options : VMOptions) (fed
   pub replays : options.journal_replay ≡ Enabled
   pub queues : options.signal_delivery ≡ Queued
   pub once : NoneHasTwo m version options fed
+
+-- No completion has two results at a point where recorded commands are left, by what was fed.
+abbrev pub NoneHasTwoInReplay : Meaning → Version → VMOptions → Heard → Type 0
+NoneHasTwoInReplay m version options fed =
+    (j : Journal fed) (n : ℕ) (made : List RawMessage) (p : Point) → Made (setup_for version options j.start) m (Handed (handed_out j)) n (begun version options j) made p → p.left ≢ [] → HasNoTwo p
+
+-- What is asked for replay alone: recorded commands are replayed, signals queue, and no completion has two results as long as recorded
+-- commands are left. A journal that doesn't fit the handler can have it too.
+pub record ReplayPremises (m : Meaning) (version : Version) (options : VMOptions) (fed : Heard) : Type 0 where
+  pub replays : options.journal_replay ≡ Enabled
+  pub queues : options.signal_delivery ≡ Queued
+  pub once : NoneHasTwoInReplay m version options fed
+
+-- Each result of an invocation's id is one: of the ids that the commands carry for it which are recorded and which the handler's run makes,
+-- by what was fed.
+abbrev pub AreRightlyKinded : Meaning → Version → VMOptions → Heard → Type 0
+AreRightlyKinded m version options fed =
+    (j : Journal fed) (n : ℕ) (made : List RawMessage) (p : Point) → Made (setup_for version options j.start) m (Handed (handed_out j)) n (begun version options j) made p → AreOfTheirKind (arrivals j) (j.rest ++ made)
 
 -- ---- the answers
 
@@ -338,6 +357,16 @@ IsKept m version options r = BeforeInput version options (heard version r) r.ans
 -- the same, under the premises
 abbrev pub IsKeptUnder : Meaning → Version → VMOptions → Record → Type 0
 IsKeptUnder m version options r = Premises m version options (heard version r) → IsKept m version options r
+
+-- The handler has read its input, and as long as recorded commands are left it runs.
+pub record InReplay (m : Meaning) (version : Version) (options : VMOptions) (fed : Heard) (answers_so_far : List Answer) (waiting : Option UnresolvedFuture) (taken : List (List ℕ)) (vm : View) : Type 0 where
+  pub came : Came version options fed answers_so_far taken vm
+  pub run : vm.machine.failure ≡ None → vm.machine.phase ≡ Replaying → Runs m version options fed answers_so_far waiting taken vm
+
+-- what each call of an attempt keeps in replay, under the premises of replay
+abbrev pub IsKeptInReplay : Meaning → Version → VMOptions → Record → Type 0
+IsKeptInReplay m version options r =
+    ReplayPremises m version options (heard version r) → BeforeInput version options (heard version r) r.answers r.waiting r.taken r.vm ⊎ InReplay m version options (heard version r) r.answers r.waiting r.taken r.vm
 
 -- once the handler's await was suspended it waits rightly, under the premises
 abbrev pub StillSleeps : Meaning → Version → VMOptions → Record → Type 0

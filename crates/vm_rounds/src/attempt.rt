@@ -11,7 +11,7 @@ use vm_parts::Answer;
 use vm_steps::{Handler, Inner, Progress};
 
 /// An attempt of a handler over the VM. It keeps a record: each piece of input until the VM failed or closed, those that
-/// came to a closed VM behind them, whether the input was closed, whose run's result was told last, the answers, and all output, from
+/// came to a closed VM behind them, whether the input was closed, the run whose result failed the VM, the answers, and all output, from
 /// which what was proposed is read.
 pub struct Attempt<H: Handler> {
     version: Version,
@@ -35,7 +35,7 @@ impl<H: Handler> Model for Attempt<H> {
     ghost use Rattle.vm_steps.specs.Record.{AttemptView};
     ghost use Rattle.vm_steps.specs.Inside.{the_record};
     ghost use Rattle.vm_rounds.specs.Blames.{IsBlamed, IsLate};
-    ghost use Rattle.vm_rounds.specs.Told.{HasCome, IsKeptUnder, StillSleeps};
+    ghost use Rattle.vm_rounds.specs.Told.{HasCome, IsKeptInReplay, IsKeptUnder, StillSleeps};
     ghost use Rattle.vm_parts.specs.Outboxes.{WholeFrames};
     ghost use Rattle.await_trees.specs.contracts.tree.UnresolvedFuture as future;
     ghost use Rattle.std.specs.Coded.{codes};
@@ -46,7 +46,7 @@ impl<H: Handler> Model for Attempt<H> {
 
     ghost view = { λ a. record { handler = a.inner.handler; version = a.version; options = a.options; record_of = the_record a.inner } };
 
-    ghost invariant = { λ a. HasCome a.version a.options (the_record a.inner) × IsBlamed (H.meaning a.inner.handler) a.version a.options (the_record a.inner) × IsKeptUnder (H.meaning a.inner.handler) a.version a.options (the_record a.inner) × IsLate (H.meaning a.inner.handler) a.version a.options (the_record a.inner) × StillSleeps (H.meaning a.inner.handler) a.version a.options (the_record a.inner) × WholeFrames (the_record a.inner).vm.machine.output };
+    ghost invariant = { λ a. HasCome a.version a.options (the_record a.inner) × IsBlamed (H.meaning a.inner.handler) a.version a.options (the_record a.inner) × IsKeptUnder (H.meaning a.inner.handler) a.version a.options (the_record a.inner) × IsLate (H.meaning a.inner.handler) a.version a.options (the_record a.inner) × StillSleeps (H.meaning a.inner.handler) a.version a.options (the_record a.inner) × WholeFrames (the_record a.inner).vm.machine.output × IsKeptInReplay (H.meaning a.inner.handler) a.version a.options (the_record a.inner) };
 }
 
 impl<H: Handler> Attempt<H> {
@@ -57,7 +57,7 @@ impl<H: Handler> Attempt<H> {
     ghost use Rattle.vm_rounds.specs.Blames.{Blame, IfError, IsHonest, IsOwnError};
     ghost use Rattle.vm_steps.specs.Heard.{proposals_in};
     ghost use Rattle.vm_steps.specs.Record.{all_heard, all_said, bytes_written, heard};
-    ghost use Rattle.vm_rounds.specs.Told.{AnswersAreTold, HasCome, NothingWakes, NumbersFreshly, Premises, Replays, written_by};
+    ghost use Rattle.vm_rounds.specs.Told.{AnswersAreTold, HasCome, NothingWakes, NumbersFreshly, Premises, ReplayPremises, Replays, written_by};
 
     /// An attempt for the version that the header `content-type` names; the VM's refusals are its own.
     pub fn new<M: HeaderMap>(
@@ -109,14 +109,14 @@ impl<H: Handler> Attempt<H> {
         ensures does { StepDoes (H.meaning self.old.handler) self.old.record_of result self.new.record_of }
         // Under the premises it waits or is suspended only where no number of the arrivals wakes the handler's await.
         ensures waits { Premises (H.meaning self.old.handler) self.old.version self.old.options (heard self.old.version self.old.record_of) → IfWaits result (NothingWakes (H.meaning self.old.handler) self.old.version self.old.options self.new.record_of) }
-        // Under the premises, while recorded commands are left, the handler's next call is answered, or it is refused where the journal
-        // tells no more.
-        ensures replays { IsReplaying self.old.record_of → Premises (H.meaning self.old.handler) self.old.version self.old.options (heard self.old.version self.old.record_of) → Replays (H.meaning self.old.handler) self.old.version self.old.options self.old.record_of result self.new.record_of }
+        // While recorded commands are left, the handler's next call is answered, or it is refused where the journal tells no more. This asks
+        // nothing of what comes once none is left.
+        ensures replays { IsReplaying self.old.record_of → ReplayPremises (H.meaning self.old.handler) self.old.version self.old.options (heard self.old.version self.old.record_of) → Replays (H.meaning self.old.handler) self.old.version self.old.options self.old.record_of result self.new.record_of }
         // An error is want of memory, a frame or bytes that were refused, input closed too early, a journal without input, a call that was
-        // refused, or the run's result that was told last, which was refused or failed the attempt.
+        // refused, or a run's result that failed the VM.
         ensures blamed { IfError result (λ e. Blame (H.meaning self.old.handler) self.old.version self.old.options (all_heard self.old.version self.new.record_of) (all_said self.new.record_of) self.new.record_of.answers e) }
         // Where the bytes are an honest attempt's over a history of the handler, an error is only want of memory, input that was closed
-        // too early, a call's own refusal, where no recorded command is left, or that of the run's result that was told last.
+        // too early, a call's own refusal, where no recorded command is left, or that of a run's result that failed the VM.
         ensures honest { IsHonest (H.meaning self.old.handler) self.old.version self.old.options (all_heard self.old.version self.new.record_of) → IfError result (λ e. IsOwnError (H.meaning self.old.handler) self.old.version self.old.options (all_heard self.old.version self.new.record_of) (all_said self.new.record_of) self.new.record_of.answers e) }
         // Where the options disable replay, the completion ids of the commands that it has written are greater than all that the commands of its
         // journal carry.
@@ -139,8 +139,8 @@ impl<H: Handler> Attempt<H> {
         policy: RetryPolicy,
     ) -> VMResult<()>
         ensures does { FinishDoes self.old.record_of.starved handle exit policy self.old.record_of result self.new.record_of }
-        // An error is want of memory, the VM's first error, or that of the result that was told last, which was refused, or by which the run is
-        // tried again or the invocation paused.
+        // An error is want of memory, the VM's first error, or that of this result, which is refused, or by which the run is tried again or
+        // the invocation paused.
         ensures blamed { IfErr result (λ e. Blame (H.meaning self.old.handler) self.old.version self.old.options (all_heard self.old.version self.new.record_of) (all_said self.new.record_of) self.new.record_of.answers e) }
         ensures honest { IsHonest (H.meaning self.old.handler) self.old.version self.old.options (all_heard self.old.version self.new.record_of) → IfErr result (λ e. IsOwnError (H.meaning self.old.handler) self.old.version self.old.options (all_heard self.old.version self.new.record_of) (all_said self.new.record_of) self.new.record_of.answers e) }
         ensures handler { self.new.handler ≡ self.old.handler }
@@ -173,6 +173,8 @@ impl<H: Handler> Attempt<H> {
         // Under the premises the journal, which is what was fed, followed by the commands that were written, tells them; no command is
         // written while recorded ones are left.
         ensures told { Premises (H.meaning self.now.handler) self.now.version self.now.options (heard self.now.version self.now.record_of) → (self.now.record_of.answers ≡ []) ⊎ AnswersAreTold (H.meaning self.now.handler) self.now.version self.now.options self.now.record_of }
+        // The same while recorded commands are left, whatever comes once none is left.
+        ensures replayed { IsReplaying self.now.record_of → ReplayPremises (H.meaning self.now.handler) self.now.version self.now.options (heard self.now.version self.now.record_of) → AnswersAreTold (H.meaning self.now.handler) self.now.version self.now.options self.now.record_of }
         ensures fresh { NumbersFreshly self.now.version self.now.options self.now.record_of }
     {
         // What waits now is whole frames, from which the clauses read the commands.

@@ -114,7 +114,7 @@ pub fn answers_are_told()
 
 /// Where the known entries are a history of the handler and each frame has its place, an error is only: want of memory; input that
 /// was closed while known entries were missing; or, where no recorded command is left, a call's own refusal, for an argument or
-/// version check, a kind of number that ran out, or a state key that is no text; or that of the run's result that was told last.
+/// version check, a kind of number that ran out, or a state key that is no text; or that of a run's result that failed the VM.
 pub fn honest_attempts_fail_by_themselves()
     ensures { (m : Meaning) (version : Version) (options : VMOptions) (fed : Heard) (said : Said) (answers : List Answer) (e : Error) → IsHonest m version options fed → Blame m version options fed said answers e → IsOwnError m version options fed said answers e }
 {}

@@ -20,8 +20,8 @@ pub record Record : Type 0 where
   pub late : List Fed
   -- the input was closed
   pub closed : Bool
-  -- the run whose result was told last, before the VM failed
-  pub told : Option NotificationHandle
+  -- the run whose result failed the VM
+  pub failed_by : Option NotificationHandle
   pub answers : List Answer
   -- the output that was taken, piece by piece
   pub taken : List (List ℕ)
@@ -47,12 +47,12 @@ all_heard version r = record { pieces = r.fed ++ r.late; proposed = acknowledged
 pub record Said : Type 0 where
   -- that no more bytes come
   pub closed : Bool
-  -- what a run came to: this run's result was the last, before the VM failed
-  pub told : Option NotificationHandle
+  -- the result of this run, and it failed the VM
+  pub failed_by : Option NotificationHandle
 
 -- what an attempt was told besides its bytes, by its record
 abbrev pub all_said : Record → Said
-all_said r = record { closed = r.closed; told = r.told }
+all_said r = record { closed = r.closed; failed_by = r.failed_by }
 
 -- all bytes that an attempt wrote: those that were taken, and those that wait
 abbrev pub bytes_written : Record → List ℕ

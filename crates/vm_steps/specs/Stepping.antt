@@ -41,7 +41,7 @@ Meaning = List Answer → Step
 
 -- an attempt that was fed nothing
 abbrev pub fresh_record : View → Record
-fresh_record vm = record { fed = []; late = []; closed = false; told = None; answers = []; taken = []; proposed = []; waiting = None; starved = false; over = None; vm = vm }
+fresh_record vm = record { fed = []; late = []; closed = false; failed_by = None; answers = []; taken = []; proposed = []; waiting = None; starved = false; over = None; vm = vm }
 
 -- an attempt is made for the version that is asked for; else the error says why, or no memory was found
 abbrev pub MakesAttempt : {H : Type 0} → Global → VMOptions → H → Result Version Error → Result (AttemptView H) Error → Type 0
@@ -198,28 +198,30 @@ CloseDoes false old result new = Closes old result new
 abbrev pub newly_proposed : Machine → Machine → List KeptProposal
 newly_proposed old new = proposals_in (concat (drop (length old.output) new.output))
 
--- the run of this handle is noted as that whose result was told last, unless the VM has failed
+-- the run of this handle is noted as that whose result failed the VM, unless the VM had failed before
 abbrev pub noted_at : Option Error → NotificationHandle → Record → Record
 noted_at (Some e) handle r = r
-noted_at None handle r = record r { told = Some handle }
+noted_at None handle r = record r { failed_by = Some handle }
 
--- the same, by whether the VM has failed
-abbrev pub noted : NotificationHandle → Record → Record
-noted handle r = noted_at r.vm.machine.failure handle r
+-- the run is noted where telling its result was answered by an error
+abbrev pub noted : Result Unit Error → NotificationHandle → Record → Record
+noted (Ok t) handle r = r
+noted (Err e) handle r = noted_at r.vm.machine.failure handle r
 
--- what executing a run came to is told to the VM, and noted
+-- What executing a run came to is told to the VM; the run is noted where that failed the VM.
 abbrev pub Tells : NotificationHandle → RunExitResult → RetryPolicy → Record → Result Unit Error → Record → Type 0
-Tells handle exit policy old result new = (w : View) × CallsProposal handle exit policy result old.vm w × (new ≡ with_vm w (noted handle old))
+Tells handle exit policy old result new = (w : View) × CallsProposal handle exit policy result old.vm w × (new ≡ with_vm w (noted result handle old))
 
 -- the same, unless the attempt's own memory was lacking
 abbrev pub TellsUnless : Bool → NotificationHandle → RunExitResult → RetryPolicy → Record → Result Unit Error → Record → Type 0
 TellsUnless true handle exit policy old result new = (result ≡ Err no_memory) × (new ≡ old)
 TellsUnless false handle exit policy old result new = Tells handle exit policy old result new
 
--- What executing a run came to is told to the VM, and noted. Where it answers, what it has written may propose a result.
+-- What executing a run came to is told to the VM. Where it answers, what it has written may propose a result; else the run is noted where
+-- that failed the VM.
 abbrev pub Finishes : NotificationHandle → RunExitResult → RetryPolicy → Record → Result Unit Error → Record → Type 0
 Finishes handle exit policy old (Ok t) new =
-    (w : View) × CallsProposal handle exit policy (Ok t) old.vm w × (new ≡ record (noted handle old) { proposed = old.proposed ++ newly_proposed old.vm.machine w.machine; vm = w })
+    (w : View) × CallsProposal handle exit policy (Ok t) old.vm w × (new ≡ record old { proposed = old.proposed ++ newly_proposed old.vm.machine w.machine; vm = w })
 Finishes handle exit policy old (Err e) new = Tells handle exit policy old (Err e) new
 
 -- what telling it does: nothing after the attempt's own want of memory

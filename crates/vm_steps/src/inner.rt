@@ -3,7 +3,7 @@ ghost use Rattle.std.specs.Prelude.{◌≡◌, ◌≤◌, ◌+◌, IfOk, OnOk, O
 ghost use Rattle.journal_errors.specs.Errors.{no_memory};
 ghost use Rattle.vm_parts.specs.Outboxes.{WholeFrames};
 ghost use Rattle.invocation_vm.specs.Seen.{seen};
-ghost use Rattle.vm_steps.specs.Stepping.{fresh_record, replied, future_in, progress_of, asked_from, Advances, StepDoes, FeedDoes, CloseDoes, TellsUnless, Takes, output_len, kept, noted};
+ghost use Rattle.vm_steps.specs.Stepping.{fresh_record, replied, future_in, progress_of, asked_from, Advances, StepDoes, FeedDoes, CloseDoes, TellsUnless, Takes, output_len, kept};
 
 use crate::handler::Handler;
 use crate::perform::perform;
@@ -23,8 +23,8 @@ pub struct Inner<H> {
     pub fed: Vec<Fed>,
     pub late: Vec<Fed>,
     pub closed: bool,
-    /// The run whose result was told last, before the VM failed.
-    pub told: Option<NotificationHandle>,
+    /// The run whose result failed the VM.
+    pub failed_by: Option<NotificationHandle>,
     pub answers: Vec<Answer>,
     pub taken: Taken,
     pub waiting: Option<UnresolvedFuture>,
@@ -75,7 +75,7 @@ impl<H: Handler> Inner<H> {
             fed: Vec::new(alloc),
             late: Vec::new(alloc),
             closed: false,
-            told: None,
+            failed_by: None,
             answers: Vec::new(alloc),
             taken: Taken::new(alloc),
             waiting: None,
@@ -229,18 +229,7 @@ impl<H: Handler> Inner<H> {
         self.vm.notify_input_closed()
     }
 
-    /// Notes the run whose result is told, unless the VM has failed.
-    fn note(&mut self, handle: NotificationHandle)
-        ensures record { the_fields self.new ≡ noted handle (the_fields self.old) }
-        ensures vm { seen self.new.vm ≡ seen self.old.vm }
-        ensures handler { self.new.handler ≡ self.old.handler }
-    {
-        if !self.vm.has_failed() {
-            self.told = Some(handle);
-        }
-    }
-
-    /// Tells the VM what executing a run came to.
+    /// Tells the VM what executing a run came to, and notes the run where that fails a VM that hadn't failed.
     pub fn run_result(
         &mut self,
         handle: NotificationHandle,
@@ -253,8 +242,12 @@ impl<H: Handler> Inner<H> {
         if self.starved {
             return Err(memory_error());
         }
-        self.note(handle);
-        self.vm.propose_run_completion(handle, exit, policy)
+        let had_failed = self.vm.has_failed();
+        let told = self.vm.propose_run_completion(handle, exit, policy);
+        if told.is_err() && !had_failed {
+            self.failed_by = Some(handle);
+        }
+        told
     }
 
     pub fn take_output(&mut self) -> Result<Bytes, AllocError>

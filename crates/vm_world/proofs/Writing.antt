@@ -21,13 +21,13 @@ use Rattle.vm_machine.specs.declared.phase.Phase.{Phase}
 use Rattle.vm_machine.specs.declared.phase.Phase.TheVariants.{WaitingStart, WaitingReplayEntries, Replaying, Processing, Closed}
 use Rattle.vm_asks.specs.declared.asks.AnswerKind.{AnswerKind}
 use Rattle.vm_asks.specs.declared.command.Command.{Command}
-use Rattle.vm_asks.specs.Asks.{EachIs, ask_of}
+use Rattle.vm_asks.specs.Asks.{ask_of}
 use Rattle.vm_machine.specs.Commands.{commanded}
-use Rattle.vm_laws.specs.Endings.{EventWrites, Writes, is_terminal}
+use Rattle.vm_laws.specs.Endings.{EventWrites, Writes}
 use Rattle.vm_machine.specs.Inputs.{close_step, input_step}
 use Rattle.vm_machine.specs.Outcomes.{Does, DoesBy, Done, Failed, Outcome, called, refused}
 use Rattle.vm_machine.specs.Signals.{awakeable_step}
-use Rattle.vm_laws.proofs.Endings.{GoesOn, asks_go_on, awakeable_writes, called_writes, close_writes, commanded_event, end_writes, input_writes, read_writes, same, signal_writes, take_writes, writes_nothing}
+use Rattle.vm_laws.proofs.Endings.{awakeable_writes, called_writes, close_writes, commanded_event, end_writes, ends_nothing, input_writes, read_writes, same, signal_writes, take_writes, writes_nothing}
 use Rattle.vm_machine.specs.Skips.{skips_replay}
 use Rattle.invocation_vm.specs.Views.{View, after_closing, after_input, left_by}
 use Rattle.invocation_vm.proofs.Feeds.{among_output}
@@ -59,21 +59,21 @@ await_event future v (Done given w) (answered, whole, replied) = whole_writes (t
 await_event future v (Failed e w) whole = whole_writes (tree_of future) (Err e) v w whole
 
 -- several commands write behind the output
-several_event : (kind : AnswerKind) (c : Command) (cs : List Command) (v : Machine) (o : Outcome Reply) → EachIs (λ x. is_terminal x.message ≡ false) c cs → AllCarried kind c cs v o → EventWrites v o
-several_event kind c cs v (Done given w) goes (handle, made, replied) = all_writes c cs (Ok handle) v w goes made
-several_event kind c cs v (Failed e w) goes made = all_writes c cs (Err e) v w goes made
+several_event : (kind : AnswerKind) (c : Command) (cs : List Command) (v : Machine) (o : Outcome Reply) → AllCarried kind c cs v o → EventWrites v o
+several_event kind c cs v (Done given w) (handle, made, replied) = all_writes c cs (Ok handle) v w made
+several_event kind c cs v (Failed e w) made = all_writes c cs (Err e) v w made
 
 -- what is asked for writes behind the output
-asked_writes : (a : Ask) → GoesOn a → (v : Machine) (o : Outcome Reply) → PerformsBy a v o → EventWrites v o
-asked_writes (ask.Command c) goes v o does = subst (EventWrites v) (sym does) (mapped_writes _ v (called (commanded c v) v) (called_writes v (commanded c v) (commanded_event c v goes)))
-asked_writes (ask.Commands kind first second) goes v o does = several_event kind first (second ∷ []) v o goes does
-asked_writes ask.Awakeable goes v o does = subst (EventWrites v) (sym does) (mapped_writes _ v _ (new_awakeable_writes (skips_replay v.options.journal_replay) v))
-asked_writes (ask.Read r) goes v o does = subst (EventWrites v) (sym does) (mapped_writes _ v _ (read_writes r v))
-asked_writes (ask.Signal name) goes v o does = subst (EventWrites v) (sym does) (mapped_writes _ v _ (signal_writes name v))
-asked_writes (ask.Await future) goes v o does = await_event future v o does
-asked_writes (ask.Take handle) goes v o does = subst (EventWrites v) (sym does) (mapped_writes _ v _ (take_writes handle.0 v))
-asked_writes (ask.Completed handle) goes v o does = subst (EventWrites v) (sym does) (writes_nothing v v (same v))
-asked_writes ask.End goes v o does = subst (EventWrites v) (sym does) (mapped_writes _ v _ (end_writes v))
+asked_writes : (a : Ask) (v : Machine) (o : Outcome Reply) → PerformsBy a v o → EventWrites v o
+asked_writes (ask.Command c) v o does = subst (EventWrites v) (sym does) (mapped_writes _ v (called (commanded c v) v) (called_writes v (commanded c v) (commanded_event c v (ends_nothing c))))
+asked_writes (ask.Commands kind first second) v o does = several_event kind first (second ∷ []) v o does
+asked_writes ask.Awakeable v o does = subst (EventWrites v) (sym does) (mapped_writes _ v _ (new_awakeable_writes (skips_replay v.options.journal_replay) v))
+asked_writes (ask.Read r) v o does = subst (EventWrites v) (sym does) (mapped_writes _ v _ (read_writes r v))
+asked_writes (ask.Signal name) v o does = subst (EventWrites v) (sym does) (mapped_writes _ v _ (signal_writes name v))
+asked_writes (ask.Await future) v o does = await_event future v o does
+asked_writes (ask.Take handle) v o does = subst (EventWrites v) (sym does) (mapped_writes _ v _ (take_writes handle.0 v))
+asked_writes (ask.Completed handle) v o does = subst (EventWrites v) (sym does) (writes_nothing v v (same v))
+asked_writes ask.End v o does = subst (EventWrites v) (sym does) (mapped_writes _ v _ (end_writes v))
 
 -- one output begins the other
 abbrev Extends : Machine → Machine → Type 0
@@ -89,7 +89,7 @@ does_extend o (Err e) v w h (inr d) = extends_same v w d.output
 
 -- the call of a step writes behind the output
 step_extends : (st : Step) (v : Machine) (x : Result Reply Error) (w : Machine) → DoesBy (Performs st v) x v w → Extends v w
-step_extends st v x w = by_reply x (asked_writes (ask_of v.version st) (asks_go_on v.version st) v)
+step_extends st v x w = by_reply x (asked_writes (ask_of v.version st) v)
   where
     by_reply : (x : Result Reply Error) → ((o : Outcome Reply) → Performs st v o → EventWrites v o) → DoesBy (Performs st v) x v w → Extends v w
     by_reply (Ok a) writes d = let x : Writes v w = writes (Done a w) d in (map encoding x.messages, x.output)

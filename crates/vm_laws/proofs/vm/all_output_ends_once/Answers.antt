@@ -45,7 +45,7 @@ pub returns-clause-sends : goal.returns-clause-sends
 returns-clause-sends c = answer_stays _
 
 pub returns-clause-runs : goal.returns-clause-runs
-returns-clause-runs c = λ name r old new h. answer_stays (run_handle (knows_next old.machine)) (run_command name) r old new refl h
+returns-clause-runs c = λ name r old new h. answer_stays (run_handle (knows_next old.machine)) (run_command name) r old new h
 
 pub returns-clause-proposals : goal.returns-clause-proposals
 returns-clause-proposals c = proposal_stays

@@ -1,6 +1,7 @@
 use Rattle.vm_steps.specs.Inside.{the_record}
 use Rattle.vm_rounds.proofs.Advanced.{kept_told}
 use Rattle.vm_rounds.proofs.Freshly.{come_fresh}
+use Rattle.vm_rounds.proofs.InReplay.{told_in_replay}
 use Rattle.vm_rounds.proofs.Written.{none_before_input}
 use Rattle.vm_rounds.proofs.attempt.Attempt.answers.Goals as goal
 
@@ -16,6 +17,11 @@ pub returns-clause-told : goal.returns-clause-told
 returns-clause-told g c =
     let a = c.self.inside in
     rw (← c.self.view_is) (λ p. kept_told (g.H.Handler.meaning a.inner.handler) a.version a.options (the_record a.inner) c.output_len.ensures.whole (c.self.invariant.2 p))
+
+pub returns-clause-replayed : goal.returns-clause-replayed
+returns-clause-replayed g c =
+    let a = c.self.inside in
+    rw (← c.self.view_is) (told_in_replay (g.H.Handler.meaning a.inner.handler) a.version a.options (the_record a.inner) c.output_len.ensures.whole c.self.invariant.6)
 
 pub returns-clause-fresh : goal.returns-clause-fresh
 returns-clause-fresh g c =

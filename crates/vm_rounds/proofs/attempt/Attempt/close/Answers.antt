@@ -1,6 +1,7 @@
 use Rattle.vm_steps.specs.Inside.{the_fields, the_record}
 use Rattle.vm_rounds.proofs.Blamed.{close_blames}
 use Rattle.vm_rounds.proofs.Coming.{close_comes}
+use Rattle.vm_rounds.proofs.InReplay.{close_in_replay}
 use Rattle.vm_rounds.proofs.Late.{close_late}
 use Rattle.vm_rounds.proofs.Sleeping.{close_sleeps}
 use Rattle.vm_rounds.proofs.Steady.{close_told}
@@ -21,6 +22,7 @@ invariant_of-self g c =
       close_late m a.version a.options old c.close-closed.result new c.self.invariant.3 does,
       close_sleeps m a.version a.options old c.close-closed.result new c.self.invariant.4 does,
       c.output_len.ensures.whole,
+      close_in_replay m a.version a.options old c.close-closed.result new c.self.invariant.6 does,
     )
 
 pub returns-clause-does : goal.returns-clause-does

@@ -1,6 +1,7 @@
 use Rattle.vm_steps.specs.Inside.{the_fields, the_record}
 use Rattle.vm_rounds.proofs.Blamed.{feed_blames}
 use Rattle.vm_rounds.proofs.Coming.{feed_comes}
+use Rattle.vm_rounds.proofs.InReplay.{feed_in_replay}
 use Rattle.vm_rounds.proofs.Late.{feed_late}
 use Rattle.vm_rounds.proofs.Sleeping.{feed_sleeps}
 use Rattle.vm_rounds.proofs.Steady.{feed_told}
@@ -21,6 +22,7 @@ invariant_of-self g c =
       feed_late m a.version a.options c.args.piece old c.feed-fed.result new c.self.invariant.1 c.self.invariant.3 does,
       feed_sleeps m a.version a.options c.args.piece old c.feed-fed.result new c.self.invariant.3 c.self.invariant.4 does,
       c.output_len.ensures.whole,
+      feed_in_replay m a.version a.options c.args.piece old c.feed-fed.result new c.self.invariant.6 does,
     )
 
 pub returns-clause-does : goal.returns-clause-does

@@ -4,7 +4,7 @@ use Rattle.vm_parts.specs.Outboxes.{WholeFrames}
 use Rattle.vm_rounds.specs.Blames.{IsBlamed, IsLate}
 use Rattle.vm_steps.specs.Inside.{the_fields}
 use Rattle.vm_steps.specs.Record.{Record}
-use Rattle.vm_rounds.specs.Told.{HasCome, IsKeptUnder, StillSleeps}
+use Rattle.vm_rounds.specs.Told.{HasCome, IsKeptInReplay, IsKeptUnder, StillSleeps}
 use Rattle.vm_rounds.proofs.Advanced.{new_is_new, new_whole}
 use Rattle.vm_rounds.proofs.Blamed.{new_blamed}
 use Rattle.vm_rounds.proofs.Steady.{made_told, new_told}
@@ -15,13 +15,14 @@ invariant_of-result g c =
     let m = g.H.Handler.meaning c.new-in-Ok.result.handler in
     let fresh = new_is_new _ c.args.options _ seen c.in-Ok.vm c.in-Ok.ensures in
     rw c.version.ensures
-    (subst (λ (r : Record). HasCome (seen c.in-Ok.vm).machine.version c.args.options r × IsBlamed m (seen c.in-Ok.vm).machine.version c.args.options r × IsKeptUnder m (seen c.in-Ok.vm).machine.version c.args.options r × IsLate m (seen c.in-Ok.vm).machine.version c.args.options r × StillSleeps m (seen c.in-Ok.vm).machine.version c.args.options r × WholeFrames r.vm.machine.output) (sym (new_told _ c.args.options _ seen c.in-Ok.vm (the_fields c.new-in-Ok.result) c.in-Ok.ensures c.new-in-Ok.ensures.record)) (
+    (subst (λ (r : Record). HasCome (seen c.in-Ok.vm).machine.version c.args.options r × IsBlamed m (seen c.in-Ok.vm).machine.version c.args.options r × IsKeptUnder m (seen c.in-Ok.vm).machine.version c.args.options r × IsLate m (seen c.in-Ok.vm).machine.version c.args.options r × StillSleeps m (seen c.in-Ok.vm).machine.version c.args.options r × WholeFrames r.vm.machine.output × IsKeptInReplay m (seen c.in-Ok.vm).machine.version c.args.options r) (sym (new_told _ c.args.options _ seen c.in-Ok.vm (the_fields c.new-in-Ok.result) c.in-Ok.ensures c.new-in-Ok.ensures.record)) (
       inl fresh,
       new_blamed m _ c.args.options _ seen c.in-Ok.vm c.in-Ok.ensures,
       λ p. inl fresh,
       refl,
       λ p made over. absurd (let z : None ≡ Some made = over in cc),
       new_whole _ c.args.options _ seen c.in-Ok.vm c.in-Ok.ensures,
+      λ p. inl fresh,
     ))
 
 pub returns-in-Ok : goal.returns-in-Ok

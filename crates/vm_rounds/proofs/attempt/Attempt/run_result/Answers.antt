@@ -1,6 +1,6 @@
 use Rattle.vm_steps.specs.Inside.{the_fields, the_record}
 use Rattle.vm_steps.specs.Record.{all_heard, all_said}
-use Rattle.vm_rounds.proofs.Finishing.{finish_blame, finish_blames, finish_comes, finish_honest, finish_late, finish_sleeps, finish_told, finish_under}
+use Rattle.vm_rounds.proofs.Finishing.{finish_blame, finish_blames, finish_comes, finish_honest, finish_in_replay, finish_late, finish_sleeps, finish_told, finish_under}
 use Rattle.vm_rounds.proofs.attempt.Attempt.run_result.Goals as goal
 
 pub invariant_of-self : goal.invariant_of-self
@@ -18,6 +18,7 @@ invariant_of-self g c =
       finish_late a.version a.options c.args.handle c.args.exit c.args.policy old c.run_result-told.result new came does m c.self.invariant.3,
       finish_sleeps a.version a.options c.args.handle c.args.exit c.args.policy old c.run_result-told.result new came does m c.self.invariant.3 c.self.invariant.4,
       c.output_len.ensures.whole,
+      finish_in_replay a.version a.options c.args.handle c.args.exit c.args.policy old c.run_result-told.result new came does m c.self.invariant.6,
     )
 
 pub returns-clause-does : goal.returns-clause-does

@@ -1,10 +1,10 @@
 use Rattle.vm_steps.specs.Inside.{the_fields, the_record}
 use Rattle.vm_steps.specs.Record.{all_heard, all_said}
-use Rattle.vm_rounds.proofs.Advanced.{step_replays}
 use Rattle.vm_rounds.proofs.Coming.{step_comes}
 use Rattle.vm_rounds.proofs.Erring.{step_blames}
 use Rattle.vm_rounds.proofs.Freshly.{come_fresh}
 use Rattle.vm_rounds.proofs.Replayed.{honest_errs}
+use Rattle.vm_rounds.proofs.InReplay.{replays_in_replay, step_in_replay}
 use Rattle.vm_rounds.proofs.Late.{step_blame, step_late}
 use Rattle.vm_rounds.proofs.Sleeping.{step_sleeps, waits_rightly}
 use Rattle.vm_rounds.proofs.Steady.{step_told}
@@ -23,6 +23,7 @@ invariant_of-self g c =
       step_late m a.version a.options (the_record a.inner) c.step-progress.result (the_record c.step-progress.new.self) c.self.invariant.0 c.self.invariant.3 does,
       step_sleeps m a.version a.options (the_record a.inner) c.step-progress.result (the_record c.step-progress.new.self) c.self.invariant.2 c.self.invariant.4 does,
       c.output_len.ensures.whole,
+      step_in_replay m a.version a.options (the_record a.inner) c.step-progress.result (the_record c.step-progress.new.self) c.self.invariant.6 does,
     )
 
 pub returns-clause-does : goal.returns-clause-does
@@ -40,7 +41,7 @@ pub returns-clause-replays : goal.returns-clause-replays
 returns-clause-replays g c =
     let a = c.self.inside in
     let does = step_told a.version a.options (g.H.Handler.meaning a.inner.handler) (the_fields a.inner) c.step-progress.result (the_fields c.step-progress.new.self) c.self.invariant.0 c.self.invariant.5 c.output_len.ensures.whole c.step-progress.ensures.does in
-    rw (← c.self.view_is) (λ is p. step_replays (g.H.Handler.meaning a.inner.handler) a.version a.options (the_record a.inner) c.step-progress.result (the_record c.step-progress.new.self) p (c.self.invariant.2 p) is does)
+    rw (← c.self.view_is) (λ is p. replays_in_replay (g.H.Handler.meaning a.inner.handler) a.version a.options (the_record a.inner) c.step-progress.result (the_record c.step-progress.new.self) c.self.invariant.6 is p does)
 
 pub returns-clause-blamed : goal.returns-clause-blamed
 returns-clause-blamed g c =

@@ -1,6 +1,7 @@
 use Rattle.vm_steps.specs.Inside.{the_fields, the_record}
 use Rattle.vm_rounds.proofs.Blamed.{take_blames}
 use Rattle.vm_rounds.proofs.Coming.{take_comes}
+use Rattle.vm_rounds.proofs.InReplay.{take_in_replay}
 use Rattle.vm_rounds.proofs.Late.{take_late}
 use Rattle.vm_rounds.proofs.Sleeping.{take_sleeps}
 use Rattle.vm_rounds.proofs.Steady.{take_told}
@@ -21,6 +22,7 @@ invariant_of-self g c =
       take_late m a.version a.options old c.take_output-taken.result new c.self.invariant.3 does,
       take_sleeps m a.version a.options old c.take_output-taken.result new c.self.invariant.4 does,
       c.output_len.ensures.whole,
+      take_in_replay m a.version a.options old c.take_output-taken.result new c.self.invariant.6 does,
     )
 
 pub returns-clause-does : goal.returns-clause-does
