@@ -1,9 +1,11 @@
 -- Why texts can't be copied, of some of them and of all.
-use Rattle.std.proofs.Common.{◌⊎◌, inl, inr, ℕ, List, [], ◌∷◌, ◌++◌}
+use Rattle.std.proofs.Common.{◌⊎◌, ◌<◌, inl, inr, ℕ, zero, suc, List, [], ◌∷◌, ◌++◌, get_or, length, le_of_suc-le-suc, not-suc-le-zero}
+use Rattle.std.specs.List.{flat_map}
 use Rattle.std.specs.Str.{IsUtf8}
 use Rattle.sessions.specs.declared.status.Status.{Status}
 use Rattle.sessions.specs.declared.status.Status.TheVariants as status
-use Rattle.typed_calls.specs.Given.{IsWhy, Refuses, SomeIsNoText}
+use Rattle.typed_calls.specs.declared.given.Pair.{Pair}
+use Rattle.typed_calls.specs.Given.{IsWhy, Refuses, SomeIsNoText, texts_of_pair}
 
 pub no_memory : (texts : List (List ℕ)) → Refuses texts status.NoMemory
 no_memory texts = record { why = tt }
@@ -46,3 +48,10 @@ front_refused text texts s refuses = first_refused (text ∷ []) texts s refuses
 -- the texts behind it can't be copied
 pub behind_refused : (text : List ℕ) (texts : List (List ℕ)) (s : Status) → Refuses texts s → Refuses (text ∷ texts) s
 behind_refused text texts s refuses = last_refused (text ∷ []) texts s refuses
+
+-- one of the pairs can't be copied
+pub pair_refused : (pairs : List Pair) (k : ℕ) (d : Pair) (s : Status) → k < length pairs → Refuses (texts_of_pair (get_or pairs k d)) s → Refuses (flat_map texts_of_pair pairs) s
+pair_refused [] k d s below refuses = absurd (not-suc-le-zero below)
+pair_refused (pair ∷ pairs) zero d s below refuses = first_refused (texts_of_pair pair) (flat_map texts_of_pair pairs) s refuses
+pair_refused (pair ∷ pairs) (suc k) d s below refuses =
+    last_refused (texts_of_pair pair) (flat_map texts_of_pair pairs) s (pair_refused pairs k d s (le_of_suc-le-suc below) refuses)
