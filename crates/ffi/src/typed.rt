@@ -42,7 +42,8 @@ pub extern "C" fn palqytun_sleep(
     name: Lent,
     wake_up_millis: u64,
 ) -> Replied
-    ensures { CalledFromC (Sleeps name.entry.bytes.now wake_up_millis) result vm.old.value vm.new.value }
+    ensures { CalledFromC (Sleeps name.entry.bytes.now wake_up_millis)
+        result vm.old.value vm.new.value }
 {
     call(
         alloc,
@@ -95,7 +96,8 @@ pub extern "C" fn palqytun_complete_promise(
     value: &GivenValue,
     unstable: bool,
 ) -> Replied
-    ensures { CalledFromC (CompletesPromise key.entry.bytes.now value.now unstable) result vm.old.value vm.new.value }
+    ensures { CalledFromC (CompletesPromise key.entry.bytes.now value.now unstable)
+        result vm.old.value vm.new.value }
 {
     call(
         alloc,
@@ -117,7 +119,8 @@ pub extern "C" fn palqytun_complete_awakeable(
     value: &GivenValue,
     unstable: bool,
 ) -> Replied
-    ensures { CalledFromC (CompletesAwakeable id.entry.bytes.now value.now unstable) result vm.old.value vm.new.value }
+    ensures { CalledFromC (CompletesAwakeable id.entry.bytes.now value.now unstable)
+        result vm.old.value vm.new.value }
 {
     call(
         alloc,
@@ -139,7 +142,8 @@ pub extern "C" fn palqytun_complete_signal(
     name: Lent,
     value: &GivenValue,
 ) -> Replied
-    ensures { CalledFromC (CompletesSignal target.entry.bytes.now name.entry.bytes.now value.now) result vm.old.value vm.new.value }
+    ensures { CalledFromC (CompletesSignal target.entry.bytes.now name.entry.bytes.now value.now)
+        result vm.old.value vm.new.value }
 {
     call(
         alloc,
@@ -155,7 +159,8 @@ pub extern "C" fn palqytun_complete_signal(
 /// Sends the cancel signal to another invocation.
 #[unsafe(no_mangle)]
 pub extern "C" fn palqytun_cancel_invocation(alloc: Global, vm: &mut Vm, target: Lent) -> Replied
-    ensures { CalledFromC (CancelsInvocation target.entry.bytes.now) result vm.old.value vm.new.value }
+    ensures { CalledFromC (CancelsInvocation target.entry.bytes.now)
+        result vm.old.value vm.new.value }
 {
     call(alloc, vm, CancelCall { target })
 }
@@ -198,7 +203,9 @@ pub extern "C" fn palqytun_state_set(
     name: Lent,
     unstable: bool,
 ) -> Replied
-    ensures { CalledFromC (SetsState key.entry.bytes.now value.entry.bytes.now name.entry.bytes.now unstable) result vm.old.value vm.new.value }
+    ensures { CalledFromC (SetsState key.entry.bytes.now value.entry.bytes.now
+        name.entry.bytes.now unstable)
+        result vm.old.value vm.new.value }
 {
     call(
         alloc,
@@ -215,7 +222,8 @@ pub extern "C" fn palqytun_state_set(
 /// Takes a key's value away.
 #[unsafe(no_mangle)]
 pub extern "C" fn palqytun_state_clear(alloc: Global, vm: &mut Vm, key: Lent, name: Lent) -> Replied
-    ensures { CalledFromC (ClearsState key.entry.bytes.now name.entry.bytes.now) result vm.old.value vm.new.value }
+    ensures { CalledFromC (ClearsState key.entry.bytes.now name.entry.bytes.now)
+        result vm.old.value vm.new.value }
 {
     call(alloc, vm, ClearCall { key, name })
 }
@@ -231,7 +239,8 @@ pub extern "C" fn palqytun_state_clear_all(alloc: Global, vm: &mut Vm, name: Len
 /// Reads a key's value.
 #[unsafe(no_mangle)]
 pub extern "C" fn palqytun_state_get(alloc: Global, vm: &mut Vm, key: Lent, name: Lent) -> Replied
-    ensures { CalledFromC (ReadsState key.entry.bytes.now name.entry.bytes.now) result vm.old.value vm.new.value }
+    ensures { CalledFromC (ReadsState key.entry.bytes.now name.entry.bytes.now)
+        result vm.old.value vm.new.value }
 {
     call(alloc, vm, GetCall { key, name })
 }
@@ -386,7 +395,9 @@ pub extern "C" fn palqytun_call(
     name: Lent,
     unstable: bool,
 ) -> Replied
-    ensures { CalledFromC (CallsHandler target.now input.entry.bytes.now name.entry.bytes.now unstable) result vm.old.value vm.new.value }
+    ensures { CalledFromC (CallsHandler target.now input.entry.bytes.now name.entry.bytes.now
+        unstable)
+        result vm.old.value vm.new.value }
 {
     call(
         alloc,
@@ -411,7 +422,9 @@ pub extern "C" fn palqytun_call_with_deadline(
     name: Lent,
     unstable: bool,
 ) -> Replied
-    ensures { CalledFromC (CallsWithDeadline target.now input.entry.bytes.now deadline_millis name.entry.bytes.now unstable) result vm.old.value vm.new.value }
+    ensures { CalledFromC (CallsWithDeadline target.now input.entry.bytes.now deadline_millis
+        name.entry.bytes.now unstable)
+        result vm.old.value vm.new.value }
 {
     call(
         alloc,
@@ -437,7 +450,9 @@ pub extern "C" fn palqytun_send(
     name: Lent,
     unstable: bool,
 ) -> Replied
-    ensures { CalledFromC (SendsTo target.now input.entry.bytes.now at_millis name.entry.bytes.now unstable) result vm.old.value vm.new.value }
+    ensures { CalledFromC (SendsTo target.now input.entry.bytes.now at_millis
+        name.entry.bytes.now unstable)
+        result vm.old.value vm.new.value }
 {
     call(
         alloc,
