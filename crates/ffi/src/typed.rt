@@ -58,7 +58,7 @@ pub extern "C" fn palqytun_sleep(
 /// Makes an awakeable.
 #[unsafe(no_mangle)]
 pub extern "C" fn palqytun_awakeable(alloc: Global, vm: &mut Vm) -> Replied
-    ensures { CalledFromC (MakesAwakeable) result vm.old.value vm.new.value }
+    ensures { CalledFromC MakesAwakeable result vm.old.value vm.new.value }
 {
     call(alloc, vm, AwakeableCall)
 }
@@ -188,7 +188,7 @@ pub extern "C" fn palqytun_write_output(
 /// The handler ends.
 #[unsafe(no_mangle)]
 pub extern "C" fn palqytun_end(alloc: Global, vm: &mut Vm) -> Replied
-    ensures { CalledFromC (Ends) result vm.old.value vm.new.value }
+    ensures { CalledFromC Ends result vm.old.value vm.new.value }
 {
     call(alloc, vm, EndCall)
 }
@@ -296,7 +296,7 @@ pub extern "C" fn palqytun_take(alloc: Global, vm: &mut Vm, handle: u32) -> Repl
 /// The head of the response.
 #[unsafe(no_mangle)]
 pub extern "C" fn palqytun_head(alloc: Global, vm: &mut Vm) -> Replied
-    ensures { CalledFromC (ReadsHead) result vm.old.value vm.new.value }
+    ensures { CalledFromC ReadsHead result vm.old.value vm.new.value }
 {
     call(alloc, vm, HeadCall)
 }
@@ -304,7 +304,7 @@ pub extern "C" fn palqytun_head(alloc: Global, vm: &mut Vm) -> Replied
 /// No more input comes.
 #[unsafe(no_mangle)]
 pub extern "C" fn palqytun_close_input(alloc: Global, vm: &mut Vm) -> Replied
-    ensures { CalledFromC (ClosesInput) result vm.old.value vm.new.value }
+    ensures { CalledFromC ClosesInput result vm.old.value vm.new.value }
 {
     call(alloc, vm, CloseCall)
 }
@@ -312,7 +312,7 @@ pub extern "C" fn palqytun_close_input(alloc: Global, vm: &mut Vm) -> Replied
 /// Takes the bytes that wait to be sent.
 #[unsafe(no_mangle)]
 pub extern "C" fn palqytun_output(alloc: Global, vm: &mut Vm) -> Replied
-    ensures { CalledFromC (TakesOutputOf) result vm.old.value vm.new.value }
+    ensures { CalledFromC TakesOutputOf result vm.old.value vm.new.value }
 {
     call(alloc, vm, OutputCall)
 }
@@ -320,7 +320,7 @@ pub extern "C" fn palqytun_output(alloc: Global, vm: &mut Vm) -> Replied
 /// Whether the handler may be run.
 #[unsafe(no_mangle)]
 pub extern "C" fn palqytun_is_ready(alloc: Global, vm: &mut Vm) -> Replied
-    ensures { CalledFromC (AsksReady) result vm.old.value vm.new.value }
+    ensures { CalledFromC AsksReady result vm.old.value vm.new.value }
 {
     call(alloc, vm, ReadyCall)
 }
@@ -336,7 +336,7 @@ pub extern "C" fn palqytun_is_completed(alloc: Global, vm: &mut Vm, handle: u32)
 /// How far the VM is.
 #[unsafe(no_mangle)]
 pub extern "C" fn palqytun_state(alloc: Global, vm: &mut Vm) -> Replied
-    ensures { CalledFromC (AsksState) result vm.old.value vm.new.value }
+    ensures { CalledFromC AsksState result vm.old.value vm.new.value }
 {
     call(alloc, vm, StateCall)
 }
@@ -344,7 +344,7 @@ pub extern "C" fn palqytun_state(alloc: Global, vm: &mut Vm) -> Replied
 /// The index of the last command.
 #[unsafe(no_mangle)]
 pub extern "C" fn palqytun_last_command_index(alloc: Global, vm: &mut Vm) -> Replied
-    ensures { CalledFromC (AsksIndex) result vm.old.value vm.new.value }
+    ensures { CalledFromC AsksIndex result vm.old.value vm.new.value }
 {
     call(alloc, vm, IndexCall)
 }
@@ -352,7 +352,7 @@ pub extern "C" fn palqytun_last_command_index(alloc: Global, vm: &mut Vm) -> Rep
 /// What the handler was called with.
 #[unsafe(no_mangle)]
 pub extern "C" fn palqytun_input(alloc: Global, vm: &mut Vm) -> Replied
-    ensures { CalledFromC (ReadsInput) result vm.old.value vm.new.value }
+    ensures { CalledFromC ReadsInput result vm.old.value vm.new.value }
 {
     call(alloc, vm, InputCall)
 }
