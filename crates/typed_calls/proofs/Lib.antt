@@ -1,3 +1,2 @@
 pub mod Refusing
-pub mod Tells
 pub mod Rows

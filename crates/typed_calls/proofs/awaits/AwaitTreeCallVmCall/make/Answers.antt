@@ -3,7 +3,7 @@ use Rattle.typed_calls.proofs.awaits.AwaitTreeCallVmCall.make.Goals as goal
 pub returns : goal.returns
 returns c = (
   c.in_ok-future.future,
-  c.in_ok-future.ensures,
+  c.in_ok-future.ensures.ok,
   record {
     given = c.do_await.result;
     calls = c.do_await.ensures;
