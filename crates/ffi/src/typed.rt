@@ -31,7 +31,7 @@ pub extern "C" fn palqytun_part(alloc: Global, vm: &mut Vm, at: usize, out: &mut
     ensures known { result.status ≤ 9 }
     ensures read { PartRead at (status_of result.status) result.len out.old out.new vm.old.value }
 {
-    read_part(alloc, vm, at_millis, out)
+    read_part(alloc, vm, at, out)
 }
 
 /// A sleep until a time, in milliseconds since the Unix epoch.
