@@ -1,7 +1,8 @@
 /* The invocation VM for callers of C.
 
-   A call of the VM is a line of text, and so is its answer: docs/VMSCRIPT.md has all lines and answers. So a new call needs no
-   new function here. Bytes of input and output can also go in and out as they are.
+   A call of the VM is made in one of two ways. As a line of text, whose answer is a line too: docs/VMSCRIPT.md has all lines and
+   answers. Or, faster, by a function of its own, on numbers and byte strings: the typed calls below. Both may be mixed on one VM,
+   which a line `vm` makes. Bytes of input and output go in and out as they are.
 
    Memory. A session is a block of the heap and what hangs on it, by the program's malloc, realloc and free, which must belong
    together, and give blocks aligned as C asks. The library keeps nothing that it is passed: lines and bytes are copied, and
@@ -17,6 +18,7 @@
 #ifndef PALQYTUN_H
 #define PALQYTUN_H
 
+#include <stdbool.h>
 #include <stddef.h>
 #include <stdint.h>
 
@@ -24,7 +26,7 @@
 extern "C" {
 #endif
 
-/* A session: at most one VM, and the answer to the last line. `palqytun_vm vm = {0};` has none. */
+/* A session: at most one VM, the answer to the last line, and the reply to the last typed call. `palqytun_vm vm = {0};` has none. */
 typedef struct {
     void *at;
 } palqytun_vm;
@@ -39,7 +41,17 @@ enum {
     /* The session has no VM: no line `vm` was answered with `ok` yet, or a later one was refused. Nothing was done. */
     PALQYTUN_NO_VM = 3,
     /* The buffer is too short. Nothing was done. */
-    PALQYTUN_NO_ROOM = 4
+    PALQYTUN_NO_ROOM = 4,
+    /* The VM refused a typed call: the reply is an error. */
+    PALQYTUN_REFUSED = 5,
+    /* A text is not UTF-8. Nothing was done. */
+    PALQYTUN_BAD_TEXT = 6,
+    /* Nodes are not one tree. Nothing was done. */
+    PALQYTUN_BAD_TREE = 7,
+    /* A number names no case of what it is to name. Nothing was done. */
+    PALQYTUN_BAD_NUMBER = 8,
+    /* The reply has no such part. */
+    PALQYTUN_NO_PART = 9
 };
 
 /* How a call ended, and a length in bytes. */
@@ -73,6 +85,195 @@ palqytun_told palqytun_take_output(palqytun_vm *vm, uint8_t *out, size_t out_len
 
 /* Lets the session go, with all its memory. Nothing is done where there is none. */
 void palqytun_free(palqytun_vm *vm);
+
+/* ---- Typed calls
+
+   Each makes one call of the VM, and returns what it is answered: a palqytun_replied. Its numbers are there at once. Its texts and
+   bytes are its parts: they stay in the session until the next typed call, and palqytun_part copies them out. Where the status is
+   neither PALQYTUN_DONE nor PALQYTUN_REFUSED the call was not made, and the last reply stays. PALQYTUN_NO_MEMORY says that of a text
+   or bytes that could not be copied; where the VM itself finds no memory it has failed, and the error's code is 500.
+
+   A name may be empty: then the command has none. */
+
+/* Bytes that are lent for a call, or a text in UTF-8. at is not NULL, also where len is 0. */
+typedef struct {
+    const uint8_t *at;
+    size_t len;
+} palqytun_bytes;
+
+/* Bytes, or none: bytes.at is not NULL then either. */
+typedef struct {
+    bool is_given;
+    palqytun_bytes bytes;
+} palqytun_optional;
+
+/* A key and its value. */
+typedef struct {
+    palqytun_bytes key;
+    palqytun_bytes value;
+} palqytun_pair;
+
+/* A result: bytes; or a failure of this code, whose message the bytes are, with metadata. metadata is not NULL. */
+typedef struct {
+    bool is_failure;
+    uint16_t code;
+    palqytun_bytes bytes;
+    const palqytun_pair *metadata;
+    size_t metadata_len;
+} palqytun_value;
+
+/* Which handler is called, and how. headers is not NULL. */
+typedef struct {
+    palqytun_bytes service;
+    palqytun_bytes handler;
+    palqytun_optional key;
+    palqytun_optional idempotency_key;
+    palqytun_optional scope;
+    palqytun_optional limit_key;
+    const palqytun_pair *headers;
+    size_t headers_len;
+} palqytun_target;
+
+/* A node of a tree that is awaited. A row of nodes has each node behind the trees of its children: it takes the last of the trees in
+   front of it, as many as its number says. So a node names none that comes later. */
+typedef struct {
+    uint32_t kind;
+    uint32_t number;
+} palqytun_node;
+
+/* The kind of a node. */
+enum {
+    /* A handle: number is it. */
+    PALQYTUN_SINGLE = 0,
+    PALQYTUN_FIRST_COMPLETED = 1,
+    PALQYTUN_ALL_COMPLETED = 2,
+    PALQYTUN_FIRST_SUCCEEDED_OR_ALL_FAILED = 3,
+    PALQYTUN_ALL_SUCCEEDED_OR_FIRST_FAILED = 4,
+    PALQYTUN_UNKNOWN = 5
+};
+
+/* What a reply is, with what its numbers and parts are. Numbers that are not named are 0. */
+enum {
+    /* Nothing; or what was taken has no result, or there is no command. */
+    PALQYTUN_NOTHING = 0,
+    /* first: the handle. Of a call: of the invocation's id; second: of its result; third: of its deadline. */
+    PALQYTUN_HANDLE = 1,
+    /* first: the handle. Part 0: the id. */
+    PALQYTUN_AWAKEABLE = 2,
+    /* first: the handle; second: 1 where the result is there already. */
+    PALQYTUN_RUN = 3,
+    /* first: the id of an ephemeral read; of an await: of one whose value is there. */
+    PALQYTUN_EPHEMERAL = 4,
+    /* first: 1 for true. */
+    PALQYTUN_FLAG = 5,
+    /* first: 0 before the known entries are there, 1 in replay, 2 in processing, 3 closed. */
+    PALQYTUN_STATE = 6,
+    /* number: the index of the last command. */
+    PALQYTUN_INDEX = 7,
+    /* first: 5 to 8. */
+    PALQYTUN_VERSION = 8,
+    /* number: the status; rows: how many headers. Parts 0, 1, 2, ..: the key and the value of each in turn. */
+    PALQYTUN_HEAD = 9,
+    /* Part 0: whole frames. */
+    PALQYTUN_OUTPUT = 10,
+    /* number: the random seed; rows: how many headers. Parts: 0 the bytes, 1 the invocation's id, 2 its key, 3 its scope, 4 its limit
+       key, 5 its idempotency key, each of the last three if it is there; 6, 7, 8, ..: the key and the value of each header in turn. */
+    PALQYTUN_INPUT = 11,
+    /* What is awaited is done. */
+    PALQYTUN_AWAKE = 12,
+    /* first: 1 where input is waited for; second: 1 where the result of a run is. */
+    PALQYTUN_WAITING = 13,
+    /* first: the handle of the run that is to be executed now. */
+    PALQYTUN_EXECUTE_RUN = 14,
+    PALQYTUN_CANCELLED = 15,
+    /* Results. */
+    PALQYTUN_VOID = 16,
+    /* Part 0: the bytes. */
+    PALQYTUN_VALUE = 17,
+    /* number: the code; rows: how many pairs of metadata. Parts: 0 the message; 1, 2, 3, ..: the key and the value of each in turn. */
+    PALQYTUN_FAILURE = 18,
+    /* rows: how many keys. Part i: key i. */
+    PALQYTUN_KEYS = 19,
+    /* Part 0: the invocation's id. */
+    PALQYTUN_INVOCATION_ID = 20,
+    /* number: the code; first: 1 where it relates to a command; second: its index; third: the type of its message (docs/WIRE.md).
+       Parts: 0 the text, 1 the stack trace, 2 the command's name. */
+    PALQYTUN_ERROR = 21
+};
+
+/* What a call is answered: how it ended, what the reply is, the numbers in it, how many rows of parts it has, and the length of part 0,
+   or 0 without one. */
+typedef struct {
+    uint32_t status;
+    uint32_t kind;
+    uint32_t first;
+    uint32_t second;
+    uint32_t third;
+    uint64_t number;
+    size_t rows;
+    size_t len;
+} palqytun_replied;
+
+/* Writes a part of the last reply to the front of out, and tells how long it is. PALQYTUN_NO_ROOM: len is the length that it needs. */
+palqytun_told palqytun_part(palqytun_vm *vm, size_t at, uint8_t *out, size_t out_len);
+
+/* Of the attempt: whether the handler may be run (a flag), the head of the response, that no more input comes, the bytes that wait to be
+   sent, the state, and the index of the last command. */
+palqytun_replied palqytun_is_ready(palqytun_vm *vm);
+palqytun_replied palqytun_head(palqytun_vm *vm);
+palqytun_replied palqytun_close_input(palqytun_vm *vm);
+palqytun_replied palqytun_output(palqytun_vm *vm);
+palqytun_replied palqytun_state(palqytun_vm *vm);
+palqytun_replied palqytun_last_command_index(palqytun_vm *vm);
+
+/* What the handler was called with; its first call. */
+palqytun_replied palqytun_input(palqytun_vm *vm);
+
+/* Awaits a handle, or a tree: awake, waiting, a run to execute, an ephemeral read, or cancelled. */
+palqytun_replied palqytun_await(palqytun_vm *vm, uint32_t handle);
+palqytun_replied palqytun_await_tree(palqytun_vm *vm, const palqytun_node *nodes, size_t nodes_len);
+
+/* Takes the result of a handle; whether it has one (a flag). */
+palqytun_replied palqytun_take(palqytun_vm *vm, uint32_t handle);
+palqytun_replied palqytun_is_completed(palqytun_vm *vm, uint32_t handle);
+
+palqytun_replied palqytun_sleep(palqytun_vm *vm, palqytun_bytes name, uint64_t wake_up_millis);
+
+/* The state. unstable: replay doesn't compare the value. */
+palqytun_replied palqytun_state_get(palqytun_vm *vm, palqytun_bytes key, palqytun_bytes name);
+palqytun_replied palqytun_state_get_keys(palqytun_vm *vm, palqytun_bytes name);
+palqytun_replied palqytun_state_set(palqytun_vm *vm, palqytun_bytes key, palqytun_bytes value, palqytun_bytes name, bool unstable);
+palqytun_replied palqytun_state_clear(palqytun_vm *vm, palqytun_bytes key, palqytun_bytes name);
+palqytun_replied palqytun_state_clear_all(palqytun_vm *vm, palqytun_bytes name);
+palqytun_replied palqytun_ephemeral_state_get(palqytun_vm *vm, palqytun_bytes key);
+palqytun_replied palqytun_take_ephemeral(palqytun_vm *vm, uint32_t id);
+
+/* Other handlers. Times are in milliseconds since the Unix epoch; sent at 0 is sent at once. */
+palqytun_replied palqytun_call(
+    palqytun_vm *vm, const palqytun_target *target, palqytun_bytes input, palqytun_bytes name, bool unstable);
+palqytun_replied palqytun_call_with_deadline(palqytun_vm *vm, const palqytun_target *target, palqytun_bytes input,
+    uint64_t deadline_millis, palqytun_bytes name, bool unstable);
+palqytun_replied palqytun_send(
+    palqytun_vm *vm, const palqytun_target *target, palqytun_bytes input, uint64_t at_millis, palqytun_bytes name, bool unstable);
+palqytun_replied palqytun_cancel_invocation(palqytun_vm *vm, palqytun_bytes invocation_id);
+
+/* Awakeables, signals and promises. */
+palqytun_replied palqytun_awakeable(palqytun_vm *vm);
+palqytun_replied palqytun_complete_awakeable(palqytun_vm *vm, palqytun_bytes id, const palqytun_value *value, bool unstable);
+palqytun_replied palqytun_signal(palqytun_vm *vm, palqytun_bytes name);
+palqytun_replied palqytun_complete_signal(
+    palqytun_vm *vm, palqytun_bytes invocation_id, palqytun_bytes name, const palqytun_value *value);
+palqytun_replied palqytun_get_promise(palqytun_vm *vm, palqytun_bytes key);
+palqytun_replied palqytun_peek_promise(palqytun_vm *vm, palqytun_bytes key);
+palqytun_replied palqytun_complete_promise(palqytun_vm *vm, palqytun_bytes key, const palqytun_value *value, bool unstable);
+
+/* A run, and its result once it was executed. Of a failure that is to be retried, and of a policy, the line `propose` tells. */
+palqytun_replied palqytun_run(palqytun_vm *vm, palqytun_bytes name);
+palqytun_replied palqytun_propose(palqytun_vm *vm, uint32_t handle, const palqytun_value *value);
+
+/* The handler's result, and its end. */
+palqytun_replied palqytun_write_output(palqytun_vm *vm, const palqytun_value *value, bool unstable);
+palqytun_replied palqytun_end(palqytun_vm *vm);
 
 #ifdef __cplusplus
 }

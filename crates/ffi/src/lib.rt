@@ -1,6 +1,8 @@
 //! A VM for callers of C: the functions that C calls. What each does stands in `sessions`.
 #![tactic(auto)]
 
+mod typed;
+
 ghost use Rattle.std.specs.Prelude.{◌≡◌, ◌≤◌, None};
 ghost use Rattle.sessions.specs.Sessions.{AnswerRead, InputFed, IsMade, LineSent, OutputTaken};
 ghost use Rattle.sessions.specs.Statuses.{status_of};
@@ -12,7 +14,7 @@ use std::alloc::Global;
 #[unsafe(no_mangle)]
 pub extern "C" fn palqytun_new(alloc: Global, vm: &mut Vm) -> u32
     ensures made { IsMade (status_of result) vm.new.value }
-    ensures known { result ≤ 4 }
+    ensures known { result ≤ 9 }
 {
     calls::open(alloc, vm)
 }
@@ -21,7 +23,7 @@ pub extern "C" fn palqytun_new(alloc: Global, vm: &mut Vm) -> u32
 #[unsafe(no_mangle)]
 pub extern "C" fn palqytun_line(alloc: Global, vm: &mut Vm, line: &[u8]) -> Told
     ensures sent { LineSent alloc line.now (status_of result.status) result.len vm.old.value vm.new.value }
-    ensures known { result.status ≤ 4 }
+    ensures known { result.status ≤ 9 }
 {
     calls::perform_line(alloc, vm, line)
 }
@@ -30,7 +32,7 @@ pub extern "C" fn palqytun_line(alloc: Global, vm: &mut Vm, line: &[u8]) -> Told
 #[unsafe(no_mangle)]
 pub extern "C" fn palqytun_answer(alloc: Global, vm: &mut Vm, out: &mut [u8]) -> Told
     ensures kept { vm.new.value ≡ vm.old.value }
-    ensures known { result.status ≤ 4 }
+    ensures known { result.status ≤ 9 }
     ensures read { AnswerRead (status_of result.status) result.len out.old out.new vm.old.value }
 {
     calls::read_answer(alloc, vm, out)
@@ -40,7 +42,7 @@ pub extern "C" fn palqytun_answer(alloc: Global, vm: &mut Vm, out: &mut [u8]) ->
 #[unsafe(no_mangle)]
 pub extern "C" fn palqytun_feed(alloc: Global, vm: &mut Vm, bytes: &[u8]) -> u32
     ensures fed { InputFed bytes.now (status_of result) vm.old.value vm.new.value }
-    ensures known { result ≤ 4 }
+    ensures known { result ≤ 9 }
 {
     calls::feed(alloc, vm, bytes)
 }
@@ -49,7 +51,7 @@ pub extern "C" fn palqytun_feed(alloc: Global, vm: &mut Vm, bytes: &[u8]) -> u32
 #[unsafe(no_mangle)]
 pub extern "C" fn palqytun_take_output(alloc: Global, vm: &mut Vm, out: &mut [u8]) -> Told
     ensures taken { OutputTaken (status_of result.status) result.len out.old out.new vm.old.value vm.new.value }
-    ensures known { result.status ≤ 4 }
+    ensures known { result.status ≤ 9 }
 {
     calls::take_output(alloc, vm, out)
 }

@@ -25,7 +25,7 @@ use vm_asks::{Ask, Command};
 use vm_parts::{Answer, Step};
 
 /// The answer of a call that answers nothing but want of memory.
-fn fed(given: Result<(), AllocError>) -> Reply
+pub fn fed(given: Result<(), AllocError>) -> Reply
     ensures { result ≡ reply_or_memory (λ _. reply.Done) given }
 {
     match given {
@@ -34,7 +34,7 @@ fn fed(given: Result<(), AllocError>) -> Reply
     }
 }
 
-fn head(given: Result<ResponseHead, AllocError>) -> Reply
+pub fn head(given: Result<ResponseHead, AllocError>) -> Reply
     ensures { result ≡ reply_or_memory reply.Head given }
 {
     match given {
@@ -43,7 +43,7 @@ fn head(given: Result<ResponseHead, AllocError>) -> Reply
     }
 }
 
-fn output(given: Result<Bytes, AllocError>) -> Reply
+pub fn output(given: Result<Bytes, AllocError>) -> Reply
     ensures { result ≡ reply_or_memory reply.Output given }
 {
     match given {
@@ -52,7 +52,7 @@ fn output(given: Result<Bytes, AllocError>) -> Reply
     }
 }
 
-fn ready(given: VMResult<bool>) -> Reply
+pub fn ready(given: VMResult<bool>) -> Reply
     ensures { result ≡ reply_of reply.Ready given }
 {
     match given {
@@ -61,7 +61,7 @@ fn ready(given: VMResult<bool>) -> Reply
     }
 }
 
-fn awaited(given: VMResult<AwaitResponse>) -> Reply
+pub fn awaited(given: VMResult<AwaitResponse>) -> Reply
     ensures { result ≡ reply_of reply.Awaited given }
 {
     match given {
@@ -70,7 +70,7 @@ fn awaited(given: VMResult<AwaitResponse>) -> Reply
     }
 }
 
-fn input(given: VMResult<Input>) -> Reply
+pub fn input(given: VMResult<Input>) -> Reply
     ensures { result ≡ reply_of (λ input. reply.Answer (answer.Input input)) given }
 {
     match given {
@@ -79,7 +79,7 @@ fn input(given: VMResult<Input>) -> Reply
     }
 }
 
-fn awakeable(given: VMResult<AwakeableHandle>) -> Reply
+pub fn awakeable(given: VMResult<AwakeableHandle>) -> Reply
     ensures { result ≡ reply_of (λ made. reply.Answer (answer.Awakeable made)) given }
 {
     match given {
@@ -88,7 +88,7 @@ fn awakeable(given: VMResult<AwakeableHandle>) -> Reply
     }
 }
 
-fn handle(given: VMResult<NotificationHandle>) -> Reply
+pub fn handle(given: VMResult<NotificationHandle>) -> Reply
     ensures { result ≡ reply_of (λ handle. reply.Answer (answer.Handle handle)) given }
 {
     match given {
@@ -97,7 +97,7 @@ fn handle(given: VMResult<NotificationHandle>) -> Reply
     }
 }
 
-fn taken(given: VMResult<Option<Value>>) -> Reply
+pub fn taken(given: VMResult<Option<Value>>) -> Reply
     ensures { result ≡ reply_of (λ value. reply.Answer (answer.Taken value)) given }
 {
     match given {
@@ -106,7 +106,7 @@ fn taken(given: VMResult<Option<Value>>) -> Reply
     }
 }
 
-fn ended(given: VMResult<()>) -> Reply
+pub fn ended(given: VMResult<()>) -> Reply
     ensures { result ≡ reply_of (λ _. reply.Answer answer.Unit) given }
 {
     match given {
@@ -115,7 +115,7 @@ fn ended(given: VMResult<()>) -> Reply
     }
 }
 
-fn ephemeral(given: VMResult<EphemeralCompletionId>) -> Reply
+pub fn ephemeral(given: VMResult<EphemeralCompletionId>) -> Reply
     ensures { result ≡ reply_of reply.Ephemeral given }
 {
     match given {
@@ -124,7 +124,7 @@ fn ephemeral(given: VMResult<EphemeralCompletionId>) -> Reply
     }
 }
 
-fn ran(given: VMResult<RunHandle>) -> Reply
+pub fn ran(given: VMResult<RunHandle>) -> Reply
     ensures { result ≡ reply_of reply.Run given }
 {
     match given {
@@ -263,7 +263,7 @@ fn make(alloc: Global, content_type: ContentType, options: VMOptions) -> (Reply,
 }
 
 /// Puts a new VM in the place of the last, which is let go first.
-fn make_anew(
+pub fn make_anew(
     alloc: Global,
     vm: &mut Option<CoreVM>,
     content_type: ContentType,

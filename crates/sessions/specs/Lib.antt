@@ -1,3 +1,5 @@
 pub mod Held
 pub mod Statuses
+pub mod Replies
 pub mod Sessions
+pub mod Calls

@@ -7,13 +7,14 @@ use Rattle.invocation_vm.specs.declared.core_vm.CoreVM.{CoreVM}
 use Rattle.invocation_vm.specs.Seen.{seen}
 use Rattle.invocation_vm.specs.Views.{StarvesAmong, TakesOutput, after_input, brought}
 use Rattle.scripts.specs.Transcripts.{IsUnanswered, Transcribes}
+use Rattle.replies.specs.declared.reply.Reply.TheVariants as reply
 use Rattle.sessions.specs.declared.session.Session.{Session}
 use Rattle.sessions.specs.declared.status.Status.{Status}
 use Rattle.sessions.specs.declared.status.Status.TheVariants as status
 
--- no VM, and no answer
+-- no VM, no answer and no reply
 abbrev pub IsEmpty : Session → Type 0
-IsEmpty s = (s.vm ≡ None) × (s.answer ≡ [])
+IsEmpty s = (s.vm ≡ None) × (s.answer ≡ []) × (s.reply ≡ reply.Nothing)
 
 -- a session was made, and it is empty; or no memory was found, and there is none
 abbrev pub IsMade : Status → Option Session → Type 0
@@ -24,8 +25,9 @@ IsMade told made = ⊥
 -- A line was performed on the session's VM, and its answer is the session's. Without memory the last answer stays, and the VM is as it
 -- was, or the line was performed.
 abbrev pub LineDone : Global → List ℕ → Status → Session → Session → Type 0
-LineDone alloc line status.Done old new = Transcribes alloc old.vm new.vm line new.answer
-LineDone alloc line status.NoMemory old new = (new.answer ≡ old.answer) × IsUnanswered alloc old.vm new.vm line
+LineDone alloc line status.Done old new = Transcribes alloc old.vm new.vm line new.answer × (new.reply ≡ old.reply)
+LineDone alloc line status.NoMemory old new =
+    (new.answer ≡ old.answer) × IsUnanswered alloc old.vm new.vm line × (new.reply ≡ old.reply)
 LineDone alloc line told old new = ⊥
 
 -- A line is performed on the session that there is; `len` is the length of its answer.
@@ -52,7 +54,7 @@ Fed bytes told old new = ⊥
 -- Bytes are fed to the VM of the session that there is.
 abbrev pub InputFed : List ℕ → Status → Option Session → Option Session → Type 0
 InputFed bytes status.NoSession None None = Unit {0}
-InputFed bytes told (Some old) (Some new) = Fed bytes told old.vm new.vm × (new.answer ≡ old.answer)
+InputFed bytes told (Some old) (Some new) = Fed bytes told old.vm new.vm × (new.answer ≡ old.answer) × (new.reply ≡ old.reply)
 InputFed bytes told old new = ⊥
 
 -- The output of a VM is taken, and written to the front of the room for it, if there is so much; else nothing is changed.
@@ -69,5 +71,5 @@ Drained told len before after old new = ⊥
 -- The output of the VM of the session that there is.
 abbrev pub OutputTaken : Status → ℕ → List ℕ → List ℕ → Option Session → Option Session → Type 0
 OutputTaken status.NoSession len before after None None = (len ≡ 0) × (after ≡ before)
-OutputTaken told len before after (Some old) (Some new) = Drained told len before after old.vm new.vm × (new.answer ≡ old.answer)
+OutputTaken told len before after (Some old) (Some new) = Drained told len before after old.vm new.vm × (new.answer ≡ old.answer) × (new.reply ≡ old.reply)
 OutputTaken told len before after old new = ⊥

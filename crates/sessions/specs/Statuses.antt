@@ -1,12 +1,32 @@
 -- The numbers by which C sees how a call ended.
-use Rattle.std.specs.Prelude.{ℕ, zero, suc}
+use Rattle.std.specs.Prelude.{ℕ, ◌==◌, if◌then◌else◌}
 use Rattle.sessions.specs.declared.status.Status.{Status}
 use Rattle.sessions.specs.declared.status.Status.TheVariants as status
 
--- 0: it was done; 1: no memory was found; 2: there is no session; 3: the session has no VM; from 4 on: there is no room
+-- 0: it was done; 1: no memory was found; 2: there is no session; 3: the session has no VM; 4: there is no room; 5: the VM refused the
+-- call; 6: a text isn't UTF-8; 7: nodes aren't one tree; 8: a number names no case; 9: the reply has no such part
+abbrev pub code_of : Status → ℕ
+code_of status.Done = 0
+code_of status.NoMemory = 1
+code_of status.NoSession = 2
+code_of status.NoVm = 3
+code_of status.NoRoom = 4
+code_of status.Refused = 5
+code_of status.BadText = 6
+code_of status.BadTree = 7
+code_of status.BadNumber = 8
+code_of status.NoPart = 9
+
+-- what a number says, from 9 on the same
 abbrev pub status_of : ℕ → Status
-status_of zero = status.Done
-status_of (suc zero) = status.NoMemory
-status_of (suc (suc zero)) = status.NoSession
-status_of (suc (suc (suc zero))) = status.NoVm
-status_of (suc (suc (suc (suc more)))) = status.NoRoom
+status_of n =
+    if n == 0 then status.Done
+    else if n == 1 then status.NoMemory
+    else if n == 2 then status.NoSession
+    else if n == 3 then status.NoVm
+    else if n == 4 then status.NoRoom
+    else if n == 5 then status.Refused
+    else if n == 6 then status.BadText
+    else if n == 7 then status.BadTree
+    else if n == 8 then status.BadNumber
+    else status.NoPart

@@ -19,9 +19,9 @@ pub struct Told {
 }
 
 /// What C is told.
-fn tell(status: Status, len: usize) -> Told
+pub(crate) fn tell(status: Status, len: usize) -> Told
     ensures status { status_of result.status ≡ status }
-    ensures known { result.status ≤ 4 }
+    ensures known { result.status ≤ 9 }
     ensures len { result.len ≡ len }
 {
     Told {
@@ -31,7 +31,7 @@ fn tell(status: Status, len: usize) -> Told
 }
 
 /// Takes the session out of the hands of C.
-fn take(alloc: Global, vm: &mut Vm) -> Option<Box<Session>>
+pub(crate) fn take(alloc: Global, vm: &mut Vm) -> Option<Box<Session>>
     ensures emptied { vm.new.value ≡ None }
     ensures taken { MatchOption result (vm.old.value ≡ None) (λ session. vm.old.value ≡ Some session.value) }
 {
@@ -42,7 +42,7 @@ fn take(alloc: Global, vm: &mut Vm) -> Option<Box<Session>>
 }
 
 /// Puts a session into the hands of C. One that was there is let go.
-fn give(alloc: Global, vm: &mut Vm, session: Box<Session>)
+pub(crate) fn give(alloc: Global, vm: &mut Vm, session: Box<Session>)
     ensures { vm.new.value ≡ Some session.value }
 {
     let former = std::mem::replace(vm, hide(Loose::of(session)));
@@ -54,7 +54,7 @@ fn give(alloc: Global, vm: &mut Vm, session: Box<Session>)
 /// Makes an empty session, where memory is found. One that was there is let go.
 pub fn open(alloc: Global, vm: &mut Vm) -> u32
     ensures made { IsMade (status_of result) vm.new.value }
-    ensures known { result ≤ 4 }
+    ensures known { result ≤ 9 }
 {
     close(alloc, vm);
     match Box::new(alloc, Session::new(alloc)) {
@@ -69,7 +69,7 @@ pub fn open(alloc: Global, vm: &mut Vm) -> u32
 /// Performs a line, and tells how long its answer is, which `read_answer` reads.
 pub fn perform_line(alloc: Global, vm: &mut Vm, line: &[u8]) -> Told
     ensures sent { LineSent alloc line.now (status_of result.status) result.len vm.old.value vm.new.value }
-    ensures known { result.status ≤ 4 }
+    ensures known { result.status ≤ 9 }
 {
     match take(alloc, vm) {
         Some(mut session) => {
@@ -85,7 +85,7 @@ pub fn perform_line(alloc: Global, vm: &mut Vm, line: &[u8]) -> Told
 /// Writes the last answer to the front of `out`, where there is room for it, and tells how long it is.
 pub fn read_answer(alloc: Global, vm: &mut Vm, out: &mut [u8]) -> Told
     ensures kept { vm.new.value ≡ vm.old.value }
-    ensures known { result.status ≤ 4 }
+    ensures known { result.status ≤ 9 }
     ensures read { AnswerRead (status_of result.status) result.len out.old out.new vm.old.value }
 {
     match take(alloc, vm) {
@@ -101,7 +101,7 @@ pub fn read_answer(alloc: Global, vm: &mut Vm, out: &mut [u8]) -> Told
 /// Feeds the VM bytes of its input.
 pub fn feed(alloc: Global, vm: &mut Vm, bytes: &[u8]) -> u32
     ensures fed { InputFed bytes.now (status_of result) vm.old.value vm.new.value }
-    ensures known { result ≤ 4 }
+    ensures known { result ≤ 9 }
 {
     match take(alloc, vm) {
         Some(mut session) => {
@@ -116,7 +116,7 @@ pub fn feed(alloc: Global, vm: &mut Vm, bytes: &[u8]) -> u32
 /// Moves all of the VM's output to the front of `out`, where there is room for it, and tells how long it is.
 pub fn take_output(alloc: Global, vm: &mut Vm, out: &mut [u8]) -> Told
     ensures taken { OutputTaken (status_of result.status) result.len out.old out.new vm.old.value vm.new.value }
-    ensures known { result.status ≤ 4 }
+    ensures known { result.status ≤ 9 }
 {
     match take(alloc, vm) {
         Some(mut session) => {

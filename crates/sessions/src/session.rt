@@ -1,19 +1,57 @@
-//! One VM, and its last answer.
+//! One VM, its last answer to a line, and its last reply to a call.
 ghost use Rattle.std.specs.Prelude.{◌≡◌, Some};
+ghost use Rattle.sessions.specs.Calls.{OnVm, Written, part_read};
+ghost use Rattle.sessions.specs.Replies.{part_len, part_of, summary};
 ghost use Rattle.sessions.specs.Sessions.{AnswerRead, Drained, Fed, IsEmpty, LineDone};
 
+use crate::parts::part_of;
+use crate::replied::{Replied, tell, tell_status};
 use crate::status::Status;
+use crate::vm_call::VmCall;
 use bytes::Bytes;
 use invocation_vm::{CoreVM, VM};
 use lines::line::Line;
+use replies::Reply;
 use scripts::run::answer;
 use std::alloc::Global;
 
-/// One VM, if it was made, and the answer to the last line.
+/// One VM, if it was made, the answer to the last line, and the reply to the last call.
 #[derive(Drop)]
 pub struct Session {
     pub vm: Option<CoreVM>,
     pub answer: Line,
+    pub reply: Reply,
+}
+
+/// Writes bytes to the front of `out`, where there is room for them; and how many there are.
+fn write(bytes: &[u8], out: &mut [u8]) -> (Status, usize)
+    ensures { Written bytes.now result.0 result.1 out.old out.new }
+{
+    let len = bytes.len();
+    if out.len() < len {
+        return (Status::NoRoom, len);
+    }
+    out[..len].copy_from_slice(bytes);
+    (Status::Done, len)
+}
+
+/// How long the first part of a reply is, 0 without one.
+fn first_len(reply: &Reply) -> usize
+    ensures { result ≡ part_len (part_of reply.now 0) }
+{
+    match part_of(reply, 0) {
+        Some(part) => part.len(),
+        None => 0,
+    }
+}
+
+/// What C is told of a reply.
+fn summary(reply: &Reply) -> Replied
+    ensures { result ≡ summary reply.now }
+{
+    let mut replied = tell(reply);
+    replied.len = first_len(reply);
+    replied
 }
 
 /// Feeds a VM bytes of its input.
@@ -52,6 +90,7 @@ impl Session {
         Session {
             vm: None,
             answer: Line::new(alloc),
+            reply: Reply::Nothing,
         }
     }
 
@@ -72,18 +111,40 @@ impl Session {
     pub fn read_answer(&self, out: &mut [u8]) -> (Status, usize)
         ensures { AnswerRead result.0 result.1 out.old out.new (Some self.now) }
     {
-        let answer = self.answer.as_str().as_bytes();
-        let len = answer.len();
-        if out.len() < len {
-            return (Status::NoRoom, len);
+        write(self.answer.as_str().as_bytes(), out)
+    }
+
+    /// Makes a call of the VM, keeps what it is answered, and tells of it. Where it isn't made the last reply stays.
+    pub fn call<C: VmCall>(&mut self, alloc: Global, call: C) -> Replied
+        ensures answer { self.new.answer ≡ self.old.answer }
+        ensures called { OnVm (C.does call) result self.old.vm self.new.vm self.old.reply self.new.reply }
+    {
+        let Some(vm) = &mut self.vm else {
+            return tell_status(Status::NoVm);
+        };
+        match call.make(alloc, vm) {
+            Ok(reply) => {
+                self.reply = reply;
+                summary(&self.reply)
+            }
+            Err(status) => tell_status(status),
         }
-        out[..len].copy_from_slice(answer);
-        (Status::Done, len)
+    }
+
+    /// Writes a part of the last reply to the front of `out`, where there is room for it; and how long it is.
+    pub fn read_part(&self, at: usize, out: &mut [u8]) -> (Status, usize)
+        ensures { part_read (part_of self.now.reply at) result.0 result.1 out.old out.new }
+    {
+        match part_of(&self.reply, at) {
+            Some(part) => write(part, out),
+            None => (Status::NoPart, 0),
+        }
     }
 
     /// Feeds the VM bytes of its input.
     pub fn feed(&mut self, alloc: Global, bytes: &[u8]) -> Status
         ensures answer { self.new.answer ≡ self.old.answer }
+        ensures reply { self.new.reply ≡ self.old.reply }
         ensures fed { Fed bytes.now result self.old.vm self.new.vm }
     {
         match &mut self.vm {
@@ -95,6 +156,7 @@ impl Session {
     /// Moves all of the VM's output to the front of `out`, where there is room for it; and how long it is.
     pub fn take_output(&mut self, out: &mut [u8]) -> (Status, usize)
         ensures answer { self.new.answer ≡ self.old.answer }
+        ensures reply { self.new.reply ≡ self.old.reply }
         ensures taken { Drained result.0 result.1 out.old out.new self.old.vm self.new.vm }
     {
         match &mut self.vm {

@@ -1,6 +1,6 @@
 //! How a call from C ends.
 ghost use Rattle.std.specs.Prelude.{◌≡◌, ◌≤◌};
-ghost use Rattle.sessions.specs.Statuses.{status_of};
+ghost use Rattle.sessions.specs.Statuses.{code_of, status_of};
 
 /// How a call from C ended.
 #[derive(Clone, Copy, Debug, PartialEq, Eq)]
@@ -15,13 +15,24 @@ pub enum Status {
     NoVm,
     /// There is no room for what was asked for.
     NoRoom,
+    /// The VM refused the call.
+    Refused,
+    /// A text isn't UTF-8.
+    BadText,
+    /// Nodes aren't one tree.
+    BadTree,
+    /// A number names no case of what it is to name.
+    BadNumber,
+    /// The reply has no such part.
+    NoPart,
 }
 
 impl Status {
     /// The number that C sees.
     pub fn code(self) -> u32
+        ensures code { result ≡ code_of self }
         ensures status { status_of result ≡ self }
-        ensures known { result ≤ 4 }
+        ensures known { result ≤ 9 }
     {
         match self {
             Status::Done => 0,
@@ -29,6 +40,11 @@ impl Status {
             Status::NoSession => 2,
             Status::NoVm => 3,
             Status::NoRoom => 4,
+            Status::Refused => 5,
+            Status::BadText => 6,
+            Status::BadTree => 7,
+            Status::BadNumber => 8,
+            Status::NoPart => 9,
         }
     }
 }

@@ -1,0 +1,169 @@
+/* A handler's attempt by typed calls: its sleep is recorded and completed, so it is replayed; then it goes on. */
+#include "palqytun.h"
+
+#include <inttypes.h>
+#include <stdio.h>
+#include <string.h>
+
+/* The recorded journal, with its Start in front. */
+static const uint8_t journal[] = {
+    /* Start id="abc" debug_id="abc" known_entries=3 */
+    0x00, 0x01, 0x00, 0x00, 0x00, 0x00, 0x00, 0x00, 0x00, 0x42, 0x00, 0x00, 0x00, 0x00, 0x00, 0x00, 0x00, 0x03, 0x61, 0x62,
+    0x63, 0x00, 0x00, 0x00, 0x00, 0x00, 0x00, 0x00, 0x03, 0x61, 0x62, 0x63, 0x00, 0x00, 0x00, 0x00, 0x00, 0x00, 0x00, 0x00,
+    0x00, 0x00, 0x00, 0x03, 0x00, 0x00, 0x00, 0x00, 0x00, 0x00, 0x00, 0x00, 0x00, 0x00, 0x00, 0x00, 0x00, 0x00, 0x00, 0x00,
+    0x00, 0x00, 0x00, 0x00, 0x00, 0x00, 0x00, 0x00, 0x00, 0x00, 0x00, 0x00, 0x00, 0x00, 0x00, 0x00,
+    /* Input value="Till" */
+    0x00, 0x0a, 0x00, 0x00, 0x00, 0x00, 0x00, 0x00, 0x00, 0x14, 0x00, 0x00, 0x00, 0x00, 0x00, 0x00, 0x00, 0x00, 0x00, 0x00,
+    0x00, 0x00, 0x00, 0x00, 0x00, 0x04, 0x54, 0x69, 0x6c, 0x6c,
+    /* Sleep wake_up_time=1000 result_completion_id=1 */
+    0x00, 0x12, 0x00, 0x00, 0x00, 0x00, 0x00, 0x00, 0x00, 0x14, 0x00, 0x00, 0x00, 0x00, 0x00, 0x00, 0x03, 0xe8, 0x00, 0x00,
+    0x00, 0x01, 0x00, 0x00, 0x00, 0x00, 0x00, 0x00, 0x00, 0x00,
+    /* Notification id=completion(1) result=void */
+    0x00, 0x1e, 0x00, 0x00, 0x00, 0x00, 0x00, 0x00, 0x00, 0x06, 0x00, 0x00, 0x00, 0x00, 0x01, 0x00,
+};
+
+static palqytun_bytes bytes(const char *text)
+{
+    return (palqytun_bytes){(const uint8_t *)text, strlen(text)};
+}
+
+static palqytun_optional given(const char *text)
+{
+    return (palqytun_optional){true, bytes(text)};
+}
+
+static palqytun_optional none(void)
+{
+    return (palqytun_optional){false, bytes("")};
+}
+
+/* Says how a call ended that wasn't done. Exit status 1: no memory was found. */
+static int failed(uint32_t status)
+{
+    fprintf(stderr, status == PALQYTUN_NO_MEMORY ? "no memory\n" : "status %" PRIu32 "\n", status);
+    return status == PALQYTUN_NO_MEMORY ? 1 : 2;
+}
+
+/* Prints a reply: its kind, its numbers, and its parts. 0, or the exit status. */
+static int show(palqytun_vm *vm, const char *call, palqytun_replied replied)
+{
+    if (replied.status != PALQYTUN_DONE && replied.status != PALQYTUN_REFUSED)
+        return failed(replied.status);
+    /* The VM found no memory, and has failed. */
+    if (replied.kind == PALQYTUN_ERROR && replied.number == 500 && replied.len == 0)
+        return failed(PALQYTUN_NO_MEMORY);
+    char line[512];
+    int end = snprintf(line, sizeof line, "%-20s %" PRIu32 "  %" PRIu32 " %" PRIu32 " %" PRIu32 " %" PRIu64 "  %zu %zu", call,
+        replied.kind, replied.first, replied.second, replied.third, replied.number, replied.rows, replied.len);
+    for (size_t at = 0;; at++) {
+        uint8_t part[64];
+        palqytun_told told = palqytun_part(vm, at, part, sizeof part);
+        if (told.status == PALQYTUN_NO_PART)
+            break;
+        if (told.status != PALQYTUN_DONE)
+            return failed(told.status);
+        end += snprintf(line + end, sizeof line - (size_t)end, " [%.*s]", (int)told.len, (const char *)part);
+    }
+    puts(line);
+    return 0;
+}
+
+/* Makes a session with a VM, and feeds it the journal. */
+static int begin(palqytun_vm *vm)
+{
+    static const char line[] = "vm \"application/vnd.restate.invocation.v7\"";
+    uint32_t status = palqytun_new(vm);
+    if (status == PALQYTUN_DONE && palqytun_sleep(vm, bytes(""), 1).status != PALQYTUN_NO_VM)
+        return 3;
+    if (status == PALQYTUN_DONE)
+        status = palqytun_line(vm, (const uint8_t *)line, sizeof line - 1).status;
+    if (status == PALQYTUN_DONE)
+        status = palqytun_feed(vm, journal, sizeof journal);
+    return status == PALQYTUN_DONE ? 0 : failed(status);
+}
+
+/* Calls another handler, and awaits whichever comes first: its result, or a sleep. */
+static int race(palqytun_vm *vm)
+{
+    const palqytun_pair headers[] = {{bytes("lang"), bytes("en")}};
+    const palqytun_target target = {bytes("Greeter"), bytes("greet"), given("Ada"), none(), none(), none(), headers, 1};
+    /* Handles 18, 19 and 20. */
+    const palqytun_node nodes[] = {{PALQYTUN_SINGLE, 19}, {PALQYTUN_SINGLE, 20}, {PALQYTUN_FIRST_COMPLETED, 2}};
+    int ended = show(vm, "call", palqytun_call(vm, &target, bytes("Ada"), bytes(""), false));
+    if (ended == 0)
+        ended = show(vm, "sleep", palqytun_sleep(vm, bytes("limit"), 5000));
+    if (ended == 0)
+        ended = show(vm, "await_tree", palqytun_await_tree(vm, nodes, 3));
+    if (ended != 0)
+        return ended;
+    /* Two trees, a node over more than there are, and a kind that there isn't. */
+    const palqytun_node over[] = {{PALQYTUN_SINGLE, 19}, {PALQYTUN_ALL_COMPLETED, 2}};
+    const palqytun_node unknown[] = {{PALQYTUN_SINGLE, 19}, {6, 1}};
+    uint32_t statuses[] = {palqytun_await_tree(vm, nodes, 2).status, palqytun_await_tree(vm, over, 2).status,
+        palqytun_await_tree(vm, unknown, 2).status, palqytun_sleep(vm, bytes("\xff"), 1).status};
+    const uint32_t wanted[] = {PALQYTUN_BAD_TREE, PALQYTUN_BAD_TREE, PALQYTUN_BAD_NUMBER, PALQYTUN_BAD_TEXT};
+    for (size_t i = 0; i < 4; i++)
+        if (statuses[i] != wanted[i])
+            return failed(statuses[i]);
+    return 0;
+}
+
+/* State that the handler sets is known at once. */
+static int remember(palqytun_vm *vm)
+{
+    int ended = show(vm, "state_set", palqytun_state_set(vm, bytes("visits"), bytes("7"), bytes(""), false));
+    if (ended == 0)
+        ended = show(vm, "state_get", palqytun_state_get(vm, bytes("visits"), bytes("")));
+    if (ended == 0)
+        ended = show(vm, "take", palqytun_take(vm, 21));
+    return ended;
+}
+
+/* The handler's result, its output, and a call of a VM that is closed. */
+static int finish(palqytun_vm *vm)
+{
+    const palqytun_pair no_pairs[] = {{bytes(""), bytes("")}};
+    const palqytun_value failure = {true, 400, bytes("no"), no_pairs, 0};
+    int ended = show(vm, "write_output", palqytun_write_output(vm, &failure, false));
+    if (ended == 0)
+        ended = show(vm, "end", palqytun_end(vm));
+    if (ended == 0)
+        ended = show(vm, "last_command_index", palqytun_last_command_index(vm));
+    if (ended == 0)
+        ended = show(vm, "state", palqytun_state(vm));
+    if (ended == 0)
+        ended = show(vm, "sleep", palqytun_sleep(vm, bytes(""), 1));
+    return ended;
+}
+
+static int run(palqytun_vm *vm)
+{
+    int ended = begin(vm);
+    if (ended == 0)
+        ended = show(vm, "is_ready", palqytun_is_ready(vm));
+    if (ended == 0)
+        ended = show(vm, "input", palqytun_input(vm));
+    if (ended == 0)
+        ended = show(vm, "sleep", palqytun_sleep(vm, bytes(""), 1000));
+    if (ended == 0)
+        ended = show(vm, "await", palqytun_await(vm, 17));
+    if (ended == 0)
+        ended = show(vm, "take", palqytun_take(vm, 17));
+    if (ended == 0)
+        ended = race(vm);
+    if (ended == 0)
+        ended = remember(vm);
+    if (ended == 0)
+        ended = finish(vm);
+    return ended;
+}
+
+int main(void)
+{
+    palqytun_vm vm = {0};
+    if (palqytun_sleep(&vm, bytes(""), 1).status != PALQYTUN_NO_SESSION)
+        return 3;
+    int ended = run(&vm);
+    palqytun_free(&vm);
+    return ended;
+}

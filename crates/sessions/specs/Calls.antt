@@ -1,0 +1,58 @@
+-- What a call of a session's VM from C does, whichever it is, and how its reply is read.
+use Rattle.std.specs.Prelude.{◌≡◌, ◌<◌, ◌++◌, ℕ, List, length, drop, Option, Some, None, Result, Ok, Err}
+use Rattle.invocation_vm.specs.declared.core_vm.CoreVM.{CoreVM}
+use Rattle.invocation_vm.specs.Seen.{seen}
+use Rattle.invocation_vm.specs.Views.{View}
+use Rattle.replies.specs.declared.reply.Reply.{Reply}
+use Rattle.sessions.specs.declared.replied.Replied.{Replied}
+use Rattle.sessions.specs.declared.session.Session.{Session}
+use Rattle.sessions.specs.declared.status.Status.{Status}
+use Rattle.sessions.specs.declared.status.Status.TheVariants as status
+use Rattle.sessions.specs.Replies.{kept_told, part_of, summary}
+
+-- what C is told of a call: of its reply; or why it isn't made
+abbrev pub outcome_told : Result Reply Status → Replied
+outcome_told (Ok reply) = summary reply
+outcome_told (Err status) = kept_told status
+
+-- the reply that is kept: that of the call; the last one where it isn't made
+abbrev pub reply_kept : Result Reply Status → Reply → Reply
+reply_kept (Ok reply) last = reply
+reply_kept (Err status) last = last
+
+-- A call is made of a VM, of which is said what it does; C is told its outcome, and its reply is kept.
+pub record IsCalled (does : Result Reply Status → View → View → Type 0) (replied : Replied) (old new : CoreVM) (last next : Reply) : Type 0 where
+  pub outcome : Result Reply Status
+  pub done : does outcome (seen old) (seen new)
+  pub told : replied ≡ outcome_told outcome
+  pub kept : next ≡ reply_kept outcome last
+
+-- A call is made of the VM that there is.
+abbrev pub OnVm : (Result Reply Status → View → View → Type 0) → Replied → Option CoreVM → Option CoreVM → Reply → Reply → Type 0
+OnVm does told (Some old) (Some new) last kept = IsCalled does told old new last kept
+OnVm does told None None last kept = (told ≡ kept_told status.NoVm) × (kept ≡ last)
+OnVm does told old new last kept = ⊥
+
+-- A call is made of the VM of the session that there is. The last answer to a line stays.
+abbrev pub CalledFromC : (Result Reply Status → View → View → Type 0) → Replied → Option Session → Option Session → Type 0
+CalledFromC does told (Some old) (Some new) = OnVm does told old.vm new.vm old.reply new.reply × (new.answer ≡ old.answer)
+CalledFromC does told None None = told ≡ kept_told status.NoSession
+CalledFromC does told old new = ⊥
+
+-- Bytes are written to the front of the room for them, if there is so much.
+abbrev pub Written : List ℕ → Status → ℕ → List ℕ → List ℕ → Type 0
+Written bytes status.Done len before after = (len ≡ length bytes) × (after ≡ bytes ++ drop len before)
+Written bytes status.NoRoom len before after = (len ≡ length bytes) × (length before < len) × (after ≡ before)
+Written bytes told len before after = ⊥
+
+-- A part is written, if there is one.
+abbrev pub part_read : Option (List ℕ) → Status → ℕ → List ℕ → List ℕ → Type 0
+part_read (Some part) told len before after = Written part told len before after
+part_read None status.NoPart len before after = (len ≡ 0) × (after ≡ before)
+part_read None told len before after = ⊥
+
+-- A part of the last reply is read.
+abbrev pub PartRead : ℕ → Status → ℕ → List ℕ → List ℕ → Option Session → Type 0
+PartRead at told len before after (Some s) = part_read (part_of s.reply at) told len before after
+PartRead at status.NoSession len before after None = (len ≡ 0) × (after ≡ before)
+PartRead at told len before after None = ⊥

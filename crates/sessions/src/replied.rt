@@ -1,0 +1,239 @@
+//! What C is told of a reply at once: numbers.
+ghost use Rattle.std.specs.Prelude.{◌≡◌};
+ghost use Rattle.sessions.specs.Replies.{counted, error_told, failed, flag_code, handles_told, kept_told, number_told, response_told, state_code, taken_told, told, told_of, value_told, version_code};
+
+use crate::kind::Kind;
+use crate::status::Status;
+use journal_errors::{Error, Version};
+use replies::Reply;
+use vm_parts::{Answer, AwaitResponse, State, Value};
+
+/// What C is told of a reply: how the call ended, what the reply is, the numbers in it, how many keys or pairs it has, and the length
+/// of its first part.
+#[repr(C)]
+#[derive(Clone, Copy, Debug)]
+pub struct Replied {
+    pub status: u32,
+    pub kind: u32,
+    pub first: u32,
+    pub second: u32,
+    pub third: u32,
+    pub number: u64,
+    pub rows: usize,
+    pub len: usize,
+}
+
+/// Of a reply with these three numbers.
+fn told(kind: Kind, first: u32, second: u32, third: u32) -> Replied
+    ensures { result ≡ told kind first second third }
+{
+    Replied {
+        status: 0,
+        kind: kind.code(),
+        first,
+        second,
+        third,
+        number: 0,
+        rows: 0,
+        len: 0,
+    }
+}
+
+/// Of a reply with a large number, and so many keys or pairs.
+fn counted(kind: Kind, number: u64, rows: usize) -> Replied
+    ensures { result ≡ counted kind number rows }
+{
+    Replied {
+        status: 0,
+        kind: kind.code(),
+        first: 0,
+        second: 0,
+        third: 0,
+        number,
+        rows,
+        len: 0,
+    }
+}
+
+fn flag(holds: bool) -> u32
+    ensures { result ≡ flag_code holds }
+{
+    if holds { 1 } else { 0 }
+}
+
+fn state_code(state: State) -> u32
+    ensures { result ≡ state_code state }
+{
+    match state {
+        State::WaitingPreFlight => 0,
+        State::Replaying => 1,
+        State::Processing => 2,
+        State::Closed => 3,
+    }
+}
+
+fn version_code(version: Version) -> u32
+    ensures { result ≡ version_code version }
+{
+    match version {
+        Version::V1 => 1,
+        Version::V2 => 2,
+        Version::V3 => 3,
+        Version::V4 => 4,
+        Version::V5 => 5,
+        Version::V6 => 6,
+        Version::V7 => 7,
+        Version::V8 => 8,
+    }
+}
+
+/// Of an error with this code, and with a command that it relates to where the first number is 1.
+fn failed(code: u16, is_related: u32, index: u32, ty: u32) -> Replied
+    ensures { result ≡ failed code is_related index ty }
+{
+    Replied {
+        status: Status::Refused.code(),
+        kind: Kind::Error.code(),
+        first: is_related,
+        second: index,
+        third: ty,
+        number: u64::from(code),
+        rows: 0,
+        len: 0,
+    }
+}
+
+/// Of an error: its code, and of the command that it relates to that it is there, its index and its type.
+fn tell_error(error: &Error) -> Replied
+    ensures { result ≡ error_told error.now }
+{
+    match &error.related_command {
+        Some(command) => { failed(error.code, 1, command.index, u32::from(command.ty.number())) },
+        None => failed(error.code, 0, 0, 0),
+    }
+}
+
+fn tell_value(value: &Value) -> Replied
+    ensures { result ≡ value_told value.now }
+{
+    match value {
+        Value::Void => told(Kind::Void, 0, 0, 0),
+        Value::Success(_) => told(Kind::Value, 0, 0, 0),
+        Value::Failure(failure) => {
+            counted(
+                Kind::Failure,
+                u64::from(failure.code),
+                failure.metadata.len(),
+            )
+        },
+        Value::StateKeys(keys) => counted(Kind::Keys, 0, keys.len()),
+        Value::InvocationId(_) => told(Kind::InvocationId, 0, 0, 0),
+    }
+}
+
+fn tell_taken(taken: &Option<Value>) -> Replied
+    ensures { result ≡ taken_told taken.now }
+{
+    match taken {
+        Some(value) => tell_value(value),
+        None => told(Kind::Nothing, 0, 0, 0),
+    }
+}
+
+fn tell_response(response: &AwaitResponse) -> Replied
+    ensures { result ≡ response_told response.now }
+{
+    match response {
+        AwaitResponse::AnyCompleted => told(Kind::Awake, 0, 0, 0),
+        AwaitResponse::WaitingExternalProgress {
+            waiting_input,
+            waiting_run_proposal,
+        } => told(
+            Kind::Waiting,
+            flag(*waiting_input),
+            flag(*waiting_run_proposal),
+            0,
+        ),
+        AwaitResponse::ExecuteRun(handle) => told(Kind::ExecuteRun, handle.0, 0, 0),
+        AwaitResponse::CancelSignalReceived => told(Kind::Cancelled, 0, 0, 0),
+        AwaitResponse::EphemeralNotificationReady(id) => told(Kind::Ephemeral, id.0, 0, 0),
+    }
+}
+
+fn tell_answer(answer: &Answer) -> Replied
+    ensures { result ≡ handles_told answer.now }
+{
+    match answer {
+        Answer::Input(input) => counted(Kind::Input, input.random_seed, input.headers.len()),
+        Answer::Handle(handle) => told(Kind::Handle, handle.0, 0, 0),
+        Answer::Call(call) => told(
+            Kind::Handle,
+            call.invocation_id_notification_handle.0,
+            call.call_notification_handle.0,
+            0,
+        ),
+        Answer::CallWithDeadline(call) => told(
+            Kind::Handle,
+            call.invocation_id_notification_handle.0,
+            call.call_notification_handle.0,
+            call.deadline_notification_handle.0,
+        ),
+        Answer::Send(send) => {
+            told(Kind::Handle, send.invocation_id_notification_handle.0, 0, 0)
+        },
+        Answer::Awakeable(made) => told(Kind::Awakeable, made.handle.0, 0, 0),
+        Answer::Unit => told(Kind::Nothing, 0, 0, 0),
+        Answer::Awake => told(Kind::Awake, 0, 0, 0),
+        Answer::Cancelled => told(Kind::Cancelled, 0, 0, 0),
+        Answer::Taken(taken) => tell_taken(taken),
+        Answer::Completed(is) => told(Kind::Flag, flag(*is), 0, 0),
+    }
+}
+
+/// Of the index of the last command: nothing, where there is none.
+fn tell_index(index: i64) -> Replied
+    ensures { result ≡ number_told index }
+{
+    match u64::try_from(index) {
+        Ok(number) => counted(Kind::Index, number, 0),
+        Err(_) => told(Kind::Nothing, 0, 0, 0),
+    }
+}
+
+/// Of a reply.
+pub(crate) fn tell(reply: &Reply) -> Replied
+    ensures { result ≡ told_of reply.now }
+{
+    match reply {
+        Reply::Refused(error) => tell_error(error),
+        Reply::Made(version) => told(Kind::Version, version_code(*version), 0, 0),
+        Reply::Head(head) => {
+            counted(Kind::Head, u64::from(head.status_code), head.headers.len())
+        },
+        Reply::Output(_) => told(Kind::Output, 0, 0, 0),
+        Reply::Ready(is_ready) => told(Kind::Flag, flag(*is_ready), 0, 0),
+        Reply::State(state) => told(Kind::State, state_code(*state), 0, 0),
+        Reply::Index(index) => tell_index(*index),
+        Reply::Awaited(response) => tell_response(response),
+        Reply::Run(run) => told(Kind::Run, run.handle.0, flag(run.replayed), 0),
+        Reply::Ephemeral(id) => told(Kind::Ephemeral, id.0, 0, 0),
+        Reply::Answer(answer) => tell_answer(answer),
+        Reply::Nothing | Reply::Bad | Reply::NoVm | Reply::Done => { told(Kind::Nothing, 0, 0, 0) },
+    }
+}
+
+/// Of a call that isn't made.
+pub(crate) fn tell_status(status: Status) -> Replied
+    ensures { result ≡ kept_told status }
+{
+    Replied {
+        status: status.code(),
+        kind: 0,
+        first: 0,
+        second: 0,
+        third: 0,
+        number: 0,
+        rows: 0,
+        len: 0,
+    }
+}

@@ -1,0 +1,65 @@
+-- Rows of nodes.
+use Rattle.std.proofs.Common.{◌≡◌, ◌+◌, ℕ, List, [], ◌∷◌, ◌++◌, length, take, drop, refl, sym, ◌∙◌, ap, append_assoc, append-nil, length-drop, take-append-drop, arith}
+use Rattle.journal_attempt.specs.declared.future.FutureKind.{FutureKind}
+use Rattle.journal_attempt.specs.declared.future.FutureKind.TheVariants.{FirstCompleted, AllCompleted, FirstSucceededOrAllFailed, AllSucceededOrFirstFailed, Unknown}
+use Rattle.await_trees.specs.Copies.{future_node}
+use Rattle.await_trees.specs.Tree.{node, forest_of, tree_of}
+use Rattle.await_trees.specs.declared.handle.NotificationHandle.{NotificationHandle}
+use Rattle.await_trees.specs.declared.tree.UnresolvedFuture.{UnresolvedFuture}
+use Rattle.await_trees.specs.declared.tree.UnresolvedFuture.TheVariants.{Single}
+use Rattle.await_trees.proofs.TreeOf.{tree_of-Single, tree_of-FirstCompleted, tree_of-AllCompleted, tree_of-FirstSucceededOrAllFailed, tree_of-AllSucceededOrFirstFailed, tree_of-Unknown}
+use Rattle.typed_calls.specs.declared.nodes.Node.{Node}
+use Rattle.typed_calls.specs.Nodes.{kind_code, nodes_of, rows_of, size, written}
+
+tree_of_node : (kind : FutureKind) (us : List UnresolvedFuture) → tree_of (future_node kind us) ≡ node kind (forest_of us)
+tree_of_node FirstCompleted us = tree_of-FirstCompleted us
+tree_of_node AllCompleted us = tree_of-AllCompleted us
+tree_of_node FirstSucceededOrAllFailed us = tree_of-FirstSucceededOrAllFailed us
+tree_of_node AllSucceededOrFirstFailed us = tree_of-AllSucceededOrFirstFailed us
+tree_of_node Unknown us = tree_of-Unknown us
+
+rows_written : (us : List UnresolvedFuture) → rows_of (forest_of us) ≡ written us
+rows_written [] = refl
+rows_written (u ∷ us) = ap (λ row. nodes_of (tree_of u) ++ row) (rows_written us)
+
+size_of_row : (us : List UnresolvedFuture) → size (forest_of us) ≡ length us
+size_of_row [] = refl
+size_of_row (u ∷ us) = let rest = size_of_row us in omega (arith, rest)
+
+written_both : (us vs : List UnresolvedFuture) → written (us ++ vs) ≡ written us ++ written vs
+written_both [] vs = refl
+written_both (u ∷ us) vs = ap (λ row. nodes_of (tree_of u) ++ row) (written_both us vs) ∙ sym (append_assoc (nodes_of (tree_of u)) (written us) (written vs))
+
+-- the nodes of a node over children
+pub nodes_of_node : (kind : FutureKind) (us : List UnresolvedFuture) → nodes_of (tree_of (future_node kind us)) ≡ written us ++ record { kind = kind_code kind; number = length us } ∷ []
+nodes_of_node kind us =
+    ap nodes_of (tree_of_node kind us)
+    ∙ ap (λ row. row ++ record { kind = kind_code kind; number = size (forest_of us) } ∷ []) (rows_written us)
+    ∙ ap (λ n. written us ++ record { kind = kind_code kind; number = n } ∷ []) (size_of_row us)
+
+-- a node over the last of the trees in front of it
+pub over : (kind : FutureKind) (us : List UnresolvedFuture) (at : ℕ) (n : Node) → kind_code kind ≡ n.kind → at + n.number ≡ length us → written (take at us) ++ nodes_of (tree_of (future_node kind (drop at us))) ≡ written us ++ n ∷ []
+over kind us at n same fits =
+    let count : length (drop at us) ≡ n.number = let long = length-drop at us in omega (arith, long) in
+    ap (λ row. written (take at us) ++ row) (nodes_of_node kind (drop at us))
+    ∙ ap (λ m. written (take at us) ++ (written (drop at us) ++ record { kind = kind_code kind; number = m } ∷ [])) count
+    ∙ ap (λ k. written (take at us) ++ (written (drop at us) ++ record { kind = k; number = n.number } ∷ [])) same
+    ∙ sym (append_assoc (written (take at us)) (written (drop at us)) (n ∷ []))
+    ∙ ap (λ row. row ++ n ∷ []) (sym (written_both (take at us) (drop at us)) ∙ ap written (take-append-drop at us))
+
+-- a tree is put behind others
+pub put : (us : List UnresolvedFuture) (u : UnresolvedFuture) (nodes : List Node) → written us ++ nodes_of (tree_of u) ≡ nodes → written (us ++ u ∷ []) ≡ nodes
+put us u nodes same =
+    written_both us (u ∷ [])
+    ∙ ap (λ row. written us ++ row) (append-nil (nodes_of (tree_of u)))
+    ∙ same
+
+-- a handle is one node
+pub one : (us : List UnresolvedFuture) (h : NotificationHandle) (n : Node) → n.kind ≡ 0 → h.0 ≡ n.number → written us ++ nodes_of (tree_of (Single h)) ≡ written us ++ n ∷ []
+one us h n kind number =
+    ap (λ row. written us ++ row) (ap nodes_of (tree_of-Single h) ∙ ap (λ m. record { kind = 0; number = m } ∷ []) number ∙ ap (λ k. record { kind = k; number = n.number } ∷ []) (sym kind))
+
+-- one tree alone
+pub alone : (u : UnresolvedFuture) (us rest : List UnresolvedFuture) (nodes : List Node) → written us ≡ nodes → us ≡ rest ++ u ∷ [] → rest ≡ [] → nodes_of (tree_of u) ≡ nodes
+alone u us rest nodes same split none =
+    sym (append-nil (nodes_of (tree_of u))) ∙ ap (λ front. written (front ++ u ∷ [])) (sym none) ∙ ap written (sym split) ∙ same

@@ -1,0 +1,8 @@
+use Rattle.typed_calls.proofs.awaits.AwaitCallVmCall.make.Goals as goal
+
+pub returns : goal.returns
+returns c = record {
+  given = c.do_await.result;
+  calls = c.do_await.ensures;
+  told = c.awaited.ensures;
+}

@@ -1,0 +1,12 @@
+use Rattle.typed_calls.proofs.awaits.AwaitTreeCallVmCall.make.Goals as goal
+
+pub returns : goal.returns
+returns c = (
+  c.in_ok-future.future,
+  c.in_ok-future.ensures.ok,
+  record {
+    given = c.do_await.result;
+    calls = c.do_await.ensures;
+    told = c.awaited.ensures;
+  },
+)

@@ -1,0 +1,8 @@
+use Rattle.typed_calls.proofs.awaits.TakeCallVmCall.make.Goals as goal
+
+pub returns : goal.returns
+returns c = record {
+  given = c.take_notification.result;
+  calls = c.take_notification.ensures;
+  told = c.taken.ensures;
+}

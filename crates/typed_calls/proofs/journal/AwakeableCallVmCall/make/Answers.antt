@@ -1,0 +1,8 @@
+use Rattle.typed_calls.proofs.journal.AwakeableCallVmCall.make.Goals as goal
+
+pub returns : goal.returns
+returns c = record {
+  given = c.sys_awakeable.result;
+  calls = c.sys_awakeable.ensures;
+  told = c.awakeable.ensures;
+}

@@ -1,0 +1,8 @@
+use Rattle.typed_calls.proofs.journal.PeekPromiseCallVmCall.make.Goals as goal
+
+pub returns : goal.returns
+returns c = record {
+  given = c.sys_peek_promise.result;
+  calls = rw c.in_ok-key.ensures.ok at c.sys_peek_promise.ensures;
+  told = c.handle.ensures;
+}

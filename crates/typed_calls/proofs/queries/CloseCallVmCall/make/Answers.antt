@@ -1,0 +1,4 @@
+use Rattle.typed_calls.proofs.queries.CloseCallVmCall.make.Goals as goal
+
+pub returns : goal.returns
+returns c = record { given = c.notify_input_closed.result; leaves = c.notify_input_closed.ensures.does; told = c.fed.ensures }

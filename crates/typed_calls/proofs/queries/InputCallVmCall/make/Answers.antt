@@ -1,0 +1,8 @@
+use Rattle.typed_calls.proofs.queries.InputCallVmCall.make.Goals as goal
+
+pub returns : goal.returns
+returns c = record {
+  given = c.sys_input.result;
+  calls = c.sys_input.ensures.does;
+  told = c.input.ensures;
+}

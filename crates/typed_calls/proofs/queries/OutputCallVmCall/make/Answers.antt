@@ -1,0 +1,4 @@
+use Rattle.typed_calls.proofs.queries.OutputCallVmCall.make.Goals as goal
+
+pub returns : goal.returns
+returns c = record { given = c.take_output.result; takes = c.take_output.ensures; told = c.output.ensures }

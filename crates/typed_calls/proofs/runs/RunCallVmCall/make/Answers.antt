@@ -1,0 +1,8 @@
+use Rattle.typed_calls.proofs.runs.RunCallVmCall.make.Goals as goal
+
+pub returns : goal.returns
+returns c = record {
+  given = c.sys_run.result;
+  calls = rw c.in_ok-name.ensures.ok at c.sys_run.ensures;
+  told = c.ran.ensures;
+}

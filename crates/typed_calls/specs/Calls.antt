@@ -1,0 +1,181 @@
+-- What each call from C does to a VM: what it is answered, or why it isn't made; and the VM before and after.
+use Rattle.std.specs.Prelude.{◌≡◌, ℕ, Bool, List, [], ◌∷◌, Result}
+use Rattle.await_trees.specs.declared.tree.UnresolvedFuture.TheVariants.{Single}
+use Rattle.vm_types.specs.declared.steps.Answer.TheVariants as answer
+use Rattle.retries.specs.declared.policy.RetryPolicy.TheVariants.{Infinite}
+use Rattle.vm_asks.specs.Asks.{call_command, call_handles, cancel_invocation_command, clear_all_state_command, clear_state_command, complete_awakeable_command, complete_promise_command, complete_signal_command, deadline_handles, get_promise_command, output_command, peek_promise_command, send_command, send_handle, set_state_command, sleep_command}
+use Rattle.vm_asks.specs.declared.state_read.StateRead.TheVariants as reads
+use Rattle.vm_machine.specs.Ephemerals.{ephemeral_step, take_ephemeral_step}
+use Rattle.vm_machine.specs.Inputs.{end_step, input_step}
+use Rattle.vm_machine.specs.Queries.{last_index, state_of}
+use Rattle.vm_machine.specs.Signals.{signal_step}
+use Rattle.vm_machine.specs.Takes.{is_completed, take_step}
+use Rattle.invocation_vm.specs.Calls.{CallsAllFor, CallsCommand, CallsFlatAwait, CallsFor, CallsProposal, CallsRead, CallsRun, CallsUnit, new_awakeable_step}
+use Rattle.invocation_vm.specs.Views.{View, after_closing}
+use Rattle.replies.specs.declared.reply.Reply.{Reply}
+use Rattle.replies.specs.declared.reply.Reply.TheVariants as reply
+use Rattle.line_parts.specs.Results.{settled}
+use Rattle.scripts.specs.Called.{Answers, Drains, Feeds, Tells, TellsHead, TellsReady}
+use Rattle.sessions.specs.declared.status.Status.{Status}
+use Rattle.typed_calls.specs.declared.callees.GivenTarget.{GivenTarget}
+use Rattle.typed_calls.specs.declared.nodes.Node.{Node}
+use Rattle.typed_calls.specs.declared.values.GivenValue.{GivenValue}
+use Rattle.typed_calls.specs.Callees.{target_of, texts_of_call}
+use Rattle.typed_calls.specs.Makes.{IsMade, MadeUnless, MadeWith, all_handles, awakeable, handle, handles, input, nothing, sent, taken}
+use Rattle.typed_calls.specs.Nodes.{AwaitsTree, FailsAsTree}
+use Rattle.typed_calls.specs.Values.{texts_of_value, value_of}
+
+-- what is said of a call of a VM
+abbrev pub Call : Type 1
+Call = Result Reply Status → View → View → Type 0
+
+-- a sleep to a time in milliseconds
+abbrev pub Sleeps : List ℕ → ℕ → Call
+Sleeps name millis = MadeWith (name ∷ []) (Tells handle (CallsCommand (sleep_command millis name)))
+
+-- an awakeable
+abbrev pub MakesAwakeable : Call
+MakesAwakeable = IsMade (Answers awakeable new_awakeable_step)
+
+-- a handle of the signal of a name
+abbrev pub MakesSignal : List ℕ → Call
+MakesSignal name = MadeWith (name ∷ []) (Answers handle (signal_step name))
+
+-- a promise is awaited
+abbrev pub GetsPromise : List ℕ → Call
+GetsPromise key = MadeWith (key ∷ []) (Tells handle (CallsCommand (get_promise_command key)))
+
+-- whether a promise is completed
+abbrev pub PeeksPromise : List ℕ → Call
+PeeksPromise key = MadeWith (key ∷ []) (Tells handle (CallsCommand (peek_promise_command key)))
+
+-- a promise is completed
+abbrev pub CompletesPromise : List ℕ → GivenValue → Bool → Call
+CompletesPromise key value unstable outcome old new =
+    MadeWith (key ∷ texts_of_value value) (Tells handle (CallsCommand (complete_promise_command key (value_of value) (record { unstable_serialization = unstable }) old.machine.version))) outcome old new
+
+-- an awakeable is completed
+abbrev pub CompletesAwakeable : List ℕ → GivenValue → Bool → Call
+CompletesAwakeable id value unstable outcome old new =
+    MadeWith (id ∷ texts_of_value value) (Tells nothing (CallsUnit (complete_awakeable_command id (value_of value) (record { unstable_serialization = unstable }) old.machine.version))) outcome old new
+
+-- a named signal is sent to another invocation
+abbrev pub CompletesSignal : List ℕ → List ℕ → GivenValue → Call
+CompletesSignal target name value outcome old new =
+    MadeWith (target ∷ name ∷ texts_of_value value) (Tells nothing (CallsUnit (complete_signal_command target name (value_of value) old.machine.version))) outcome old new
+
+-- another invocation is cancelled
+abbrev pub CancelsInvocation : List ℕ → Call
+CancelsInvocation target =
+    MadeWith (target ∷ []) (Tells nothing (CallsUnit (cancel_invocation_command target)))
+
+-- the handler's result
+abbrev pub WritesOutput : GivenValue → Bool → Call
+WritesOutput value unstable outcome old new =
+    MadeWith (texts_of_value value) (Tells nothing (CallsUnit (output_command (value_of value) (record { unstable_serialization = unstable }) old.machine.version))) outcome old new
+
+-- the handler ends
+abbrev pub Ends : Call
+Ends = IsMade (Answers nothing end_step)
+
+-- a key is given a value
+abbrev pub SetsState : List ℕ → List ℕ → List ℕ → Bool → Call
+SetsState key value name unstable =
+    MadeWith (key ∷ name ∷ []) (Tells nothing (CallsUnit (set_state_command key value name (record { unstable_serialization = unstable }))))
+
+-- a key's value is taken away
+abbrev pub ClearsState : List ℕ → List ℕ → Call
+ClearsState key name =
+    MadeWith (key ∷ name ∷ []) (Tells nothing (CallsUnit (clear_state_command key name)))
+
+-- each key's value is taken away
+abbrev pub ClearsAllState : List ℕ → Call
+ClearsAllState name =
+    MadeWith (name ∷ []) (Tells nothing (CallsUnit (clear_all_state_command name)))
+
+-- a key's value is read
+abbrev pub ReadsState : List ℕ → List ℕ → Call
+ReadsState key name = MadeWith (key ∷ name ∷ []) (Tells handle (CallsRead (reads.Value key name)))
+
+-- the keys that have a value are read
+abbrev pub ReadsKeys : List ℕ → Call
+ReadsKeys name = MadeWith (name ∷ []) (Tells handle (CallsRead (reads.Keys name)))
+
+-- a key's value is read, and nothing of it is left in the journal
+abbrev pub ReadsEphemerally : List ℕ → Call
+ReadsEphemerally key = MadeWith (key ∷ []) (Answers reply.Ephemeral (ephemeral_step key))
+
+-- the value of an ephemeral read is taken
+abbrev pub TakesEphemeral : ℕ → Call
+TakesEphemeral id = IsMade (Answers taken (take_ephemeral_step id))
+
+-- a handle is awaited
+abbrev pub AwaitsHandle : ℕ → Call
+AwaitsHandle awaited =
+    IsMade (Tells reply.Awaited (CallsFlatAwait (Single (record { 0 = awaited }))))
+
+-- the tree that nodes are is awaited
+abbrev pub AwaitsNodes : List Node → Call
+AwaitsNodes nodes = MadeUnless FailsAsTree (AwaitsTree nodes)
+
+-- the result of a handle is taken
+abbrev pub Takes : ℕ → Call
+Takes of = IsMade (Answers taken (take_step of))
+
+-- the head of the response
+abbrev pub ReadsHead : Call
+ReadsHead = IsMade (λ told old new. TellsHead old.machine.version told × (new ≡ old))
+
+-- no more input comes
+abbrev pub ClosesInput : Call
+ClosesInput = IsMade (λ told old new. Feeds [] (after_closing old) told old new)
+
+-- the bytes that wait to be sent are taken
+abbrev pub TakesOutputOf : Call
+TakesOutputOf = IsMade Drains
+
+-- whether the handler may be run
+abbrev pub AsksReady : Call
+AsksReady = IsMade (λ told old new. TellsReady old.machine told × (new ≡ old))
+
+-- whether a handle has a result
+abbrev pub AsksCompleted : ℕ → Call
+AsksCompleted of =
+    IsMade (λ told old new. (told ≡ reply.Answer (answer.Completed (is_completed of old.machine))) × (new ≡ old))
+
+-- the state
+abbrev pub AsksState : Call
+AsksState = IsMade (λ told old new. (told ≡ reply.State (state_of old.machine)) × (new ≡ old))
+
+-- the index of the last command
+abbrev pub AsksIndex : Call
+AsksIndex =
+    IsMade (λ told old new. (told ≡ reply.Index (last_index old.machine.counters.command)) × (new ≡ old))
+
+-- what the handler was called with
+abbrev pub ReadsInput : Call
+ReadsInput = IsMade (Answers input input_step)
+
+-- a run is called
+abbrev pub Runs : List ℕ → Call
+Runs name = MadeWith (name ∷ []) (Tells reply.Run (CallsRun name))
+
+-- the result of a run, of which nothing is retried
+abbrev pub Proposes : ℕ → GivenValue → Call
+Proposes of value =
+    MadeWith (texts_of_value value) (Tells nothing (CallsProposal (record { 0 = of }) (settled (value_of value)) Infinite))
+
+-- another handler is called
+abbrev pub CallsHandler : GivenTarget → List ℕ → List ℕ → Bool → Call
+CallsHandler target bytes name unstable outcome old new =
+    MadeWith (texts_of_call target name) (Tells handles (CallsFor call_handles (call_command (target_of target) bytes name (record { unstable_serialization = unstable }) old.machine.version))) outcome old new
+
+-- another handler is called, with a deadline
+abbrev pub CallsWithDeadline : GivenTarget → List ℕ → ℕ → List ℕ → Bool → Call
+CallsWithDeadline target bytes millis name unstable outcome old new =
+    MadeWith (texts_of_call target name) (Tells all_handles (CallsAllFor deadline_handles (call_command (target_of target) bytes name (record { unstable_serialization = unstable }) old.machine.version) (sleep_command millis [] ∷ []))) outcome old new
+
+-- another handler is called, at a time in milliseconds, or at once where it is 0, and nobody waits for it
+abbrev pub SendsTo : GivenTarget → List ℕ → ℕ → List ℕ → Bool → Call
+SendsTo target bytes millis name unstable outcome old new =
+    MadeWith (texts_of_call target name) (Tells sent (CallsFor send_handle (send_command (target_of target) bytes millis name (record { unstable_serialization = unstable }) old.machine.version))) outcome old new

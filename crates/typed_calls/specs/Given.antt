@@ -1,0 +1,41 @@
+-- What C lends for a call, as values.
+use Rattle.std.specs.Prelude.{◌⊎◌, ℕ, if◌then◌else◌, List, [], ◌∷◌, Option, Some, None}
+use Rattle.std.specs.Str.{IsUtf8}
+use Rattle.journal_values.specs.declared.parts.Header.{Header}
+use Rattle.sessions.specs.declared.status.Status.{Status}
+use Rattle.sessions.specs.declared.status.Status.TheVariants as status
+use Rattle.typed_calls.specs.declared.given.MayLend.{MayLend}
+use Rattle.typed_calls.specs.declared.given.Pair.{Pair}
+
+-- one of these texts isn't UTF-8
+abbrev pub SomeIsNoText : List (List ℕ) → Type 0
+SomeIsNoText [] = ⊥
+SomeIsNoText (text ∷ texts) = (¬ IsUtf8 text) ⊎ SomeIsNoText texts
+
+-- no memory is found, or one of these texts isn't UTF-8
+abbrev pub IsWhy : List (List ℕ) → Status → Type 0
+IsWhy texts status.NoMemory = Unit {0}
+IsWhy texts status.BadText = SomeIsNoText texts
+IsWhy texts other = ⊥
+
+-- why these texts can't be copied
+pub record Refuses (texts : List (List ℕ)) (given : Status) : Type 0 where
+  pub why : IsWhy texts given
+
+-- bytes, if they are given
+abbrev pub optional_of : MayLend → Option (List ℕ)
+optional_of may = if may.is_given then Some may.lent.bytes.now else None
+
+-- the text that has to be UTF-8 where it is given
+abbrev pub texts_in : MayLend → List (List ℕ)
+texts_in may = if may.is_given then may.lent.bytes.now ∷ [] else []
+
+-- a key and its value
+abbrev pub pair_of : Pair → List ℕ × List ℕ
+pair_of pair = (pair.key.bytes.now, pair.value.bytes.now)
+
+abbrev pub header_of : Pair → Header
+header_of pair = record { key = pair.key.bytes.now; value = pair.value.bytes.now }
+
+abbrev pub texts_of_pair : Pair → List (List ℕ)
+texts_of_pair pair = pair.key.bytes.now ∷ pair.value.bytes.now ∷ []

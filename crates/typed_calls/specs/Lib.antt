@@ -1,0 +1,6 @@
+pub mod Given
+pub mod Nodes
+pub mod Makes
+pub mod Values
+pub mod Callees
+pub mod Calls

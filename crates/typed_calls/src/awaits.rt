@@ -1,0 +1,59 @@
+//! Awaits, and the takes of results.
+
+use crate::nodes::{Node, future_of};
+use invocation_vm::{CoreVM, NotificationHandle, VM};
+use replies::Reply;
+use scripts::perform::{awaited, taken};
+use sessions::{Status, VmCall};
+use std::alloc::Global;
+use vm_parts::UnresolvedFuture;
+
+/// A handle is awaited.
+#[derive(Clone, Copy)]
+pub struct AwaitCall {
+    pub handle: u32,
+}
+
+impl VmCall for AwaitCall {
+    ghost use Rattle.typed_calls.specs.Calls.{AwaitsHandle};
+
+    ghost does = { λ it. AwaitsHandle it.handle };
+
+    fn make(self, alloc: Global, vm: &mut CoreVM) -> Result<Reply, Status> {
+        let future = UnresolvedFuture::Single(NotificationHandle(self.handle));
+        Ok(awaited(vm.do_await(future)))
+    }
+}
+
+/// The tree that the nodes are is awaited.
+#[derive(Clone, Copy)]
+pub struct AwaitTreeCall<'a> {
+    pub nodes: &'a [Node],
+}
+
+impl<'a> VmCall for AwaitTreeCall<'a> {
+    ghost use Rattle.typed_calls.specs.Calls.{AwaitsNodes};
+
+    ghost does = { λ it. AwaitsNodes it.nodes.now };
+
+    fn make(self, alloc: Global, vm: &mut CoreVM) -> Result<Reply, Status> {
+        let future = future_of(alloc, self.nodes)?;
+        Ok(awaited(vm.do_await(future)))
+    }
+}
+
+/// The result of a handle is taken.
+#[derive(Clone, Copy)]
+pub struct TakeCall {
+    pub handle: u32,
+}
+
+impl VmCall for TakeCall {
+    ghost use Rattle.typed_calls.specs.Calls.{Takes};
+
+    ghost does = { λ it. Takes it.handle };
+
+    fn make(self, alloc: Global, vm: &mut CoreVM) -> Result<Reply, Status> {
+        Ok(taken(vm.take_notification(NotificationHandle(self.handle))))
+    }
+}

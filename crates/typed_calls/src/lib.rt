@@ -1,0 +1,12 @@
+//! The calls of the VM, as C makes them: on numbers, byte strings and small structs. Each calls its method of `trait VM`.
+#![tactic(auto)]
+
+pub mod awaits;
+pub mod callees;
+pub mod given;
+pub mod journal;
+pub mod nodes;
+pub mod queries;
+pub mod runs;
+pub mod state;
+pub mod values;
