@@ -29,11 +29,11 @@ class Files(support.InAFolder, unittest.TestCase):
         patch.start()
         self.addCleanup(mock.patch.stopall)
         db = connect(url)
-        assert rows(db, "SELECT version FROM schema_versions ORDER BY version") == [(1,), (2,)] and rows(db, "SELECT * FROM more") == []
+        assert rows(db, "SELECT version FROM schema_versions ORDER BY version") == [(1,), (2,), (3,)] and rows(db, "SELECT * FROM more") == []
         db.close()
         connect(url).close()
         patch.stop()
-        with self.assertRaisesRegex(schema.NewerSchema, "has schema version 2"):
+        with self.assertRaisesRegex(schema.NewerSchema, "has schema version 3"):
             connect(url)
 
     def test_a_migration_that_fails_changes_nothing(self):

@@ -120,8 +120,11 @@ def resume(options: argparse.Namespace) -> int:
 
 
 def purge(options: argparse.Namespace) -> int:
+    before, count = time.time() - options.older, 0
     with _opened(options.db) as db:
-        print(f"{operate.purge(db, time.time() - options.older)} invocations are purged")
+        while some := operate.purge(db, before):
+            count += some
+    print(f"{count} invocations are purged")
     return 0
 
 

@@ -10,7 +10,7 @@ import time
 from collections.abc import Callable
 from typing import Any, TypeVar
 
-from . import inbox, invocations, journal, storing
+from . import inbox, invocations, journal, operate, storing
 from .attempt import Attempt
 from .claiming import Claimer, Claims
 from .committer import Committer, Stopped
@@ -307,3 +307,10 @@ class Engine:
 
     async def cancel(self, invocation: str) -> bool:
         return await self.notify(invocation, journal.signal(journal.CANCEL, journal.void()))
+
+    async def resume(self, invocation: str) -> bool:
+        """Tries a paused invocation again; answers whether there is such a one."""
+        out = Outcome()
+        is_done = await self.transact(lambda db: operate.resume(db, out, invocation))
+        self.tell(out)
+        return is_done

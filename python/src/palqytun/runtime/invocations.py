@@ -46,7 +46,7 @@ def create(db: Database, app: App, out: Outcome, new: New) -> str:
     if bool(new.key) != handler.service.keyed:
         raise TerminalError(f"{handler.path} is called {'with' if handler.service.keyed else 'without'} a key", 400)
     is_main = handler.service.workflow and handler.exclusive
-    idem = "" if is_main else new.idempotency_key  # a workflow's main runs once a key
+    idem = "" if is_main else new.idempotency_key or None  # a workflow's main runs once a key
     now = time.time()
     id = new.id or f"inv_{secrets.token_hex(12)}"
     sql = (
@@ -57,7 +57,8 @@ def create(db: Database, app: App, out: Outcome, new: New) -> str:
     if not db.change(sql, row):
         found = db.rows("SELECT id FROM invocations WHERE service=? AND handler=? AND key=? AND idem=?", (new.service, new.handler, new.key, idem))
         return str(found[0][0]) if found else id
-    db.change("INSERT INTO journal(invocation, at, frame) VALUES (?,0,?)", (id, journal.input_command(new.argument, new.headers)))
+    sql = "INSERT INTO journal(invocation, at, frame, stored) VALUES (?,0,?,?)"
+    db.change(sql, (id, journal.input_command(new.argument, new.headers), now))
     out.is_due(new.due or now)
     db.notify("ready")
     return id
@@ -132,13 +133,26 @@ def _has_key(db: Database, service: str, key: str, id: str) -> bool:
     return bool(db.rows("SELECT holder FROM locks WHERE service=? AND key=?", (service, key))[0][0] == id)
 
 
+def _keep_attempt(db: Database, id: str, now: float) -> None:
+    """Writes down the attempt before this one. One that didn't say how it stopped was lost, with its worker or its lease."""
+    sql = (
+        "INSERT INTO attempts(invocation, epoch, worker, begun, stopped, how, error)"
+        " SELECT id, epoch, worker, begun, COALESCE(stopped, ?), COALESCE(how, 'lost'), CASE WHEN how IN ('failed', 'paused') THEN error END"
+        " FROM invocations WHERE id=?"
+    )
+    db.change(sql, (now, id))
+
+
 def claim(db: Database, worker: str, row: tuple[Any, ...]) -> Claim | None:
     """Takes the lease of an invocation whose row is kept until the commit. Nothing, if another has its key."""
     id, service, handler, key, exclusive, version, seed, idem, epoch, entries, retries, failing_since = row
     if exclusive and not _has_key(db, service, key, id):
         return None
-    sql = "UPDATE invocations SET status='running', epoch=?, worker=?, future=NULL WHERE id=? AND epoch=?"
-    if db.change(sql, (epoch + 1, worker, id, epoch)) != 1:
+    now = time.time()
+    if epoch:
+        _keep_attempt(db, id, now)
+    sql = "UPDATE invocations SET status='running', epoch=?, worker=?, future=NULL, begun=?, stopped=NULL, how=NULL WHERE id=? AND epoch=?"
+    if db.change(sql, (epoch + 1, worker, now, id, epoch)) != 1:
         raise Fenced(id)
     growth = Growth(Lease(id, epoch + 1, load(db, id, entries)))
     rows = inbox.peek(db, id)
@@ -148,7 +162,6 @@ def claim(db: Database, worker: str, row: tuple[Any, ...]) -> Claim | None:
     if rows:
         growth.write(db)
     growth.lease.journal.keep()  # if the commit fails, the claim is thrown away
-    now = time.time()
     failing = max(0, int((now - failing_since) * 1000)) if retries and failing_since is not None else 0
     # A handler that may write is handed the whole state; one that only reads is handed none, and reads by completions.
     state = tuple(state_of(db, service, key).items()) if exclusive else ()

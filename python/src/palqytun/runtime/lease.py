@@ -5,6 +5,7 @@ Whoever lost a lease is fenced: the fence stands before any effect, so that noth
 
 from __future__ import annotations
 
+import time
 from dataclasses import dataclass, field
 
 from .database import Database
@@ -70,5 +71,6 @@ class Growth:
         if db.change(sql, values) != 1:
             raise self.lease.lost(self.before)
         if self.entries:
-            rows = [(self.lease.invocation, it.at, it.completes, it.frame) for it in self.entries]
-            db.many("INSERT INTO journal(invocation, at, completes, frame) VALUES (?,?,?,?)", rows)
+            now = time.time()
+            rows = [(self.lease.invocation, it.at, it.completes, it.frame, now) for it in self.entries]
+            db.many("INSERT INTO journal(invocation, at, completes, frame, stored) VALUES (?,?,?,?,?)", rows)

@@ -45,11 +45,18 @@ def resume(db: Database, out: Outcome, id: str) -> bool:
     return True
 
 
-def purge(db: Database, before: float) -> int:
-    """Deletes the invocations that ended before a time, with their journals; answers how many."""
-    ended = "SELECT id FROM invocations WHERE status='done' AND ended<?"
-    db.change(f"DELETE FROM journal WHERE invocation IN ({ended})", (before,))
-    return db.change("DELETE FROM invocations WHERE status='done' AND ended<?", (before,))
+def purge(db: Database, before: float, most: int = 1000) -> int:
+    """Deletes at most so many invocations that ended before a time, with their journals; answers how many. With a workflow's `main` go the
+    state and the promises of its key, so that the key can run again."""
+    sql = f"SELECT id, service, key, exclusive, idem FROM invocations WHERE status='done' AND ended<? ORDER BY ended LIMIT ?{db.skip}"
+    rows = db.rows(sql, (before, most))
+    ids = [(row[0],) for row in rows]
+    for table, column in (("journal", "invocation"), ("attempts", "invocation"), ("invocations", "id")):
+        db.many(f"DELETE FROM {table} WHERE {column}=?", ids)
+    workflows = [(service, key) for _, service, key, exclusive, idem in rows if exclusive and idem == ""]
+    for table in ("state", "promises"):
+        db.many(f"DELETE FROM {table} WHERE service=? AND key=?", workflows)
+    return len(rows)
 
 
 def by_status(db: Database) -> dict[str, int]:

@@ -43,7 +43,7 @@ def _suspend(db: Database, out: Outcome, growth: Growth, suspension: Suspension)
     is_awake = journal.is_awake(suspension.future, came) or inbox.wakes(db, own, suspension.future)
     out.status = "ready" if is_awake else "suspended"
     progress = {"retries": 0, "failing_since": None} if growth.has_progress else {}
-    growth.write(db, status=out.status, due=now, future=suspension.future, worker=None, **progress)
+    growth.write(db, status=out.status, due=now, future=suspension.future, stopped=now, how="suspended", **progress)
     if is_awake:
         out.is_due(now)
 
@@ -63,7 +63,8 @@ def _fail(db: Database, app: App, out: Outcome, claim: Claim, growth: Growth, er
     out.status = "paused" if is_over or error.behaviour == "pause" else "ready"
     delay = retry.delay(failures) if error.delay is None else error.delay / 1000
     text = f"{error.code} {error.message}\n{error.stacktrace}".rstrip()
-    growth.write(db, status=out.status, due=now + delay, retries=failures, failing_since=since, error=text, worker=None)
+    how = "paused" if out.status == "paused" else "failed"
+    growth.write(db, status=out.status, due=now + delay, retries=failures, failing_since=since, error=text, stopped=now, how=how)
     out.is_due(now + delay)
 
 
@@ -74,8 +75,8 @@ def _stored_output(db: Database, invocation: str) -> Result:
 
 
 def _end(db: Database, out: Outcome, claim: Claim, growth: Growth, result: Result) -> None:
-    out.status = "done"
-    growth.write(db, status="done", ended=time.time(), result=result, worker=None)
+    out.status, now = "done", time.time()
+    growth.write(db, status="done", ended=now, stopped=now, how="ended", result=result)
     invocations.end(db, out, claim.invocation, claim.service, claim.key if claim.exclusive else "", result)
 
 
@@ -95,6 +96,6 @@ def pull(db: Database, claim: Claim) -> Outcome:
 
 def pause(db: Database, claim: Claim, why: str) -> Outcome:
     """The attempt stopped without an end: its invocation is paused, if it is still this worker's. What it wrote last isn't stored."""
-    sql = "UPDATE invocations SET status='paused', worker=NULL, error=? WHERE id=? AND epoch=? AND status='running'"
-    db.change(sql, (why, claim.invocation, claim.lease.epoch))
+    sql = "UPDATE invocations SET status='paused', stopped=?, how='paused', error=? WHERE id=? AND epoch=? AND status='running'"
+    db.change(sql, (time.time(), why, claim.invocation, claim.lease.epoch))
     return Outcome(status="paused")
