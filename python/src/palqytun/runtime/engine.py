@@ -37,7 +37,8 @@ class Engine:
     """A worker of an app.
 
     `limit`: attempts at once. `idle`: after so many seconds an attempt that waits is suspended. `lease`: a worker that isn't heard of for
-    so many seconds is thought dead. `poll`: how often the database is looked at, in seconds, if nothing is known to be due."""
+    so many seconds is thought dead. `poll`: how often the database is looked at, in seconds, if nothing is known to be due. `keep`: an
+    invocation is purged so many seconds after its end; never if none is given."""
 
     def __init__(
         self,
@@ -49,11 +50,12 @@ class Engine:
         idle: float = 1.0,
         lease: float = 10.0,
         poll: float = 1.0,
+        keep: float | None = None,
         grouped: bool = True,
         connect: Callable[[str], Database] = lambda url: connect(url, worker=True),
     ):
         self.app, self.url = app, url
-        self.name, self.limit, self.idle, self.lease, self.poll, self.grouped = name, limit, idle, lease, poll, grouped
+        self.name, self.limit, self.idle, self.lease, self.poll, self.keep, self.grouped = name, limit, idle, lease, poll, keep, grouped
         self._connect = connect
         self.live: dict[str, Attempt] = {}
         self.counts = {"attempts": 0, "sessions": 0, "fenced": 0}
@@ -149,7 +151,7 @@ class Engine:
         """As long as the database can be used. Each session is a worker of its own, so what an earlier one left is claimed like any other's."""
         db = await asyncio.to_thread(self._connect, self.url)
         committer = self._committer = Committer(db, grouped=self.grouped)
-        claimer = Claimer(f"{self.name}-{secrets.token_hex(6)}", tuple(self.app.services), self.lease, self._former)
+        claimer = Claimer(f"{self.name}-{secrets.token_hex(6)}", self.app, self.lease, self._former)
         self._former = claimer.worker
         unlisten: Callable[[], None] | None = None
         beats = asyncio.create_task(self._beats(committer, claimer))
@@ -216,10 +218,18 @@ class Engine:
             await asyncio.sleep(self.lease / 3)
             try:
                 await committer.submit(claimer.beat)
+                await self._purge(committer)
             except Stopped:
                 return
             except Conflict as error:
                 log.warning("a beat wasn't stored: %s", error)
+
+    async def _purge(self, committer: Committer) -> None:
+        """Deletes what has been kept long enough, some at a time."""
+        if self.keep is not None:
+            before = time.time() - self.keep
+            while await committer.submit(lambda db: operate.purge(db, before)):
+                pass
 
     def stop(self) -> None:
         """`run` ends once the transactions that are queued are committed. What isn't finished is claimed by the next worker."""
@@ -262,7 +272,7 @@ class Engine:
     async def _give_up(self, attempt: Attempt, error: Exception) -> None:
         why = f"the runtime failed: {type(error).__name__}: {error}"
         if self._committer is not None:
-            await asyncio.gather(self._committer.submit(lambda db: storing.pause(db, attempt.claim, why)), return_exceptions=True)
+            await asyncio.gather(self._committer.submit(lambda db: storing.pause(db, self.app, attempt.claim, why)), return_exceptions=True)
 
     # ---- what an ingress does
 

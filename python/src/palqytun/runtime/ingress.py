@@ -4,6 +4,7 @@
     POST /{service}/../{handler}/send    only makes the invocation (202); `?delay=SECONDS`
     GET  /-/health
     GET  /-/metrics                      for Prometheus
+    GET  /-/schedules                    each with its next time
     GET  /-/invocations                  `?status=`, `?service=`, `?most=`
     GET  /-/invocations/{id}             its row; /journal: its entries; /timeline: these with their times; /result: its result, once it has ended
     POST /-/invocations/{id}/cancel      or /resume, or /signals/{name} with a value
@@ -80,6 +81,8 @@ class Ingress:
                 return _reply({"live": len(self.engine.live), **self.engine.counts})
             case ("GET", "metrics"):
                 what = self._metrics
+            case ("GET", "schedules"):
+                return _reply(await self.engine.transact(operate.schedules))
             case ("GET", "invocations"):
                 what = self._list
             case ("GET", "invocations", _):

@@ -34,6 +34,12 @@ def journal_of(db: Database, id: str) -> list[str]:
     return [journal.line_of(bytes(row[0])) for row in db.rows("SELECT frame FROM journal WHERE invocation=? ORDER BY at", (id,))]
 
 
+def schedules(db: Database) -> list[dict[str, Any]]:
+    """The schedules, each with when it is due next, and which time of it made the last call."""
+    names = ("name", "service", "handler", "rule", "due", "last")
+    return [dict(zip(names, row)) for row in db.rows(f"SELECT {', '.join(names)} FROM schedules ORDER BY name")]
+
+
 def resume(db: Database, out: Outcome, id: str) -> bool:
     """A paused invocation is tried again, as if it hadn't failed before."""
     now = time.time()

@@ -32,8 +32,17 @@ def store(db: Database, app: App, claim: Claim, output: bytes, at: int) -> Outco
     else:
         results = [it.result for it in stored.commands if isinstance(it, Output)]
         _end(db, out, claim, growth, results[0] if results else _stored_output(db, claim.invocation))
+    if stored.end is not None:
+        _leave_room(db, app, out, claim)
     out.feed = growth.feed
     return out
+
+
+def _leave_room(db: Database, app: App, out: Outcome, claim: Claim) -> None:
+    """An attempt has stopped: if its handler has a limit, another may begin."""
+    if app.has_limit(claim.service, claim.handler):
+        out.is_due(time.time())
+        db.notify("ready")
 
 
 def _suspend(db: Database, out: Outcome, growth: Growth, suspension: Suspension) -> None:
@@ -94,8 +103,10 @@ def pull(db: Database, claim: Claim) -> Outcome:
     return out
 
 
-def pause(db: Database, claim: Claim, why: str) -> Outcome:
+def pause(db: Database, app: App, claim: Claim, why: str) -> Outcome:
     """The attempt stopped without an end: its invocation is paused, if it is still this worker's. What it wrote last isn't stored."""
     sql = "UPDATE invocations SET status='paused', stopped=?, how='paused', error=? WHERE id=? AND epoch=? AND status='running'"
     db.change(sql, (time.time(), why, claim.invocation, claim.lease.epoch))
-    return Outcome(status="paused")
+    out = Outcome(status="paused")
+    _leave_room(db, app, out, claim)
+    return out
