@@ -1,7 +1,9 @@
-"""How fast the runtime is, beside a loop of one insert a transaction: bench/runtime.py [DB] [WHAT..] [--scale F] [--idle S]
+"""How fast the runtime is, beside the same rows without the core: bench/runtime.py [DB] [WHAT..] [--scale F] [--idle S] [--workers N]
 
 DB is a SQLite file's path, maybe with `?synchronous=NORMAL`, which is removed first, or the URL of a PostgreSQL database, which is emptied.
-CPU seconds are this process's own; on a loaded machine they say more than the wall's.
+Each run's statements are written down, and then made again on an empty database, transaction by transaction, with neither core nor handler:
+`rows alone` is what that takes. `floor` is a loop of one insert a transaction. With several workers (PostgreSQL) the others are processes
+of their own, and nothing is written down. CPU seconds are this process's own; on a loaded machine they say more than the wall's.
 """
 
 from __future__ import annotations
@@ -10,13 +12,16 @@ import argparse
 import asyncio
 import json
 import pathlib
+import subprocess
 import sys
 import tempfile
 import time
+from collections.abc import Callable, Iterable, Sequence
+from typing import Any
 
 sys.path.insert(0, str(pathlib.Path(__file__).parent.parent / "src"))
 from palqytun.runtime import App, Context, Service, gather, invocations  # noqa: E402
-from palqytun.runtime.database import connect  # noqa: E402
+from palqytun.runtime.database import Database, connect  # noqa: E402
 from palqytun.runtime.database.schema import TABLES  # noqa: E402
 from palqytun.runtime.engine import Engine  # noqa: E402
 from palqytun.runtime.invocations import New  # noqa: E402
@@ -71,11 +76,48 @@ RUNS = {
 }
 
 
+class Recorded:
+    """A connection that writes down its statements."""
+
+    def __init__(self, db: Database):
+        self._db, self.said = db, list[tuple[str, tuple[Any, ...]]]()
+        self.is_shared, self.is_remote, self.skip, self.lock, self.clock = db.is_shared, db.is_remote, db.skip, db.lock, db.clock
+        self.listen, self.close = db.listen, db.close
+
+    def _make(self, name: str, *words: Any) -> Any:
+        self.said.append((name, words))
+        return getattr(self._db, name)(*words)
+
+    def begin(self) -> None:
+        self._make("begin")
+
+    def commit(self) -> None:
+        self._make("commit")
+
+    def rollback(self) -> None:
+        self._make("rollback")
+
+    def rows(self, sql: str, values: Sequence[object] = ()) -> list[Any]:
+        return self._make("rows", sql, tuple(values))  # type: ignore[no-any-return]
+
+    def change(self, sql: str, values: Sequence[object] = ()) -> int:
+        return self._make("change", sql, tuple(values))  # type: ignore[no-any-return]
+
+    def put(self, sql: str, values: Sequence[object] = ()) -> None:
+        self._make("put", sql, tuple(values))
+
+    def many(self, sql: str, values: Iterable[Sequence[object]]) -> None:
+        self._make("many", sql, list(values))
+
+    def notify(self, word: str) -> None:
+        self._make("notify", word)
+
+
 def emptied(url: str) -> None:
     if "://" in url:
         db = connect(url)
         db.begin()
-        db.change(f"TRUNCATE {', '.join(TABLES)}")
+        db.change(f"TRUNCATE {', '.join(TABLES)} RESTART IDENTITY")
         db.commit()
         db.close()
         return
@@ -96,9 +138,8 @@ def floor(url: str) -> None:
     db.close()
 
 
-async def timed(url: str, name: str, scale: float, idle: float) -> None:
-    handler, count, argument, invocations_of_one, steps_of_one = RUNS[name]
-    count = max(1, int(count * scale))
+def submitted(url: str, handler: str, count: int, argument: object) -> None:
+    """An empty database with workflows that haven't begun."""
     emptied(url)
     db = connect(url)
     db.begin()
@@ -106,32 +147,83 @@ async def timed(url: str, name: str, scale: float, idle: float) -> None:
         invocations.create(db, app, Outcome(), New("Bench", handler, argument=json.dumps(argument).encode(), id=f"inv_{n:06d}"))
     db.commit()
     db.close()
-    engine = Engine(app, url, idle=idle)
+
+
+def again(url: str, said: list[tuple[str, tuple[Any, ...]]]) -> float:
+    """Seconds that the statements take by themselves."""
+    db = connect(url)
+    begun = time.perf_counter()
+    for name, words in said:
+        getattr(db, name)(*words)
+    took = time.perf_counter() - begun
+    db.close()
+    return took
+
+
+async def timed(url: str, name: str, scale: float, idle: float, workers: int) -> None:
+    handler, count, argument, invocations_of_one, steps_of_one = RUNS[name]
+    count = max(1, int(count * scale))
+    submitted(url, handler, count, argument)
+    recorded: list[Recorded] = []
+
+    def opened(url: str) -> Database:
+        db = connect(url, worker=True)
+        if workers > 1:
+            return db
+        recorded.append(Recorded(db))
+        return recorded[0]
+
+    engine = Engine(app, url, idle=idle, connect=opened)
+    others = [subprocess.Popen(command(url, idle)) for _ in range(workers - 1)]
+    if others:
+        await asyncio.sleep(1.5)
     begun, used = time.perf_counter(), time.process_time()
     task = asyncio.create_task(engine.run())
     await engine.is_open()
-    while (await engine.transact(lambda db: db.rows("SELECT COUNT(*) FROM invocations WHERE status='done'")))[0][0] < count * invocations_of_one:
-        await asyncio.sleep(0.02)
+    await until_done(engine, count * invocations_of_one)
     took, cpu, done = time.perf_counter() - begun, time.process_time() - used, count * steps_of_one
     transactions = engine._committer.counts["transactions"] if engine._committer is not None else 0
     engine.stop()
     await task
-    print(f"{name:<8} {count / took:9.0f} workflows/s {done / took:9.0f} steps/s {done / cpu:9.0f} steps/CPU s  {transactions} transactions  {took:.2f} s", flush=True)
+    for other in others:
+        other.terminate()
+        other.wait()
+    line = f"{name:<8} {count / took:9.0f} workflows/s {done / took:9.0f} steps/s {done / cpu:9.0f} steps/CPU s  {transactions} transactions  {took:.2f} s"
+    if recorded:
+        submitted(url, handler, count, argument)
+        alone = again(url, recorded[0].said)
+        line += f"; rows alone {done / alone:.0f} steps/s, {took / alone:.2f} times as fast"
+    print(line, flush=True)
+
+
+def command(url: str, idle: float) -> list[str]:
+    """A worker in a process of its own."""
+    return [sys.executable, "-m", "palqytun", "run", __file__, "--db", url, "--port", "-1", "--idle", str(idle)]
+
+
+async def until_done(engine: Engine, count: int) -> None:
+    ended: Callable[[Database], Any] = lambda db: db.rows("SELECT COUNT(*) FROM invocations WHERE status='done'")
+    while (await engine.transact(ended))[0][0] < count:
+        await asyncio.sleep(0.02)
 
 
 async def main() -> None:
     parser = argparse.ArgumentParser()
-    parser.add_argument("db", nargs="?", default=str(pathlib.Path(tempfile.gettempdir()) / "palqytun-bench.db"))
+    parser.add_argument("db", nargs="?", default="")
     parser.add_argument("what", nargs="*", default=["floor", *RUNS])
     parser.add_argument("--scale", type=float, default=1.0)
     parser.add_argument("--idle", type=float, default=0.0)
+    parser.add_argument("--workers", type=int, default=1)
     options = parser.parse_args()
-    for name in options.what:
-        if name == "floor":
-            floor(options.db)
-        else:
-            await timed(options.db, name, options.scale, options.idle)
-    emptied(options.db)
+    with tempfile.TemporaryDirectory(prefix="palqytun-bench-") as folder:
+        url = options.db or f"{folder}/db"
+        for name in options.what:
+            if name == "floor":
+                floor(url)
+            else:
+                await timed(url, name, options.scale, options.idle, options.workers)
+        emptied(url)
 
 
-asyncio.run(main())
+if __name__ == "__main__":
+    asyncio.run(main())

@@ -57,18 +57,19 @@ class Elements(html.parser.HTMLParser):
 
 def claimed(db, id, worker):
     [row] = db.rows(f"SELECT {CLAIMED} FROM invocations WHERE id=?", (id,))
-    return invocations.claim(db, worker, row)
+    [claim] = invocations.claim(db, worker, [invocations.Claimable(*row)])
+    return claim
 
 
 def three_attempts(db):
     """An invocation that slept, was suspended, went on and was lost with its worker, and runs again."""
     db.begin()
     out = Outcome()
-    id = invocations.create(db, runtime_app.app, out, New("S", "echo", argument=b'"<b>&"'))
+    id, _ = invocations.create(db, runtime_app.app, out, New("S", "echo", argument=b'"<b>&"'))
     first = claimed(db, id, "one")
     storing.store(db, runtime_app.app, first, sleep(1) + SUSPENDED, 0)
     first.lease.journal.keep()
-    inbox.deliver_completion(db, out, id, 1, journal.void())
+    inbox.complete(db, out, id, 1, journal.void())
     claimed(db, id, "two")
     third = claimed(db, id, "three")
     growth = Growth(third.lease)

@@ -173,7 +173,7 @@ class Handlers(support.OnADatabase):
                 await runtime.until(id, "suspended")
                 await runtime.engine.notify(id, journal.named_signal("go", journal.value(b"1")))  # it isn't awake by this
                 [row] = await runtime.rows(f"SELECT {invocations.CLAIMED} FROM invocations WHERE id=?", id)
-                first = await runtime.engine.transact(lambda db: invocations.claim(db, "dead", row))
+                [first] = await runtime.engine.transact(lambda db: invocations.claim(db, "dead", [invocations.Claimable(*row)]))
                 await asyncio.sleep(0.5)  # the worker sees that `dead` has no lease
                 sleep = bytes.fromhex("0012" "0000000000000014") + bytes(8) + (1).to_bytes(4, "big") + bytes(8)
                 with self.assertRaises(Fenced):

@@ -9,12 +9,13 @@ from typing import Any
 
 from . import inbox, invocations, journal, schedules
 from .database import Database
-from .invocations import CLAIMED, Claim
+from .invocations import CLAIMED, Claim, Claimable
 from .outcome import Outcome
 from .services import App
 
 _TIMERS = 1000  # at most so many fire in one transaction
 _FRESH = 5000
+_AT_ONCE = 500  # leases that one statement takes
 
 
 @dataclass
@@ -77,19 +78,17 @@ class Claimer:
         schedules.fire(db, self.app, found.out, now)
         fresh = {row[0] for row in db.rows("SELECT DISTINCT invocation FROM inbox WHERE fresh=1 LIMIT ?", (_FRESH,))}
         found.out.touched |= fresh
-        for row in self._rows(db, now, room, bool(fresh)):
-            if row[0] in live:
-                continue
-            claimed = invocations.claim(db, self.worker, row)
-            if claimed is not None:
-                found.claims.append(claimed)
+        rows = [Claimable(*row) for row in self._rows(db, now, room, bool(fresh))]
+        free = [it for it in rows if it.id not in live]
+        for first in range(0, len(free), _AT_ONCE):
+            found.claims += invocations.claim(db, self.worker, free[first : first + _AT_ONCE])
         found.next_due = self._next_due(db, now)
         return found
 
     def _fire(self, db: Database, out: Outcome, now: float) -> None:
         due = db.rows(f"SELECT seq, invocation, completes FROM timers WHERE due<=? ORDER BY due LIMIT {_TIMERS}{db.skip}", (now,))
         for _, invocation, completes in due:
-            inbox.deliver_completion(db, out, invocation, completes, journal.void())
+            inbox.complete(db, out, invocation, completes, journal.void())
         if due:
             db.many("DELETE FROM timers WHERE seq=?", [(seq,) for seq, _, _ in due])
 

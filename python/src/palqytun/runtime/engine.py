@@ -283,7 +283,7 @@ class Engine:
     async def submit(self, new: New) -> str:
         """Makes an invocation. It is stored once this answers its id."""
         out = Outcome()
-        id = await self.transact(lambda db: invocations.create(db, self.app, out, new))
+        id, _ = await self.transact(lambda db: invocations.create(db, self.app, out, new))
         self.tell(out)
         return id
 

@@ -1,6 +1,6 @@
 """The lease of an invocation: who may write its journal. It is taken by raising the invocation's epoch, and each write asks for that epoch.
 
-Whoever lost a lease is fenced: the fence stands before any effect, so that nothing of a lost attempt is stored.
+Whoever lost a lease is fenced: the fence stands before any effect, so that nothing of a lost attempt is stored. `write` is a fence too.
 """
 
 from __future__ import annotations

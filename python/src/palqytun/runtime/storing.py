@@ -17,8 +17,9 @@ from .services import App
 def store(db: Database, app: App, claim: Claim, output: bytes, at: int) -> Outcome:
     """Stores what an attempt wrote, after its first `at` bytes. If it has ended, its invocation's status follows."""
     out, growth = Outcome(), Growth(claim.lease)
-    growth.fence(db)
     stored = growth.store(output, at)
+    if isinstance(stored.end, Suspension) or any(map(Performer.has_effect, stored.commands)):
+        growth.fence(db)  # else the first statement that changes something is that of `write`, which fences
     performer = Performer(db, app, out, growth, claim.service, claim.key)
     for command in stored.commands:
         performer.perform(command)
@@ -92,13 +93,12 @@ def _end(db: Database, out: Outcome, claim: Claim, growth: Growth, result: Resul
 def pull(db: Database, claim: Claim) -> Outcome:
     """Moves what came for a running invocation to its journal."""
     out, growth = Outcome(), Growth(claim.lease)
-    growth.fence(db)
     rows = inbox.peek(db, claim.invocation)
     for _, frame in rows:
         growth.arrive(frame)
-    inbox.remove(db, rows)
     if rows:
         growth.write(db)
+        inbox.remove(db, rows)
     out.feed = growth.feed
     return out
 
