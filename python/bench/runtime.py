@@ -4,6 +4,9 @@ DB is a SQLite file's path, maybe with `?synchronous=NORMAL`, which is removed f
 Each run's statements are written down, and then made again on an empty database, transaction by transaction, with neither core nor handler:
 `rows alone` is what that takes. `floor` is a loop of one insert a transaction. With several workers (PostgreSQL) the others are processes
 of their own, and nothing is written down. CPU seconds are this process's own; on a loaded machine they say more than the wall's.
+
+`long` is one workflow of 1,000, 3,000 and 10,000 calls one after the other, whose attempt waits and isn't suspended. `suspended` makes 10,000
+workflows that wait for a signal, and then asks a new worker for the result of another handler; at last all of them get their signal.
 """
 
 from __future__ import annotations
@@ -16,11 +19,11 @@ import subprocess
 import sys
 import tempfile
 import time
-from collections.abc import Callable, Iterable, Sequence
+from collections.abc import Awaitable, Callable, Iterable, Sequence
 from typing import Any
 
 sys.path.insert(0, str(pathlib.Path(__file__).parent.parent / "src"))
-from palqytun.runtime import App, Context, Service, gather, invocations  # noqa: E402
+from palqytun.runtime import App, Context, Service, gather, inbox, invocations, journal  # noqa: E402
 from palqytun.runtime.database import Database, connect  # noqa: E402
 from palqytun.runtime.database.schema import TABLES  # noqa: E402
 from palqytun.runtime.engine import Engine  # noqa: E402
@@ -63,6 +66,12 @@ async def sleeps(ctx: Context, n: float) -> None:
     await ctx.sleep(n)
 
 
+@bench.handler()
+async def waits(ctx: Context, n: int) -> int:
+    await ctx.run("step", nothing)
+    return await ctx.signal("go", int)
+
+
 app = App(bench)
 
 # What is run: its handler, how many workflows, the argument, and how many invocations and steps a workflow is.
@@ -74,6 +83,9 @@ RUNS = {
     "fans": ("fans", 20, 100, 101, 100),
     "sleeps": ("sleeps", 2000, 0.01, 1, 1),
 }
+
+
+GO = journal.named_signal("go", journal.value(b"1"))
 
 
 class Recorded:
@@ -196,21 +208,61 @@ async def timed(url: str, name: str, scale: float, idle: float, workers: int) ->
     print(line, flush=True)
 
 
+async def measured(url: str, idle: float, work: Callable[[Engine], Awaitable[None]]) -> float:
+    """Seconds from a worker's begin until some work is done."""
+    engine, begun = Engine(app, url, idle=idle), time.perf_counter()
+    task = asyncio.create_task(engine.run())
+    await engine.is_open()
+    await work(engine)
+    took = time.perf_counter() - begun
+    engine.stop()
+    await task
+    return took
+
+
+async def long(url: str, scale: float) -> None:
+    for count in (1000, 3000, 10_000):
+        count = int(count * scale)
+        submitted(url, "calls", 1, count)
+        took = await measured(url, 1.0, lambda engine: until_done(engine, count + 1))
+        print(f"long     {count} calls one after the other in {took:.1f} s, {count / took:.0f} calls/s", flush=True)
+
+
+async def suspended(url: str, scale: float) -> None:
+    count = int(10_000 * scale)
+    submitted(url, "waits", count, 1)
+    took = await measured(url, 0.0, lambda engine: until_status(engine, "suspended", count))
+
+    async def first(engine: Engine) -> None:
+        await engine.result(await engine.submit(New("Bench", "empty", argument=b"1")))
+
+    async def resolved(engine: Engine) -> None:
+        await engine.transact(lambda db: [inbox.deliver(db, Outcome(), f"inv_{n:06d}", GO) for n in range(count)])
+        await until_done(engine, count + 1)
+
+    answered, ended = await measured(url, 0.0, first), await measured(url, 0.0, resolved)
+    print(f"suspended {count} in {took:.1f} s; a new worker's first answer after {1000 * answered:.0f} ms; all of them end in {ended:.1f} s", flush=True)
+
+
 def command(url: str, idle: float) -> list[str]:
     """A worker in a process of its own."""
     return [sys.executable, "-m", "palqytun", "run", __file__, "--db", url, "--port", "-1", "--idle", str(idle)]
 
 
 async def until_done(engine: Engine, count: int) -> None:
-    ended: Callable[[Database], Any] = lambda db: db.rows("SELECT COUNT(*) FROM invocations WHERE status='done'")
-    while (await engine.transact(ended))[0][0] < count:
+    await until_status(engine, "done", count)
+
+
+async def until_status(engine: Engine, status: str, count: int) -> None:
+    sql = "SELECT COUNT(*) FROM invocations WHERE status=?"
+    while (await engine.transact(lambda db: db.rows(sql, (status,))))[0][0] < count:
         await asyncio.sleep(0.02)
 
 
 async def main() -> None:
     parser = argparse.ArgumentParser()
     parser.add_argument("db", nargs="?", default="")
-    parser.add_argument("what", nargs="*", default=["floor", *RUNS])
+    parser.add_argument("what", nargs="*", default=["floor", *RUNS, "long", "suspended"])
     parser.add_argument("--scale", type=float, default=1.0)
     parser.add_argument("--idle", type=float, default=0.0)
     parser.add_argument("--workers", type=int, default=1)
@@ -220,6 +272,8 @@ async def main() -> None:
         for name in options.what:
             if name == "floor":
                 floor(url)
+            elif name in ("long", "suspended"):
+                await (long if name == "long" else suspended)(url, options.scale)
             else:
                 await timed(url, name, options.scale, options.idle, options.workers)
         emptied(url)

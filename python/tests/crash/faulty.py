@@ -64,7 +64,7 @@ def until_all_ended(
         task = asyncio.create_task(engine.run())
         await engine.is_open()
         last = time.monotonic()
-        while await _count(engine, _UNFINISHED):
+        while not task.done() and await _count(engine, _UNFINISHED):
             if engine.live or await _count(engine, _TO_DO, time.time() + _SOON):
                 last = time.monotonic()
             elif time.monotonic() - last > _PATIENCE:
@@ -78,7 +78,7 @@ def until_all_ended(
 
 _UNFINISHED = "SELECT COUNT(*) FROM invocations WHERE status NOT IN ('done','paused')"
 _TO_DO = (
-    "SELECT (SELECT COUNT(*) FROM timers WHERE due<?) + (SELECT COUNT(*) FROM inbox WHERE fresh=1)"
+    "SELECT (SELECT COUNT(*) FROM timers WHERE due<?) + (SELECT COUNT(*) FROM inbox JOIN invocations ON id=invocation WHERE fresh=1 AND status<>'paused')"
     " + (SELECT COUNT(*) FROM invocations WHERE status='running' OR (status='ready' AND exclusive=0)"
     " OR (status='ready' AND NOT EXISTS (SELECT 1 FROM locks WHERE locks.service=invocations.service AND locks.key=invocations.key)))"
 )

@@ -173,6 +173,23 @@ class Limits(OnAConnection):
 
 
 @support.on_each_database
+class Broken(OnAConnection):
+    def test_a_broken_journal_keeps_nobody_out(self):
+        """Two completions of nothing: one stands in a journal, one in an inbox. Their invocations are paused, and the third is claimed."""
+        app, claimer = App(mail), Claimer("one", App(mail), 10)
+        self.done(claimer.enter)
+        for id in "abc":
+            self.done(invocations.create, app, Outcome(), New("Mail", "free", id=id))
+        nobodys = journal.completion(1, journal.void())
+        self.done(lambda db: db.change("INSERT INTO journal(invocation, at, completes, frame) VALUES ('a',1,1,?)", (nobodys,)))
+        self.done(lambda db: db.change("UPDATE invocations SET entries=2 WHERE id='a'"))
+        self.done(lambda db: db.change("INSERT INTO inbox(invocation, frame) VALUES ('b',?)", (nobodys,)))
+        self.assertEqual([it.invocation for it in self.done(claimer.claim, (), 100).claims], ["c"])
+        self.assertEqual(self.rows("SELECT id, status FROM invocations ORDER BY id"), [("a", "paused"), ("b", "paused"), ("c", "running")])
+        self.assertIn("no stored command carries completion 1", self.rows("SELECT error FROM invocations WHERE id='a'")[0][0])
+
+
+@support.on_each_database
 class Purges(OnAConnection):
     def test_some_at_a_time(self):
         app = App(mail, box, flow)

@@ -199,7 +199,7 @@ def _by_invocation(db: Database, columns: str, table: str, order: str, ids: list
 
 
 def claim(db: Database, worker: str, rows: list[Claimable]) -> list[Claim]:
-    """Takes the leases of invocations. One whose key another has is left out."""
+    """Takes the leases of invocations. One whose key another has is left out, and one whose stored journal breaks a rule is paused."""
     rows = _with_keys(db, rows)
     if not rows:
         return []
@@ -207,7 +207,14 @@ def claim(db: Database, worker: str, rows: list[Claimable]) -> list[Claim]:
     _lease(db, worker, rows, now)
     entries = _by_invocation(db, "at, frame", "journal", "invocation, at", ids)
     arrived = _by_invocation(db, "seq, frame", "inbox", "seq", ids)
-    return [_claim(db, it, now, entries[it.id], arrived[it.id]) for it in rows]
+    claims: list[Claim] = []
+    for it in rows:
+        try:
+            claims.append(_claim(db, it, now, entries[it.id], arrived[it.id]))
+        except journal.Dishonest as broken:
+            sql = "UPDATE invocations SET status='paused', stopped=?, how='paused', error=? WHERE id=?"
+            db.put(sql, (now, f"the stored journal is broken: {broken}", it.id))
+    return claims
 
 
 def _claim(db: Database, it: Claimable, now: float, entries: list[tuple[Any, ...]], arrived: list[tuple[Any, ...]]) -> Claim:
