@@ -90,6 +90,7 @@ def drawn(it: Timeline, now: float) -> str:
     parts += _buttons(row["status"])
     if row["error"]:
         parts.append(f'<pre class="bad">{escape(row["error"])}</pre>')
+    parts.append('<p class="soft">Green has ended, grey waits, blue runs, and red has failed or was lost.</p>')
     if len(it.steps) > _MOST_STEPS:
         parts.append(f'<p class="soft">The last {_MOST_STEPS} of {len(it.steps)} commands and signals.</p>')
     steps = it.steps[-_MOST_STEPS:]

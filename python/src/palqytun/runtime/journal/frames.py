@@ -195,6 +195,14 @@ class Command:
 
 
 @dataclass(frozen=True)
+class Input(Command):
+    """What the handler is called with."""
+
+    headers: tuple[tuple[str, str], ...]
+    value: bytes
+
+
+@dataclass(frozen=True)
 class _Completed(Command):
     id: int
 
@@ -444,6 +452,7 @@ _READERS: dict[int, Callable[[_Reader], Message]] = {
     _END: lambda r: End(),
     _PROPOSAL: _proposal,
     _AWAITING_ON: lambda r: AwaitingOn(),
+    _INPUT: lambda r: Input(r.pairs(), r.blob()),
     12: _lazy_get,
     14: lambda r: Read(r.number(4), None),
     15: _set,
