@@ -94,9 +94,10 @@ def pull(db: Database, claim: Claim) -> Outcome:
     """Moves what came for a running invocation to its journal."""
     out, growth = Outcome(), Growth(claim.lease)
     rows = inbox.peek(db, claim.invocation)
-    for _, frame in rows:
-        growth.arrive(frame)
     if rows:
+        growth.fence(db)  # else what came for another's attempt would seem dishonest to this one
+        for _, frame in rows:
+            growth.arrive(frame)
         growth.write(db)
         inbox.remove(db, rows)
     out.feed = growth.feed
