@@ -39,6 +39,7 @@ from palqytun.runtime.database.schema import TABLES  # noqa: E402
 
 _FORK = multiprocessing.get_context("fork")  # this process has no threads, and has imported what workers need
 COUNT = 6  # workflows, one of each kind
+LEASE = 3.0  # seconds; on a machine that is busy with other things a shorter one ends by itself
 
 
 def _told(call: Callable[[], Any], to: multiprocessing.connection.Connection) -> None:
@@ -332,7 +333,8 @@ def _fill(file: pathlib.Path) -> None:
 class Workers:
     def __init__(self, url: str, count: int, folder: pathlib.Path, *, idle: float, wrong: str = ""):
         program = [sys.executable, "-m", "palqytun"] if not wrong else [sys.executable, str(HERE / "wrong_worker.py"), wrong]
-        self.command = [*program, "run", str(HERE / "crash_app.py"), "--db", url, "--port", "-1", "--lease", "1", "--idle", str(idle)]
+        self.command = [*program, "run", str(HERE / "crash_app.py"), "--db", url, "--port", "-1", "--idle", str(idle)]
+        self.command += ["--lease", str(LEASE)]
         self.environment = {**os.environ, "PYTHONPATH": f"{SOURCES}:{HERE}", "CRASH_EFFECTS": str(folder / "effects")}
         self.log = (folder / "log").open("a")
         self.all = [self.start() for _ in range(count)]
@@ -404,7 +406,7 @@ def kills(
             report.open_at_faults += left(db)
             at, kind = chance.randrange(workers), fault % 10
             if pauses and kind == 9:
-                running.pause(at, 2.5)
+                running.pause(at, LEASE + 1.5)
                 report.pauses += 1
             elif disconnects and kind in (4, 7):
                 _disconnect(db)
@@ -413,7 +415,7 @@ def kills(
                 running.kill(at)
                 report.kills += 1
         wait(db, seconds)
-        time.sleep(1.5)  # after the last beats
+        time.sleep(LEASE / 3 + 0.5)  # after the last beats
     finally:
         running.end()
     log = (folder / "log").read_text()
@@ -435,7 +437,7 @@ def undisturbed(url: str, folder: pathlib.Path, count: int) -> Found:
     running = Workers(url, 1, folder, idle=0.5)
     try:
         wait(db, 240)
-        time.sleep(1.5)
+        time.sleep(LEASE / 3 + 0.5)
     finally:
         running.end()
     it = check(db, count, folder / "effects", None)
