@@ -13,6 +13,7 @@ import functools
 import pathlib
 import random
 import shutil
+import signal
 import sys
 import tempfile
 import time
@@ -71,6 +72,7 @@ def main() -> int:
     parser.add_argument("--db", default="sqlite", help="sqlite, or the URL of a PostgreSQL database, which is emptied")
     parser.add_argument("--seed", type=int, default=1, help="of the first round")
     options = parser.parse_args()
+    signal.signal(signal.SIGTERM, lambda *_: sys.exit(1))  # so the workers end with it
     total, count, folder = Report(), 0, pathlib.Path(tempfile.mkdtemp(prefix="palqytun-chaos-"))
     try:
         for report in rounds(options.db, folder, options.seed, 60 * options.minutes):
