@@ -24,6 +24,7 @@ from .services import App, TerminalError
 T = TypeVar("T")
 log = logging.getLogger("palqytun")
 _SHORTEST, _LONGEST = 0.1, 5.0  # seconds between connections
+_CLAIMS = 200  # at most in one transaction, so that other workers get some too
 
 
 class Unavailable(TerminalError):
@@ -186,10 +187,12 @@ class Engine:
         try:
             while not self._stopping:
                 self._look_at = time.monotonic() + self.poll
-                room, live = max(0, self.limit - len(self.live)), frozenset(self.live)
+                room, live = min(max(0, self.limit - len(self.live)), _CLAIMS), frozenset(self.live)
                 found: Claims = await committer.submit(lambda db: claimer.claim(db, live, room))
                 for claim in found.claims:
                     self._begin(claim)
+                if len(found.claims) == _CLAIMS:
+                    self._wake(0)
                 found.out.touched &= self.live.keys()
                 self.tell(found.out)
                 if found.next_due is not None and room:
@@ -217,7 +220,7 @@ class Engine:
         while True:
             await asyncio.sleep(self.lease / 3)
             try:
-                await committer.submit(claimer.beat)
+                await committer.submit(claimer.beat, is_urgent=True)
                 await self._purge(committer)
             except Stopped:
                 return
