@@ -67,6 +67,7 @@ class Engine:
         self._committer: Committer | None = None
         self._is_open = asyncio.Event()
         self._stopping = False
+        self._has_more = False
         self._former = ""
 
     # ---- transactions
@@ -191,8 +192,8 @@ class Engine:
                 found: Claims = await committer.submit(lambda db: claimer.claim(db, live, room))
                 for claim in found.claims:
                     self._begin(claim)
-                if len(found.claims) == _CLAIMS:
-                    self._wake(0)
+                self._has_more = len(found.claims) == room
+                self._look_for_more()
                 found.out.touched &= self.live.keys()
                 self.tell(found.out)
                 if found.next_due is not None and room:
@@ -269,8 +270,14 @@ class Engine:
         finally:
             if self.live.get(invocation) is attempt:
                 del self.live[invocation]
-            if attempt.poked.is_set() or len(self.live) == self.limit - 1:
+            if attempt.poked.is_set():
                 self._wake(0)
+            self._look_for_more()
+
+    def _look_for_more(self) -> None:
+        """The last claim took all that it had room for. So there may be more: it is looked at once there is some room."""
+        if self._has_more and self.limit - len(self.live) >= max(1, self.limit // 10):
+            self._wake(0)
 
     async def _give_up(self, attempt: Attempt, error: Exception) -> None:
         why = f"the runtime failed: {type(error).__name__}: {error}"
