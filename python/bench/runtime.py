@@ -172,40 +172,54 @@ def again(url: str, said: list[tuple[str, tuple[Any, ...]]]) -> float:
     return took
 
 
-async def timed(url: str, name: str, scale: float, idle: float, workers: int) -> None:
+async def timed(url: str, name: str, scale: float, idle: float) -> None:
+    """One worker, and then its rows alone."""
     handler, count, argument, invocations_of_one, steps_of_one = RUNS[name]
     count = max(1, int(count * scale))
     submitted(url, handler, count, argument)
     recorded: list[Recorded] = []
 
     def opened(url: str) -> Database:
-        db = connect(url, worker=True)
-        if workers > 1:
-            return db
-        recorded.append(Recorded(db))
-        return recorded[0]
+        recorded.append(Recorded(connect(url, worker=True)))
+        return recorded[-1]
 
     engine = Engine(app, url, idle=idle, connect=opened)
-    others = [subprocess.Popen(command(url, idle)) for _ in range(workers - 1)]
-    if others:
-        await asyncio.sleep(1.5)
     begun, used = time.perf_counter(), time.process_time()
     task = asyncio.create_task(engine.run())
     await engine.is_open()
     await until_done(engine, count * invocations_of_one)
     took, cpu, done = time.perf_counter() - begun, time.process_time() - used, count * steps_of_one
-    transactions = engine._committer.counts["transactions"] if engine._committer is not None else 0
+    transactions = sum(name == "commit" for name, _ in recorded[0].said)
+    engine.stop()
+    await task
+    submitted(url, handler, count, argument)
+    alone = again(url, recorded[0].said)
+    print(f"{name:<8} {count / took:9.0f} workflows/s {done / took:9.0f} steps/s {done / cpu:9.0f} steps/CPU s  {transactions} transactions  {took:.2f} s;", end=" ")
+    print(f"rows alone {done / alone:.0f} steps/s, {took / alone:.2f} times as fast", flush=True)
+
+
+async def timed_with_others(url: str, name: str, scale: float, idle: float, workers: int) -> None:
+    """Several workers, all of which are there before the workflows are."""
+    handler, count, argument, invocations_of_one, steps_of_one = RUNS[name]
+    count = max(1, int(count * scale))
+    emptied(url)
+    engine = Engine(app, url, idle=idle)
+    task = asyncio.create_task(engine.run())
+    await engine.is_open()
+    others = [subprocess.Popen(command(url, idle)) for _ in range(workers - 1)]
+    while (await engine.transact(lambda db: db.rows("SELECT COUNT(*) FROM workers")))[0][0] < workers:
+        await asyncio.sleep(0.05)
+    made = [New("Bench", handler, argument=json.dumps(argument).encode(), id=f"inv_{n:06d}") for n in range(count)]
+    await engine.transact(lambda db: [invocations.create(db, app, Outcome(), new) for new in made])
+    begun = time.perf_counter()
+    await until_done(engine, count * invocations_of_one)
+    took, done = time.perf_counter() - begun, count * steps_of_one
     engine.stop()
     await task
     for other in others:
         other.terminate()
         other.wait()
-    line = f"{name:<8} {count / took:9.0f} workflows/s {done / took:9.0f} steps/s {done / cpu:9.0f} steps/CPU s  {transactions} transactions  {took:.2f} s"
-    if recorded:
-        submitted(url, handler, count, argument)
-        alone = again(url, recorded[0].said)
-        line += f"; rows alone {done / alone:.0f} steps/s, {took / alone:.2f} times as fast"
-    print(line, flush=True)
+    print(f"{name:<8} {count / took:9.0f} workflows/s {done / took:9.0f} steps/s, {workers} workers, {took:.2f} s", flush=True)
 
 
 async def measured(url: str, idle: float, work: Callable[[Engine], Awaitable[None]]) -> float:
@@ -274,8 +288,10 @@ async def main() -> None:
                 floor(url)
             elif name in ("long", "suspended"):
                 await (long if name == "long" else suspended)(url, options.scale)
+            elif options.workers > 1:
+                await timed_with_others(url, name, options.scale, options.idle, options.workers)
             else:
-                await timed(url, name, options.scale, options.idle, options.workers)
+                await timed(url, name, options.scale, options.idle)
         emptied(url)
 
 
