@@ -1,7 +1,12 @@
-"""How fast the runtime is, beside a loop of one insert a transaction: bench/runtime.py [DB] [WHAT..] [--scale F] [--idle S]
+"""How fast the runtime is, beside the same rows without the core: bench/runtime.py [DB] [WHAT..] [--scale F] [--idle S] [--workers N]
 
 DB is a SQLite file's path, maybe with `?synchronous=NORMAL`, which is removed first, or the URL of a PostgreSQL database, which is emptied.
-CPU seconds are this process's own; on a loaded machine they say more than the wall's.
+Each run's statements are written down, and then made again on an empty database, transaction by transaction, with neither core nor handler:
+`rows alone` is what that takes. `floor` is a loop of one insert a transaction. With several workers (PostgreSQL) the others are processes
+of their own, and nothing is written down. CPU seconds are this process's own; on a loaded machine they say more than the wall's.
+
+`long` is one workflow of 1,000, 3,000 and 10,000 calls one after the other, whose attempt waits and isn't suspended. `suspended` makes 10,000
+workflows that wait for a signal, and then asks a new worker for the result of another handler; at last all of them get their signal.
 """
 
 from __future__ import annotations
@@ -10,13 +15,16 @@ import argparse
 import asyncio
 import json
 import pathlib
+import subprocess
 import sys
 import tempfile
 import time
+from collections.abc import Awaitable, Callable, Iterable, Sequence
+from typing import Any
 
 sys.path.insert(0, str(pathlib.Path(__file__).parent.parent / "src"))
-from palqytun.runtime import App, Context, Service, gather, invocations  # noqa: E402
-from palqytun.runtime.database import connect  # noqa: E402
+from palqytun.runtime import App, Context, Service, gather, inbox, invocations, journal  # noqa: E402
+from palqytun.runtime.database import Database, connect  # noqa: E402
 from palqytun.runtime.database.schema import TABLES  # noqa: E402
 from palqytun.runtime.engine import Engine  # noqa: E402
 from palqytun.runtime.invocations import New  # noqa: E402
@@ -58,6 +66,12 @@ async def sleeps(ctx: Context, n: float) -> None:
     await ctx.sleep(n)
 
 
+@bench.handler()
+async def waits(ctx: Context, n: int) -> int:
+    await ctx.run("step", nothing)
+    return await ctx.signal("go", int)
+
+
 app = App(bench)
 
 # What is run: its handler, how many workflows, the argument, and how many invocations and steps a workflow is.
@@ -71,11 +85,51 @@ RUNS = {
 }
 
 
+GO = journal.named_signal("go", journal.value(b"1"))
+
+
+class Recorded:
+    """A connection that writes down its statements."""
+
+    def __init__(self, db: Database):
+        self._db, self.said = db, list[tuple[str, tuple[Any, ...]]]()
+        self.is_shared, self.is_remote, self.skip, self.lock, self.clock = db.is_shared, db.is_remote, db.skip, db.lock, db.clock
+        self.listen, self.close = db.listen, db.close
+
+    def _make(self, name: str, *words: Any) -> Any:
+        self.said.append((name, words))
+        return getattr(self._db, name)(*words)
+
+    def begin(self) -> None:
+        self._make("begin")
+
+    def commit(self) -> None:
+        self._make("commit")
+
+    def rollback(self) -> None:
+        self._make("rollback")
+
+    def rows(self, sql: str, values: Sequence[object] = ()) -> list[Any]:
+        return self._make("rows", sql, tuple(values))  # type: ignore[no-any-return]
+
+    def change(self, sql: str, values: Sequence[object] = ()) -> int:
+        return self._make("change", sql, tuple(values))  # type: ignore[no-any-return]
+
+    def put(self, sql: str, values: Sequence[object] = ()) -> None:
+        self._make("put", sql, tuple(values))
+
+    def many(self, sql: str, values: Iterable[Sequence[object]]) -> None:
+        self._make("many", sql, list(values))
+
+    def notify(self, word: str) -> None:
+        self._make("notify", word)
+
+
 def emptied(url: str) -> None:
     if "://" in url:
         db = connect(url)
         db.begin()
-        db.change(f"TRUNCATE {', '.join(TABLES)}")
+        db.change(f"TRUNCATE {', '.join(TABLES)} RESTART IDENTITY")
         db.commit()
         db.close()
         return
@@ -96,9 +150,8 @@ def floor(url: str) -> None:
     db.close()
 
 
-async def timed(url: str, name: str, scale: float, idle: float) -> None:
-    handler, count, argument, invocations_of_one, steps_of_one = RUNS[name]
-    count = max(1, int(count * scale))
+def submitted(url: str, handler: str, count: int, argument: object) -> None:
+    """An empty database with workflows that haven't begun."""
     emptied(url)
     db = connect(url)
     db.begin()
@@ -106,32 +159,141 @@ async def timed(url: str, name: str, scale: float, idle: float) -> None:
         invocations.create(db, app, Outcome(), New("Bench", handler, argument=json.dumps(argument).encode(), id=f"inv_{n:06d}"))
     db.commit()
     db.close()
-    engine = Engine(app, url, idle=idle)
+
+
+def again(url: str, said: list[tuple[str, tuple[Any, ...]]]) -> float:
+    """Seconds that the statements take by themselves."""
+    db = connect(url)
+    begun = time.perf_counter()
+    for name, words in said:
+        getattr(db, name)(*words)
+    took = time.perf_counter() - begun
+    db.close()
+    return took
+
+
+async def timed(url: str, name: str, scale: float, idle: float) -> None:
+    """One worker, and then its rows alone."""
+    handler, count, argument, invocations_of_one, steps_of_one = RUNS[name]
+    count = max(1, int(count * scale))
+    submitted(url, handler, count, argument)
+    recorded: list[Recorded] = []
+
+    def opened(url: str) -> Database:
+        recorded.append(Recorded(connect(url, worker=True)))
+        return recorded[-1]
+
+    engine = Engine(app, url, idle=idle, connect=opened)
     begun, used = time.perf_counter(), time.process_time()
     task = asyncio.create_task(engine.run())
     await engine.is_open()
-    while (await engine.transact(lambda db: db.rows("SELECT COUNT(*) FROM invocations WHERE status='done'")))[0][0] < count * invocations_of_one:
-        await asyncio.sleep(0.02)
+    await until_done(engine, count * invocations_of_one)
     took, cpu, done = time.perf_counter() - begun, time.process_time() - used, count * steps_of_one
-    transactions = engine._committer.counts["transactions"] if engine._committer is not None else 0
+    transactions = sum(name == "commit" for name, _ in recorded[0].said)
     engine.stop()
     await task
-    print(f"{name:<8} {count / took:9.0f} workflows/s {done / took:9.0f} steps/s {done / cpu:9.0f} steps/CPU s  {transactions} transactions  {took:.2f} s", flush=True)
+    submitted(url, handler, count, argument)
+    alone = again(url, recorded[0].said)
+    print(f"{name:<8} {count / took:9.0f} workflows/s {done / took:9.0f} steps/s {done / cpu:9.0f} steps/CPU s  {transactions} transactions  {took:.2f} s;", end=" ")
+    print(f"rows alone {done / alone:.0f} steps/s, {took / alone:.2f} times as fast", flush=True)
+
+
+async def timed_with_others(url: str, name: str, scale: float, idle: float, workers: int) -> None:
+    """Several workers, all of which are there before the workflows are."""
+    handler, count, argument, invocations_of_one, steps_of_one = RUNS[name]
+    count = max(1, int(count * scale))
+    emptied(url)
+    engine = Engine(app, url, idle=idle)
+    task = asyncio.create_task(engine.run())
+    await engine.is_open()
+    others = [subprocess.Popen(command(url, idle)) for _ in range(workers - 1)]
+    while (await engine.transact(lambda db: db.rows("SELECT COUNT(*) FROM workers")))[0][0] < workers:
+        await asyncio.sleep(0.05)
+    made = [New("Bench", handler, argument=json.dumps(argument).encode(), id=f"inv_{n:06d}") for n in range(count)]
+    await engine.transact(lambda db: [invocations.create(db, app, Outcome(), new) for new in made])
+    begun = time.perf_counter()
+    await until_done(engine, count * invocations_of_one)
+    took, done = time.perf_counter() - begun, count * steps_of_one
+    engine.stop()
+    await task
+    for other in others:
+        other.terminate()
+        other.wait()
+    print(f"{name:<8} {count / took:9.0f} workflows/s {done / took:9.0f} steps/s, {workers} workers, {took:.2f} s", flush=True)
+
+
+async def measured(url: str, idle: float, work: Callable[[Engine], Awaitable[None]]) -> float:
+    """Seconds from a worker's begin until some work is done."""
+    engine, begun = Engine(app, url, idle=idle), time.perf_counter()
+    task = asyncio.create_task(engine.run())
+    await engine.is_open()
+    await work(engine)
+    took = time.perf_counter() - begun
+    engine.stop()
+    await task
+    return took
+
+
+async def long(url: str, scale: float) -> None:
+    for count in (1000, 3000, 10_000):
+        count = int(count * scale)
+        submitted(url, "calls", 1, count)
+        took = await measured(url, 1.0, lambda engine: until_done(engine, count + 1))
+        print(f"long     {count} calls one after the other in {took:.1f} s, {count / took:.0f} calls/s", flush=True)
+
+
+async def suspended(url: str, scale: float) -> None:
+    count = int(10_000 * scale)
+    submitted(url, "waits", count, 1)
+    took = await measured(url, 0.0, lambda engine: until_status(engine, "suspended", count))
+
+    async def first(engine: Engine) -> None:
+        await engine.result(await engine.submit(New("Bench", "empty", argument=b"1")))
+
+    async def resolved(engine: Engine) -> None:
+        await engine.transact(lambda db: [inbox.deliver(db, Outcome(), f"inv_{n:06d}", GO) for n in range(count)])
+        await until_done(engine, count + 1)
+
+    answered, ended = await measured(url, 0.0, first), await measured(url, 0.0, resolved)
+    print(f"suspended {count} in {took:.1f} s; a new worker's first answer after {1000 * answered:.0f} ms; all of them end in {ended:.1f} s", flush=True)
+
+
+def command(url: str, idle: float) -> list[str]:
+    """A worker in a process of its own."""
+    return [sys.executable, "-m", "palqytun", "run", __file__, "--db", url, "--port", "-1", "--idle", str(idle)]
+
+
+async def until_done(engine: Engine, count: int) -> None:
+    await until_status(engine, "done", count)
+
+
+async def until_status(engine: Engine, status: str, count: int) -> None:
+    sql = "SELECT COUNT(*) FROM invocations WHERE status=?"
+    while (await engine.transact(lambda db: db.rows(sql, (status,))))[0][0] < count:
+        await asyncio.sleep(0.02)
 
 
 async def main() -> None:
     parser = argparse.ArgumentParser()
-    parser.add_argument("db", nargs="?", default=str(pathlib.Path(tempfile.gettempdir()) / "palqytun-bench.db"))
-    parser.add_argument("what", nargs="*", default=["floor", *RUNS])
+    parser.add_argument("db", nargs="?", default="")
+    parser.add_argument("what", nargs="*", default=["floor", *RUNS, "long", "suspended"])
     parser.add_argument("--scale", type=float, default=1.0)
     parser.add_argument("--idle", type=float, default=0.0)
+    parser.add_argument("--workers", type=int, default=1)
     options = parser.parse_args()
-    for name in options.what:
-        if name == "floor":
-            floor(options.db)
-        else:
-            await timed(options.db, name, options.scale, options.idle)
-    emptied(options.db)
+    with tempfile.TemporaryDirectory(prefix="palqytun-bench-") as folder:
+        url = options.db or f"{folder}/db"
+        for name in options.what:
+            if name == "floor":
+                floor(url)
+            elif name in ("long", "suspended"):
+                await (long if name == "long" else suspended)(url, options.scale)
+            elif options.workers > 1:
+                await timed_with_others(url, name, options.scale, options.idle, options.workers)
+            else:
+                await timed(url, name, options.scale, options.idle)
+        emptied(url)
 
 
-asyncio.run(main())
+if __name__ == "__main__":
+    asyncio.run(main())

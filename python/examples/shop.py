@@ -10,6 +10,7 @@ from __future__ import annotations
 
 import asyncio
 import dataclasses
+import functools
 import pathlib
 from collections.abc import Callable
 
@@ -65,13 +66,17 @@ def ship(key: str, customer: str) -> str:
     return f"parcel-{key[:8]}"
 
 
+def returned(ctx: Context, item: Item) -> Durable[None]:
+    return ctx.call(put_back, item.count, key=item.name)
+
+
 @shop.handler()
 async def order(ctx: Context, order: Order) -> Receipt:
     undo: list[Callable[[], Durable[object]]] = []
     try:
         for item in order.items:
             await ctx.call(take, item.count, key=item.name)
-            undo.append(lambda item=item: ctx.call(put_back, item.count, key=item.name))
+            undo.append(functools.partial(returned, ctx, item))
         payment = await ctx.run("pay", pay, ctx.uuid(), order.card, retry=Retry(attempts=5))
         undo.append(lambda: ctx.run("refund", refund, payment))
         if order.slow:
@@ -126,8 +131,7 @@ async def answer(ctx: Context, word: str) -> None:
 
 @approval.handler()
 async def question(ctx: Context, _: None) -> str | None:
-    found: str | None = await ctx.get("question", str)
-    return found
+    return await ctx.get("question", str)
 
 
 app = App(shop, stock, approval)

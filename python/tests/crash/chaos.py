@@ -1,69 +1,87 @@
-"""The crash tests for hours: chaos.py [--hours H] [--db sqlite|postgresql://..] [--kills N] [--seed N]
+"""The crash tests for as long as one likes: chaos.py [MINUTES] [--db sqlite|postgresql://..] [--seed N]
 
-It goes round and round: kills (200 a round), deaths at random commits, torn writes, clocks that jump, a full disk; each round with another
-seed, until the time is over or something is wrong. Each round prints a line.
+Round after round, each with another seed, until the time is over or something is wrong: workers are killed while workflows are submitted;
+on SQLite they also die at commits, meet torn writes, clocks that jump, and a full disk; on PostgreSQL three of them run, are stopped for
+longer than their lease, and lose their connections. After each part all that is left is compared with a run without faults. Each round
+prints a line of figures, and the last line is that of all. A round takes about a minute, and the one that has begun is ended.
 """
 
 from __future__ import annotations
 
 import argparse
-import os
+import functools
 import pathlib
 import random
 import shutil
+import signal
 import sys
 import tempfile
 import time
+from collections.abc import Callable, Iterator
 
 sys.path.insert(0, str(pathlib.Path(__file__).parent))
 import scenarios  # noqa: E402
-from checked import Wrong  # noqa: E402
+from checked import Found, Wrong  # noqa: E402
+from scenarios import Report  # noqa: E402
+
+FAULTS = 40  # of running workers in a round
+EACH = 3  # workflows are submitted before each of them
 
 
-def round_on_sqlite(folder: pathlib.Path, seed: int) -> str:
-    """Scenarios with one worker; answers what was done."""
+def _storms(folder: pathlib.Path, seed: int, may_mount: bool) -> Report:
+    """Faults of one worker at a time on SQLite, side by side."""
     chance = random.Random(seed)
-    room = scenarios.Room(folder / "room", chance.choice([6, 12, 36]))
-    deaths = 0
-    for _ in range(20):
+    room = scenarios.Room(folder, chance.choice([6, 12, 36]))
+    calls: list[Callable[[], Report]] = []
+    for number in chance.sample(range(1, 91), 20):
         again, idle = chance.choice([0, chance.randint(1, 90)]), chance.choice([0.0, 0.5])
-        deaths += scenarios.death_at_commit(room, chance.randint(1, 90), again=again, idle=idle)
-    for number in range(10):
-        scenarios.torn_write(room, 1000 * seed + number)
-        scenarios.clock_jumps(room, 1000 * seed + number)
-    disks = [scenarios.full_disk(room, 1000 * seed + number) for number in range(3)] if os.geteuid() == 0 else []
-    return f"{deaths} deaths at commits, 10 torn writes, 10 clocks that jump, disks full {disks} times"
+        calls.append(functools.partial(scenarios.death_at_commit, room, number, again=again, idle=idle))
+    for number in range(6):
+        calls.append(functools.partial(scenarios.torn_write, room, 1000 * seed + number))
+    for number in range(3):
+        calls.append(functools.partial(scenarios.clock_jumps, room, 1000 * seed + number))
+    report = sum(scenarios.side_by_side(calls), Report())
+    return report + scenarios.full_disk(room, seed) if may_mount else report
+
+
+def _round(url: str, folder: pathlib.Path, seed: int, reference: Found, may_mount: bool) -> Report:
+    idle = (0.0, 0.5, 1.0)[seed % 3]
+    if url != "sqlite":
+        how = {"workers": 3, "pauses": True, "disconnects": True}
+        return scenarios.kills(url, folder, faults=FAULTS, each=EACH, idle=idle, seed=seed, reference=reference, **how)
+    report = scenarios.kills(str(folder / "db"), folder, faults=FAULTS, each=EACH, idle=idle, seed=seed, reference=reference)
+    return report + _storms(folder / "storms", seed, may_mount)
+
+
+def rounds(url: str, folder: pathlib.Path, seed: int, seconds: float) -> Iterator[Report]:
+    """Rounds until the time is over."""
+    until, may_mount = time.monotonic() + seconds, url == "sqlite" and scenarios.may_mount()
+    reference = scenarios.undisturbed(str(folder / "reference.db") if url == "sqlite" else url, folder / "reference", FAULTS * EACH)
+    while time.monotonic() < until:
+        begun, room = time.monotonic(), folder / f"seed-{seed}"
+        report = _round(url, room, seed, reference, may_mount)
+        print(f"seed {seed}, {time.monotonic() - begun:.0f} s: {report}", flush=True)
+        shutil.rmtree(room)
+        yield report
+        seed += 1
 
 
 def main() -> int:
-    parser = argparse.ArgumentParser()
-    parser.add_argument("--hours", type=float, default=1.0)
-    parser.add_argument("--db", default="sqlite")
-    parser.add_argument("--kills", type=int, default=200)
-    parser.add_argument("--seed", type=int, default=1)
+    parser = argparse.ArgumentParser("chaos", description="Crash tests of the durable runtime, round after round.")
+    parser.add_argument("minutes", nargs="?", type=float, default=10.0)
+    parser.add_argument("--db", default="sqlite", help="sqlite, or the URL of a PostgreSQL database, which is emptied")
+    parser.add_argument("--seed", type=int, default=1, help="of the first round")
     options = parser.parse_args()
-    is_sqlite = options.db == "sqlite"
-    folder = pathlib.Path(tempfile.mkdtemp(prefix="palqytun-chaos-"))
-    until = time.monotonic() + 3600 * options.hours
+    signal.signal(signal.SIGTERM, lambda *_: sys.exit(1))  # so the workers end with it
+    total, count, folder = Report(), 0, pathlib.Path(tempfile.mkdtemp(prefix="palqytun-chaos-"))
     try:
-        url = str(folder / "reference.db") if is_sqlite else options.db
-        reference = scenarios.undisturbed(url, folder / "reference", 3 * options.kills)
-        seed = options.seed
-        while time.monotonic() < until:
-            here, idle = folder / str(seed), [0.0, 0.5, 1.0][seed % 3]
-            url = str(here / "db") if is_sqlite else options.db
-            workers = 1 if is_sqlite else 3
-            how = {"workers": workers, "idle": idle, "seed": seed, "pauses": not is_sqlite, "disconnects": not is_sqlite}
-            report, _ = scenarios.kills(url, here, faults=options.kills, reference=reference, **how)
-            print(f"seed {seed}, idle {idle}: {report}", flush=True)
-            if is_sqlite:
-                print(f"seed {seed}: {round_on_sqlite(here / 'scenarios', seed)}", flush=True)
-            shutil.rmtree(here)
-            seed += 1
+        for report in rounds(options.db, folder, options.seed, 60 * options.minutes):
+            total, count = total + report, count + 1
     except Wrong as error:
         print(f"WRONG: {error}\nwhat it left is in {folder}", file=sys.stderr)
         return 1
     shutil.rmtree(folder)
+    print(f"{count} rounds, nothing wrong: {total}")
     return 0
 
 

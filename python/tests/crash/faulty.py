@@ -14,6 +14,9 @@ from palqytun.runtime.database.sqlite import SQLite
 from palqytun.runtime.engine import Engine, Unavailable
 
 DIED = 9  # the exit status of a worker that died as it was asked to
+STUCK = 8  # and of one that has nothing to do any more, though invocations haven't ended
+_PATIENCE = 2.0  # seconds of that
+_SOON = 2000.0  # timers that are due in so many seconds are waited for; sleeps that only a signal ends are longer
 
 
 class Dying(SQLite):
@@ -60,7 +63,12 @@ def until_all_ended(
         engine = Engine(crash_app.app, path, grouped=is_grouped, idle=idle, poll=0.1, connect=connect)
         task = asyncio.create_task(engine.run())
         await engine.is_open()
-        while await _is_unfinished(engine):
+        last = time.monotonic()
+        while not task.done() and await _count(engine, _UNFINISHED):
+            if engine.live or await _count(engine, _TO_DO, time.time() + _SOON):
+                last = time.monotonic()
+            elif time.monotonic() - last > _PATIENCE:
+                os._exit(STUCK)
             await asyncio.sleep(0.02)
         engine.stop()
         await task
@@ -68,12 +76,21 @@ def until_all_ended(
     asyncio.run(run())
 
 
-async def _is_unfinished(engine: Engine) -> bool:
-    sql = "SELECT COUNT(*) FROM invocations WHERE status NOT IN ('done','paused')"
+_UNFINISHED = "SELECT COUNT(*) FROM invocations WHERE status NOT IN ('done','paused')"
+_TO_DO = (
+    "SELECT (SELECT COUNT(*) FROM timers WHERE due<?) + (SELECT COUNT(*) FROM inbox JOIN invocations ON id=invocation WHERE fresh=1 AND status<>'paused')"
+    " + (SELECT COUNT(*) FROM invocations WHERE status='running' OR (status='ready' AND exclusive=0)"
+    " OR (status='ready' AND NOT EXISTS (SELECT 1 FROM locks WHERE locks.service=invocations.service AND locks.key=invocations.key)))"
+)
+
+
+async def _count(engine: Engine, sql: str, *values: float) -> int:
+    """What a query counts; 1 while the database is lost."""
     try:
-        return bool((await engine.transact(lambda db: db.rows(sql)))[0][0])
+        found: int = (await engine.transact(lambda db: db.rows(sql, values)))[0][0]
+        return found
     except Unavailable:
-        return True
+        return 1
 
 
 def jumping(seed: int) -> Callable[[], float]:
@@ -122,7 +139,7 @@ def timers_first() -> None:
             db.many("DELETE FROM timers WHERE seq=?", [(seq,) for seq, _, _ in due])  # type: ignore[attr-defined]
             _between(db)
         for _, invocation, completes in due:
-            inbox.deliver_completion(db, out, invocation, completes, journal.void())  # type: ignore[arg-type]
+            inbox.complete(db, out, invocation, completes, journal.void())  # type: ignore[arg-type]
 
     claiming.Claimer._fire = wrong  # type: ignore[method-assign, assignment]
 

@@ -9,11 +9,11 @@
 
 from __future__ import annotations
 
-import concurrent.futures
 import contextlib
 import functools
 import logging
 import multiprocessing
+import multiprocessing.connection
 import os
 import pathlib
 import random
@@ -21,8 +21,10 @@ import shutil
 import signal
 import subprocess
 import sys
+import tempfile
 import time
-from collections.abc import Iterable, Iterator
+import traceback
+from collections.abc import Callable, Iterable, Iterator
 from dataclasses import dataclass, field
 from typing import Any
 
@@ -37,13 +39,57 @@ from palqytun.runtime.database.schema import TABLES  # noqa: E402
 
 _FORK = multiprocessing.get_context("fork")  # this process has no threads, and has imported what workers need
 COUNT = 6  # workflows, one of each kind
+LEASE = 3.0  # seconds; on a machine that is busy with other things a shorter one ends by itself
 
 
-def side_by_side() -> concurrent.futures.ProcessPoolExecutor:
-    """Runs scenarios in processes of their own. (Threads won't do: each start of a process looks after those of all threads.)"""
-    context = multiprocessing.get_context("forkserver")
-    context.set_forkserver_preload(["scenarios"])
-    return concurrent.futures.ProcessPoolExecutor(os.cpu_count(), mp_context=context)
+def _told(call: Callable[[], Any], to: multiprocessing.connection.Connection) -> None:
+    """What the call answers, or the text of what it raises, is sent."""
+    try:
+        to.send((call(), None))
+    except Wrong as error:
+        to.send((None, f"{error}"))
+    except BaseException:
+        to.send((None, traceback.format_exc()))
+
+
+def side_by_side(calls: Iterable[Callable[[], Any]], seconds: float = 240) -> Iterator[Any]:
+    """Makes the calls in processes of their own, as many at a time as there are processors, and answers what they answer, in order. What one
+    of them raises is raised as `Wrong`; those that still run then are waited for, so that none of them is left without its folder."""
+    waiting, running, begun = iter(calls), [], time.monotonic()
+    try:
+        while True:
+            for call in waiting:
+                from_it, to_it = _FORK.Pipe(duplex=False)
+                process = _FORK.Process(target=_told, args=(call, to_it))
+                process.start()
+                to_it.close()
+                running.append((process, from_it))
+                if len(running) >= (os.cpu_count() or 1):
+                    break
+            if not running:
+                return
+            process, from_it = running.pop(0)
+            answer, wrong = _heard(process, from_it, begun + seconds - time.monotonic())
+            if wrong is not None:
+                raise Wrong(wrong)
+            yield answer
+    finally:
+        for process, from_it in running:
+            _heard(process, from_it, begun + seconds - time.monotonic())
+
+
+def _heard(process: Any, from_it: Any, seconds: float) -> tuple[Any, str | None]:
+    """What a process sends until it ends. It is killed when the time is over."""
+    try:
+        return from_it.recv() if from_it.poll(max(0.0, seconds)) else (None, "it hasn't ended in time")
+    except EOFError:
+        return None, "it died"
+    finally:
+        from_it.close()
+        process.join(5)
+        if process.exitcode is None:
+            process.kill()
+            process.join()
 
 
 # ---- one worker on SQLite, in a process of its own
@@ -70,6 +116,38 @@ def _logged(log: str, *arguments: Any, **options: Any) -> None:
     os.dup2(os.open(log, os.O_WRONLY | os.O_CREAT | os.O_APPEND, 0o644), 2)
     logging.basicConfig(level=logging.WARNING)
     faulty.until_all_ended(*arguments, **options)
+
+
+@dataclass
+class Report:
+    """What a scenario did and compared: its faults, the journals and commands that are as without faults, and the effects by their keys, with
+    how often these were executed."""
+
+    deaths: int = 0
+    kills: int = 0
+    pauses: int = 0
+    disconnects: int = 0
+    torn_writes: int = 0
+    jumping_clocks: int = 0
+    full_disks: int = 0
+    open_at_faults: int = 0
+    fenced: int = 0
+    lost: int = 0
+    journals: int = 0
+    commands: int = 0
+    effects: int = 0
+    executions: int = 0
+
+    @staticmethod
+    def of(it: Found, **done: int) -> Report:
+        commands, executions = sum(map(len, it.commands.values())), sum(it.effects.values())
+        return Report(**done, journals=len(it.commands), commands=commands, effects=len(it.effects), executions=executions)
+
+    def __add__(self, other: Report) -> Report:
+        return Report(**{name: number + getattr(other, name) for name, number in vars(self).items()})
+
+    def __str__(self) -> str:
+        return ", ".join(f"{name.replace('_', ' ')} {number}" for name, number in vars(self).items() if number)
 
 
 @dataclass
@@ -123,36 +201,50 @@ def _log(path: pathlib.Path) -> str:
     return log.read_text()[-2000:] if log.exists() else ""
 
 
-def _rest(room: Room, path: pathlib.Path, effects: pathlib.Path, **options: Any) -> None:
+def _rest(room: Room, path: pathlib.Path, effects: pathlib.Path, **options: Any) -> Found:
     """A worker without a fault does the rest, and everything is looked at."""
-    status = _worker(path, effects, seconds=15 if options.get("wrong") else 90, **options)
+    status = _worker(path, effects, seconds=90, **options)
     if status:
         raise Wrong(f"the last worker ended with {status}: {_log(path)}")
-    room.checked(path, effects, room.reference)
+    found = room.checked(path, effects, room.reference)
     room.remove(path)
+    return found
 
 
-def death_at_commit(room: Room, number: int, *, again: int = 0, idle: float = 0.0, wrong: str = "") -> bool:
-    """The worker dies in place of commit `number`, and if `again` is given the next one at that commit. Answers whether the first one died:
-    if not, there is no such commit."""
+def death_at_commit(room: Room, number: int, *, again: int = 0, idle: float = 0.0, wrong: str = "") -> Report:
+    """The worker dies in place of commit `number`, and if `again` is given the next one at that commit. If the first one didn't die, there is
+    no such commit."""
     path, effects = room.copy(f"death-{number}-{again}-{idle}-{wrong}")
     options: dict[str, Any] = {"idle": idle, "wrong": wrong}
     first = _worker(path, effects, dies=number, **options)
     if first not in (0, faulty.DIED):
         raise Wrong(f"the worker that was to die at commit {number} ended with {first}: {_log(path)}")
-    if again:
-        _worker(path, effects, dies=again, **options)
-    _rest(room, path, effects, **options)
-    return first == faulty.DIED
+    second = _worker(path, effects, dies=again, **options) if again else 0
+    deaths = [first, second].count(faulty.DIED) if first else 0
+    return Report.of(_rest(room, path, effects, **options), deaths=deaths)
 
 
-def deaths_at_commits(room: Room, numbers: Iterable[int], **options: Any) -> list[bool]:
-    """Deaths at these commits, side by side."""
-    with side_by_side() as pool:
-        return list(pool.map(functools.partial(death_at_commit, room, **options), numbers))
+def deaths_at_commits(room: Room, numbers: Iterable[int], **options: Any) -> Report:
+    """Deaths at these commits, side by side, as long as there are such commits."""
+    report = Report()
+    for one in side_by_side(functools.partial(death_at_commit, room, number, **options) for number in numbers):
+        if not one.deaths:
+            break
+        report += one
+    return report
 
 
-def torn_write(room: Room, seed: int) -> None:
+def is_found(room: Room, wrong: str, numbers: Iterable[int]) -> bool:
+    """Whether a runtime with a mistake is found by deaths at these commits, one after the other."""
+    try:
+        for number in numbers:
+            death_at_commit(room, number, wrong=wrong)
+    except Wrong:
+        return True
+    return False
+
+
+def torn_write(room: Room, seed: int) -> Report:
     """A worker is killed at a random moment, and its log is cut at a random place, maybe with other bytes after it."""
     chance = random.Random(seed)
     path, effects = room.copy(f"torn-{seed}")
@@ -167,16 +259,27 @@ def torn_write(room: Room, seed: int) -> None:
         data = data[: chance.randint(0, len(data))]
         log.write_bytes(data + (chance.randbytes(chance.randint(1, 9000)) if chance.random() < 0.5 else b""))
     pathlib.Path(f"{path}-shm").unlink(missing_ok=True)
-    _rest(room, path, effects, seed=seed)
+    return Report.of(_rest(room, path, effects, seed=seed), torn_writes=1)
 
 
-def clock_jumps(room: Room, seed: int) -> None:
+def clock_jumps(room: Room, seed: int) -> Report:
     path, effects = room.copy(f"clock-{seed}")
     status = _worker(path, effects, seconds=120, seed=seed, jumps=True, idle=0.05, is_grouped=True)
     if status:
         raise Wrong(f"the worker whose clock jumps ended with {status}: {_log(path)}")
-    room.checked(path, effects, room.reference)
+    found = room.checked(path, effects, room.reference)
     room.remove(path)
+    return Report.of(found, jumping_clocks=1)
+
+
+def may_mount() -> bool:
+    """Whether this process may mount a file system, as root outside of a container does."""
+    with tempfile.TemporaryDirectory(prefix="palqytun-mount-") as folder:
+        try:
+            with _small_disk(pathlib.Path(folder) / "disk", 1):
+                return True
+        except (OSError, subprocess.CalledProcessError):
+            return False
 
 
 @contextlib.contextmanager
@@ -190,8 +293,8 @@ def _small_disk(folder: pathlib.Path, megabytes: int) -> Iterator[pathlib.Path]:
         subprocess.run(["umount", "-l", str(folder)], check=True)
 
 
-def full_disk(room: Room, seed: int) -> int:
-    """The disk is full for some moments. Answers how often a worker lost its database by it."""
+def full_disk(room: Room, seed: int) -> Report:
+    """The disk is full for some moments."""
     chance = random.Random(seed)
     with _small_disk(room.folder / f"disk-{seed}", 4) as disk:
         path, effects = disk / "db", room.folder / f"effects-{seed}"
@@ -213,8 +316,8 @@ def full_disk(room: Room, seed: int) -> int:
         log = (room.folder / f"disk-{seed}.log").read_text()
         if status:
             raise Wrong(f"the worker on a full disk ended with {status}: {log[-2000:]}")
-        room.checked(path, effects, room.reference)
-        return log.count("the database is lost")
+        found = room.checked(path, effects, room.reference)
+        return Report.of(found, full_disks=1, lost=log.count("the database is lost"))
 
 
 def _fill(file: pathlib.Path) -> None:
@@ -230,7 +333,8 @@ def _fill(file: pathlib.Path) -> None:
 class Workers:
     def __init__(self, url: str, count: int, folder: pathlib.Path, *, idle: float, wrong: str = ""):
         program = [sys.executable, "-m", "palqytun"] if not wrong else [sys.executable, str(HERE / "wrong_worker.py"), wrong]
-        self.command = [*program, "run", str(HERE / "crash_app.py"), "--db", url, "--port", "-1", "--lease", "1", "--idle", str(idle)]
+        self.command = [*program, "run", str(HERE / "crash_app.py"), "--db", url, "--port", "-1", "--idle", str(idle)]
+        self.command += ["--lease", str(LEASE)]
         self.environment = {**os.environ, "PYTHONPATH": f"{SOURCES}:{HERE}", "CRASH_EFFECTS": str(folder / "effects")}
         self.log = (folder / "log").open("a")
         self.all = [self.start() for _ in range(count)]
@@ -258,26 +362,6 @@ class Workers:
                 worker.kill()
                 worker.wait()
         self.log.close()
-
-
-@dataclass
-class Report:
-    """What a run of kills saw."""
-
-    seconds: float = 0
-    kills: int = 0
-    pauses: int = 0
-    disconnects: int = 0
-    open_at_a_kill: float = 0
-    fenced: int = 0
-    lost: int = 0
-    invocations: int = 0
-    commands: int = 0
-    effects: int = 0
-    executions: int = 0
-
-    def __str__(self) -> str:
-        return ", ".join(f"{name} {value:.1f}" if isinstance(value, float) else f"{name} {value}" for name, value in vars(self).items())
 
 
 def emptied(url: str) -> None:
@@ -308,22 +392,21 @@ def kills(
     reference: Found | None = None,
     wrong: str = "",
     seconds: float = 240,
-) -> tuple[Report, Found]:
-    """Workflows are submitted, `each` after each fault, while workers die. Without faults it makes the reference."""
+) -> Report:
+    """Workflows are submitted, `each` before each fault, while workers die."""
     folder.mkdir(parents=True, exist_ok=True)
     (folder / "effects").touch()
     emptied(url)
     chance, report, db = random.Random(seed), Report(), connect(url)
     running = Workers(url, workers, folder, idle=idle, wrong=wrong)
-    begun, is_open = time.monotonic(), 0
     try:
         for fault in range(faults):
             submit(db, fault * each, each)
             time.sleep(chance.uniform(0.15, 0.9) / (1 if workers == 1 else 2))
-            is_open += left(db)
+            report.open_at_faults += left(db)
             at, kind = chance.randrange(workers), fault % 10
             if pauses and kind == 9:
-                running.pause(at, 2.5)
+                running.pause(at, LEASE + 1.5)
                 report.pauses += 1
             elif disconnects and kind in (4, 7):
                 _disconnect(db)
@@ -331,21 +414,17 @@ def kills(
             else:
                 running.kill(at)
                 report.kills += 1
-        count = max(faults, 0) * each
         wait(db, seconds)
-        time.sleep(1.5)  # after the last beats
+        time.sleep(LEASE / 3 + 0.5)  # after the last beats
     finally:
         running.end()
-    report.seconds, report.open_at_a_kill = time.monotonic() - begun, is_open / max(1, faults)
     log = (folder / "log").read_text()
     report.fenced, report.lost = log.count("fenced:"), log.count("the database is lost")
     if "Traceback" in log:
         raise Wrong(f"a worker raised an error: {folder / 'log'}: {log[log.index('Traceback') :][:2000]}")
-    it = check(db, count, folder / "effects", reference)
+    it = check(db, faults * each, folder / "effects", reference)
     db.close()
-    report.invocations, report.commands = len(it.commands), sum(map(len, it.commands.values()))
-    report.effects, report.executions = len(it.effects), sum(it.effects.values())
-    return report, it
+    return report + Report.of(it)
 
 
 def undisturbed(url: str, folder: pathlib.Path, count: int) -> Found:
@@ -358,7 +437,7 @@ def undisturbed(url: str, folder: pathlib.Path, count: int) -> Found:
     running = Workers(url, 1, folder, idle=0.5)
     try:
         wait(db, 240)
-        time.sleep(1.5)
+        time.sleep(LEASE / 3 + 0.5)
     finally:
         running.end()
     it = check(db, count, folder / "effects", None)

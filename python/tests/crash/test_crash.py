@@ -1,8 +1,10 @@
-"""The crash tests of the gate: each scenario for a short time. `./chaos` runs them for hours."""
+"""The crash tests of the gate: each scenario for a short time, side by side. `./chaos` goes on for as long as one likes.
 
+With PALQYTUN_TEST_THOROUGH=1 there is a death at each commit, and more of all else, which takes some minutes."""
+
+import functools
 import os
 import pathlib
-import shutil
 import sys
 import tempfile
 import unittest
@@ -11,14 +13,18 @@ sys.path.insert(0, str(pathlib.Path(__file__).parent))
 import scenarios  # noqa: E402
 from checked import Wrong  # noqa: E402
 
-MOST_COMMITS = 400  # there are fewer; a test that goes so far has a fault
-STEP = int(os.environ.get("PALQYTUN_TEST_STEP", 1))  # a death at each commit; 4: at each fourth
+IS_THOROUGH = os.environ.get("PALQYTUN_TEST_THOROUGH") == "1"
+STEP = 1 if IS_THOROUGH else 9  # a death at each so many commits
+COMMITS = range(1, 400, STEP)  # there are fewer; a test that goes so far has a fault
 
 
 class InAFolder(unittest.TestCase):
+    """A test in a folder of its own, which is there until each process of the test has ended."""
+
     def setUp(self) -> None:
-        self.folder = pathlib.Path(tempfile.mkdtemp(prefix="palqytun-crash-"))
-        self.addCleanup(shutil.rmtree, self.folder, True)
+        folder = tempfile.TemporaryDirectory(prefix="palqytun-crash-", ignore_cleanup_errors=True)
+        self.addCleanup(folder.cleanup)
+        self.folder = pathlib.Path(folder.name)
 
 
 class Deaths(InAFolder):
@@ -28,63 +34,48 @@ class Deaths(InAFolder):
         super().setUp()
         self.room = scenarios.Room(self.folder / "room")
 
-    def each(self, **options: object) -> int:
-        """A death at each commit; answers how many there were."""
-        deaths = 0
-        for first in range(1, MOST_COMMITS, 20 * STEP):
-            died = scenarios.deaths_at_commits(self.room, range(first, first + 20 * STEP, STEP), **options)
-            deaths += sum(died)
-            if not all(died):
-                return deaths
-        raise AssertionError("the commits have no end")
+    def test_at_commits(self) -> None:
+        self.assertGreater(scenarios.deaths_at_commits(self.room, COMMITS).deaths, 50 // STEP)
 
-    def test_at_each_commit(self) -> None:
-        deaths = self.each()
-        print(f"{deaths} deaths", file=sys.stderr)
-        self.assertGreater(deaths * STEP, 50)
-
-    def test_at_each_commit_of_attempts_that_wait(self) -> None:
-        deaths = self.each(idle=0.5)
-        print(f"{deaths} deaths", file=sys.stderr)
-        self.assertGreater(deaths * STEP, 40)
+    def test_at_commits_of_attempts_that_wait(self) -> None:
+        self.assertGreater(scenarios.deaths_at_commits(self.room, COMMITS, idle=0.5).deaths, 40 // STEP)
 
     def test_two_deaths(self) -> None:
-        for number in range(1, 80, 8):
-            scenarios.death_at_commit(self.room, number, again=(number * 7) % 60 + 1)
+        numbers = range(1, 80, 8 if IS_THOROUGH else 20)
+        again = [functools.partial(scenarios.death_at_commit, self.room, it, again=(it * 7) % 60 + 1) for it in numbers]
+        self.assertEqual(sum(it.deaths for it in scenarios.side_by_side(again)), 2 * len(numbers))
 
     def test_wrong_runtimes_are_found(self) -> None:
-        for wrong in ("completions_first", "timers_first", "ends_first", "states_first"):
-            with self.subTest(wrong), self.assertRaises(Wrong):
-                self.each(wrong=wrong)
+        kinds = ("completions_first", "timers_first", "ends_first", "states_first")
+        tries = [functools.partial(scenarios.is_found, self.room, it, range(1, 100)) for it in kinds]
+        self.assertEqual(dict(zip(kinds, scenarios.side_by_side(tries))), dict.fromkeys(kinds, True))
 
 
 class Storms(InAFolder):
     """36 workflows, and a fault of the machine."""
 
-    def setUp(self) -> None:
-        super().setUp()
-        self.room = scenarios.Room(self.folder / "room", 36)
+    def test_storms(self) -> None:
+        room, times = scenarios.Room(self.folder / "room", 36), 2 if IS_THOROUGH else 1
+        seeds = range(3 * times)
+        storms = [functools.partial(scenarios.torn_write, room, seed) for seed in seeds]
+        storms += [functools.partial(scenarios.clock_jumps, room, seed) for seed in range(times)]
+        self.assertEqual(len(list(scenarios.side_by_side(storms))), 4 * times)
 
-    def test_torn_writes(self) -> None:
-        for seed in range(6):
-            scenarios.torn_write(self.room, seed)
-
-    def test_a_clock_that_jumps(self) -> None:
-        for seed in range(3):
-            scenarios.clock_jumps(self.room, seed)
-
-    @unittest.skipIf(os.geteuid(), "a small file system is mounted by root")
     def test_a_full_disk(self) -> None:
-        self.assertGreater(sum(scenarios.full_disk(self.room, seed) for seed in range(2)), 0)
+        if not scenarios.may_mount():
+            self.skipTest("a small file system can't be mounted here")
+        room = scenarios.Room(self.folder / "room", 36)
+        self.assertGreater(sum(scenarios.full_disk(room, seed).lost for seed in range(1 + IS_THOROUGH)), 0)
 
 
 class Kills(InAFolder):
     def test_one_worker_on_sqlite(self) -> None:
-        reference = scenarios.undisturbed(str(self.folder / "reference.db"), self.folder / "reference", 60)
-        report, _ = scenarios.kills(str(self.folder / "db"), self.folder / "kills", faults=20, reference=reference)
+        faults = 20 if IS_THOROUGH else 6
+        reference = scenarios.undisturbed(str(self.folder / "reference.db"), self.folder / "reference", 3 * faults)
+        report = scenarios.kills(str(self.folder / "db"), self.folder / "kills", faults=faults, reference=reference)
         print(report, file=sys.stderr)
-        self.assertEqual(report.kills, 20)
-        self.assertGreater(report.open_at_a_kill, 1)
+        self.assertEqual(report.kills, faults)
+        self.assertGreater(report.open_at_faults, faults)
 
 
 @unittest.skipUnless("PALQYTUN_TEST_POSTGRES" in os.environ, "PALQYTUN_TEST_POSTGRES names no database")
@@ -98,7 +89,7 @@ class KillsOfMany(InAFolder):
 
     def test_kills_pauses_and_lost_connections(self) -> None:
         options = {"workers": 3, "pauses": True, "disconnects": True, "reference": self.reference}
-        report, _ = scenarios.kills(self.url, self.folder / "kills", faults=30, **options)
+        report = scenarios.kills(self.url, self.folder / "kills", faults=30, **options)
         print(report, file=sys.stderr)
         self.assertEqual((report.pauses, report.disconnects), (3, 6))
 

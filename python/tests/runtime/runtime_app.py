@@ -200,6 +200,26 @@ async def logs(ctx: Context, it):
 
 
 @service.handler()
+async def ticks(ctx: Context, it):
+    seen.append(it)
+
+
+few_run = 0
+
+
+@service.handler(limit=2)
+async def few(ctx: Context, it):
+    async def counted():
+        global few_run
+        few_run += 1
+        seen.append(few_run)
+        await asyncio.sleep(0.05)
+        few_run -= 1
+
+    await ctx.run("count", counted)
+
+
+@service.handler()
 async def slow(ctx: Context, it):
     return await ctx.timeout(ctx.signal("never"), 0.05)
 

@@ -106,7 +106,7 @@ class Serving(support.OnADatabase):
             _, listed = it.ask("/-/invocations?service=Approval&status=done")
             assert {row["handler"] for row in listed} == {"ask", "question", "answer"}
             status, lines = it.ask(f"/-/invocations/{made['invocation']}/journal")
-            assert lines[0] == "Input" and any(line.startswith("GetPromise") for line in lines) and lines[-1].startswith("Output")
+            assert lines[0] == "Input headers=() value=b'\"red?\"'" and any(line.startswith("GetPromise") for line in lines) and lines[-1].startswith("Output")
             _, made = it.ask("/Approval/b/ask/send", "green?")
             assert it.ask(f"/-/invocations/{made['invocation']}/cancel", method="POST") == (200, {"done": True})
             assert it.ask(f"/-/invocations/{made['invocation']}/result?wait=10") == (409, {"code": 409, "message": "cancelled"})

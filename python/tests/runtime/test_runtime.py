@@ -6,7 +6,7 @@ import unittest
 
 import support  # isort: skip
 import runtime_app
-from palqytun.runtime import App, Context, Service, TerminalError, VirtualObject, effects, invocations, journal, operate, storing
+from palqytun.runtime import App, Context, Schedule, Service, TerminalError, VirtualObject, effects, invocations, journal, operate, storing
 from palqytun.runtime.lease import Fenced
 from palqytun.runtime.outcome import Outcome
 from palqytun.runtime.replay import replay_all
@@ -173,7 +173,7 @@ class Handlers(support.OnADatabase):
                 await runtime.until(id, "suspended")
                 await runtime.engine.notify(id, journal.named_signal("go", journal.value(b"1")))  # it isn't awake by this
                 [row] = await runtime.rows(f"SELECT {invocations.CLAIMED} FROM invocations WHERE id=?", id)
-                first = await runtime.engine.transact(lambda db: invocations.claim(db, "dead", row))
+                [first] = await runtime.engine.transact(lambda db: invocations.claim(db, "dead", [invocations.Claimable(*row)]))
                 await asyncio.sleep(0.5)  # the worker sees that `dead` has no lease
                 sleep = bytes.fromhex("0012" "0000000000000014") + bytes(8) + (1).to_bytes(4, "big") + bytes(8)
                 with self.assertRaises(Fenced):
@@ -182,6 +182,33 @@ class Handlers(support.OnADatabase):
                 assert await runtime.rows("SELECT COUNT(*) FROM timers") == [(0,)]
 
         asyncio.run(go())
+
+    def test_calls_by_the_clock(self):
+        async def go():
+            app = App(runtime_app.service, schedules=[Schedule("often", runtime_app.ticks, "tick", every=0.05)])
+            async with Runtime(app, self.url):
+                while len(seen) < 3:
+                    await asyncio.sleep(0.01)
+
+        asyncio.run(asyncio.wait_for(go(), 60))
+        assert set(seen) == {"tick"}
+
+    @with_runtime
+    async def test_at_most_so_many_attempts_at_once(self, runtime):
+        ids = [await runtime.send("S/few") for _ in range(7)]
+        assert [await runtime.result(id) for id in ids] == [None] * 7
+        assert max(seen) == 2 and len(seen) == 7
+
+    def test_what_has_ended_is_purged(self):
+        async def go():
+            async with Runtime(runtime_app.app, self.url, keep=0.2, lease=0.3) as runtime:
+                id = await runtime.send("S/echo", 1)
+                await runtime.result(id)
+                while await runtime.rows("SELECT 1 FROM journal WHERE invocation=?", id):
+                    await asyncio.sleep(0.05)
+                assert await runtime.rows("SELECT 1 FROM invocations") == []
+
+        asyncio.run(asyncio.wait_for(go(), 60))
 
     @with_runtime
     async def test_stored_journals_are_replayed_by_changed_code(self, runtime):

@@ -6,6 +6,7 @@ docs/RUNTIME.md has the architecture, the tables, and what is proved, tested, or
 from .codec import Codec, JsonCodec
 from .context import Call, Context, Promise
 from .durable import Durable, NotDurable, gather, select, wait_any
+from .schedules import Schedule
 from .services import App, Cancelled, Handler, Retry, Service, TerminalError, VirtualObject, Workflow
 
 __all__ = [
@@ -20,6 +21,7 @@ __all__ = [
     "NotDurable",
     "Promise",
     "Retry",
+    "Schedule",
     "Service",
     "TerminalError",
     "VirtualObject",

@@ -73,7 +73,7 @@ class Attempt:
                 self.claim.input = b""
                 fault = await self._guarded()
                 if fault is not None:
-                    await self.worker.write(lambda db: storing.pause(db, self.claim, f"{type(fault).__name__}: {fault}"), self.claim)
+                    await self.worker.write(lambda db: storing.pause(db, self.worker.app, self.claim, f"{type(fault).__name__}: {fault}"), self.claim)
                     return
                 await self._store()
                 if not self._has_ended:

@@ -3,17 +3,19 @@
 from __future__ import annotations
 
 import time
-from collections.abc import Collection
+from collections.abc import Collection, Iterator
 from dataclasses import dataclass, field
 from typing import Any
 
-from . import inbox, invocations, journal
+from . import inbox, invocations, journal, schedules
 from .database import Database
-from .invocations import CLAIMED, Claim
+from .invocations import CLAIMED, Claim, Claimable
 from .outcome import Outcome
+from .services import App
 
 _TIMERS = 1000  # at most so many fire in one transaction
 _FRESH = 5000
+_AT_ONCE = 500  # leases that one statement takes
 
 
 @dataclass
@@ -26,11 +28,20 @@ class Claims:
 
 
 @dataclass(frozen=True)
+class Share:
+    """Some handlers, by a condition on their rows, and how many more of their attempts may begin."""
+
+    where: str
+    values: tuple[str, ...]
+    room: int
+
+
+@dataclass(frozen=True)
 class Claimer:
-    """Claims for one worker, which serves these services."""
+    """Claims for one worker of an app."""
 
     worker: str
-    services: tuple[str, ...]
+    app: App
     lease: float  # how long it is thought alive after a beat, in seconds
     former: str = ""  # the worker that this process was before it lost its database
 
@@ -43,6 +54,9 @@ class Claimer:
         db.change("DELETE FROM workers WHERE id=?", (self.former,))
         db.change(f"INSERT INTO workers(id, lease) VALUES (?,{db.clock}+?)", (self.worker, self.lease))
         db.change(f"DELETE FROM workers WHERE lease < {db.clock}-3600")
+        schedules.enter(db, self.app, self.app.services)
+        limited = [(it.path,) for it in self.app.limited()]
+        db.many("INSERT INTO limits(path) VALUES (?) ON CONFLICT(path) DO NOTHING", limited)
 
     def beat(self, db: Database) -> None:
         """Keeps the worker's leases. What was delivered while its target ended elsewhere is swept."""
@@ -61,52 +75,74 @@ class Claimer:
         """Fires the timers that are due, and claims at most `room` invocations that can go on; `live` are those that have an attempt here."""
         found, now = Claims(), time.time()
         self._fire(db, found.out, now)
+        schedules.fire(db, self.app, found.out, now)
         fresh = {row[0] for row in db.rows("SELECT DISTINCT invocation FROM inbox WHERE fresh=1 LIMIT ?", (_FRESH,))}
         found.out.touched |= fresh
-        for row in self._rows(db, now, room, bool(fresh)):
-            if row[0] in live:
-                continue
-            claimed = invocations.claim(db, self.worker, row)
-            if claimed is not None:
-                found.claims.append(claimed)
+        rows = [Claimable(*row) for row in self._rows(db, now, room, bool(fresh))]
+        free = [it for it in rows if it.id not in live]
+        for first in range(0, len(free), _AT_ONCE):
+            found.claims += invocations.claim(db, self.worker, free[first : first + _AT_ONCE])
         found.next_due = self._next_due(db, now)
         return found
 
     def _fire(self, db: Database, out: Outcome, now: float) -> None:
         due = db.rows(f"SELECT seq, invocation, completes FROM timers WHERE due<=? ORDER BY due LIMIT {_TIMERS}{db.skip}", (now,))
         for _, invocation, completes in due:
-            inbox.deliver_completion(db, out, invocation, completes, journal.void())
+            inbox.complete(db, out, invocation, completes, journal.void())
         if due:
             db.many("DELETE FROM timers WHERE seq=?", [(seq,) for seq, _, _ in due])
 
     def _rows(self, db: Database, now: float, room: int, has_fresh: bool) -> list[Any]:
         """Invocations that can go on, each with its row kept until the commit."""
-        served = ",".join("?" * len(self.services))
-        select = f"FROM invocations WHERE service IN ({served}) AND"
         rows: list[Any] = []
-        if has_fresh and room:
-            is_fresh = "id IN (SELECT invocation FROM inbox WHERE fresh=1)"
-            suspended = f"SELECT {CLAIMED}, future {select} status='suspended' AND {is_fresh} LIMIT ?{db.skip}"
-            for *row, future in db.rows(suspended, (*self.services, room)):
-                if inbox.wakes(db, row[0], bytes(future)):
-                    rows.append(tuple(row))
+        for share in self._shares(db):
+            most = min(share.room, room - len(rows))
+            found = self._awake(db, share, most) if has_fresh and most > 0 else []
+            if len(found) < most:
+                found += self._ready(db, share, now, most - len(found))
+            rows += found
         if len(rows) < room:
-            is_free = (
-                "(exclusive=0 OR NOT EXISTS (SELECT 1 FROM locks"
-                " WHERE locks.service=invocations.service AND locks.key=invocations.key AND locks.holder<>invocations.id))"
-            )
-            ready = f"SELECT {CLAIMED} {select} status='ready' AND due<=? AND {is_free} ORDER BY due, seq LIMIT ?{db.skip}"
-            rows += db.rows(ready, (*self.services, now, room - len(rows)))
-        if len(rows) < room:
-            is_orphaned = f"status='running' AND worker NOT IN (SELECT id FROM workers WHERE lease>={db.clock})"
-            orphaned = f"SELECT {CLAIMED} {select} {is_orphaned} LIMIT ?{db.skip}"
-            rows += db.rows(orphaned, (*self.services, room - len(rows)))
+            rows += self._orphaned(db, room - len(rows))
         return rows
+
+    def _shares(self, db: Database) -> Iterator[Share]:
+        """The handlers without a limit, and then each that has one. The rows of the limits are kept until the commit, so two workers don't count
+        at one time."""
+        limited, services = self.app.limited(), tuple(self.app.services)
+        is_free = "".join(" AND NOT (service=? AND handler=?)" for _ in limited)
+        named = tuple(name for it in limited for name in (it.service.name, it.name))
+        yield Share(f"service IN ({','.join('?' * len(services))}){is_free}", (*services, *named), 1_000_000)
+        for it in limited:
+            db.rows(f"SELECT path FROM limits WHERE path=?{db.lock}", (it.path,))
+            names = (it.service.name, it.name)
+            [(running,)] = db.rows("SELECT COUNT(*) FROM invocations WHERE status='running' AND service=? AND handler=?", names)
+            yield Share("service=? AND handler=?", names, (it.limit or 0) - running)
+
+    def _awake(self, db: Database, share: Share, most: int) -> list[Any]:
+        """Suspended ones whose inbox wakes them."""
+        is_fresh = "id IN (SELECT invocation FROM inbox WHERE fresh=1)"
+        sql = f"SELECT {CLAIMED}, future FROM invocations WHERE {share.where} AND status='suspended' AND {is_fresh} LIMIT ?{db.skip}"
+        return [tuple(row) for *row, future in db.rows(sql, (*share.values, most)) if inbox.wakes(db, row[0], bytes(future))]
+
+    def _ready(self, db: Database, share: Share, now: float, most: int) -> list[Any]:
+        is_free = (
+            "(exclusive=0 OR NOT EXISTS (SELECT 1 FROM locks"
+            " WHERE locks.service=invocations.service AND locks.key=invocations.key AND locks.holder<>invocations.id))"
+        )
+        sql = f"SELECT {CLAIMED} FROM invocations WHERE {share.where} AND status='ready' AND due<=? AND {is_free} ORDER BY due, seq LIMIT ?{db.skip}"
+        return db.rows(sql, (*share.values, now, most))
+
+    def _orphaned(self, db: Database, most: int) -> list[Any]:
+        """Running ones whose worker isn't alive. They are counted as running already, so no limit keeps them out."""
+        services = tuple(self.app.services)
+        is_orphaned = f"status='running' AND worker NOT IN (SELECT id FROM workers WHERE lease>={db.clock})"
+        sql = f"SELECT {CLAIMED} FROM invocations WHERE service IN ({','.join('?' * len(services))}) AND {is_orphaned} LIMIT ?{db.skip}"
+        return db.rows(sql, (*services, most))
 
     def _next_due(self, db: Database, now: float) -> float | None:
         sql = (
             "SELECT MIN(due) FROM (SELECT MIN(due) AS due FROM timers"
             " UNION ALL SELECT MIN(due) AS due FROM invocations WHERE status='ready' AND due>?) AS next"
         )
-        found = db.rows(sql, (now,))[0][0]
-        return None if found is None else float(found)
+        found, scheduled = db.rows(sql, (now,))[0][0], schedules.next_due(db, self.app)
+        return min((float(it) for it in (found, scheduled) if it is not None), default=None)

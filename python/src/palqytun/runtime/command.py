@@ -47,7 +47,7 @@ def load(path: str) -> App:
 
 
 async def _serve(options: argparse.Namespace) -> None:
-    engine = Engine(load(options.app), options.db, name=options.name, limit=options.limit, idle=options.idle, lease=options.lease)
+    engine = Engine(load(options.app), options.db, name=options.name, limit=options.limit, idle=options.idle, lease=options.lease, keep=options.keep)
     for number in (signal.SIGINT, signal.SIGTERM):
         asyncio.get_running_loop().add_signal_handler(number, engine.stop)
     if options.port < 0:
@@ -120,8 +120,19 @@ def resume(options: argparse.Namespace) -> int:
 
 
 def purge(options: argparse.Namespace) -> int:
+    before, count = time.time() - options.older, 0
     with _opened(options.db) as db:
-        print(f"{operate.purge(db, time.time() - options.older)} invocations are purged")
+        while some := operate.purge(db, before):
+            count += some
+    print(f"{count} invocations are purged")
+    return 0
+
+
+def list_schedules(options: argparse.Namespace) -> int:
+    with _opened(options.db) as db:
+        for it in operate.schedules(db):
+            due = time.strftime("%Y-%m-%d %H:%M:%S", time.gmtime(it["due"]))
+            print(f"{it['name']:<20}  {it['service']}/{it['handler']:<20}  {it['rule']:<20}  next {due} UTC")
     return 0
 
 
@@ -150,6 +161,7 @@ def _parser() -> argparse.ArgumentParser:
     one.add_argument("--limit", type=int, default=500, help="attempts at once")
     one.add_argument("--idle", type=float, default=1.0, help="seconds until an attempt that waits is suspended")
     one.add_argument("--lease", type=float, default=10.0, help="seconds until a worker that isn't heard of is thought dead")
+    one.add_argument("--keep", type=float, help="seconds until an invocation that has ended is purged; never without it")
     one.set_defaults(does=run)
 
     asked = commands.add_parser("invocations", help="list, inspect, cancel, resume or purge invocations").add_subparsers(required=True)
@@ -166,6 +178,9 @@ def _parser() -> argparse.ArgumentParser:
     one = asked.add_parser("purge", parents=[database], help="delete those that have ended")
     one.add_argument("--older", type=float, default=86400.0, help="ended more than so many seconds ago; a day by default")
     one.set_defaults(does=purge)
+
+    one = commands.add_parser("schedules", parents=[database], help="the calls that are made by the clock, each with its next time")
+    one.set_defaults(does=list_schedules)
 
     one = commands.add_parser("replay", parents=[database], help="does this code still make the stored journals? nothing is executed or stored")
     one.add_argument("app")

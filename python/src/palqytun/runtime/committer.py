@@ -21,6 +21,8 @@ T = TypeVar("T")
 Operation = Callable[[Database], Any]
 _TRIES = 20  # of a transaction that meets conflicts
 _QUICK = 0.001  # seconds; a commit that takes less isn't worth a thread
+_LASTS = 0.25  # seconds that a group is to take, so that beats and short transactions don't wait for long
+_FEWEST = 20  # operations of a group, however slow they are
 
 
 class Stopped(Exception):
@@ -31,6 +33,7 @@ class Committer:
     def __init__(self, db: Database, *, grouped: bool = True, most: int = 500):
         """`grouped`: operations that wait at one time are one transaction, of `most` operations at most."""
         self.db, self.grouped, self.most = db, grouped, most
+        self._size = most if grouped else 1  # of the next group
         self.counts = {"transactions": 0, "operations": 0, "conflicts": 0}
         self.lost: Exception | None = None
         self._queue: list[tuple[Operation, asyncio.Future[Any]]] = []
@@ -41,13 +44,13 @@ class Committer:
         self._is_busy = False
         self._lasted: collections.deque[float] = collections.deque([0.0], maxlen=5)  # how long the last commits took
 
-    def submit(self, operation: Callable[[Database], T]) -> asyncio.Future[T]:
-        """Queues an operation. Its future has what the operation answered, once that is committed."""
+    def submit(self, operation: Callable[[Database], T], is_urgent: bool = False) -> asyncio.Future[T]:
+        """Queues an operation, at the front if it is urgent. Its future has what the operation answered, once that is committed."""
         future: asyncio.Future[T] = asyncio.get_running_loop().create_future()
         if self.lost is not None:
             future.set_exception(Stopped(str(self.lost)))
         else:
-            self._queue.append((operation, future))
+            self._queue.insert(0 if is_urgent else len(self._queue), (operation, future))
             self._has_work.set()
         return future
 
@@ -68,18 +71,23 @@ class Committer:
         while True:
             await self._has_work.wait()
             await asyncio.sleep(0)  # those that go on by the last answers may queue more
-            count = self.most if self.grouped else 1
-            group, self._queue = self._queue[:count], self._queue[count:]
+            group, self._queue = self._queue[: self._size], self._queue[self._size :]
             if not self._queue:
                 self._has_work.clear()
-            self._is_busy = True
+            self._is_busy, begun = True, time.monotonic()
             try:
                 await self._commit(group)
+                self._adapt(len(group), time.monotonic() - begun)
             except Lost as error:
                 self._abandon(error, group)
                 return
             finally:
                 self._is_busy = False
+
+    def _adapt(self, count: int, took: float) -> None:
+        """The next group is as large as lasts a moment, by how long this one took."""
+        if self.grouped:
+            self._size = max(_FEWEST, min(self.most, int(count * _LASTS / max(took, 1e-6))))
 
     def _abandon(self, error: Exception, group: list[tuple[Operation, asyncio.Future[Any]]] | None = None) -> None:
         self.lost = error

@@ -11,7 +11,7 @@ import weakref
 from collections.abc import Awaitable, Callable, Coroutine, Iterator, MutableMapping
 from contextlib import contextmanager
 from dataclasses import dataclass
-from typing import Any, NoReturn, TypeVar, cast
+from typing import Any, Generic, NoReturn, TypeVar, cast, overload
 
 from .. import core
 from .codec import Codec
@@ -80,17 +80,17 @@ class Call(Leaf[T]):
         self.invocation_id: Durable[str] = Leaf(id, lambda came: str(came.id))
 
 
-class Promise:
+class Promise(Generic[T]):
     """A promise of the workflow."""
 
     def __init__(self, context: Context, name: str, kind: Any):
         self._context, self._name, self._read = context, name, context._reader(kind)
 
-    def value(self) -> Durable[Any]:
+    def value(self) -> Durable[T]:
         """Its value, once it is completed."""
         return Leaf(self._context._vm_call("sys_get_promise", self._name), self._read)
 
-    def peek(self) -> Durable[Any]:
+    def peek(self) -> Durable[T | None]:
         """Its value, or none while it isn't completed."""
         return Leaf(self._context._vm_call("sys_peek_promise", self._name), self._read)
 
@@ -176,7 +176,13 @@ class Context:
         """Ends after so many seconds, across crashes."""
         return Leaf(self._vm_call("sys_sleep", max(0, _ms(time.time() + seconds))), lambda came: None)
 
-    def run(self, name: str, function: Callable[..., Awaitable[T] | T], *arguments: Any, retry: Retry | None = None, gives: Any = None) -> Durable[T]:
+    @overload
+    def run(
+        self, name: str, function: Callable[..., Awaitable[T]], *arguments: Any, retry: Retry | None = None, gives: Any = None
+    ) -> Durable[T]: ...
+    @overload
+    def run(self, name: str, function: Callable[..., T], *arguments: Any, retry: Retry | None = None, gives: Any = None) -> Durable[T]: ...
+    def run(self, name: str, function: Callable[..., Any], *arguments: Any, retry: Retry | None = None, gives: Any = None) -> Durable[Any]:
         """Executes an effect once it is awaited, and keeps its result.
 
         It is executed at least once: a crash before the result is stored executes it again, so give what is outside an idempotency key, as
@@ -247,6 +253,10 @@ class Context:
         at = _ms(time.time() + delay) if delay else None
         return Leaf(self._vm_call("sys_send", service, name, self._codec.encode(argument), at=at, **options), lambda came: str(came.id))
 
+    @overload
+    def attach(self, invocation_id: str, gives: type[T]) -> Durable[T]: ...
+    @overload
+    def attach(self, invocation_id: str, gives: Any = Any) -> Durable[Any]: ...
     def attach(self, invocation_id: str, gives: Any = Any) -> Durable[Any]:
         """The result of another invocation, once it has ended."""
         return Leaf(self._vm_call("sys_attach_invocation", core.InvocationId(invocation_id)), self._reader(gives))
@@ -257,6 +267,10 @@ class Context:
 
     # ---- state
 
+    @overload
+    def get(self, name: str, kind: type[T]) -> Durable[T | None]: ...
+    @overload
+    def get(self, name: str, kind: Any = Any) -> Durable[Any]: ...
     def get(self, name: str, kind: Any = Any) -> Durable[Any]:
         """The value of a state key, or none."""
         return Leaf(self._vm_call("sys_state_get", name), self._reader(kind))
@@ -284,6 +298,10 @@ class Context:
 
     # ---- what others complete
 
+    @overload
+    def awakeable(self, kind: type[T]) -> tuple[str, Durable[T]]: ...
+    @overload
+    def awakeable(self, kind: Any = Any) -> tuple[str, Durable[Any]]: ...
     def awakeable(self, kind: Any = Any) -> tuple[str, Durable[Any]]:
         """An id to hand out, and what comes once others complete it."""
         awakeable = self._vm_call("sys_awakeable")
@@ -295,6 +313,10 @@ class Context:
     def reject_awakeable(self, id: str, message: str, code: int = 500) -> None:
         self.resolve_awakeable(id, TerminalError(message, code))
 
+    @overload
+    def signal(self, name: str, kind: type[T]) -> Durable[T]: ...
+    @overload
+    def signal(self, name: str, kind: Any = Any) -> Durable[Any]: ...
     def signal(self, name: str, kind: Any = Any) -> Durable[Any]:
         """The next signal of this name."""
         return Leaf(self._vm_call("create_signal_handle", name), self._reader(kind))
@@ -302,7 +324,11 @@ class Context:
     def send_signal(self, invocation_id: str, name: str, value: Any = None) -> None:
         self._vm_call("sys_complete_signal", invocation_id, name, self._given(value))
 
-    def promise(self, name: str, kind: Any = Any) -> Promise:
+    @overload
+    def promise(self, name: str, kind: type[T]) -> Promise[T]: ...
+    @overload
+    def promise(self, name: str, kind: Any = Any) -> Promise[Any]: ...
+    def promise(self, name: str, kind: Any = Any) -> Promise[Any]:
         """A promise of this workflow's key."""
         return Promise(self, name, kind)
 

@@ -9,16 +9,17 @@ from .. import core
 from .services import Cancelled, TerminalError
 
 T = TypeVar("T")
+T_co = TypeVar("T_co", covariant=True)
 
 
 class NotDurable(TypeError):
     """A handler awaited something else than what its context gave it."""
 
 
-class Durable(Generic[T]):
+class Durable(Generic[T_co]):
     """Something that the journal answers. `await` gives its result, or raises its failure."""
 
-    def __await__(self) -> Generator[Durable[Any], None, T]:
+    def __await__(self) -> Generator[Durable[Any], None, T_co]:
         if self.outcome() is None:
             yield self
         return self.result()
@@ -27,7 +28,7 @@ class Durable(Generic[T]):
         """Whether it has succeeded; none while it is pending."""
         raise NotImplementedError
 
-    def result(self) -> T:
+    def result(self) -> T_co:
         raise NotImplementedError
 
     def tree(self) -> int | core.Future | None:

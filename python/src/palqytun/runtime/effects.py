@@ -38,41 +38,47 @@ class Performer:
         self.db, self.app, self.out, self.growth, self.service, self.key = db, app, out, growth, service, key
         self.own = growth.lease.invocation
 
+    @staticmethod
+    def has_effect(it: Command) -> bool:
+        return type(it) in _PERFORMED
+
     def perform(self, it: Command) -> None:
         method = _PERFORMED.get(type(it))
         if method is not None:
             method(self, it)
 
     def _sleep(self, it: Sleep) -> None:
-        self.db.change("INSERT INTO timers(due, invocation, completes) VALUES (?,?,?)", (it.due / 1000, self.own, it.id))
+        self.db.put("INSERT INTO timers(due, invocation, completes) VALUES (?,?,?)", (it.due / 1000, self.own, it.id))
         self.out.is_due(it.due / 1000)
 
     def _call(self, it: Call) -> None:
         id = child_of(self.own, it.invocation_id)
         new = New(it.service, it.handler, it.key, it.parameter, it.headers, it.idempotency_key, it.at / 1000, id)
         try:
-            id = invocations.create(self.db, self.app, self.out, new)
+            id, is_new = invocations.create(self.db, self.app, self.out, new)
         except TerminalError as error:
             self.growth.complete(it.invocation_id, journal.invocation(id))
             if it.id is not None:
                 self.growth.complete(it.id, journal.failure(error.code, error.message))
             return
         self.growth.complete(it.invocation_id, journal.invocation(id))
-        if it.id is not None:
+        if it.id is not None and is_new:
+            invocations.wait(self.db, self.growth, id, it.id)
+        elif it.id is not None:
             invocations.attach(self.db, self.growth, id, it.id)
 
     def _change(self, it: Change) -> None:
         place = (self.service, self.key)
         if it.key is None:
-            self.db.change("DELETE FROM state WHERE service=? AND key=?", place)
+            self.db.put("DELETE FROM state WHERE service=? AND key=?", place)
         elif it.value is None:
-            self.db.change("DELETE FROM state WHERE service=? AND key=? AND name=?", (*place, it.key))
+            self.db.put("DELETE FROM state WHERE service=? AND key=? AND name=?", (*place, it.key))
         else:
             sql = (
                 "INSERT INTO state(service, key, name, value) VALUES (?,?,?,?)"
                 " ON CONFLICT(service, key, name) DO UPDATE SET value=excluded.value"
             )
-            self.db.change(sql, (*place, it.key, it.value))
+            self.db.put(sql, (*place, it.key, it.value))
 
     def _read(self, it: Read) -> None:
         state = state_of(self.db, self.service, self.key)
@@ -86,18 +92,18 @@ class Performer:
             target, number = awakeable_of(it.awakeable)
         except TerminalError:
             return  # it names nobody
-        inbox.deliver(self.db, self.out, target, journal.signal(number, it.result))
+        inbox.put(self.db, self.out, target, journal.signal(number, it.result))
 
     def _send_signal(self, it: SendSignal) -> None:
         frame = journal.named_signal(it.name, it.result) if it.name is not None else journal.signal(it.index or 0, it.result)
-        inbox.deliver(self.db, self.out, it.target, frame)
+        inbox.put(self.db, self.out, it.target, frame)
 
     def _promise(self, it: Promise) -> None:
         place = (self.service, self.key, it.key)
         where = "service=? AND key=? AND name=?"
         # The row is made and kept until the commit, so nobody completes it while another begins to wait.
         sql = "INSERT INTO promises(service, key, name) VALUES (?,?,?) ON CONFLICT(service, key, name) DO UPDATE SET name=excluded.name"
-        self.db.change(sql, place)
+        self.db.put(sql, place)
         found = self.db.rows(f"SELECT result FROM promises WHERE {where}", place)[0][0]
         result = None if found is None else Result(bytes(found))
         if it.result is not None:
@@ -106,17 +112,17 @@ class Performer:
             self.growth.complete(it.id, journal.void() if result is None else result)
         else:
             sql = "INSERT INTO promise_waiters(service, key, name, waiter, completes) VALUES (?,?,?,?,?)"
-            self.db.change(sql, (*place, self.own, it.id))
+            self.db.put(sql, (*place, self.own, it.id))
 
     def _complete_promise(self, id: int, result: Result, was_completed: bool, place: tuple[str, str, str]) -> None:
         if was_completed:
             self.growth.complete(id, journal.failure(409, "the promise was completed before"))
             return
         where = "service=? AND key=? AND name=?"
-        self.db.change(f"UPDATE promises SET result=? WHERE {where}", (result, *place))
+        self.db.put(f"UPDATE promises SET result=? WHERE {where}", (result, *place))
         for waiter, completes in self.db.rows(f"SELECT waiter, completes FROM promise_waiters WHERE {where}", place):
-            inbox.deliver_completion(self.db, self.out, waiter, completes, result)
-        self.db.change(f"DELETE FROM promise_waiters WHERE {where}", place)
+            inbox.complete(self.db, self.out, waiter, completes, result)
+        self.db.put(f"DELETE FROM promise_waiters WHERE {where}", place)
         self.growth.complete(id, journal.void())
 
     def _attach(self, it: Attach) -> None:

@@ -10,7 +10,7 @@ import time
 from collections.abc import Callable
 from typing import Any, TypeVar
 
-from . import inbox, invocations, journal, storing
+from . import inbox, invocations, journal, operate, storing
 from .attempt import Attempt
 from .claiming import Claimer, Claims
 from .committer import Committer, Stopped
@@ -24,6 +24,7 @@ from .services import App, TerminalError
 T = TypeVar("T")
 log = logging.getLogger("palqytun")
 _SHORTEST, _LONGEST = 0.1, 5.0  # seconds between connections
+_CLAIMS = 200  # at most in one transaction, so that other workers get some too
 
 
 class Unavailable(TerminalError):
@@ -37,7 +38,8 @@ class Engine:
     """A worker of an app.
 
     `limit`: attempts at once. `idle`: after so many seconds an attempt that waits is suspended. `lease`: a worker that isn't heard of for
-    so many seconds is thought dead. `poll`: how often the database is looked at, in seconds, if nothing is known to be due."""
+    so many seconds is thought dead. `poll`: how often the database is looked at, in seconds, if nothing is known to be due. `keep`: an
+    invocation is purged so many seconds after its end; never if none is given."""
 
     def __init__(
         self,
@@ -49,11 +51,12 @@ class Engine:
         idle: float = 1.0,
         lease: float = 10.0,
         poll: float = 1.0,
+        keep: float | None = None,
         grouped: bool = True,
         connect: Callable[[str], Database] = lambda url: connect(url, worker=True),
     ):
         self.app, self.url = app, url
-        self.name, self.limit, self.idle, self.lease, self.poll, self.grouped = name, limit, idle, lease, poll, grouped
+        self.name, self.limit, self.idle, self.lease, self.poll, self.keep, self.grouped = name, limit, idle, lease, poll, keep, grouped
         self._connect = connect
         self.live: dict[str, Attempt] = {}
         self.counts = {"attempts": 0, "sessions": 0, "fenced": 0}
@@ -64,6 +67,7 @@ class Engine:
         self._committer: Committer | None = None
         self._is_open = asyncio.Event()
         self._stopping = False
+        self._has_more = False
         self._former = ""
 
     # ---- transactions
@@ -149,7 +153,7 @@ class Engine:
         """As long as the database can be used. Each session is a worker of its own, so what an earlier one left is claimed like any other's."""
         db = await asyncio.to_thread(self._connect, self.url)
         committer = self._committer = Committer(db, grouped=self.grouped)
-        claimer = Claimer(f"{self.name}-{secrets.token_hex(6)}", tuple(self.app.services), self.lease, self._former)
+        claimer = Claimer(f"{self.name}-{secrets.token_hex(6)}", self.app, self.lease, self._former)
         self._former = claimer.worker
         unlisten: Callable[[], None] | None = None
         beats = asyncio.create_task(self._beats(committer, claimer))
@@ -184,10 +188,12 @@ class Engine:
         try:
             while not self._stopping:
                 self._look_at = time.monotonic() + self.poll
-                room, live = max(0, self.limit - len(self.live)), frozenset(self.live)
+                room, live = min(max(0, self.limit - len(self.live)), _CLAIMS), frozenset(self.live)
                 found: Claims = await committer.submit(lambda db: claimer.claim(db, live, room))
                 for claim in found.claims:
                     self._begin(claim)
+                self._has_more = len(found.claims) == room
+                self._look_for_more()
                 found.out.touched &= self.live.keys()
                 self.tell(found.out)
                 if found.next_due is not None and room:
@@ -215,11 +221,19 @@ class Engine:
         while True:
             await asyncio.sleep(self.lease / 3)
             try:
-                await committer.submit(claimer.beat)
+                await committer.submit(claimer.beat, is_urgent=True)
+                await self._purge(committer)
             except Stopped:
                 return
             except Conflict as error:
                 log.warning("a beat wasn't stored: %s", error)
+
+    async def _purge(self, committer: Committer) -> None:
+        """Deletes what has been kept long enough, some at a time."""
+        if self.keep is not None:
+            before = time.time() - self.keep
+            while await committer.submit(lambda db: operate.purge(db, before)):
+                pass
 
     def stop(self) -> None:
         """`run` ends once the transactions that are queued are committed. What isn't finished is claimed by the next worker."""
@@ -256,13 +270,19 @@ class Engine:
         finally:
             if self.live.get(invocation) is attempt:
                 del self.live[invocation]
-            if attempt.poked.is_set() or len(self.live) == self.limit - 1:
+            if attempt.poked.is_set():
                 self._wake(0)
+            self._look_for_more()
+
+    def _look_for_more(self) -> None:
+        """The last claim took all that it had room for. So there may be more: it is looked at once there is some room."""
+        if self._has_more and self.limit - len(self.live) >= max(1, self.limit // 10):
+            self._wake(0)
 
     async def _give_up(self, attempt: Attempt, error: Exception) -> None:
         why = f"the runtime failed: {type(error).__name__}: {error}"
         if self._committer is not None:
-            await asyncio.gather(self._committer.submit(lambda db: storing.pause(db, attempt.claim, why)), return_exceptions=True)
+            await asyncio.gather(self._committer.submit(lambda db: storing.pause(db, self.app, attempt.claim, why)), return_exceptions=True)
 
     # ---- what an ingress does
 
@@ -273,7 +293,7 @@ class Engine:
     async def submit(self, new: New) -> str:
         """Makes an invocation. It is stored once this answers its id."""
         out = Outcome()
-        id = await self.transact(lambda db: invocations.create(db, self.app, out, new))
+        id, _ = await self.transact(lambda db: invocations.create(db, self.app, out, new))
         self.tell(out)
         return id
 
@@ -307,3 +327,10 @@ class Engine:
 
     async def cancel(self, invocation: str) -> bool:
         return await self.notify(invocation, journal.signal(journal.CANCEL, journal.void()))
+
+    async def resume(self, invocation: str) -> bool:
+        """Tries a paused invocation again; answers whether there is such a one."""
+        out = Outcome()
+        is_done = await self.transact(lambda db: operate.resume(db, out, invocation))
+        self.tell(out)
+        return is_done

@@ -46,6 +46,7 @@ class Response:
     status: int = 200
     body: bytes = b""
     content_type: str = "application/json"
+    headers: tuple[tuple[str, str], ...] = ()
 
 
 Handler = Callable[[Request], Awaitable[Response]]
@@ -122,7 +123,7 @@ async def _body(request: Request, reader: asyncio.StreamReader, writer: asyncio.
 def _written(response: Response, is_kept: bool) -> bytes:
     phrase = HTTPStatus(response.status).phrase if response.status in HTTPStatus._value2member_map_ else ""
     lines = [f"HTTP/1.1 {response.status} {phrase}".rstrip(), f"content-type: {response.content_type}", f"content-length: {len(response.body)}"]
-    lines.append(f"connection: {'keep-alive' if is_kept else 'close'}")
+    lines += [f"connection: {'keep-alive' if is_kept else 'close'}", *[f"{name}: {value}" for name, value in response.headers]]
     return "\r\n".join([*lines, "", ""]).encode("latin-1") + response.body
 
 

@@ -5,24 +5,39 @@ An effect on another invocation is only a row of its inbox. So a journal has one
 
 from __future__ import annotations
 
+from collections.abc import Sequence
+from typing import Any
+
 from . import journal
 from .database import Database
 from .journal import Result
 from .outcome import Outcome
 
 
+_SQL = "INSERT INTO inbox(invocation, frame) SELECT ?,? WHERE EXISTS (SELECT 1 FROM invocations WHERE id=? AND status<>'done')"
+
+
 def deliver(db: Database, out: Outcome, invocation: str, notification: bytes) -> bool:
-    """Puts a notification into an invocation's inbox. One that has ended or doesn't exist gets nothing."""
-    sql = "INSERT INTO inbox(invocation, frame) SELECT ?,? WHERE EXISTS (SELECT 1 FROM invocations WHERE id=? AND status<>'done')"
-    if not db.change(sql, (invocation, notification, invocation)):
+    """Puts a notification into an invocation's inbox; answers whether it has one. One that has ended or doesn't exist gets nothing."""
+    if not db.change(_SQL, (invocation, notification, invocation)):
         return False
-    out.touched.add(invocation)
-    db.notify(f"to {invocation}")
+    _tell(db, out, invocation)
     return True
 
 
-def deliver_completion(db: Database, out: Outcome, invocation: str, completes: int, result: Result) -> None:
-    deliver(db, out, invocation, journal.completion(completes, result))
+def put(db: Database, out: Outcome, invocation: str, notification: bytes) -> None:
+    """Puts a notification into an invocation's inbox, if it has one."""
+    db.put(_SQL, (invocation, notification, invocation))
+    _tell(db, out, invocation)
+
+
+def complete(db: Database, out: Outcome, invocation: str, completes: int, result: Result) -> None:
+    put(db, out, invocation, journal.completion(completes, result))
+
+
+def _tell(db: Database, out: Outcome, invocation: str) -> None:
+    out.touched.add(invocation)
+    db.notify(f"to {invocation}")
 
 
 def peek(db: Database, invocation: str) -> list[tuple[int, bytes]]:
@@ -30,7 +45,7 @@ def peek(db: Database, invocation: str) -> list[tuple[int, bytes]]:
     return [(seq, bytes(frame)) for seq, frame in db.rows("SELECT seq, frame FROM inbox WHERE invocation=? ORDER BY seq", (invocation,))]
 
 
-def remove(db: Database, rows: list[tuple[int, bytes]]) -> None:
+def remove(db: Database, rows: Sequence[tuple[Any, ...]]) -> None:
     if rows:
         db.many("DELETE FROM inbox WHERE seq=?", [(seq,) for seq, _ in rows])
 

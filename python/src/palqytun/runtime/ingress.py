@@ -4,29 +4,30 @@
     POST /{service}/../{handler}/send    only makes the invocation (202); `?delay=SECONDS`
     GET  /-/health
     GET  /-/metrics                      for Prometheus
+    GET  /-/schedules                    each with its next time
     GET  /-/invocations                  `?status=`, `?service=`, `?most=`
-    GET  /-/invocations/{id}             its row; /journal: its entries; /result: its result, once it has ended
+    GET  /-/invocations/{id}             its row; /journal: its entries; /timeline: these with their times; /result: its result, once it has ended
     POST /-/invocations/{id}/cancel      or /resume, or /signals/{name} with a value
     POST /-/awakeables/{id}/resolve      or /reject, with a value or a message
+    GET  /-/page                         the operator's page: the list, and /{id}: one invocation as a picture
 
 A header `idempotency-key` names a call that is made once. A call and `/result` wait for the result; `?wait=SECONDS` answers 202 with the
-invocation's id if it hasn't ended by then. With a token, each request but /-/health has `authorization: Bearer TOKEN`.
+invocation's id if it hasn't ended by then. With a token, each request but /-/health has `authorization: Bearer TOKEN`; the page asks for it.
 """
 
 from __future__ import annotations
 
-import hmac
 import json
 import time
 from collections.abc import Awaitable, Callable
 from typing import Any
 
-from . import effects, journal, operate
+from . import effects, journal, operate, timeline
 from .engine import Engine
 from .http import Request, Response, Server
 from .invocations import New
 from .journal import Result
-from .outcome import Outcome
+from .pages import Pages, is_same
 from .services import TerminalError
 
 
@@ -54,14 +55,16 @@ def _number(request: Request, name: str) -> float | None:
 class Ingress:
     def __init__(self, engine: Engine, *, token: str | None = None):
         self.engine, self._token = engine, token
+        self._pages = Pages(engine, token)
         self.server = Server(self.answer, _fault)
 
     async def answer(self, request: Request) -> Response:
         """The response to a request."""
         try:
+            if request.parts[:2] == ("-", "page"):
+                return await self._pages.answer(request)
             if self._token is not None and request.parts != ("-", "health"):
-                given = request.headers.get("authorization", "")
-                if not hmac.compare_digest(given.encode(), f"Bearer {self._token}".encode()):
+                if not is_same(request.headers.get("authorization", ""), f"Bearer {self._token}"):
                     return _fault(401, "the header `authorization: Bearer TOKEN` is missing or wrong")
             if request.parts[0] == "-":
                 return await self._operator(request)
@@ -78,12 +81,16 @@ class Ingress:
                 return _reply({"live": len(self.engine.live), **self.engine.counts})
             case ("GET", "metrics"):
                 what = self._metrics
+            case ("GET", "schedules"):
+                return _reply(await self.engine.transact(operate.schedules))
             case ("GET", "invocations"):
                 what = self._list
             case ("GET", "invocations", _):
                 what = self._inspect
             case ("GET", "invocations", _, "journal"):
                 what = self._journal
+            case ("GET", "invocations", _, "timeline"):
+                what = self._timeline
             case ("GET", "invocations", id, "result"):
                 return await self._answered(id, _number(request, "wait"))
             case ("POST", "invocations", id, "cancel"):
@@ -158,14 +165,15 @@ class Ingress:
         lines = await self.engine.transact(lambda db: operate.journal_of(db, request.parts[2]))
         return _reply(lines) if lines else _fault(404, "there is no such invocation")
 
+    async def _timeline(self, request: Request) -> Response:
+        found = await self.engine.transact(lambda db: timeline.timeline(db, request.parts[2]))
+        return _fault(404, "there is no such invocation") if found is None else _reply(timeline.as_json(found))
+
     def _done(self, is_done: bool) -> Response:
         return _reply({"done": True}) if is_done else _fault(404, "there is no invocation that this could be done to")
 
     async def _resume(self, request: Request) -> Response:
-        out = Outcome()
-        is_done = await self.engine.transact(lambda db: operate.resume(db, out, request.parts[2]))
-        self.engine.tell(out)
-        return self._done(is_done)
+        return self._done(await self.engine.resume(request.parts[2]))
 
     async def _awakeable(self, request: Request) -> Response:
         invocation, number = effects.awakeable_of(request.parts[2])

@@ -6,7 +6,7 @@ import hashlib
 import secrets
 import time
 from collections.abc import Iterable
-from dataclasses import dataclass, field
+from dataclasses import dataclass, field, fields
 from typing import Any
 
 from . import inbox, journal
@@ -17,7 +17,6 @@ from .outcome import Outcome
 from .services import App, TerminalError
 
 VERSION = 7  # of the core's protocol, for new invocations; one that is there keeps its own, for its journal was written by it
-CLAIMED = "id, service, handler, key, exclusive, version, seed, idem, epoch, entries, retries, failing_since"
 
 
 @dataclass(frozen=True)
@@ -40,13 +39,13 @@ def _seed(id: str | None) -> int:
     return int.from_bytes(hashlib.blake2b(id.encode(), digest_size=7).digest(), "big")
 
 
-def create(db: Database, app: App, out: Outcome, new: New) -> str:
-    """Makes an invocation, and answers its id; or that of the one that has this idempotency key, or of the workflow with this key."""
+def create(db: Database, app: App, out: Outcome, new: New) -> tuple[str, bool]:
+    """Makes an invocation; answers its id and True. If there is one with this idempotency key, or a workflow with this key, its id and False."""
     handler = app.find(new.service, new.handler)
     if bool(new.key) != handler.service.keyed:
         raise TerminalError(f"{handler.path} is called {'with' if handler.service.keyed else 'without'} a key", 400)
     is_main = handler.service.workflow and handler.exclusive
-    idem = "" if is_main else new.idempotency_key  # a workflow's main runs once a key
+    idem = "" if is_main else new.idempotency_key or None  # a workflow's main runs once a key
     now = time.time()
     id = new.id or f"inv_{secrets.token_hex(12)}"
     sql = (
@@ -56,11 +55,12 @@ def create(db: Database, app: App, out: Outcome, new: New) -> str:
     row = (id, new.service, new.handler, new.key, int(handler.exclusive), VERSION, idem, _seed(new.id), new.due or now, now)
     if not db.change(sql, row):
         found = db.rows("SELECT id FROM invocations WHERE service=? AND handler=? AND key=? AND idem=?", (new.service, new.handler, new.key, idem))
-        return str(found[0][0]) if found else id
-    db.change("INSERT INTO journal(invocation, at, frame) VALUES (?,0,?)", (id, journal.input_command(new.argument, new.headers)))
+        return str(found[0][0]) if found else id, False
+    sql = "INSERT INTO journal(invocation, at, frame, stored) VALUES (?,0,?,?)"
+    db.put(sql, (id, journal.input_command(new.argument, new.headers), now))
     out.is_due(new.due or now)
     db.notify("ready")
-    return id
+    return id, True
 
 
 def attach(db: Database, growth: Growth, invocation: str | None, id: int) -> None:
@@ -71,17 +71,22 @@ def attach(db: Database, growth: Growth, invocation: str | None, id: int) -> Non
     elif found[0][0] is not None:
         growth.complete(id, Result(bytes(found[0][0])))
     else:
-        db.change("INSERT INTO waiters(invocation, waiter, completes) VALUES (?,?,?)", (invocation, growth.lease.invocation, id))
+        wait(db, growth, str(invocation), id)
+
+
+def wait(db: Database, growth: Growth, invocation: str, id: int) -> None:
+    """The completion id waits for the end of another invocation, which hasn't ended."""
+    db.put("INSERT INTO waiters(invocation, waiter, completes) VALUES (?,?,?)", (invocation, growth.lease.invocation, id))
 
 
 def end(db: Database, out: Outcome, invocation: str, service: str, key: str, result: Result) -> None:
     """What an invocation's end does for others: it gives its result to those that wait, and its key to the next."""
     for waiter, completes in db.rows("SELECT waiter, completes FROM waiters WHERE invocation=?", (invocation,)):
-        inbox.deliver_completion(db, out, waiter, completes, result)
+        inbox.complete(db, out, waiter, completes, result)
     for table in ("waiters", "timers", "inbox"):
-        db.change(f"DELETE FROM {table} WHERE invocation=?", (invocation,))
+        db.put(f"DELETE FROM {table} WHERE invocation=?", (invocation,))
     if key:
-        db.change("DELETE FROM locks WHERE service=? AND key=? AND holder=?", (service, key, invocation))
+        db.put("DELETE FROM locks WHERE service=? AND key=? AND holder=?", (service, key, invocation))
         out.is_due(time.time())
         db.notify("ready")
     out.ended[invocation] = result
@@ -109,10 +114,10 @@ class Claim:
         return self.lease.invocation
 
 
-def load(db: Database, invocation: str, entries: int) -> Journal:
-    """The stored journal."""
+def _loaded(invocation: str, entries: int, rows: Iterable[Any]) -> Journal:
+    """A journal of the rows that are stored of it."""
     loaded = Journal()
-    for at, frame in db.rows("SELECT at, frame FROM journal WHERE invocation=? ORDER BY at", (invocation,)):
+    for at, frame in rows:
         if at != loaded.entries:
             raise journal.Dishonest("WHOLE", f"entry {loaded.entries} of {invocation} isn't there")
         loaded.entry(bytes(frame))
@@ -121,37 +126,109 @@ def load(db: Database, invocation: str, entries: int) -> Journal:
     return loaded
 
 
+def load(db: Database, invocation: str, entries: int) -> Journal:
+    """The stored journal."""
+    return _loaded(invocation, entries, db.rows("SELECT at, frame FROM journal WHERE invocation=? ORDER BY at", (invocation,)))
+
+
 def state_of(db: Database, service: str, key: str) -> dict[str, bytes]:
     """The keyed state. It is changed in the transaction that stores the command, so it is as the journals' commands leave it."""
     return {name: bytes(data) for name, data in db.rows("SELECT name, value FROM state WHERE service=? AND key=? ORDER BY name", (service, key))}
 
 
-def _has_key(db: Database, service: str, key: str, id: str) -> bool:
-    """Takes the key, if nobody has it; answers whether this invocation has it."""
-    db.change("INSERT INTO locks(service, key, holder) VALUES (?,?,?) ON CONFLICT(service, key) DO NOTHING", (service, key, id))
-    return bool(db.rows("SELECT holder FROM locks WHERE service=? AND key=?", (service, key))[0][0] == id)
+@dataclass(frozen=True)
+class Claimable:
+    """The row of an invocation that can go on, as far as a claim reads it; it is kept until the commit."""
+
+    id: str
+    service: str
+    handler: str
+    key: str
+    exclusive: int
+    version: int
+    seed: int
+    idem: str | None
+    epoch: int
+    entries: int
+    retries: int
+    failing_since: float | None
 
 
-def claim(db: Database, worker: str, row: tuple[Any, ...]) -> Claim | None:
-    """Takes the lease of an invocation whose row is kept until the commit. Nothing, if another has its key."""
-    id, service, handler, key, exclusive, version, seed, idem, epoch, entries, retries, failing_since = row
-    if exclusive and not _has_key(db, service, key, id):
-        return None
-    sql = "UPDATE invocations SET status='running', epoch=?, worker=?, future=NULL WHERE id=? AND epoch=?"
-    if db.change(sql, (epoch + 1, worker, id, epoch)) != 1:
-        raise Fenced(id)
-    growth = Growth(Lease(id, epoch + 1, load(db, id, entries)))
-    rows = inbox.peek(db, id)
-    for _, frame in rows:
-        growth.arrive(frame)
-    inbox.remove(db, rows)
-    if rows:
+CLAIMED = ", ".join(it.name for it in fields(Claimable))
+
+
+def _marks(count: int, mark: str = "?") -> str:
+    return ",".join([mark] * count)
+
+
+def _with_keys(db: Database, rows: list[Claimable]) -> list[Claimable]:
+    """Takes the keys that nobody has; answers those that have theirs, or need none."""
+    keyed = [it for it in rows if it.exclusive]
+    if not keyed:
+        return rows
+    taken = [(it.service, it.key, it.id) for it in keyed]
+    db.many("INSERT INTO locks(service, key, holder) VALUES (?,?,?) ON CONFLICT(service, key) DO NOTHING", taken)
+    places = [name for it in keyed for name in (it.service, it.key)]
+    holders = {row[0] for row in db.rows(f"SELECT holder FROM locks WHERE (service, key) IN (VALUES {_marks(len(keyed), '(?,?)')})", places)}
+    return [it for it in rows if not it.exclusive or it.id in holders]
+
+
+def _lease(db: Database, worker: str, rows: list[Claimable], now: float) -> None:
+    """Takes the leases, and writes down the attempts before. One that didn't say how it stopped was lost, with its worker or its lease."""
+    kept = (
+        "INSERT INTO attempts(invocation, epoch, worker, begun, stopped, how, error)"
+        " SELECT id, epoch, worker, begun, COALESCE(stopped, ?), COALESCE(how, 'lost'), CASE WHEN how IN ('failed', 'paused') THEN error END"
+        " FROM invocations WHERE id=?"
+    )
+    db.many(kept, [(now, it.id) for it in rows if it.epoch])
+    sql = (
+        "UPDATE invocations SET status='running', epoch=epoch+1, worker=?, future=NULL, begun=?, stopped=NULL, how=NULL"
+        f" WHERE (id, epoch) IN (VALUES {_marks(len(rows), '(?,?)')})"
+    )
+    if db.change(sql, (worker, now, *[part for it in rows for part in (it.id, it.epoch)])) != len(rows):
+        raise Fenced(", ".join(it.id for it in rows[:3]))
+
+
+def _by_invocation(db: Database, columns: str, table: str, order: str, ids: list[str]) -> dict[str, list[tuple[Any, ...]]]:
+    """Rows of a table by their invocations."""
+    found: dict[str, list[tuple[Any, ...]]] = {id: [] for id in ids}
+    sql = f"SELECT invocation, {columns} FROM {table} WHERE invocation IN ({_marks(len(ids))}) ORDER BY {order}"
+    for id, *row in db.rows(sql, ids):
+        found[id].append(tuple(row))
+    return found
+
+
+def claim(db: Database, worker: str, rows: list[Claimable]) -> list[Claim]:
+    """Takes the leases of invocations. One whose key another has is left out, and one whose stored journal breaks a rule is paused."""
+    rows = _with_keys(db, rows)
+    if not rows:
+        return []
+    now, ids = time.time(), [it.id for it in rows]
+    _lease(db, worker, rows, now)
+    entries = _by_invocation(db, "at, frame", "journal", "invocation, at", ids)
+    arrived = _by_invocation(db, "seq, frame", "inbox", "seq", ids)
+    claims: list[Claim] = []
+    for it in rows:
+        try:
+            claims.append(_claim(db, it, now, entries[it.id], arrived[it.id]))
+        except journal.Dishonest as broken:
+            sql = "UPDATE invocations SET status='paused', stopped=?, how='paused', error=? WHERE id=?"
+            db.put(sql, (now, f"the stored journal is broken: {broken}", it.id))
+    return claims
+
+
+def _claim(db: Database, it: Claimable, now: float, entries: list[tuple[Any, ...]], arrived: list[tuple[Any, ...]]) -> Claim:
+    """Moves what came for a leased invocation to its journal, and makes ready what its attempt is fed."""
+    growth = Growth(Lease(it.id, it.epoch + 1, _loaded(it.id, it.entries, entries)))
+    for _, frame in arrived:
+        growth.arrive(bytes(frame))
+    inbox.remove(db, arrived)
+    if arrived:
         growth.write(db)
     growth.lease.journal.keep()  # if the commit fails, the claim is thrown away
-    now = time.time()
-    failing = max(0, int((now - failing_since) * 1000)) if retries and failing_since is not None else 0
+    failing = max(0, int((now - it.failing_since) * 1000)) if it.retries and it.failing_since is not None else 0
     # A handler that may write is handed the whole state; one that only reads is handed none, and reads by completions.
-    state = tuple(state_of(db, service, key).items()) if exclusive else ()
-    begin = Begin(id, key, seed, state, bool(key) and not exclusive, retries, failing, idem or None)
-    content_type = f"application/vnd.restate.invocation.v{version}"
-    return Claim(growth.lease, service, handler, key, bool(exclusive), content_type, now, growth.lease.journal.start(begin))
+    state = tuple(state_of(db, it.service, it.key).items()) if it.exclusive else ()
+    begin = Begin(it.id, it.key, it.seed, state, bool(it.key) and not it.exclusive, it.retries, failing, it.idem or None)
+    content_type = f"application/vnd.restate.invocation.v{it.version}"
+    return Claim(growth.lease, it.service, it.handler, it.key, bool(it.exclusive), content_type, now, growth.lease.journal.start(begin))

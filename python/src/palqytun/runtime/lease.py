@@ -1,10 +1,11 @@
 """The lease of an invocation: who may write its journal. It is taken by raising the invocation's epoch, and each write asks for that epoch.
 
-Whoever lost a lease is fenced: the fence stands before any effect, so that nothing of a lost attempt is stored.
+Whoever lost a lease is fenced: the fence stands before any effect, so that nothing of a lost attempt is stored. `write` is a fence too.
 """
 
 from __future__ import annotations
 
+import time
 from dataclasses import dataclass, field
 
 from .database import Database
@@ -70,5 +71,6 @@ class Growth:
         if db.change(sql, values) != 1:
             raise self.lease.lost(self.before)
         if self.entries:
-            rows = [(self.lease.invocation, it.at, it.completes, it.frame) for it in self.entries]
-            db.many("INSERT INTO journal(invocation, at, completes, frame) VALUES (?,?,?,?)", rows)
+            now = time.time()
+            rows = [(self.lease.invocation, it.at, it.completes, it.frame, now) for it in self.entries]
+            db.many("INSERT INTO journal(invocation, at, completes, frame, stored) VALUES (?,?,?,?,?)", rows)

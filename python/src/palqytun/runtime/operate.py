@@ -34,6 +34,12 @@ def journal_of(db: Database, id: str) -> list[str]:
     return [journal.line_of(bytes(row[0])) for row in db.rows("SELECT frame FROM journal WHERE invocation=? ORDER BY at", (id,))]
 
 
+def schedules(db: Database) -> list[dict[str, Any]]:
+    """The schedules, each with when it is due next, and which time of it made the last call."""
+    names = ("name", "service", "handler", "rule", "due", "last")
+    return [dict(zip(names, row)) for row in db.rows(f"SELECT {', '.join(names)} FROM schedules ORDER BY name")]
+
+
 def resume(db: Database, out: Outcome, id: str) -> bool:
     """A paused invocation is tried again, as if it hadn't failed before."""
     now = time.time()
@@ -45,11 +51,18 @@ def resume(db: Database, out: Outcome, id: str) -> bool:
     return True
 
 
-def purge(db: Database, before: float) -> int:
-    """Deletes the invocations that ended before a time, with their journals; answers how many."""
-    ended = "SELECT id FROM invocations WHERE status='done' AND ended<?"
-    db.change(f"DELETE FROM journal WHERE invocation IN ({ended})", (before,))
-    return db.change("DELETE FROM invocations WHERE status='done' AND ended<?", (before,))
+def purge(db: Database, before: float, most: int = 1000) -> int:
+    """Deletes at most so many invocations that ended before a time, with their journals; answers how many. With a workflow's `main` go the
+    state and the promises of its key, so that the key can run again."""
+    sql = f"SELECT id, service, key, exclusive, idem FROM invocations WHERE status='done' AND ended<? ORDER BY ended LIMIT ?{db.skip}"
+    rows = db.rows(sql, (before, most))
+    ids = [(row[0],) for row in rows]
+    for table, column in (("journal", "invocation"), ("attempts", "invocation"), ("invocations", "id")):
+        db.many(f"DELETE FROM {table} WHERE {column}=?", ids)
+    workflows = [(service, key) for _, service, key, exclusive, idem in rows if exclusive and idem == ""]
+    for table in ("state", "promises"):
+        db.many(f"DELETE FROM {table} WHERE service=? AND key=?", workflows)
+    return len(rows)
 
 
 def by_status(db: Database) -> dict[str, int]:

@@ -15,7 +15,7 @@ from . import journal
 from .context import AttemptEnds, CaughtTooMuch, Context, given_failure
 from .database import Database
 from .durable import Task, Tasks
-from .invocations import CLAIMED, load
+from .invocations import CLAIMED, Claimable, load
 from .journal import Begin, Failed
 from .services import App, Cancelled, TerminalError
 
@@ -30,22 +30,21 @@ class Difference:
     error: str
 
 
-def replay(app: App, db: Database, row: tuple[Any, ...]) -> Difference | None:
+def replay(app: App, db: Database, it: Claimable) -> Difference | None:
     """Replays the journal of one invocation."""
-    id, service, handler, key, exclusive, version, seed, idem, _, entries, *_ = row
-    path = f"{service}/{handler}"
+    path = f"{it.service}/{it.handler}"
     try:
-        app.find(service, handler)
+        app.find(it.service, it.handler)
     except TerminalError as error:
-        return Difference(id, path, -1, error.message)
-    start = load(db, id, entries).start(Begin(id, key, seed, idempotency_key=idem or None))
-    with core.VM(f"application/vnd.restate.invocation.v{version}", awaiting="never") as vm:
+        return Difference(it.id, path, -1, error.message)
+    start = load(db, it.id, it.entries).start(Begin(it.id, it.key, it.seed, idempotency_key=it.idem or None))
+    with core.VM(f"application/vnd.restate.invocation.v{it.version}", awaiting="never") as vm:
         vm.notify_input(start)
         vm.notify_input_closed()
-        raised = _replayed(app, vm, service, handler, bool(exclusive))
-        said = [it for it in journal.messages_in(vm.take_output()) if isinstance(it, Failed)]
+        raised = _replayed(app, vm, it.service, it.handler, bool(it.exclusive))
+        said = [one for one in journal.messages_in(vm.take_output()) if isinstance(one, Failed)]
         text = f"{said[0].code} {said[0].message}" if said else raised
-        return None if text is None else Difference(id, path, vm.last_command_index(), text)
+        return None if text is None else Difference(it.id, path, vm.last_command_index(), text)
 
 
 def _replayed(app: App, vm: core.VM, service: str, name: str, may_write: bool) -> str | None:
@@ -96,7 +95,7 @@ def _drive(app: App, vm: core.VM, context: Context, tasks: Tasks) -> None:
 def _all(app: App, db: Database, status: str | None) -> Iterator[Difference | None]:
     where, values = ("WHERE status=?", (status,)) if status else ("", ())
     for row in db.rows(f"SELECT {CLAIMED} FROM invocations {where} ORDER BY seq", values):
-        yield replay(app, db, row)
+        yield replay(app, db, Claimable(*row))
 
 
 def replay_all(app: App, db: Database, status: str | None) -> tuple[int, list[Difference]]:

@@ -4,7 +4,7 @@ from __future__ import annotations
 
 import inspect
 import typing
-from collections.abc import Awaitable, Callable
+from collections.abc import Awaitable, Callable, Iterable
 from dataclasses import dataclass, field
 from typing import TYPE_CHECKING, Any, Generic, TypeVar
 
@@ -12,6 +12,7 @@ from .codec import Codec, JsonCodec
 
 if TYPE_CHECKING:
     from .context import Context
+    from .schedules import Schedule
 
 I = TypeVar("I")
 O = TypeVar("O")
@@ -75,13 +76,15 @@ ATTEMPTS = Retry(attempts=50, pause=True)  # of a handler that says nothing else
 
 @dataclass
 class Handler(Generic[I, O]):
-    """A handler of a service. `exclusive` ones of a key run one at a time and may change its state."""
+    """A handler of a service. `exclusive` ones of a key run one at a time and may change its state. `limit`: at most so many attempts of it run
+    at once, over all workers."""
 
     service: "Service"
     name: str
     function: Function[I, O]
     exclusive: bool = False
     retry: Retry = ATTEMPTS
+    limit: int | None = None
     takes: Any = Any
     gives: Any = Any
 
@@ -120,13 +123,16 @@ class Service:
                 raise TypeError(f"{self.name}/{name} takes {count} parameters; a handler takes the context and its argument")
             if name in self.handlers:
                 raise ValueError(f"{self.name} has two handlers with the name {name}")
+            if (limit := options.get("limit")) is not None and limit < 1:
+                raise ValueError(f"{self.name}/{name} has the limit {limit}, so it would never run")
             self.handlers[name] = handler = Handler(self, name, function, exclusive, takes=takes, gives=gives, **options)
             return handler
 
         return added
 
     def handler(self, **options: Any) -> Callable[[Function[I, O]], Handler[I, O]]:
-        """Registers a handler under its function's name. `retry` says when its attempts are tried again."""
+        """Registers a handler under its function's name. `retry` says when its attempts are tried again, and `limit` how many of them may run
+        at once."""
         return self._add(self.keyed and not self.workflow, **options)
 
 
@@ -151,15 +157,32 @@ class Workflow(VirtualObject):
 
 
 class App:
-    """The services of a program, and the codec of their values."""
+    """The services of a program, its schedules, and the codec of its values."""
 
-    def __init__(self, *services: Service, codec: Codec | None = None):
+    def __init__(self, *services: Service, codec: Codec | None = None, schedules: Iterable[Schedule] = ()):
         self.services: dict[str, Service] = {}
         for it in services:
             if it.name in self.services:
                 raise ValueError(f"there are two services with the name {it.name}")
             self.services[it.name] = it
         self.codec: Codec = JsonCodec() if codec is None else codec
+        self.schedules: dict[str, Schedule] = {}
+        for one in schedules:
+            if one.name in self.schedules:
+                raise ValueError(f"there are two schedules with the name {one.name}")
+            if self.services.get(one.target.service.name) is not one.target.service:
+                raise ValueError(f"the schedule {one.name} calls {one.target.path}, which isn't of this app")
+            self.schedules[one.name] = one
+
+    def limited(self) -> list[Handler[Any, Any]]:
+        """The handlers that have a limit, in the order of their paths."""
+        found = [it for service in self.services.values() for it in service.handlers.values() if it.limit is not None]
+        return sorted(found, key=lambda it: it.path)
+
+    def has_limit(self, service: str, handler: str) -> bool:
+        found = self.services.get(service)
+        known = None if found is None else found.handlers.get(handler)
+        return known is not None and known.limit is not None
 
     def retry_of(self, service: str, handler: str) -> Retry:
         """When attempts of a handler are tried again, even if there is no such handler any more."""

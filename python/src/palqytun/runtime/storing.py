@@ -17,8 +17,9 @@ from .services import App
 def store(db: Database, app: App, claim: Claim, output: bytes, at: int) -> Outcome:
     """Stores what an attempt wrote, after its first `at` bytes. If it has ended, its invocation's status follows."""
     out, growth = Outcome(), Growth(claim.lease)
-    growth.fence(db)
     stored = growth.store(output, at)
+    if isinstance(stored.end, Suspension) or any(map(Performer.has_effect, stored.commands)):
+        growth.fence(db)  # else the first statement that changes something is that of `write`, which fences
     performer = Performer(db, app, out, growth, claim.service, claim.key)
     for command in stored.commands:
         performer.perform(command)
@@ -32,8 +33,17 @@ def store(db: Database, app: App, claim: Claim, output: bytes, at: int) -> Outco
     else:
         results = [it.result for it in stored.commands if isinstance(it, Output)]
         _end(db, out, claim, growth, results[0] if results else _stored_output(db, claim.invocation))
+    if stored.end is not None:
+        _leave_room(db, app, out, claim)
     out.feed = growth.feed
     return out
+
+
+def _leave_room(db: Database, app: App, out: Outcome, claim: Claim) -> None:
+    """An attempt has stopped: if its handler has a limit, another may begin."""
+    if app.has_limit(claim.service, claim.handler):
+        out.is_due(time.time())
+        db.notify("ready")
 
 
 def _suspend(db: Database, out: Outcome, growth: Growth, suspension: Suspension) -> None:
@@ -43,7 +53,7 @@ def _suspend(db: Database, out: Outcome, growth: Growth, suspension: Suspension)
     is_awake = journal.is_awake(suspension.future, came) or inbox.wakes(db, own, suspension.future)
     out.status = "ready" if is_awake else "suspended"
     progress = {"retries": 0, "failing_since": None} if growth.has_progress else {}
-    growth.write(db, status=out.status, due=now, future=suspension.future, worker=None, **progress)
+    growth.write(db, status=out.status, due=now, future=suspension.future, stopped=now, how="suspended", **progress)
     if is_awake:
         out.is_due(now)
 
@@ -63,7 +73,8 @@ def _fail(db: Database, app: App, out: Outcome, claim: Claim, growth: Growth, er
     out.status = "paused" if is_over or error.behaviour == "pause" else "ready"
     delay = retry.delay(failures) if error.delay is None else error.delay / 1000
     text = f"{error.code} {error.message}\n{error.stacktrace}".rstrip()
-    growth.write(db, status=out.status, due=now + delay, retries=failures, failing_since=since, error=text, worker=None)
+    how = "paused" if out.status == "paused" else "failed"
+    growth.write(db, status=out.status, due=now + delay, retries=failures, failing_since=since, error=text, stopped=now, how=how)
     out.is_due(now + delay)
 
 
@@ -74,27 +85,29 @@ def _stored_output(db: Database, invocation: str) -> Result:
 
 
 def _end(db: Database, out: Outcome, claim: Claim, growth: Growth, result: Result) -> None:
-    out.status = "done"
-    growth.write(db, status="done", ended=time.time(), result=result, worker=None)
+    out.status, now = "done", time.time()
+    growth.write(db, status="done", ended=now, stopped=now, how="ended", result=result)
     invocations.end(db, out, claim.invocation, claim.service, claim.key if claim.exclusive else "", result)
 
 
 def pull(db: Database, claim: Claim) -> Outcome:
     """Moves what came for a running invocation to its journal."""
     out, growth = Outcome(), Growth(claim.lease)
-    growth.fence(db)
     rows = inbox.peek(db, claim.invocation)
-    for _, frame in rows:
-        growth.arrive(frame)
-    inbox.remove(db, rows)
     if rows:
+        growth.fence(db)  # else what came for another's attempt would seem dishonest to this one
+        for _, frame in rows:
+            growth.arrive(frame)
         growth.write(db)
+        inbox.remove(db, rows)
     out.feed = growth.feed
     return out
 
 
-def pause(db: Database, claim: Claim, why: str) -> Outcome:
+def pause(db: Database, app: App, claim: Claim, why: str) -> Outcome:
     """The attempt stopped without an end: its invocation is paused, if it is still this worker's. What it wrote last isn't stored."""
-    sql = "UPDATE invocations SET status='paused', worker=NULL, error=? WHERE id=? AND epoch=? AND status='running'"
-    db.change(sql, (why, claim.invocation, claim.lease.epoch))
-    return Outcome(status="paused")
+    sql = "UPDATE invocations SET status='paused', stopped=?, how='paused', error=? WHERE id=? AND epoch=? AND status='running'"
+    db.change(sql, (time.time(), why, claim.invocation, claim.lease.epoch))
+    out = Outcome(status="paused")
+    _leave_room(db, app, out, claim)
+    return out

@@ -29,7 +29,12 @@ class Database(Protocol):
     def rollback(self) -> None: ...
     def rows(self, sql: str, values: Sequence[object] = ()) -> list[Any]: ...
     def change(self, sql: str, values: Sequence[object] = ()) -> int: ...
-    def many(self, sql: str, values: Iterable[Sequence[object]]) -> None: ...
+    def put(self, sql: str, values: Sequence[object] = ()) -> None:
+        """A change whose count isn't asked for. It is made before each statement that follows; an error in it may be raised by one of these."""
+
+    def many(self, sql: str, values: Iterable[Sequence[object]]) -> None:
+        """A `put` for each of the rows of values."""
+
     def notify(self, word: str) -> None:
         """Tells this word to the workers that listen, once the transaction is committed."""
 

@@ -1,4 +1,8 @@
-"""PostgreSQL, by psycopg2: workers on many machines."""
+"""PostgreSQL, by psycopg2: workers on many machines.
+
+What costs time is the round trip to the server. So statements that answer nothing are queued, and go with the next that answers something;
+a transaction's begin goes with its first statement, and its commit with the last.
+"""
 
 from __future__ import annotations
 
@@ -18,6 +22,7 @@ log = logging.getLogger("palqytun")
 _TYPES = {"serial": "BIGSERIAL PRIMARY KEY", "blob": "BYTEA", "float": "FLOAT8", "plain": ""}
 _CHANNEL = "palqytun"
 _MIGRATING = 7_401_953  # the advisory lock of whoever migrates
+_BEGIN, _MOST_QUEUED = b"BEGIN", 200
 _KEEPALIVE = {"keepalives": 1, "keepalives_idle": 5, "keepalives_interval": 2, "keepalives_count": 3, "connect_timeout": 5, "tcp_user_timeout": 15000}
 
 
@@ -38,17 +43,17 @@ class Postgres:
         except ImportError as error:
             raise NoDriver() from error
         importlib.import_module("psycopg2.errors")
-        importlib.import_module("psycopg2.extras")
         self._errors = psycopg2.Error
         self._conflicts = (psycopg2.errors.DeadlockDetected, psycopg2.errors.SerializationFailure, psycopg2.errors.LockNotAvailable)
         self._statement = (psycopg2.IntegrityError, psycopg2.ProgrammingError, psycopg2.DataError)
-        self._batch = psycopg2.extras.execute_batch
         self._connect: Callable[[], Any] = lambda: psycopg2.connect(url, **_KEEPALIVE)
         self._words: set[str] = set()
+        self._queue: list[bytes] = []
         with self._named():
             self._connection = self._connect()
             self._cursor = self._connection.cursor()
             self._migrate()
+            self._connection.autocommit = True  # begin and commit are statements of their own
 
     def _migrate(self) -> None:
         self._cursor.execute("SELECT pg_advisory_xact_lock(%s), to_regclass('schema_versions')", (_MIGRATING,))
@@ -72,32 +77,51 @@ class Postgres:
         except self._errors as error:
             raise Lost(str(error).strip() or type(error).__name__) from error
 
+    def _send(self, statement: bytes) -> None:
+        """Makes what is queued, and then this statement, in one round trip; the cursor has its answer."""
+        whole, self._queue = b";".join([*self._queue, statement]), []
+        with self._named():
+            self._cursor.execute(whole)
+
+    def _queued(self, statement: bytes) -> None:
+        self._queue.append(statement)
+        if len(self._queue) > _MOST_QUEUED:
+            self._send(b"")
+
+    def _text(self, sql: str, values: Sequence[object]) -> bytes:
+        with self._named():
+            return self._cursor.mogrify(sql.replace("?", "%s"), tuple(values))  # type: ignore[no-any-return]
+
     def begin(self) -> None:
-        self._words.clear()  # the first statement begins the transaction
+        self._words.clear()
+        self._queue = [_BEGIN]
 
     def commit(self) -> None:
-        with self._named():
-            for word in self._words:
-                self._cursor.execute("SELECT pg_notify(%s, %s)", (_CHANNEL, word))
-            self._connection.commit()
+        if self._words:
+            self._queue.append(self._text("SELECT pg_notify(?, word) FROM unnest(?) AS word", (_CHANNEL, sorted(self._words))))
+        self._send(b"COMMIT")
+        if self._cursor.statusmessage != "COMMIT":
+            raise Conflict("the transaction was rolled back")
 
     def rollback(self) -> None:
-        with self._named():
-            self._connection.rollback()
+        has_begun, self._queue = self._queue[:1] != [_BEGIN], []
+        if has_begun:
+            self._send(b"ROLLBACK")
 
     def rows(self, sql: str, values: Sequence[object] = ()) -> list[Any]:
-        with self._named():
-            self._cursor.execute(sql.replace("?", "%s"), tuple(values))
-            return self._cursor.fetchall()  # type: ignore[no-any-return]
+        self._send(self._text(sql, values))
+        return self._cursor.fetchall()  # type: ignore[no-any-return]
 
     def change(self, sql: str, values: Sequence[object] = ()) -> int:
-        with self._named():
-            self._cursor.execute(sql.replace("?", "%s"), tuple(values))
-            return self._cursor.rowcount  # type: ignore[no-any-return]
+        self._send(self._text(sql, values))
+        return self._cursor.rowcount  # type: ignore[no-any-return]
+
+    def put(self, sql: str, values: Sequence[object] = ()) -> None:
+        self._queued(self._text(sql, values))
 
     def many(self, sql: str, values: Iterable[Sequence[object]]) -> None:
-        with self._named():
-            self._batch(self._cursor, sql.replace("?", "%s"), values, page_size=500)
+        for row in values:
+            self._queued(self._text(sql, row))
 
     def notify(self, word: str) -> None:
         self._words.add(word)

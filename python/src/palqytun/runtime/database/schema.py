@@ -51,11 +51,25 @@ CREATE TABLE locks(service TEXT NOT NULL, key TEXT NOT NULL, holder TEXT NOT NUL
 CREATE TABLE workers(id TEXT PRIMARY KEY, lease {float} NOT NULL);
 """
 
-MIGRATIONS = [_FIRST]
+# When things happened: each entry's time, and the attempts before the last one, which stands in `invocations`. Schedules and limits.
+_SECOND = """
+ALTER TABLE journal ADD COLUMN stored {float};
+ALTER TABLE invocations ADD COLUMN begun {float};
+ALTER TABLE invocations ADD COLUMN stopped {float};
+ALTER TABLE invocations ADD COLUMN how TEXT;
+CREATE TABLE attempts(
+    invocation TEXT NOT NULL, epoch BIGINT NOT NULL,
+    worker TEXT, begun {float}, stopped {float} NOT NULL, how TEXT, error TEXT, PRIMARY KEY(invocation, epoch)){plain};
+CREATE TABLE schedules(
+    name TEXT PRIMARY KEY, service TEXT NOT NULL, handler TEXT NOT NULL, rule TEXT NOT NULL, due {float} NOT NULL, last {float}){plain};
+CREATE TABLE limits(path TEXT PRIMARY KEY){plain}
+"""
+
+MIGRATIONS = [_FIRST, _SECOND]
 
 VERSIONS = "CREATE TABLE IF NOT EXISTS schema_versions(version INTEGER PRIMARY KEY)"
 
-TABLES = ("invocations", "journal", "inbox", "timers", "waiters", "state", "promises", "promise_waiters", "locks", "workers")
+TABLES = ("invocations", "journal", "inbox", "timers", "waiters", "state", "promises", "promise_waiters", "locks", "workers", "attempts", "schedules", "limits")
 
 
 class NewerSchema(Exception):

@@ -97,6 +97,9 @@ class SQLite:
         with _named():
             return self._connection.execute(sql, tuple(values)).rowcount
 
+    def put(self, sql: str, values: Sequence[object] = ()) -> None:
+        self.change(sql, values)
+
     def many(self, sql: str, values: Iterable[Sequence[object]]) -> None:
         with _named():
             self._connection.executemany(sql, values)

@@ -195,6 +195,14 @@ class Command:
 
 
 @dataclass(frozen=True)
+class Input(Command):
+    """What the handler is called with."""
+
+    headers: tuple[tuple[str, str], ...]
+    value: bytes
+
+
+@dataclass(frozen=True)
 class _Completed(Command):
     id: int
 
@@ -269,6 +277,7 @@ class Promise(_Completed):
 @dataclass(frozen=True)
 class Run(Command):
     id: int
+    name: str
 
     def carried(self) -> tuple[tuple[int, Kind], ...]:
         return ((self.id, Kind.PROPOSED),)
@@ -390,8 +399,8 @@ def _promise(is_peek: bool, has_result: bool) -> Callable[[_Reader], Command]:
 
 
 def _run(r: _Reader) -> Command:
-    r.blob()
-    return Run(r.number(4))
+    name = r.text()
+    return Run(r.number(4), name)
 
 
 def _attach(is_peek: bool) -> Callable[[_Reader], Command]:
@@ -443,6 +452,7 @@ _READERS: dict[int, Callable[[_Reader], Message]] = {
     _END: lambda r: End(),
     _PROPOSAL: _proposal,
     _AWAITING_ON: lambda r: AwaitingOn(),
+    _INPUT: lambda r: Input(r.pairs(), r.blob()),
     12: _lazy_get,
     14: lambda r: Read(r.number(4), None),
     15: _set,
@@ -507,12 +517,33 @@ _NAMES = (
 ).split()
 
 
-def line_of(frame: bytes) -> str:
-    """An entry of a journal as a line to read."""
+@dataclass(frozen=True)
+class Described:
+    """An entry of a journal as a reader sees it: its name and its fields, the completion ids that it carries, and the one that it completes."""
+
+    name: str
+    fields: tuple[tuple[str, str], ...]
+    carries: tuple[int, ...] = ()
+    completes: int | None = None
+    is_failure: bool = False
+
+    def __str__(self) -> str:
+        return " ".join([self.name, *(f"{name}={shown}" for name, shown in self.fields)])
+
+
+def described(frame: bytes) -> Described:
     [(kind, whole)] = split(frame)
     it = read(kind, whole)
-    fields = " ".join(f"{name}={_shown(name, part)}" for name, part in vars(it).items())
-    return f"{_NAMES[kind - _INPUT]} {fields}".rstrip()
+    fields = tuple((name, _shown(name, part)) for name, part in vars(it).items())
+    carries = tuple(id for id, _ in it.carried()) if isinstance(it, Command) else ()
+    completes = int(it.id[1]) if isinstance(it, Notification) and it.id[0] == 0 else None
+    has_failed = isinstance(it, (Notification, Output)) and is_failure(it.result)
+    return Described(_NAMES[kind - _INPUT], fields, carries, completes, has_failed)
+
+
+def line_of(frame: bytes) -> str:
+    """An entry of a journal as a line to read."""
+    return str(described(frame))
 
 
 def _shown(name: str, part: Any) -> str:

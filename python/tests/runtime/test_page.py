@@ -1,0 +1,197 @@
+"""The timeline of an invocation, and the operator's page: what it shows, who may see it, and what its buttons do."""
+
+import asyncio
+import html.parser
+import shutil
+import subprocess
+import unittest
+
+import support  # isort: skip
+import runtime_app
+from palqytun.runtime import inbox, invocations, journal, storing, timeline
+from palqytun.runtime.database import connect
+from palqytun.runtime.engine import Engine
+from palqytun.runtime.http import Request
+from palqytun.runtime.invocations import CLAIMED, New
+from palqytun.runtime.lease import Growth
+from palqytun.runtime.outcome import Outcome
+from palqytun.runtime.pages import Pages
+from palqytun.runtime.page import drawn, listed
+from support import Runtime
+
+HOST = {"host": "127.0.0.1:1", "origin": "http://127.0.0.1:1"}
+
+
+def number(it, size=4):
+    return it.to_bytes(size, "big")
+
+
+def frame(kind, body):
+    return number(kind, 2) + number(len(body), 8) + body
+
+
+def sleep(id):
+    return frame(18, number(1000, 8) + number(id) + number(0, 8))
+
+
+SUSPENDED = frame(2, b"\0" + number(1, 8) + number(1) + bytes(24))  # waits for completion 1
+
+
+class Elements(html.parser.HTMLParser):
+    """The elements of a page, each with its attributes, and its text."""
+
+    def __init__(self, page):
+        super().__init__()
+        self.found, self.text = [], ""
+        self.feed(page)
+
+    def handle_starttag(self, name, attributes):
+        self.found.append((name, dict(attributes)))
+
+    def handle_data(self, data):
+        self.text += data
+
+    def of(self, name):
+        return [attributes for element, attributes in self.found if element == name]
+
+
+def claimed(db, id, worker):
+    [row] = db.rows(f"SELECT {CLAIMED} FROM invocations WHERE id=?", (id,))
+    [claim] = invocations.claim(db, worker, [invocations.Claimable(*row)])
+    return claim
+
+
+def three_attempts(db):
+    """An invocation that slept, was suspended, went on and was lost with its worker, and runs again."""
+    db.begin()
+    out = Outcome()
+    id, _ = invocations.create(db, runtime_app.app, out, New("S", "echo", argument=b'"<b>&"'))
+    first = claimed(db, id, "one")
+    storing.store(db, runtime_app.app, first, sleep(1) + SUSPENDED, 0)
+    first.lease.journal.keep()
+    inbox.complete(db, out, id, 1, journal.void())
+    claimed(db, id, "two")
+    third = claimed(db, id, "three")
+    growth = Growth(third.lease)
+    growth.store(sleep(2), 0)
+    growth.write(db)
+    db.commit()
+    return id
+
+
+@support.on_each_database
+class Timelines(support.OnADatabase):
+    def setUp(self):
+        super().setUp()
+        self.db = connect(self.url)
+        self.addCleanup(self.db.close)
+        self.id = three_attempts(self.db)
+
+    def found(self):
+        self.db.begin()
+        try:
+            return timeline.timeline(self.db, self.id)
+        finally:
+            self.db.rollback()
+
+    def test_attempts_and_steps(self):
+        it = self.found()
+        self.assertEqual([(one.epoch, one.worker, one.how) for one in it.attempts], [(1, "one", "suspended"), (2, "two", "lost"), (3, "three", None)])
+        self.assertTrue(all(one.begun <= one.stopped for one in it.attempts[:2]) and it.attempts[2].stopped is None)
+        self.assertEqual([(step.at, step.entry.name, step.is_open) for step in it.steps], [(0, "Input", False), (1, "Sleep", False), (3, "Sleep", True)])
+        self.assertEqual([len(step.completions) for step in it.steps], [0, 1, 0])
+        self.assertTrue(it.steps[1].begun <= it.steps[1].ended and it.steps[2].ended is None)
+        self.assertEqual(timeline.as_json(it)["steps"][1]["entry"], "Sleep id=1 due=1000")
+
+    def test_nobody(self):
+        self.db.begin()
+        self.assertIsNone(timeline.timeline(self.db, "inv_none"))
+        self.db.rollback()
+
+    def test_the_picture(self):
+        it = self.found()
+        page = Elements(drawn(it, it.invocation["created"] + 10))
+        bars = [attributes["class"] for attributes in page.of("rect")]
+        self.assertEqual(bars, ["suspended", "lost", "runs", "done", "done", "waits"])
+        left, right = (float(page.of("rect")[-1][name]) for name in ("x", "width"))
+        self.assertAlmostEqual(left + right, 1000, delta=1)  # what is open reaches to the present
+        self.assertEqual([it["action"] for it in page.of("form")], ["?do=cancel"])
+        self.assertNotIn("script", [name for name, _ in page.found])
+
+    def test_what_others_wrote_is_text(self):
+        it = self.found()
+        it.invocation.update(error="<script>alert(1)</script>\n", service="<i>", key='"><b>', status="paused")
+        row = {**it.invocation, "id": "a/<b>?"}
+        for page in (drawn(it, 0), listed([row], None, "<u>", 0)):
+            self.assertFalse({"script", "i", "u"} & {name for name, _ in Elements(page).found})
+        self.assertIn("page/a%2F%3Cb%3E%3F", [link["href"] for link in Elements(listed([row], None, None, 0)).of("a")])
+
+
+class Requests(support.OnADatabase, unittest.TestCase):
+    """The page by requests, on a worker whose handlers never run."""
+
+    def answers(self, *asked, token=None):
+        async def go():
+            engine = Engine(runtime_app.app, self.url, limit=0)
+            task = asyncio.create_task(engine.run())
+            await engine.is_open()
+            self.id = await engine.submit(New("S", "echo", argument=b"1"))
+            pages = Pages(engine, token)
+            answers = []
+            for method, *parts, headers, body in asked:
+                last, _, query = parts[-1].partition("?do=") if parts else ("", "", "")
+                path = [*parts[:-1], last.replace("ID", self.id)] if parts else []
+                cookie = {"cookie": dict(answers[0].headers)["set-cookie"].partition(";")[0]} if headers is None else headers
+                answers.append(await pages.answer(Request(method, ("-", "page", *path), {"do": query}, cookie, body)))
+            self.inbox = await engine.transact(lambda db: db.rows("SELECT invocation FROM inbox"))
+            engine.stop()
+            await task
+            return answers
+
+        return asyncio.run(go())
+
+    def test_pages(self):
+        answers = self.answers(("GET", {}, b""), ("GET", "ID", {}, b""), ("GET", "none", {}, b""), ("PUT", {}, b""))
+        self.assertEqual([it.status for it in answers], [200, 200, 404, 404])
+        self.assertIn(self.id, Elements(answers[0].body.decode()).text)
+        self.assertIn("Input", Elements(answers[1].body.decode()).text)
+
+    def test_a_button(self):
+        [answer] = self.answers(("POST", "ID?do=cancel", HOST, b""))
+        self.assertEqual((answer.status, dict(answer.headers)["location"]), (303, f"/-/page/{self.id}"))
+        self.assertEqual(self.inbox, [(self.id,)])
+
+    def test_a_button_of_another_site(self):
+        for origin in ("http://evil.example", "null", ""):
+            [answer] = self.answers(("POST", "ID?do=cancel", {**HOST, "origin": origin}, b""))
+            self.assertEqual((answer.status, self.inbox), (403, []))
+
+    def test_the_token(self):
+        asked = [("POST", "token", HOST, b"token=a%26b"), ("GET", None, b""), ("GET", {}, b""), ("GET", {"cookie": "palqytun=a&b"}, b"")]
+        asked += [("POST", "token", HOST, b"token=x"), ("GET", "ID", {"authorization": "Bearer a&b"}, b""), ("POST", "ID?do=cancel", HOST, b"")]
+        answers = self.answers(*asked, token="a&b")
+        self.assertEqual([it.status for it in answers], [303, 200, 401, 401, 401, 200, 401])
+        self.assertEqual(self.inbox, [])
+        self.assertNotIn("a&b", dict(answers[0].headers)["set-cookie"])
+
+
+@unittest.skipUnless(shutil.which("chromium"), "chromium isn't installed")
+class InABrowser(support.OnADatabase, unittest.TestCase):
+    def test_the_picture_is_drawn(self):
+        """The browser lays the picture out: its bars have places, and none of them is outside of it."""
+        db = connect(self.url)
+        id = three_attempts(db)
+        db.begin()
+        it = timeline.timeline(db, id)
+        db.rollback()
+        db.close()
+        file = self.folder / "page.html"
+        measured = "<script>document.title=[...document.querySelectorAll('rect')].map(e=>{const a=e.getBoundingClientRect();const b=e.ownerSVGElement.getBoundingClientRect();return a.width>0&&a.left>=b.left&&a.right<=b.right+1&&a.bottom<=b.bottom}).join()</script>"
+        file.write_text(drawn(it, it.invocation["created"] + 10) + measured)
+        words = ["chromium", "--headless", "--no-sandbox", "--disable-gpu", f"--user-data-dir={self.folder}/profile", "--dump-dom", file.as_uri()]
+        said = subprocess.run(words, capture_output=True, text=True, timeout=120)
+        self.assertIn("<title>true,true,true,true,true,true</title>", said.stdout, said.stderr)
+
+
+if __name__ == "__main__":
+    unittest.main()

@@ -1,0 +1,212 @@
+"""Calls by the clock, limits of handlers, and what is purged: transactions of a worker whose handlers don't run."""
+
+import calendar
+import secrets
+import time
+import unittest
+
+import support  # isort: skip
+from palqytun.runtime import App, Context, Schedule, Service, VirtualObject, Workflow, invocations, journal, operate, schedules
+from palqytun.runtime.claiming import Claimer
+from palqytun.runtime.cron import Cron, Every
+from palqytun.runtime.database import connect
+from palqytun.runtime.invocations import New
+from palqytun.runtime.outcome import Outcome
+
+mail, box, flow = Service("Mail"), VirtualObject("Box"), Workflow("Flow")
+
+
+@mail.handler(limit=2)
+async def send(ctx: Context, it: object) -> None: ...
+
+
+@mail.handler()
+async def free(ctx: Context, it: object) -> None: ...
+
+
+@box.handler()
+async def clean(ctx: Context, it: object) -> None: ...
+
+
+@flow.main()
+async def main(ctx: Context, it: object) -> None: ...
+
+
+def utc(text):
+    return calendar.timegm(time.strptime(text, "%Y-%m-%d %H:%M"))
+
+
+# A cron expression, a time, and the first time of the expression after it, by the calendar. 2026-11-27 is a Friday.
+TIMES = [
+    ("* * * * *", "2026-11-27 20:15", "2026-11-27 20:16"),
+    ("0 3 * * *", "2026-11-27 03:00", "2026-11-28 03:00"),
+    ("0 3 * * *", "2026-11-27 02:59", "2026-11-27 03:00"),
+    ("*/15 8-10 * * *", "2026-11-27 08:46", "2026-11-27 09:00"),
+    ("*/15 8-10 * * *", "2026-11-27 10:45", "2026-11-28 08:00"),
+    ("5,50 * * * *", "2026-11-27 20:05", "2026-11-27 20:50"),
+    ("10/25 * * * *", "2026-11-27 20:10", "2026-11-27 20:35"),
+    ("0 0 1 1 *", "2026-11-27 00:00", "2027-01-01 00:00"),
+    ("0 0 31 * *", "2026-11-27 00:00", "2026-12-31 00:00"),
+    ("0 0 29 2 *", "2026-11-27 00:00", "2028-02-29 00:00"),
+    ("0 9 * * 1", "2026-11-27 00:00", "2026-11-30 09:00"),
+    ("0 9 * * 0", "2026-11-27 00:00", "2026-11-29 09:00"),
+    ("0 9 * * 7", "2026-11-27 00:00", "2026-11-29 09:00"),
+    ("0 9 * * 1-5", "2026-11-27 09:00", "2026-11-30 09:00"),
+    ("0 9 1 * 6", "2026-11-27 09:00", "2026-11-28 09:00"),
+    ("0 9 1 * 6", "2026-11-28 09:00", "2026-12-01 09:00"),
+]
+REFUSED = ["", "* * * *", "60 * * * *", "* 24 * * *", "* * 0 * *", "* * * 13 *", "* * * * 8", "5-1 * * * *", "*/0 * * * *", "a * * * *", "1- * * * *", "-1 * * * *", "1/ * * * *", "*-5 * * * *", "0 0 31 2 *"]  # fmt: skip
+
+
+class Times(unittest.TestCase):
+    def test_the_next_time(self):
+        for text, now, then in TIMES:
+            with self.subTest(text, now=now):
+                self.assertEqual(Cron.read(text).after(utc(now)), utc(then))
+                self.assertEqual(Cron.read(text).after(utc(then) - 0.5), utc(then))
+
+    def test_what_is_no_expression(self):
+        for text in REFUSED:
+            with self.subTest(text), self.assertRaises(ValueError):
+                Cron.read(text)
+
+    def test_every_so_many_seconds(self):
+        self.assertEqual(Every(60).after(119.5), 120)
+        self.assertEqual(Every(60).after(120), 180)
+        at = 0.3
+        for _ in range(1000):
+            at, before = Every(0.1).after(at), at
+            self.assertGreater(at, before)
+
+    def test_a_schedule_that_has_no_meaning(self):
+        for options in ({}, {"every": 1, "cron": "* * * * *"}, {"every": 0}, {"every": -1}, {"cron": "x"}, {"every": 1, "key": "k"}):
+            with self.subTest(options), self.assertRaises(ValueError):
+                Schedule("s", send, **options)
+        for target, key in ((clean, ""), (main, "k")):
+            with self.assertRaises(ValueError):
+                Schedule("s", target, key=key, every=1)
+        for wrong in ([Schedule("s", send, every=1)] * 2, [Schedule("s", clean, key="k", every=1)]):
+            with self.assertRaises(ValueError):
+                App(mail, schedules=wrong)
+
+    def test_a_limit_that_has_no_meaning(self):
+        with self.assertRaises(ValueError):
+            Service("S").handler(limit=0)(free.function)
+
+
+class OnAConnection(support.OnADatabase):
+    def setUp(self):
+        super().setUp()
+        self.db = connect(self.url)
+        self.addCleanup(self.db.close)
+
+    def done(self, operation, *arguments):
+        self.db.begin()
+        found = operation(self.db, *arguments)
+        self.db.commit()
+        return found
+
+    def rows(self, sql, *values):
+        return self.done(lambda db: db.rows(sql, values))
+
+
+@support.on_each_database
+class Schedules(OnAConnection):
+    def entered(self, *schedules_of_it):
+        app = App(mail, box, schedules=schedules_of_it)
+        self.done(Claimer(secrets.token_hex(4), app, 10).enter)
+        return app
+
+    def fired(self, app, now):
+        self.done(schedules.fire, app, Outcome(), now)
+        return len(self.rows("SELECT id FROM invocations"))
+
+    def test_each_time_makes_one_call(self):
+        app = self.entered(Schedule("often", send, {"to": "ann"}, every=60), Schedule("seldom", clean, key="k", cron="0 0 1 1 *"))
+        [(due,)] = self.rows("SELECT due FROM schedules WHERE name='often'")
+        self.assertEqual(self.done(schedules.next_due, app), due)
+        self.assertEqual([self.fired(app, at) for at in (due - 1, due, due + 59, due + 60, due + 60, due + 1000)], [0, 1, 1, 2, 2, 3])
+        self.assertEqual(self.rows("SELECT due, last FROM schedules WHERE name='often'"), [(due + 1020, due + 120)])
+        [(frame,), *_] = self.rows("SELECT frame FROM journal")
+        self.assertIn(b'{"to":"ann"}', bytes(frame))
+        self.assertEqual([(it["name"], it["rule"]) for it in self.done(operate.schedules)], [("often", "every 60"), ("seldom", "cron 0 0 1 1 *")])
+
+    def test_another_version_of_the_app(self):
+        self.entered(Schedule("a", send, every=60), Schedule("b", send, every=60), Schedule("c", clean, key="k", every=60))
+        app = self.entered(Schedule("a", send, every=60), Schedule("b", free, every=10))
+        self.assertEqual(self.rows("SELECT name, handler, rule FROM schedules ORDER BY name"), [("a", "send", "every 60"), ("b", "free", "every 10")])
+        only_mail = App(mail, schedules=[Schedule("a", send, every=60)])
+        self.entered(Schedule("a", send, every=60), Schedule("c", clean, key="k", every=60))
+        self.done(Claimer("other", only_mail, 10).enter)
+        self.assertEqual(self.rows("SELECT name FROM schedules ORDER BY name"), [("a",), ("c",)])
+        self.assertEqual(self.fired(app, time.time() + 10**6), 1)  # `c` isn't its own
+
+
+@support.on_each_database
+class Limits(OnAConnection):
+    def test_at_most_so_many(self):
+        app = App(mail, box)
+        one, two = Claimer("one", app, 10), Claimer("two", app, 10)
+        self.done(one.enter)
+        if self.db.is_shared:
+            self.done(two.enter)
+        for _ in range(5):
+            self.done(invocations.create, app, Outcome(), New("Mail", "send"))
+        self.done(invocations.create, app, Outcome(), New("Mail", "free"))
+
+        def claims(claimer, room=100):
+            return [it.handler for it in self.done(claimer.claim, (), room).claims]
+
+        self.assertEqual(claims(one, 2), ["free", "send"])
+        self.assertEqual([claims(it) for it in (one, two if self.db.is_shared else one)], [["send"], []])
+        self.done(lambda db: db.change("UPDATE invocations SET status='done' WHERE status='running'"))
+        self.assertEqual([claims(one), claims(one)], [["send", "send"], []])
+        # What is suspended and awake counts as well, and what a dead worker had goes on beside the limit.
+        sleeping = journal.completion(1, journal.void())
+        [(id,)] = self.rows("SELECT id FROM invocations WHERE status='ready'")
+        self.done(lambda db: db.change("UPDATE invocations SET status='suspended', future=? WHERE id=?", (b"\0" + bytes(7) + b"\1" + bytes(3) + b"\1" + bytes(24), id)))
+        self.done(lambda db: db.change("INSERT INTO inbox(invocation, frame) VALUES (?,?)", (id, sleeping)))
+        self.assertEqual(claims(one), [])
+        self.done(lambda db: db.change("DELETE FROM workers WHERE id='one'"))
+        self.done(lambda db: db.change("DELETE FROM inbox"))
+        self.assertEqual(claims(two), ["send", "send"])
+
+
+@support.on_each_database
+class Broken(OnAConnection):
+    def test_a_broken_journal_keeps_nobody_out(self):
+        """Two completions of nothing: one stands in a journal, one in an inbox. Their invocations are paused, and the third is claimed."""
+        app, claimer = App(mail), Claimer("one", App(mail), 10)
+        self.done(claimer.enter)
+        for id in "abc":
+            self.done(invocations.create, app, Outcome(), New("Mail", "free", id=id))
+        nobodys = journal.completion(1, journal.void())
+        self.done(lambda db: db.change("INSERT INTO journal(invocation, at, completes, frame) VALUES ('a',1,1,?)", (nobodys,)))
+        self.done(lambda db: db.change("UPDATE invocations SET entries=2 WHERE id='a'"))
+        self.done(lambda db: db.change("INSERT INTO inbox(invocation, frame) VALUES ('b',?)", (nobodys,)))
+        self.assertEqual([it.invocation for it in self.done(claimer.claim, (), 100).claims], ["c"])
+        self.assertEqual(self.rows("SELECT id, status FROM invocations ORDER BY id"), [("a", "paused"), ("b", "paused"), ("c", "running")])
+        self.assertIn("no stored command carries completion 1", self.rows("SELECT error FROM invocations WHERE id='a'")[0][0])
+
+
+@support.on_each_database
+class Purges(OnAConnection):
+    def test_some_at_a_time(self):
+        app = App(mail, box, flow)
+        for service, handler, key in (("Mail", "send", ""), ("Box", "clean", "k"), ("Flow", "main", "k"), ("Mail", "free", "")):
+            self.done(invocations.create, app, Outcome(), New(service, handler, key))
+        for service in ("Box", "Flow"):
+            self.done(lambda db: db.change("INSERT INTO state VALUES (?, 'k', 'n', ?)", (service, b"1")))
+        self.done(lambda db: db.change("INSERT INTO promises VALUES ('Flow', 'k', 'p', NULL)"))
+        self.done(lambda db: db.change("UPDATE invocations SET status='done', ended=seq WHERE handler<>'free'"))
+        before = self.rows("SELECT MAX(ended) FROM invocations")[0][0] + 1
+        self.assertEqual([self.done(operate.purge, 0, 2), self.done(operate.purge, before, 2)], [0, 2])
+        self.assertEqual([self.done(operate.purge, before, 2), self.done(operate.purge, before, 2)], [1, 0])
+        self.assertEqual(self.rows("SELECT handler FROM invocations"), [("free",)])
+        self.assertEqual(len(self.rows("SELECT invocation FROM journal")), 1)
+        # An object keeps its state; a workflow's key can run again as a new one.
+        self.assertEqual((self.rows("SELECT service FROM state"), self.rows("SELECT name FROM promises")), ([("Box",)], []))
+
+
+if __name__ == "__main__":
+    unittest.main()
