@@ -16,7 +16,7 @@ use typed_calls::journal::{
 };
 use typed_calls::nodes::Node;
 use typed_calls::queries::{CompletedCall, HeadCall, IndexCall, ReadyCall, StateCall};
-use typed_calls::runs::{ProposeCall, RunCall};
+use typed_calls::run_calls::{ProposeCall, RunCall};
 use typed_calls::state::{ClearAllCall, ClearCall, GetCall, GetKeysCall, SetCall};
 use typed_calls::values::GivenValue;
 use vectors::frames::{INPUT_TILL, START_1};

@@ -18,7 +18,7 @@ use typed_calls::nodes::Node;
 use typed_calls::queries::{
     CloseCall, CompletedCall, HeadCall, IndexCall, InputCall, OutputCall, ReadyCall, StateCall,
 };
-use typed_calls::runs::{ProposeCall, RunCall};
+use typed_calls::run_calls::{ProposeCall, RunCall};
 use typed_calls::state::{
     ClearAllCall, ClearCall, EphemeralGetCall, GetCall, GetKeysCall, SetCall, TakeEphemeralCall,
 };

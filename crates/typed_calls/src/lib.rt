@@ -7,6 +7,6 @@ pub mod given;
 pub mod journal;
 pub mod nodes;
 pub mod queries;
-pub mod runs;
+pub mod run_calls;
 pub mod state;
 pub mod values;

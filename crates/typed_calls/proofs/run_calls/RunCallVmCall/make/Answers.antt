@@ -1,4 +1,4 @@
-use Rattle.typed_calls.proofs.runs.RunCallVmCall.make.Goals as goal
+use Rattle.typed_calls.proofs.run_calls.RunCallVmCall.make.Goals as goal
 
 pub returns : goal.returns
 returns c = record {
