@@ -37,6 +37,7 @@ def until_all_ended(
     file: str,
     *,
     dies: int = 0,
+    dies_between: int = 0,
     seed: int = 0,
     idle: float = 0.0,
     is_grouped: bool = False,
@@ -44,8 +45,11 @@ def until_all_ended(
     is_checkpointed: bool = False,
     wrong: str = "",
 ) -> None:
-    """Runs a worker until each invocation has ended, or it dies at commit number `dies`. It is the whole of a process."""
+    """Runs a worker until each invocation has ended, or it dies at commit number `dies`; or where a wrong runtime has committed a first part,
+    the `dies_between`th time. It is the whole of a process."""
+    global _left
     random.seed(seed)
+    _left = dies_between
     crash_app.Outside.file, crash_app.Outside.delay = file, 0.002
     if jumps:
         time.time = jumping(seed)
@@ -111,9 +115,16 @@ def jumping(seed: int) -> Callable[[], float]:
 # ---- wrong runtimes
 
 
+_left = 0  # times until the worker dies between two parts
+
+
 def _between(db: object) -> None:
     """What was done so far is committed, and the rest isn't yet."""
+    global _left
     db.commit()  # type: ignore[attr-defined]
+    _left -= 1
+    if _left == 0:
+        os._exit(DIED)
     db.begin()  # type: ignore[attr-defined]
 
 

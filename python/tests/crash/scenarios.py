@@ -39,6 +39,7 @@ from palqytun.runtime.database.schema import TABLES  # noqa: E402
 
 _FORK = multiprocessing.get_context("fork")  # this process has no threads, and has imported what workers need
 COUNT = 6  # workflows, one of each kind
+_LONG = 240.0  # seconds that a worker may take, which needs some two, on a machine that is busy with other things
 LEASE = 3.0  # seconds; on a machine that is busy with other things a shorter one ends by itself
 
 
@@ -52,7 +53,7 @@ def _told(call: Callable[[], Any], to: multiprocessing.connection.Connection) ->
         to.send((None, traceback.format_exc()))
 
 
-def side_by_side(calls: Iterable[Callable[[], Any]], seconds: float = 240) -> Iterator[Any]:
+def side_by_side(calls: Iterable[Callable[[], Any]], seconds: float = 3 * _LONG) -> Iterator[Any]:
     """Makes the calls in processes of their own, as many at a time as there are processors, and answers what they answer, in order. What one
     of them raises is raised as `Wrong`; those that still run then are waited for, so that none of them is left without its folder."""
     waiting, running, begun = iter(calls), [], time.monotonic()
@@ -95,8 +96,8 @@ def _heard(process: Any, from_it: Any, seconds: float) -> tuple[Any, str | None]
 # ---- one worker on SQLite, in a process of its own
 
 
-def _worker(path: pathlib.Path, effects: pathlib.Path, seconds: float = 60, **options: Any) -> int:
-    """The exit status of a worker that runs until all has ended. None ends it after some time."""
+def _worker(path: pathlib.Path, effects: pathlib.Path, seconds: float = _LONG, **options: Any) -> int:
+    """The exit status of a worker that runs until all has ended. -1: it was killed after some time."""
     process = _FORK.Process(target=_quiet, args=(str(path), str(effects)), kwargs=options)
     process.start()
     process.join(seconds)
@@ -203,7 +204,7 @@ def _log(path: pathlib.Path) -> str:
 
 def _rest(room: Room, path: pathlib.Path, effects: pathlib.Path, **options: Any) -> Found:
     """A worker without a fault does the rest, and everything is looked at."""
-    status = _worker(path, effects, seconds=90, **options)
+    status = _worker(path, effects, **options)
     if status:
         raise Wrong(f"the last worker ended with {status}: {_log(path)}")
     found = room.checked(path, effects, room.reference)
@@ -211,17 +212,16 @@ def _rest(room: Room, path: pathlib.Path, effects: pathlib.Path, **options: Any)
     return found
 
 
-def death_at_commit(room: Room, number: int, *, again: int = 0, idle: float = 0.0, wrong: str = "") -> Report:
+def death_at_commit(room: Room, number: int, *, again: int = 0, idle: float = 0.0) -> Report:
     """The worker dies in place of commit `number`, and if `again` is given the next one at that commit. If the first one didn't die, there is
     no such commit."""
-    path, effects = room.copy(f"death-{number}-{again}-{idle}-{wrong}")
-    options: dict[str, Any] = {"idle": idle, "wrong": wrong}
-    first = _worker(path, effects, dies=number, **options)
+    path, effects = room.copy(f"death-{number}-{again}-{idle}")
+    first = _worker(path, effects, dies=number, idle=idle)
     if first not in (0, faulty.DIED):
         raise Wrong(f"the worker that was to die at commit {number} ended with {first}: {_log(path)}")
-    second = _worker(path, effects, dies=again, **options) if again else 0
+    second = _worker(path, effects, dies=again, idle=idle) if again else 0
     deaths = [first, second].count(faulty.DIED) if first else 0
-    return Report.of(_rest(room, path, effects, **options), deaths=deaths)
+    return Report.of(_rest(room, path, effects, idle=idle), deaths=deaths)
 
 
 def deaths_at_commits(room: Room, numbers: Iterable[int], **options: Any) -> Report:
@@ -234,11 +234,13 @@ def deaths_at_commits(room: Room, numbers: Iterable[int], **options: Any) -> Rep
     return report
 
 
-def is_found(room: Room, wrong: str, numbers: Iterable[int]) -> bool:
-    """Whether a runtime with a mistake is found by deaths at these commits, one after the other."""
+def is_found(room: Room, wrong: str) -> bool:
+    """Whether a runtime with a mistake is found by deaths where it has committed a first part and not the rest, at some time."""
     try:
-        for number in numbers:
-            death_at_commit(room, number, wrong=wrong)
+        for number in range(1, 31):
+            path, effects = room.copy(f"wrong-{wrong}-{number}")
+            _worker(path, effects, dies_between=number, wrong=wrong)
+            _rest(room, path, effects, wrong=wrong)
     except Wrong:
         return True
     return False
@@ -264,7 +266,7 @@ def torn_write(room: Room, seed: int) -> Report:
 
 def clock_jumps(room: Room, seed: int) -> Report:
     path, effects = room.copy(f"clock-{seed}")
-    status = _worker(path, effects, seconds=120, seed=seed, jumps=True, idle=0.05, is_grouped=True)
+    status = _worker(path, effects, seed=seed, jumps=True, idle=0.05, is_grouped=True)
     if status:
         raise Wrong(f"the worker whose clock jumps ended with {status}: {_log(path)}")
     found = room.checked(path, effects, room.reference)
@@ -308,7 +310,7 @@ def full_disk(room: Room, seed: int) -> Report:
             _fill(disk / "filler")
             process.join(chance.uniform(0.02, 0.2))
             (disk / "filler").unlink(missing_ok=True)
-        process.join(60)
+        process.join(_LONG)
         status = process.exitcode
         if status is None:
             process.kill()
