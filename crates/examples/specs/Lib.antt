@@ -1,0 +1,4 @@
+pub mod Race
+pub mod Retry
+pub mod Saga
+pub mod Sleeper

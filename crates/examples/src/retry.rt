@@ -1,0 +1,41 @@
+//! It charges a card, up to three times with a second between, and keeps the receipt.
+ghost use Rattle.examples.specs.Retry.{turn};
+ghost use Rattle.flows.specs.Follows.{Follows};
+
+use bytes::Bytes;
+use palqytun::handler::{Context, Exit, Flow};
+use palqytun::vm::Input;
+use std::time::Duration;
+
+#[derive(Drop)]
+pub struct Retry;
+
+/// One try at this second: the receipt, or nothing if the service is busy.
+#[tactic(auto, using(flows::specs::Code::goes_on), unfolding(crate::specs::Retry::turn))]
+fn turn(ctx: &mut Context<'_>, order: &Bytes, second: u64) -> Result<Option<Bytes>, Exit>
+    ensures { Follows (turn order.now second) ctx.old result ctx.new }
+{
+    ctx.sleep(Duration::from_secs(second))?;
+    let receipt = ctx.call("Payments", "charge", order)?;
+    if receipt.as_slice() == b"busy".as_slice() {
+        return Ok(None);
+    }
+    ctx.set("receipt", &receipt)?;
+    Ok(Some(receipt))
+}
+
+impl Flow for Retry {
+    ghost use Rattle.examples.specs.Retry.{tries};
+
+    ghost code = { λ _ input. tries input.input 3 1 };
+
+    #[tactic(auto, using(flows::specs::Code::goes_on))]
+    fn run(&self, ctx: &mut Context<'_>, input: &Input) -> Result<Bytes, Exit> {
+        for second in 1..4 {
+            if let Some(receipt) = turn(ctx, &input.input, second)? {
+                return Ok(receipt);
+            }
+        }
+        Ok(Bytes::from_static(b"given up"))
+    }
+}

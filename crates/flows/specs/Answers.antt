@@ -1,0 +1,60 @@
+-- What an answer holds for the step that it answers. One of another kind holds nothing, and ends the handler.
+use Rattle.std.specs.Prelude.{Bool, List, [], ℕ, Option, Some, None}
+use Rattle.vm_types.specs.declared.steps.Answer.{Answer}
+use Rattle.vm_types.specs.declared.steps.Answer.TheVariants as answer
+use Rattle.vm_types.specs.declared.values.Value.{Value}
+use Rattle.vm_types.specs.declared.values.Value.TheVariants as value
+use Rattle.await_trees.specs.declared.handle.NotificationHandle.{NotificationHandle}
+use Rattle.flows.specs.declared.exit.Fault.TheVariants as fault
+use Rattle.flows.specs.Code.{Code, Fail, Give, Over}
+
+-- gives what is there; without it the handler is over
+abbrev pub given : {A : Type 0} → Option A → Code A
+given (Some value) = Give value
+given None = Over
+
+-- the handle of a sleep, a call, a read or a run
+abbrev pub handle_in : Answer → Option NotificationHandle
+handle_in (answer.Handle handle) = Some handle
+handle_in (answer.Call handles) = Some handles.call_notification_handle
+handle_in _ = None
+
+-- no more than that it was done
+abbrev pub unit_in : Answer → Option (Unit {0})
+unit_in answer.Unit = Some tt
+unit_in (answer.Send handle) = Some tt
+unit_in _ = None
+
+-- what was taken
+abbrev pub taken_in : Answer → Option (Option Value)
+taken_in (answer.Taken taken) = Some taken
+taken_in _ = None
+
+-- whether a result is there
+abbrev pub completed_in : Answer → Option Bool
+completed_in (answer.Completed is) = Some is
+completed_in _ = None
+
+-- after an await: it goes on, or the handler is cancelled
+abbrev pub awake : Answer → Code (Unit {0})
+awake answer.Awake = Give tt
+awake answer.Cancelled = Fail fault.Cancelled
+awake _ = Over
+
+-- the bytes of a result; a failure ends the handler, and a result without bytes gives none
+abbrev pub bytes_of : Option Value → Code (List ℕ)
+bytes_of (Some (value.Success bytes)) = Give bytes
+bytes_of (Some (value.Failure failure)) = Fail (fault.Failed failure)
+bytes_of (Some value.Void) = Give []
+bytes_of (Some (value.StateKeys keys)) = Give []
+bytes_of (Some (value.InvocationId id)) = Give []
+bytes_of None = Over
+
+-- the bytes of a state, if it is set
+abbrev pub state_of : Option Value → Code (Option (List ℕ))
+state_of (Some (value.Success bytes)) = Give (Some bytes)
+state_of (Some (value.Failure failure)) = Fail (fault.Failed failure)
+state_of (Some value.Void) = Give None
+state_of (Some (value.StateKeys keys)) = Over
+state_of (Some (value.InvocationId id)) = Over
+state_of None = Over

@@ -1,0 +1,5 @@
+pub mod Answers
+pub mod Calls
+pub mod Code
+pub mod Follows
+pub mod Steps

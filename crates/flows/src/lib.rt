@@ -1,0 +1,14 @@
+//! Handlers as ordinary code. A handler is written from top to bottom (`Flow`); its calls (`Context`) are answered from the answers
+//! so far, and the first one without an answer leaves the code by `?`. What is proved of it is that it follows a tree: the
+//! steps that it makes, and what comes after each answer (`specs/Code.antt`).
+#![tactic(auto)]
+
+mod answers;
+mod calls;
+pub mod context;
+pub mod exit;
+pub mod flow;
+
+pub use context::Context;
+pub use exit::{Exit, Fault};
+pub use flow::Flow;

@@ -1,0 +1,68 @@
+//! Frames by name, for tests: the results that arrive, and the entries that a journal holds.
+use bytes::Bytes;
+use journal_attempt::OutputCommand;
+use journal_messages::{Encoder, Message};
+use journal_values::{Failure, Notification, NotificationId, NotificationResult, ValueOrFailure};
+use std::alloc::{AllocError, Global};
+use wire::{Items, Text};
+
+/// The result of the command that carries this completion id; ids count from 1.
+fn completion(alloc: Global, id: u32, outcome: NotificationResult) -> Result<Bytes, AllocError> {
+    Encoder::new(alloc).encode(&Message::Notification(Notification {
+        id: NotificationId::CompletionId(id),
+        result: outcome,
+    }))
+}
+
+fn failure(alloc: Global, code: u32, message: &str) -> Result<Failure, AllocError> {
+    Ok(Failure {
+        code,
+        message: Text::from_str(alloc, message)?,
+        metadata: Items::new(alloc),
+    })
+}
+
+/// A sleep is over, or a state isn't set.
+pub fn void(alloc: Global, id: u32) -> Result<Bytes, AllocError> {
+    completion(alloc, id, NotificationResult::Void)
+}
+
+/// A call has answered these bytes, or a state is set to them.
+pub fn value(alloc: Global, id: u32, bytes: &'static [u8]) -> Result<Bytes, AllocError> {
+    let value = Bytes::from_static(bytes);
+    completion(alloc, id, NotificationResult::Value(value))
+}
+
+/// A call has failed.
+pub fn failed(alloc: Global, id: u32, code: u32, message: &str) -> Result<Bytes, AllocError> {
+    let failure = failure(alloc, code, message)?;
+    completion(alloc, id, NotificationResult::Failure(failure))
+}
+
+/// The id of the invocation that a call made.
+pub fn invocation_id(alloc: Global, id: u32, invocation: &str) -> Result<Bytes, AllocError> {
+    let invocation = Text::from_str(alloc, invocation)?;
+    completion(alloc, id, NotificationResult::InvocationId(invocation))
+}
+
+/// The built-in signal that cancels the handler.
+pub fn cancel(alloc: Global) -> Result<Bytes, AllocError> {
+    Encoder::new(alloc).encode(&Message::Notification(Notification {
+        id: NotificationId::SignalId(1),
+        result: NotificationResult::Void,
+    }))
+}
+
+/// The journal's entry of an output of these bytes.
+pub fn output(alloc: Global, bytes: &'static [u8]) -> Result<Bytes, AllocError> {
+    Encoder::new(alloc).encode(&Message::Output(OutputCommand {
+        result: ValueOrFailure::Value(Bytes::from_static(bytes)),
+    }))
+}
+
+/// The journal's entry of an output that is this failure.
+pub fn failed_output(alloc: Global, code: u32, message: &str) -> Result<Bytes, AllocError> {
+    Encoder::new(alloc).encode(&Message::Output(OutputCommand {
+        result: ValueOrFailure::Failure(failure(alloc, code, message)?),
+    }))
+}

@@ -1,0 +1,133 @@
+//! Crash tests: a world holds an invocation's journal, and rounds play attempts over it that die where you say.
+pub use crate::frames::{cancel, failed, failed_output, invocation_id, output, value, void};
+use bytes::Bytes;
+use invocation_vm::{VMOptions, Version};
+use std::alloc::{AllocError, Global};
+use std::test::Fail;
+use vm_rounds::Handler;
+pub use vm_world::{Event, Identity, Report, Round, RoundFault, World, run_rounds};
+use wire::{Items, Text};
+
+fn fail(fault: RoundFault) -> Fail {
+    Fail::new(format_args!("{fault:?}"))
+}
+
+/// An invocation "test" in version 7 with this input, the options' defaults, and no state.
+pub fn world_of(alloc: Global, input: &'static [u8]) -> Result<World, Fail> {
+    let identity = Identity {
+        id: Bytes::from_static(b"test"),
+        debug_id: Text::from_str(alloc, "test")?,
+        key: Text::empty(alloc),
+        random_seed: 0,
+        scope: None,
+        limit_key: None,
+        idempotency_key: None,
+    };
+    let (options, input) = (VMOptions::default(), Bytes::from_static(input));
+    match World::new(
+        alloc,
+        identity,
+        options,
+        Version::V7,
+        input,
+        Vec::new(alloc),
+    ) {
+        Ok(world) => Ok(world),
+        Err(fault) => Err(fail(fault)),
+    }
+}
+
+/// What happens in one attempt, in order, until it dies.
+#[derive(Drop)]
+pub struct Plan {
+    events: Items<Event>,
+}
+
+/// An attempt that nothing has happened to yet.
+pub fn round(alloc: Global) -> Plan {
+    Plan {
+        events: Items::new(alloc),
+    }
+}
+
+impl Plan {
+    fn then(mut self, event: Event) -> Result<Plan, AllocError> {
+        self.events.push(event)?;
+        Ok(self)
+    }
+
+    /// It is fed all bytes that wait.
+    pub fn feed(self) -> Result<Plan, AllocError> {
+        self.then(Event::Piece(usize::MAX))
+    }
+
+    /// The handler makes so many steps.
+    pub fn step(self, times: usize) -> Result<Plan, AllocError> {
+        let mut plan = self;
+        for _ in 0..times {
+            plan = plan.then(Event::Step)?;
+        }
+        Ok(plan)
+    }
+
+    /// A result arrives: it is stored, and waits to be fed.
+    pub fn arrive(self, frame: Bytes) -> Result<Plan, AllocError> {
+        self.then(Event::Arrive(frame))
+    }
+
+    /// All commands that were written are stored.
+    pub fn store_all(self) -> Result<Plan, AllocError> {
+        self.then(Event::Store(usize::MAX))
+    }
+
+    /// No more bytes come.
+    pub fn close(self) -> Result<Plan, AllocError> {
+        self.then(Event::Close)
+    }
+
+    /// The process dies here. What wasn't stored is lost.
+    pub fn crash(self) -> Round {
+        let Plan { events } = self;
+        let keys = Items::new(events.alloc());
+        Round {
+            partial: false,
+            keys,
+            retry_count: 0,
+            duration: 0,
+            events,
+        }
+    }
+}
+
+/// One attempt for each step: the first makes one step, the next two, and so on. What each has written is stored; then what
+/// arrives after this step is stored too, and the process dies.
+pub fn crash_at_each_step<H: Handler>(
+    alloc: Global,
+    handler: &H,
+    world: World,
+    steps: usize,
+    arrivals: &[(usize, Bytes)],
+) -> Result<World, Fail> {
+    let mut rounds = Vec::new(alloc);
+    for made in 1..=steps {
+        let mut plan = round(alloc).feed()?.step(made)?.store_all()?;
+        for (after, frame) in arrivals {
+            if *after == made {
+                plan = plan.arrive(frame.clone()?)?;
+            }
+        }
+        rounds.push(plan.crash())?;
+    }
+    match run_rounds(handler, world, rounds.as_slice()) {
+        Ok((world, _)) => Ok(world),
+        Err(fault) => Err(fail(fault)),
+    }
+}
+
+/// The journal's last entry is this one.
+pub fn ends_with(world: &World, entry: &Bytes) -> bool {
+    match world.journal().last() {
+        Some(last) => last.as_slice() == entry.as_slice(),
+        None => false,
+    }
+}
