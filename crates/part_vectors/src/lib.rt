@@ -1,6 +1,9 @@
-//! Rows over the VM's parts: its public types, the state map, policies of retries, and awaits of trees.
+//! Rows over the VM's parts: its public types, the state map, policies of retries, and awaits of trees; and the machine of a VM where its
+//! counters end.
 #![tactic(auto)]
 
+#[cfg(test)]
+mod counters;
 #[cfg(test)]
 mod delays;
 #[cfg(test)]

@@ -28,8 +28,8 @@ fn write_report<W: Sink>(played: Played, writer: &mut W) -> RunEnd
     }
 }
 
-/// Runs the rounds of a handler.
-fn run_handler<H: Handler, R: Source, W: Sink>(
+/// Plays rounds of a handler, as `run` does of a named one.
+pub fn run_handler<H: Handler, R: Source, W: Sink>(
     alloc: Global,
     content_type: &str,
     handler: &H,

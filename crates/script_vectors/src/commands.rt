@@ -1,6 +1,6 @@
 // What each call that has a command does, state by state.
 use crate::places::{CLOSED, ENTRIES_MISSING, FAILED, NEW, PROCESSING, VERSIONS};
-use crate::table::{Rows, assert_each_line, assert_each_row};
+use crate::table::{Rows, assert_each_line_idle, assert_each_row, assert_each_row_idle};
 use std::test::Fail;
 
 /// The states in which each of these calls is refused. It counts as a command there, unless the VM has failed.
@@ -493,27 +493,27 @@ output                              => frames Error
 
 #[test]
 fn commands_are_refused(rt: HostRuntime) -> Result<(), Fail> {
-    assert_each_line(&rt, rt.alloc(), VERSIONS, &REFUSALS)
+    assert_each_line_idle(&rt, rt.alloc(), &REFUSALS)
 }
 
 #[test]
 fn input_is_refused(rt: HostRuntime) -> Result<(), Fail> {
-    assert_each_line(&rt, rt.alloc(), VERSIONS, &INPUT_REFUSALS)
+    assert_each_line_idle(&rt, rt.alloc(), &INPUT_REFUSALS)
 }
 
 #[test]
 fn commands_are_written(rt: HostRuntime) -> Result<(), Fail> {
-    assert_each_row(&rt, rt.alloc(), VERSIONS, WRITTEN)
+    assert_each_row_idle(&rt, rt.alloc(), WRITTEN)
 }
 
 #[test]
 fn last_recorded_command_is_popped(rt: HostRuntime) -> Result<(), Fail> {
-    assert_each_row(&rt, rt.alloc(), VERSIONS, LAST_POPPED)
+    assert_each_row_idle(&rt, rt.alloc(), LAST_POPPED)
 }
 
 #[test]
 fn one_recorded_command_is_popped(rt: HostRuntime) -> Result<(), Fail> {
-    assert_each_row(&rt, rt.alloc(), VERSIONS, ONE_POPPED)
+    assert_each_row_idle(&rt, rt.alloc(), ONE_POPPED)
 }
 
 #[test]

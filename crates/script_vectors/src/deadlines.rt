@@ -1,8 +1,7 @@
 // Calls with a deadline: two commands, three ids and three handles, written, replayed, written in part, and refused.
+use crate::places::VERSIONS;
 use crate::table::{Rows, assert_each_line, assert_each_row};
 use std::test::Fail;
-
-const EACH_VERSION: &[u8] = &[5, 6, 7, 8];
 
 const CALLS: Rows = Rows {
     options: "cancel=off",
@@ -322,7 +321,7 @@ state => ok WaitingPreFlight
 
 #[test]
 fn calls_are_bounded(rt: HostRuntime) -> Result<(), Fail> {
-    assert_each_row(&rt, rt.alloc(), EACH_VERSION, CALLS)
+    assert_each_row(&rt, rt.alloc(), VERSIONS, CALLS)
 }
 
 #[test]
@@ -333,12 +332,12 @@ fn scope_comes_with_version_7(rt: HostRuntime) -> Result<(), Fail> {
 
 #[test]
 fn cancelled_call_is_cancelled(rt: HostRuntime) -> Result<(), Fail> {
-    assert_each_row(&rt, rt.alloc(), EACH_VERSION, CANCELLED)
+    assert_each_row(&rt, rt.alloc(), VERSIONS, CANCELLED)
 }
 
 #[test]
 fn numbers_are_looked_for_at_once(rt: HostRuntime) -> Result<(), Fail> {
-    assert_each_row(&rt, rt.alloc(), EACH_VERSION, NUMBERED)
+    assert_each_row(&rt, rt.alloc(), VERSIONS, NUMBERED)
 }
 
 #[test]

@@ -1,8 +1,7 @@
 // Ephemeral reads of the state: keys that are known and such that are asked for, what an await and a take answer, and each state and version.
+use crate::places::VERSIONS;
 use crate::table::{Rows, assert_each_line, assert_each_row};
 use std::test::Fail;
-
-const EACH_VERSION: &[u8] = &[5, 6, 7, 8];
 
 const READS: Rows = Rows {
     options: "cancel=off",
@@ -806,12 +805,12 @@ fn gets_are_refused(rt: HostRuntime) -> Result<(), Fail> {
 
 #[test]
 fn takes_are_refused(rt: HostRuntime) -> Result<(), Fail> {
-    assert_each_line(&rt, rt.alloc(), EACH_VERSION, &REFUSED_TAKES)
+    assert_each_line(&rt, rt.alloc(), VERSIONS, &REFUSED_TAKES)
 }
 
 #[test]
 fn results_come_in_processing(rt: HostRuntime) -> Result<(), Fail> {
-    assert_each_row(&rt, rt.alloc(), EACH_VERSION, RESULTS)
+    assert_each_row(&rt, rt.alloc(), VERSIONS, RESULTS)
 }
 
 #[test]

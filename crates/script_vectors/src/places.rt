@@ -1,7 +1,7 @@
 // The states of a VM before a call: the lines that lead there.
 
-/// The first and the last version that is supported.
-pub const VERSIONS: &[u8] = &[5, 8];
+/// The versions that are supported.
+pub const VERSIONS: &[u8] = &[5, 6, 7, 8];
 
 /// No byte has come.
 pub const NEW: &str = "";

@@ -170,7 +170,20 @@ input <failure_1>                          => ok
 await 17                                   => ok any
 take 17                                    => ok failure 1 "no"
 
-# A state key that is no text fails the take.
+# Of all keys of the state, one that is no text fails the take.
+vm "application/vnd.restate.invocation.v7" => ok V7
+input <start_1 input_till>                 => ok
+sys_input                                  => ok id="abc" seed=0 key="" headers=[] value="Till" scope=- limit=- idem=-
+keys                                       => ok 17
+output                                     => ok 0x000e000000000000000c000000010000000000000000
+input <keys_1>                             => ok
+await 17                                   => ok any
+take 17                                    => err 571 "state key is not UTF-8"
+output                                     => ok <error_not_utf_8>
+output                                     => ok 0x
+failed                                     => err 571 "state key is not UTF-8"
+
+# So does a result of another call that is such keys.
 vm "application/vnd.restate.invocation.v7" => ok V7
 input <start_1 input_till>                 => ok
 sys_input                                  => ok id="abc" seed=0 key="" headers=[] value="Till" scope=- limit=- idem=-

@@ -1,8 +1,7 @@
 // Journals that are not replayed: the recorded commands are dropped, and the next completion id is greater than each that they carry.
+use crate::places::VERSIONS;
 use crate::table::{Rows, assert_each_row};
 use std::test::Fail;
-
-const EACH_VERSION: &[u8] = &[5, 6, 7, 8];
 
 /// A sleep after the dropped commands, with its index and its id.
 const GO_ON: Rows = Rows {
@@ -285,10 +284,10 @@ failed => err 500 "exhausted: completion ids"
 
 #[test]
 fn dropped_commands_are_passed(rt: HostRuntime) -> Result<(), Fail> {
-    assert_each_row(&rt, rt.alloc(), EACH_VERSION, GO_ON)
+    assert_each_row(&rt, rt.alloc(), VERSIONS, GO_ON)
 }
 
 #[test]
 fn journals_that_can_not_be_passed_are_refused(rt: HostRuntime) -> Result<(), Fail> {
-    assert_each_row(&rt, rt.alloc(), EACH_VERSION, REFUSED)
+    assert_each_row(&rt, rt.alloc(), VERSIONS, REFUSED)
 }

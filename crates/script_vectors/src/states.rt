@@ -1,6 +1,8 @@
 // What each call without a command does, state by state; and what is refused whatever the state.
 use crate::places::{CLOSED, ENTRIES_MISSING, FAILED, NEW, PROCESSING, REPLAYING, VERSIONS};
-use crate::table::{Rows, assert_each_line, assert_each_row};
+use crate::table::{
+    Rows, assert_each_line, assert_each_line_idle, assert_each_row, assert_each_row_idle,
+};
 use std::test::Fail;
 
 /// The states in which the calls without a command are refused.
@@ -643,17 +645,17 @@ failed => err 573 "UNSUPPORTED_FEATURE"
 
 #[test]
 fn calls_are_refused(rt: HostRuntime) -> Result<(), Fail> {
-    assert_each_line(&rt, rt.alloc(), VERSIONS, &REFUSALS)
+    assert_each_line_idle(&rt, rt.alloc(), &REFUSALS)
 }
 
 #[test]
 fn calls_are_done(rt: HostRuntime) -> Result<(), Fail> {
-    assert_each_row(&rt, rt.alloc(), VERSIONS, DONE)
+    assert_each_row_idle(&rt, rt.alloc(), DONE)
 }
 
 #[test]
 fn reported_error_fails_in_each_state(rt: HostRuntime) -> Result<(), Fail> {
-    assert_each_line(&rt, rt.alloc(), VERSIONS, &REPORTED)
+    assert_each_line_idle(&rt, rt.alloc(), &REPORTED)
 }
 
 #[test]
@@ -668,7 +670,7 @@ fn metadata_is_sent_from_v6(rt: HostRuntime) -> Result<(), Fail> {
 
 #[test]
 fn sleep_out_of_bounds_is_refused_before_the_state(rt: HostRuntime) -> Result<(), Fail> {
-    assert_each_line(&rt, rt.alloc(), VERSIONS, &TOO_LONG)
+    assert_each_line_idle(&rt, rt.alloc(), &TOO_LONG)
 }
 
 #[test]

@@ -4,6 +4,7 @@
 // these frames, `0x..`. The answer `frames TYPE TYPE` is an output of frames of these types, and of nothing more. The
 // line `failed => ANSWER` stands for each call of a VM that has failed: it answers that, and nothing is sent.
 use crate::names::{frame_of, type_of};
+use crate::places::VERSIONS;
 use invocation_vm::CoreVM;
 use lines::atoms::bytes_of;
 use lines::line::Line;
@@ -241,6 +242,46 @@ pub fn assert_each_row(
         for row in rows.rows.split("\n\n") {
             assert_row(rt, alloc, *version, rows, row)?;
         }
+    }
+    Ok(())
+}
+
+/// Options that change nothing of a call that isn't an await, and none; each is set alone.
+static IDLE: [&str; 10] = [
+    "",
+    "cancel=none",
+    "cancel=sends",
+    "cancel=both",
+    "cancel=off",
+    "awaiting=always",
+    "awaiting=never",
+    "mismatch=pause",
+    "mismatch=fail",
+    "delivery=overwrite",
+];
+
+/// As `assert_each_line`, on each supported version, under each of these options.
+pub fn assert_each_line_idle(rt: &impl Abort, alloc: Global, tables: &[Rows]) -> Result<(), Fail> {
+    for options in &IDLE {
+        for rows in tables {
+            let rows = Rows {
+                options: *options,
+                ..*rows
+            };
+            assert_each_line_of(rt, alloc, VERSIONS, rows)?;
+        }
+    }
+    Ok(())
+}
+
+/// As `assert_each_row`, on each supported version, under each of these options.
+pub fn assert_each_row_idle(rt: &impl Abort, alloc: Global, rows: Rows) -> Result<(), Fail> {
+    for options in &IDLE {
+        let rows = Rows {
+            options: *options,
+            ..rows
+        };
+        assert_each_row(rt, alloc, VERSIONS, rows)?;
     }
     Ok(())
 }

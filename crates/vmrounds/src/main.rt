@@ -1,18 +1,29 @@
 //! `vmrounds`: plays rounds of one invocation from a script on standard input, and prints what they tell.
 #![tactic(auto)]
 
-use round_reports::run::run;
+use plans::reading::plan_of;
+use round_reports::run::{run, run_handler};
 use round_reports::run_end::RunEnd;
 use std::env::{self, Env};
 use std::io;
 use std::process::ExitCode;
 use streams::Plain;
+use wire::Fault;
 
 const USAGE: &str =
-    "usage: vmrounds <content-type> <sleeper|race|parent|counter|deadline|charge> < script > report";
+    "usage: vmrounds <content-type> <sleeper|race|parent|counter|deadline|charge|plan STEP..> < script > report";
 
-/// The two arguments, where there are just two.
-fn arguments(rt: &(impl Env + AllocGlobal)) -> io::Result<Option<(String, String)>> {
+/// The arguments.
+#[derive(Drop)]
+struct Arguments {
+    content_type: String,
+    handler: String,
+    /// The steps of a plan.
+    steps: Vec<String>,
+}
+
+/// The arguments, if there are two or more.
+fn arguments(rt: &(impl Env + AllocGlobal)) -> io::Result<Option<Arguments>> {
     let mut arguments = env::args(rt)?;
     let _program = arguments.next();
     let Some(content_type) = arguments.next() else {
@@ -21,21 +32,55 @@ fn arguments(rt: &(impl Env + AllocGlobal)) -> io::Result<Option<(String, String
     let Some(handler) = arguments.next() else {
         return Ok(None);
     };
-    if arguments.next().is_some() {
-        return Ok(None);
+    let mut steps = Vec::new(rt.alloc());
+    for step in arguments {
+        steps.push(step)?;
     }
-    Ok(Some((content_type, handler)))
+    Ok(Some(Arguments {
+        content_type,
+        handler,
+        steps,
+    }))
+}
+
+/// Plays rounds of the handler that the arguments name.
+fn play(rt: &HostRuntime, arguments: Arguments) -> RunEnd {
+    let alloc = rt.alloc();
+    let Arguments {
+        content_type,
+        handler,
+        steps,
+    } = arguments;
+    let mut reader = Plain(rt.reader());
+    let mut writer = Plain(io::writer(rt));
+    if handler.as_str() != "plan" {
+        if !steps.is_empty() {
+            return RunEnd::UnknownHandler;
+        }
+        return run(
+            alloc,
+            content_type.as_str(),
+            handler.as_str(),
+            &mut reader,
+            &mut writer,
+        );
+    }
+    match plan_of(alloc, steps.as_slice()) {
+        Ok(plan) => run_handler(
+            alloc,
+            content_type.as_str(),
+            &plan,
+            &mut reader,
+            &mut writer,
+        ),
+        Err(Fault::Malformed) => RunEnd::UnknownHandler,
+        Err(Fault::Memory) => RunEnd::NoMemory,
+    }
 }
 
 fn main(rt: HostRuntime) -> ExitCode {
     let end = match arguments(&rt) {
-        Ok(Some((content_type, handler))) => run(
-            rt.alloc(),
-            content_type.as_str(),
-            handler.as_str(),
-            &mut Plain(rt.reader()),
-            &mut Plain(io::writer(&rt)),
-        ),
+        Ok(Some(arguments)) => play(&rt, arguments),
         Ok(None) => RunEnd::UnknownHandler,
         Err(error) => RunEnd::ReadFailed(error),
     };

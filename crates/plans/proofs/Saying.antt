@@ -1,0 +1,18 @@
+-- Lines that say steps, one more at a time.
+use Rattle.std.proofs.Common.{◌≡◌, ◌<◌, ◌+◌, ◌++◌, ℕ, List, [], ◌∷◌, Global, length, take, get_or, string_bytes, sym, subst}
+use Rattle.std.proofs.lemmas.List.{take_more}
+use Rattle.std.specs.declared.string.String.{String}
+use Rattle.line_parts.proofs.Pairing.{zip_push}
+use Rattle.vm_types.specs.declared.steps.Step.{Step}
+use Rattle.plans.specs.declared.planned.Planned.{Planned}
+use Rattle.plans.specs.Planned.{planned_step}
+use Rattle.plans.specs.Said.{AreSaid, SaysStep}
+
+-- one line more, which says a step
+pub said_more : (lines : List (String Global)) (i : ℕ) (line : String Global) (steps after : List Planned) (planned : Planned) (step : Step) → i < length lines → get_or lines i line ≡ line → AreSaid (take i lines) steps
+    → SaysStep (string_bytes line) step → planned_step planned ≡ step → after ≡ steps ++ planned ∷ [] → AreSaid (take (i + 1) lines) after
+said_more lines i line steps after planned step h here all says is_planned is =
+    let says_planned = subst (λ s. SaysStep (string_bytes line) s) (sym is_planned) says in
+    let pushed = zip_push (λ (l : String Global) (p : Planned). SaysStep (string_bytes l) (planned_step p)) (take i lines) steps line planned all says_planned in
+    let longer = subst (λ l. AreSaid (take i lines ++ l ∷ []) (steps ++ planned ∷ [])) (sym here) pushed in
+    subst (λ ys. AreSaid (take (i + 1) lines) ys) (sym is) (subst (λ ls. AreSaid ls (steps ++ planned ∷ [])) (sym (take_more lines i line h)) longer)

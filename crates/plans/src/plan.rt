@@ -1,0 +1,25 @@
+//! A plan: a handler that makes its steps one after another, whatever it is answered.
+use crate::planned::Planned;
+use std::alloc::{AllocError, Global};
+use vm_parts::{Answer, Step};
+use vm_steps::Handler;
+
+/// Makes these steps, one after another, and then ends.
+#[derive(Debug, Drop)]
+pub struct Plan {
+    pub alloc: Global,
+    pub steps: Vec<Planned>,
+}
+
+impl Handler for Plan {
+    ghost use Rattle.plans.specs.Planned.{plan_step};
+
+    ghost meaning = { λ h. plan_step h.steps.items };
+
+    fn next(&self, answers: &[Answer]) -> Result<Step, AllocError> {
+        match self.steps.get(answers.len().saturating_sub(1)) {
+            Some(planned) => planned.step(self.alloc),
+            None => Ok(Step::End),
+        }
+    }
+}
