@@ -1,12 +1,20 @@
 -- The race: it calls and sleeps, and gives what the call gave if its answer is there first.
-use Rattle.std.specs.Prelude.{if◌then◌else◌, codes, List, ℕ}
+use Rattle.std.specs.Prelude.{Bool, if◌then◌else◌, codes, List, ℕ}
+use Rattle.await_trees.specs.declared.handle.NotificationHandle.{NotificationHandle}
 use Rattle.flows.specs.Calls.{select, value}
 use Rattle.flows.specs.Code.{Code, Give, ◌>>=◌}
 use Rattle.flows.specs.Steps.{start_call, start_sleep}
+
+-- the call's answer if it came first, and else that the time is over
+unfoldable pub first : Bool → NotificationHandle → Code (List ℕ)
+first is answer = if is then value answer else Give (codes "timeout")
+
+-- what comes first counts
+unfoldable pub in_time : NotificationHandle → NotificationHandle → Code (List ℕ)
+in_time answer deadline = select answer deadline >>= λ is. first is answer
 
 abbrev pub race : List ℕ → Code (List ℕ)
 race name =
     start_call (codes "Greeter") (codes "greet") name >>= λ answer.
     start_sleep (record { secs = 1; nanos = 0 }) >>= λ deadline.
-    select answer deadline >>= λ is.
-    if is then value answer else Give (codes "timeout")
+    in_time answer deadline

@@ -5,13 +5,16 @@ use Rattle.flows.specs.Calls.{call, sleep}
 use Rattle.flows.specs.Code.{Code, Give, ◌>>=◌}
 use Rattle.flows.specs.Steps.{set}
 
+-- what a receipt gives: it is kept, but for "busy", which is none
+unfoldable pub kept : List ℕ → Code (Option (List ℕ))
+kept receipt = if bytes_eq receipt (codes "busy") then Give None else (set (codes "receipt") receipt >>= λ _. Give (Some receipt))
+
 -- one try at this second: the receipt, or nothing if the service is busy
 unfoldable pub turn : List ℕ → ℕ → Code (Option (List ℕ))
 turn order second =
     sleep (record { secs = second; nanos = 0 }) >>= λ _.
     call (codes "Payments") (codes "charge") order >>= λ receipt.
-    if bytes_eq receipt (codes "busy") then Give None
-    else (set (codes "receipt") receipt >>= λ _. Give (Some receipt))
+    kept receipt
 
 -- a receipt ends the tries; without one, what follows is tried
 abbrev pub or_try : Option (List ℕ) → Code (List ℕ) → Code (List ℕ)

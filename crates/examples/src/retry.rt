@@ -1,5 +1,5 @@
 //! It charges a card, up to three times with a second between, and keeps the receipt.
-ghost use Rattle.examples.specs.Retry.{turn};
+ghost use Rattle.examples.specs.Retry.{kept, turn};
 ghost use Rattle.flows.specs.Follows.{Follows};
 
 use bytes::Bytes;
@@ -10,6 +10,18 @@ use std::time::Duration;
 #[derive(Drop)]
 pub struct Retry;
 
+/// What a receipt gives: it is kept, but for "busy", which is none.
+#[tactic(auto, using(flows::specs::Code::goes_on), unfolding(crate::specs::Retry::kept))]
+fn kept(ctx: &mut Context<'_>, receipt: Bytes) -> Result<Option<Bytes>, Exit>
+    ensures { Follows (kept receipt) ctx.old result ctx.new }
+{
+    if receipt.as_slice() == b"busy".as_slice() {
+        return Ok(None);
+    }
+    ctx.set("receipt", &receipt)?;
+    Ok(Some(receipt))
+}
+
 /// One try at this second: the receipt, or nothing if the service is busy.
 #[tactic(auto, using(flows::specs::Code::goes_on), unfolding(crate::specs::Retry::turn))]
 fn turn(ctx: &mut Context<'_>, order: &Bytes, second: u64) -> Result<Option<Bytes>, Exit>
@@ -17,11 +29,8 @@ fn turn(ctx: &mut Context<'_>, order: &Bytes, second: u64) -> Result<Option<Byte
 {
     ctx.sleep(Duration::from_secs(second))?;
     let receipt = ctx.call("Payments", "charge", order)?;
-    if receipt.as_slice() == b"busy".as_slice() {
-        return Ok(None);
-    }
-    ctx.set("receipt", &receipt)?;
-    Ok(Some(receipt))
+    let kept = kept(ctx, receipt)?;
+    Ok(kept)
 }
 
 impl Flow for Retry {
