@@ -73,12 +73,17 @@ static int begin(palqytun_vm *vm)
 {
     static const char line[] = "vm \"application/vnd.restate.invocation.v7\"";
     uint32_t status = palqytun_new(vm);
-    if (status == PALQYTUN_DONE && palqytun_sleep(vm, bytes(""), 1).status != PALQYTUN_NO_VM)
-        return 3;
-    if (status == PALQYTUN_DONE)
-        status = palqytun_line(vm, (const uint8_t *)line, sizeof line - 1).status;
+    if (status != PALQYTUN_DONE)
+        return failed(status);
+    status = palqytun_sleep(vm, bytes(""), 1).status;
+    if (status != PALQYTUN_NO_VM)
+        return failed(status);
+    status = palqytun_line(vm, (const uint8_t *)line, sizeof line - 1).status;
     if (status == PALQYTUN_DONE)
         status = palqytun_feed(vm, journal, sizeof journal);
+    /* The line is right, so it made no VM only where it found no memory. */
+    if (status == PALQYTUN_NO_VM)
+        status = PALQYTUN_NO_MEMORY;
     return status == PALQYTUN_DONE ? 0 : failed(status);
 }
 

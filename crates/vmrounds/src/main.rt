@@ -23,7 +23,7 @@ struct Arguments {
 }
 
 /// The arguments, if there are two or more.
-fn arguments(rt: &(impl Env + AllocGlobal)) -> io::Result<Option<Arguments>> {
+fn read_arguments(rt: &(impl Env + AllocGlobal)) -> io::Result<Option<Arguments>> {
     let mut arguments = env::args(rt)?;
     let _program = arguments.next();
     let Some(content_type) = arguments.next() else {
@@ -79,7 +79,7 @@ fn play(rt: &HostRuntime, arguments: Arguments) -> RunEnd {
 }
 
 fn main(rt: HostRuntime) -> ExitCode {
-    let end = match arguments(&rt) {
+    let end = match read_arguments(&rt) {
         Ok(Some(arguments)) => play(&rt, arguments),
         Ok(None) => RunEnd::UnknownHandler,
         Err(error) => RunEnd::ReadFailed(error),
