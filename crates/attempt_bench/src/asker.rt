@@ -3,7 +3,7 @@
 
 use std::alloc::AllocError;
 use vm_parts::{Answer, NotificationHandle, Step, UnresolvedFuture};
-use vm_rounds::Handler;
+use vm_attempt::Handler;
 
 /// Makes an awakeable, awaits it, takes its result and ends.
 #[derive(Drop)]

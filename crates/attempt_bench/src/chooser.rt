@@ -10,7 +10,7 @@ use std::alloc::{AllocError, Global};
 use vm_parts::{
     Answer, NonEmptyValue, NotificationHandle, PayloadOptions, Step, UnresolvedFuture, Value,
 };
-use vm_rounds::Handler;
+use vm_attempt::Handler;
 use wire::Text;
 
 /// Completes the awakeable "prom_1" with "v", makes an awakeable, awaits it and takes its result. Where that is a

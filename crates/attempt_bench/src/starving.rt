@@ -3,7 +3,7 @@
 
 use std::alloc::AllocError;
 use vm_parts::{Answer, Step};
-use vm_rounds::Handler;
+use vm_attempt::Handler;
 
 /// The other handler, which finds no memory for the step after so many answers.
 #[derive(Drop)]

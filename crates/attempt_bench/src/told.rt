@@ -7,7 +7,7 @@ use std::alloc::Global;
 use std::test::Fail;
 use vectors::headers::Headers;
 use vm_parts::Answer;
-use vm_rounds::{Attempt, Handler, Progress};
+use vm_attempt::{Attempt, Handler, Progress};
 
 /// An answer, as a row tells it.
 #[derive(Clone, Copy, Debug)]

@@ -2,7 +2,7 @@
 use crate::answers::{cancelled_output, handle_at, is_cancelled_at, output_at};
 use std::alloc::{AllocError, Global};
 use vm_parts::{Answer, PayloadOptions, Step, UnresolvedFuture};
-use vm_rounds::Handler;
+use vm_attempt::Handler;
 use wire::Text;
 
 /// Runs "charge", awaits the run, takes its result, writes it as its output and ends.

@@ -7,7 +7,7 @@ use crate::answers::{cancelled_output, handle_at, is_cancelled_at};
 use bytes::Bytes;
 use std::alloc::{AllocError, Global};
 use vm_parts::{Answer, NonEmptyValue, PayloadOptions, Step, UnresolvedFuture, Value};
-use vm_rounds::Handler;
+use vm_attempt::Handler;
 use wire::Text;
 
 /// Reads the count, awaits and takes it, writes the number that follows, and answers it.

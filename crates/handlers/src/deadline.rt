@@ -11,7 +11,7 @@ use bytes::Bytes;
 use std::alloc::{AllocError, Global};
 use std::time::Duration;
 use vm_parts::{Answer, NonEmptyValue, NotificationHandle, PayloadOptions, Step, UnresolvedFuture};
-use vm_rounds::Handler;
+use vm_attempt::Handler;
 
 /// Calls with a deadline, awaits the first of result and deadline and takes it, writes what the call gave, or "timeout", and ends.
 #[derive(Debug, Drop)]

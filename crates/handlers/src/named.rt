@@ -10,7 +10,7 @@ use crate::race::Race;
 use crate::sleeper::Sleeper;
 use std::alloc::{AllocError, Global};
 use vm_parts::{Answer, Step};
-use vm_rounds::Handler;
+use vm_attempt::Handler;
 
 /// A handler that has a name.
 #[derive(Debug, Drop)]

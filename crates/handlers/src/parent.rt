@@ -4,7 +4,7 @@ use crate::calls::{both, call};
 use bytes::Bytes;
 use std::alloc::{AllocError, Global};
 use vm_parts::{Answer, NonEmptyValue, PayloadOptions, Step, UnresolvedFuture};
-use vm_rounds::Handler;
+use vm_attempt::Handler;
 
 /// Calls two handlers, awaits both results and takes them, writes "done" and ends.
 #[derive(Debug, Drop)]

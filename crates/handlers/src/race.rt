@@ -11,7 +11,7 @@ use bytes::Bytes;
 use std::alloc::{AllocError, Global};
 use std::time::Duration;
 use vm_parts::{Answer, NonEmptyValue, NotificationHandle, PayloadOptions, Step, UnresolvedFuture};
-use vm_rounds::Handler;
+use vm_attempt::Handler;
 use wire::Text;
 
 /// Sleeps, calls, awaits the first of both and takes its result, writes what the call gave, or "timeout", and ends.

@@ -4,7 +4,7 @@ use bytes::Bytes;
 use std::alloc::{AllocError, Global};
 use std::time::Duration;
 use vm_parts::{Answer, NonEmptyValue, PayloadOptions, Step, UnresolvedFuture};
-use vm_rounds::Handler;
+use vm_attempt::Handler;
 use wire::Text;
 
 /// Sleeps, awaits the sleep, takes its result, writes an empty output and ends.

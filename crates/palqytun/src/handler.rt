@@ -2,4 +2,4 @@
 
 pub use flow_handlers::Durable;
 pub use flows::{Context, Exit, Fault, Flow};
-pub use vm_rounds::{Answer, Attempt, Fed, Handler, Progress, Step};
+pub use vm_attempt::{Answer, Attempt, Fed, Handler, Progress, Step};

@@ -4,7 +4,7 @@ use bytes::Bytes;
 use invocation_vm::{VMOptions, Version};
 use std::alloc::{AllocError, Global};
 use std::test::Fail;
-use vm_rounds::Handler;
+use vm_attempt::Handler;
 pub use vm_world::{Event, Identity, Report, Round, RoundFault, World, run_rounds};
 use wire::{Items, Text};
 

@@ -13,7 +13,7 @@ use journal_errors::Version;
 use round_scripts::script::Unread;
 use std::alloc::Global;
 use streams::{Sink, Source};
-use vm_rounds::Handler;
+use vm_attempt::Handler;
 
 /// Writes the report.
 fn write_report<W: Sink>(played: Played, writer: &mut W) -> RunEnd

@@ -11,9 +11,9 @@ use Rattle.vm_steps.specs.Record.{AttemptView, Record}
 use Rattle.vm_steps.specs.Stepping.{Meaning, MakesAttempt, StepDoes, fresh_record}
 use Rattle.vm_steps.specs.declared.progress.Progress.{Progress}
 use Rattle.vm_steps.specs.declared.progress.Progress.TheVariants as progress
-use Rattle.vm_rounds.specs.Told.{IsKeptUnder}
-use Rattle.vm_rounds.proofs.Advanced.{kept_told, made_kept}
-use Rattle.vm_rounds.proofs.Under.{close_under, feed_under, step_under}
+use Rattle.vm_attempt.specs.Told.{IsKeptUnder}
+use Rattle.vm_attempt.proofs.Advanced.{kept_told, made_kept}
+use Rattle.vm_attempt.proofs.Under.{close_under, feed_under, step_under}
 use Rattle.runner.specs.Runs.{SendsWhole, Stepped, Drives, IsFed, IsTold, Runs, ServesAnew, end_after}
 use Rattle.runner.specs.declared.run_end.AttemptEnd.{AttemptEnd}
 use Rattle.runner.specs.declared.run_end.AttemptEnd.TheVariants as attempt_end

@@ -12,7 +12,7 @@ use Rattle.vm_parts.specs.Outboxes.{WholeFrames}
 use Rattle.invocation_vm.specs.Making.{made}
 use Rattle.vm_steps.specs.Record.{Record, heard}
 use Rattle.vm_steps.specs.Stepping.{Meaning, fresh_record, FeedDoes, CloseDoes, StepDoes}
-use Rattle.vm_rounds.specs.Told.{AnswersAreTold, NoneHasTwo}
+use Rattle.vm_attempt.specs.Told.{AnswersAreTold, NoneHasTwo}
 use Rattle.vm_steps.specs.declared.progress.Progress.{Progress}
 use Rattle.vm_steps.specs.declared.progress.Progress.TheVariants as progress
 use Rattle.streams.specs.Streams.{AppendsSome}

@@ -16,7 +16,7 @@ use handlers::named::Named;
 use invocation_vm::VMOptions;
 use std::alloc::{AllocError, Global};
 use streams::{Sink, Source};
-use vm_rounds::{Attempt, Handler, Progress};
+use vm_attempt::{Attempt, Handler, Progress};
 
 /// Makes a step, and tells how the attempt ends, if it is the last one.
 fn step_of<H: Handler>(attempt: &mut Attempt<H>) -> Option<AttemptEnd>

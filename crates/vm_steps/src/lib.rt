@@ -1,5 +1,5 @@
 //! The steps of a handler over the VM: what a handler is, each call that its step can be, and what an attempt's calls do to its
-//! fields. What an attempt keeps through all of them is `vm_rounds`'s.
+//! fields. What an attempt keeps through all of them is `vm_attempt`'s.
 #![tactic(auto)]
 
 mod handler;

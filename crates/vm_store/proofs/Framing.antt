@@ -13,7 +13,7 @@ use Rattle.journal_streams.proofs.Cuts.{whole_spelled}
 use Rattle.invocation_vm.specs.Frames.{Tail, Rest, Garbage, frames_from, frames_of, joined}
 use Rattle.invocation_vm.proofs.Cuts.{frames_of-append, frames_of-next}
 use Rattle.vm_model.specs.Journal.{Entry, messages_in, read_before}
-use Rattle.vm_rounds.specs.Journals.{AcknowledgesNothing, as_entries, commands_among, is_acknowledgement, is_command, is_notification, notifications_among, notified_by, recorded_by, told_by}
+use Rattle.vm_attempt.specs.Journals.{AcknowledgesNothing, as_entries, commands_among, is_acknowledgement, is_command, is_notification, notifications_among, notified_by, recorded_by, told_by}
 use Rattle.vm_store.specs.Entries.{AreEntries, alone, entries_of, frame_in, frame_of, framed_by, frames_in, may_stand, note_in, note_of, notes_in, read_from, said_by, said_in}
 
 -- ---- frames of bytes

@@ -8,7 +8,7 @@ use Rattle.journal_streams.specs.Frames.{NextFrame, Whole, Partial, Malformed, n
 use Rattle.journal_messages.specs.Message.{frame}
 use Rattle.journal_messages.specs.Reading.{message_in, notification_in}
 use Rattle.vm_model.specs.Journal.{Entry, read_before}
-use Rattle.vm_rounds.specs.Journals.{as_entries, is_command, is_notification, notified_by}
+use Rattle.vm_attempt.specs.Journals.{as_entries, is_command, is_notification, notified_by}
 
 -- a frame's bytes
 abbrev pub frame_of : RawMessage → List ℕ

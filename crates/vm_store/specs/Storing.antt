@@ -13,7 +13,7 @@ use Rattle.vm_parts.specs.declared.run_state.KeptProposal.{KeptProposal}
 use Rattle.vm_machine.specs.Inputs.{completion_of}
 use Rattle.journal_errors.specs.Versions.{is_from_v7}
 use Rattle.vm_steps.specs.Heard.{is_proposal, proposal_in}
-use Rattle.vm_rounds.specs.Journals.{is_command}
+use Rattle.vm_attempt.specs.Journals.{is_command}
 use Rattle.vm_store.specs.declared.storing.Written.{Written}
 use Rattle.vm_store.specs.declared.storing.Written.TheVariants.{Command, Proposal}
 use Rattle.vm_store.specs.declared.types.RoundFault.{RoundFault}

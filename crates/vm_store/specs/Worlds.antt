@@ -7,7 +7,7 @@ use Rattle.journal_messages.specs.declared.message.Message.TheVariants as messag
 use Rattle.journal_attempt.specs.declared.start.Start.{Start}
 use Rattle.vm_model.specs.Calls.{Setup}
 use Rattle.vm_model.specs.Carried.{AreCarried}
-use Rattle.vm_rounds.specs.Journals.{commands_among, setup_for}
+use Rattle.vm_attempt.specs.Journals.{commands_among, setup_for}
 use Rattle.vm_store.specs.Completions.{CompleteOnce}
 use Rattle.vm_store.specs.declared.types.Identity.{Identity}
 use Rattle.vm_store.specs.declared.types.Round.{Round}

@@ -13,7 +13,7 @@ use Rattle.vm_model.specs.HonestRounds.{Attempted, IsToldOn}
 use Rattle.vm_model.specs.SoundHistories.{SoundHistory}
 use Rattle.vm_model.proofs.Lasting.{commands-append}
 use Rattle.vm_model.proofs.Honesty.{attempts_agree}
-use Rattle.vm_rounds.proofs.Replayed.{head_same}
+use Rattle.vm_attempt.proofs.Replayed.{head_same}
 use Rattle.vm_store.specs.declared.types.Round.{Round}
 use Rattle.vm_store.specs.declared.types.Setting.{Setting}
 use Rattle.vm_world.specs.Courses.{attempt_of}

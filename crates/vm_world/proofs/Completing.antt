@@ -14,7 +14,7 @@ use Rattle.vm_model.specs.Carried.{AreCarried, ComeOnce, is_among, is_carried, r
 use Rattle.vm_model.specs.Journal.{input_read_from, notifications_in}
 use Rattle.vm_model.specs.Histories.{History, Told}
 use Rattle.vm_model.proofs.Carried.{completions_once, input_carries, typed}
-use Rattle.vm_rounds.proofs.Replayed.{commands_same, head_same, notes_same, tail_same}
+use Rattle.vm_attempt.proofs.Replayed.{commands_same, head_same, notes_same, tail_same}
 use Rattle.vm_store.specs.Entries.{entries_of, frames_in, notes_in}
 use Rattle.vm_world.specs.Rounds.{CompletesOnce}
 use Rattle.vm_store.specs.Worlds.{IsJournal}

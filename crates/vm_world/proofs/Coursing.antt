@@ -15,16 +15,16 @@ use Rattle.vm_model.specs.Journal.{Entry, Recorded, Notified, commands_in, notif
 use Rattle.vm_model.proofs.Lasting.{commands-append, notifications-append}
 use Rattle.journal_errors.specs.declared.version.Version.{Version}
 use Rattle.vm_parts.specs.declared.run_state.KeptProposal.{KeptProposal}
-use Rattle.vm_rounds.specs.Arrivals.{AllFound, arriving, kept_after, kept_behind}
+use Rattle.vm_attempt.specs.Arrivals.{AllFound, arriving, kept_after, kept_behind}
 use Rattle.vm_steps.specs.Heard.{acknowledged_from, proposals_among}
-use Rattle.vm_rounds.specs.Journals.{commands_among}
+use Rattle.vm_attempt.specs.Journals.{commands_among}
 use Rattle.vm_steps.specs.Record.{Record, bytes_written, heard}
 use Rattle.vm_steps.specs.Stepping.{taken_from}
-use Rattle.vm_rounds.specs.Told.{arrivals_of, bytes_in, frames_fed, written_by}
-use Rattle.vm_rounds.proofs.Finishing.{acknowledged_more}
-use Rattle.vm_rounds.proofs.Pieces.{commands_append, more_frames}
-use Rattle.vm_rounds.proofs.Proposed.{arriving_append, arriving_more, arriving_notified, found_append, kept_all, none_found}
-use Rattle.vm_rounds.proofs.Replayed.{commands_same, notes_same}
+use Rattle.vm_attempt.specs.Told.{arrivals_of, bytes_in, frames_fed, written_by}
+use Rattle.vm_attempt.proofs.Finishing.{acknowledged_more}
+use Rattle.vm_attempt.proofs.Pieces.{commands_append, more_frames}
+use Rattle.vm_attempt.proofs.Proposed.{arriving_append, arriving_more, arriving_notified, found_append, kept_all, none_found}
+use Rattle.vm_attempt.proofs.Replayed.{commands_same, notes_same}
 use Rattle.vm_store.specs.declared.types.Event.{Event}
 use Rattle.vm_store.specs.declared.types.Event.TheVariants as event
 use Rattle.vm_world.specs.Courses.{brought_by, course_of, delivered, new_in}

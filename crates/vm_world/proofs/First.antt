@@ -15,7 +15,7 @@ use Rattle.vm_model.specs.Journal.{stored_form}
 use Rattle.vm_model.specs.Moves.{start}
 use Rattle.vm_model.specs.Histories.{Knowledge}
 use Rattle.vm_model.specs.HonestRounds.{IsOneRun}
-use Rattle.vm_rounds.specs.Journals.{as_entries, notified_by}
+use Rattle.vm_attempt.specs.Journals.{as_entries, notified_by}
 use Rattle.vm_store.specs.Completions.{CompleteOnce}
 use Rattle.vm_store.specs.Entries.{entries_of, frame_in, framed_by, may_stand, note_of, read_from}
 use Rattle.vm_store.specs.Worlds.{IsJournal}

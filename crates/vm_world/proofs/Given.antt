@@ -13,8 +13,8 @@ use Rattle.journal_values.specs.declared.notification.NotificationId.{Notificati
 use Rattle.journal_values.specs.declared.notification.NotificationId.TheVariants.{CompletionId, SignalId, SignalName}
 use Rattle.journal_values.specs.declared.notification.NotificationResult.{NotificationResult}
 use Rattle.vm_model.specs.Carried.{AreCarried, is_carried}
-use Rattle.vm_rounds.specs.Journals.{commands_among, is_command, notifications_among, notified_by}
-use Rattle.vm_rounds.proofs.Pieces.{commands_append}
+use Rattle.vm_attempt.specs.Journals.{commands_among, is_command, notifications_among, notified_by}
+use Rattle.vm_attempt.proofs.Pieces.{commands_append}
 use Rattle.vm_model.proofs.Once.{still_carried}
 use Rattle.vm_store.specs.declared.completions.Completes.{Completes}
 use Rattle.vm_store.specs.declared.types.RoundFault.TheVariants as round_fault

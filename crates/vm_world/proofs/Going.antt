@@ -22,10 +22,10 @@ use Rattle.vm_steps.specs.declared.progress.Reply.{Reply}
 use Rattle.vm_steps.specs.declared.progress.Reply.TheVariants as reply
 use Rattle.vm_steps.specs.Record.{Record}
 use Rattle.vm_steps.specs.Stepping.{Advances, CloseDoes, FeedDoes, Feeds, FinishDoes, Reads, StepAt, StepDoes, StepFrom, StepUnless, future_in, kept_at, replied, step_asked, with_vm}
-use Rattle.vm_rounds.specs.Told.{bytes_in}
-use Rattle.vm_rounds.proofs.Finishing.{Finished, finished}
-use Rattle.vm_rounds.proofs.Kept.{closed_input, piece_dropped}
-use Rattle.vm_rounds.proofs.Pieces.{pieces_behind}
+use Rattle.vm_attempt.specs.Told.{bytes_in}
+use Rattle.vm_attempt.proofs.Finishing.{Finished, finished}
+use Rattle.vm_attempt.proofs.Kept.{closed_input, piece_dropped}
+use Rattle.vm_attempt.proofs.Pieces.{pieces_behind}
 
 -- the attempt takes input: nothing has stopped it
 pub record IsOpen (r : Record) : Type 0 where

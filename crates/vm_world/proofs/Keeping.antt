@@ -14,12 +14,12 @@ use Rattle.vm_parts.specs.declared.run_state.KeptProposal.{KeptProposal}
 use Rattle.vm_model.specs.Calls.{Meaning}
 use Rattle.vm_model.specs.Histories.{IsPrefix}
 use Rattle.vm_steps.specs.Heard.{proposals_among, proposals_in}
-use Rattle.vm_rounds.specs.Journals.{commands_among, is_command, is_notification, notified_by}
+use Rattle.vm_attempt.specs.Journals.{commands_among, is_command, is_notification, notified_by}
 use Rattle.vm_steps.specs.Record.{Record, bytes_written}
 use Rattle.vm_steps.specs.Stepping.{taken_from}
-use Rattle.vm_rounds.specs.Told.{bytes_in}
-use Rattle.vm_rounds.proofs.Pieces.{commands_append}
-use Rattle.vm_rounds.proofs.Quiet.{proposals_append}
+use Rattle.vm_attempt.specs.Told.{bytes_in}
+use Rattle.vm_attempt.proofs.Pieces.{commands_append}
+use Rattle.vm_attempt.proofs.Quiet.{proposals_append}
 use Rattle.vm_store.specs.declared.types.Event.{Event}
 use Rattle.vm_store.specs.declared.types.Event.TheVariants as event
 use Rattle.vm_store.specs.Arrivals.{arrival_fault}

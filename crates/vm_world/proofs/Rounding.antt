@@ -22,15 +22,15 @@ use Rattle.vm_model.specs.SoundHistories.{SoundHistory}
 use Rattle.vm_model.proofs.Honesty.{honest_rounds, whole_round, whole_rounds}
 use Rattle.vm_model.proofs.SoundHistories.{run_is_sound, sound_round, sound_rounds, whole_is_honest}
 use Rattle.journal_errors.specs.declared.version.Version.{Version}
-use Rattle.vm_rounds.specs.Arrivals.{arriving}
+use Rattle.vm_attempt.specs.Arrivals.{arriving}
 use Rattle.vm_steps.specs.Heard.{acknowledged_from}
-use Rattle.vm_rounds.specs.Journals.{commands_among}
+use Rattle.vm_attempt.specs.Journals.{commands_among}
 use Rattle.vm_steps.specs.Record.{Record}
 use Rattle.vm_steps.specs.Stepping.{fresh_record}
-use Rattle.vm_rounds.specs.Told.{bytes_in}
-use Rattle.vm_rounds.proofs.Advanced.{made_new}
-use Rattle.vm_rounds.proofs.Coming.{made_comes}
-use Rattle.vm_rounds.proofs.Replayed.{commands_same}
+use Rattle.vm_attempt.specs.Told.{bytes_in}
+use Rattle.vm_attempt.proofs.Advanced.{made_new}
+use Rattle.vm_attempt.proofs.Coming.{made_comes}
+use Rattle.vm_attempt.proofs.Replayed.{commands_same}
 use Rattle.vm_store.specs.declared.types.Event.{Event}
 use Rattle.vm_store.specs.declared.types.Round.{Round}
 use Rattle.vm_store.specs.declared.types.RoundFault.{RoundFault}

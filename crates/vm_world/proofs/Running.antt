@@ -23,20 +23,20 @@ use Rattle.vm_model.specs.Journal.{Entry, input_read_from, notifications_in}
 use Rattle.vm_model.specs.Moves.{Point, later, start as first_point}
 use Rattle.vm_model.proofs.Once.{run_once, still_carried}
 use Rattle.vm_model.proofs.Runs.{after_later}
-use Rattle.vm_rounds.specs.Journals.{commands_among, setup_for}
-use Rattle.vm_rounds.specs.Told.{BeforeInput, HasCome, IsKept, Journal, NoneHasTwo, Runs, Wrote, arrivals, begun, handed_out}
-use Rattle.vm_rounds.specs.Arrivals.{arriving}
+use Rattle.vm_attempt.specs.Journals.{commands_among, setup_for}
+use Rattle.vm_attempt.specs.Told.{BeforeInput, HasCome, IsKept, Journal, NoneHasTwo, Runs, Wrote, arrivals, begun, handed_out}
+use Rattle.vm_attempt.specs.Arrivals.{arriving}
 use Rattle.vm_steps.specs.Heard.{acknowledged_from}
 use Rattle.vm_steps.specs.Record.{heard}
-use Rattle.vm_rounds.proofs.Advanced.{step_keeps}
-use Rattle.vm_rounds.proofs.Coming.{close_comes, feed_comes, step_comes, take_comes}
-use Rattle.vm_rounds.proofs.Finishing.{finish_comes, finish_keeps}
-use Rattle.vm_rounds.proofs.Kept.{close_keeps, feed_keeps, take_keeps}
-use Rattle.vm_rounds.proofs.Lasting.{runs_last}
-use Rattle.vm_rounds.proofs.Pieces.{commands_append}
-use Rattle.vm_rounds.proofs.Proposed.{arriving_append, arriving_notified, kept_all}
-use Rattle.vm_rounds.proofs.Replayed.{commands_same, head_same, notes_same, tail_same}
-use Rattle.vm_rounds.proofs.Written.{taken_first}
+use Rattle.vm_attempt.proofs.Advanced.{step_keeps}
+use Rattle.vm_attempt.proofs.Coming.{close_comes, feed_comes, step_comes, take_comes}
+use Rattle.vm_attempt.proofs.Finishing.{finish_comes, finish_keeps}
+use Rattle.vm_attempt.proofs.Kept.{close_keeps, feed_keeps, take_keeps}
+use Rattle.vm_attempt.proofs.Lasting.{runs_last}
+use Rattle.vm_attempt.proofs.Pieces.{commands_append}
+use Rattle.vm_attempt.proofs.Proposed.{arriving_append, arriving_notified, kept_all}
+use Rattle.vm_attempt.proofs.Replayed.{commands_same, head_same, notes_same, tail_same}
+use Rattle.vm_attempt.proofs.Written.{taken_first}
 use Rattle.vm_store.specs.declared.types.Event.{Event}
 use Rattle.vm_store.specs.declared.types.Event.TheVariants as event
 use Rattle.vm_store.specs.declared.types.Setting.{Setting}

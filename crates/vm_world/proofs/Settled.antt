@@ -22,14 +22,14 @@ use Rattle.journal_errors.specs.Versions.{is_from_v7}
 use Rattle.vm_model.specs.Carried.{AreCarried, is_carried}
 use Rattle.vm_model.specs.Journal.{stored_form}
 use Rattle.vm_model.proofs.Once.{still_carried}
-use Rattle.vm_rounds.specs.Arrivals.{AllFound, FindsProposal, IsFound, arriving, kept_after, stands_for, unacknowledged}
+use Rattle.vm_attempt.specs.Arrivals.{AllFound, FindsProposal, IsFound, arriving, kept_after, stands_for, unacknowledged}
 use Rattle.vm_steps.specs.Heard.{acknowledged_from, is_proposal, proposal_in, proposals_among, proposed_by}
-use Rattle.vm_rounds.specs.Journals.{commands_among, is_command, is_notification, notifications_among, notified_by}
-use Rattle.vm_rounds.proofs.Advanced.{nothing_acknowledged}
-use Rattle.vm_rounds.proofs.Arriving.{arriving_alone, kept_none}
-use Rattle.vm_rounds.proofs.Finishing.{acknowledged_more}
-use Rattle.vm_rounds.proofs.Pieces.{commands_append}
-use Rattle.vm_rounds.proofs.Proposed.{arriving_append, arriving_more, found_append, found_more, kept_append, kept_more}
+use Rattle.vm_attempt.specs.Journals.{commands_among, is_command, is_notification, notifications_among, notified_by}
+use Rattle.vm_attempt.proofs.Advanced.{nothing_acknowledged}
+use Rattle.vm_attempt.proofs.Arriving.{arriving_alone, kept_none}
+use Rattle.vm_attempt.proofs.Finishing.{acknowledged_more}
+use Rattle.vm_attempt.proofs.Pieces.{commands_append}
+use Rattle.vm_attempt.proofs.Proposed.{arriving_append, arriving_more, found_append, found_more, kept_append, kept_more}
 use Rattle.vm_store.specs.declared.completions.Completes.{Completes}
 use Rattle.vm_store.specs.declared.storing.Written.{Written}
 use Rattle.vm_store.specs.declared.storing.Written.TheVariants.{Command, Proposal}

@@ -40,8 +40,8 @@ use Rattle.vm_steps.specs.Record.{Record, bytes_written}
 use Rattle.vm_steps.specs.Stepping.{Advances, Asks, CloseDoes, Closes, FeedDoes, Feeds, FinishDoes, Reads, StepAt, StepDoes, StepFrom, StepUnless, future_in, kept_at, replied, step_asked, with_vm}
 use Rattle.vm_steps.specs.Steps.{AllCarried, Awaited, Performs, PerformsBy, mapped}
 use Rattle.vm_laws.proofs.Outputs.{all_writes, whole_writes}
-use Rattle.vm_rounds.proofs.Finishing.{finished}
-use Rattle.vm_rounds.proofs.Quiet.{input_quiet}
+use Rattle.vm_attempt.proofs.Finishing.{finished}
+use Rattle.vm_attempt.proofs.Quiet.{input_quiet}
 
 -- ---- one event of the machine
 

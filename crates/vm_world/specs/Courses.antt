@@ -12,7 +12,7 @@ use Rattle.vm_model.specs.HonestRounds.{Attempted, HonestRounds}
 use Rattle.vm_model.specs.Journal.{Entry, Recorded, Notified}
 use Rattle.journal_errors.specs.declared.version.Version.{Version}
 use Rattle.vm_steps.specs.Record.{Record, heard}
-use Rattle.vm_rounds.specs.Told.{arrivals_of, written_by}
+use Rattle.vm_attempt.specs.Told.{arrivals_of, written_by}
 use Rattle.vm_store.specs.declared.types.Event.{Event}
 use Rattle.vm_store.specs.declared.types.Round.{Round}
 use Rattle.vm_store.specs.declared.types.Setting.{Setting}

@@ -13,7 +13,7 @@ use retries::RetryPolicy;
 use runs::RunExitResult;
 use std::alloc::{AllocError, Global};
 use vm_parts::NotificationHandle;
-use vm_rounds::{Attempt, Handler};
+use vm_attempt::{Attempt, Handler};
 use vm_store::arrival_faults::arrival_fault;
 use vm_store::storing::store_from;
 use vm_store::types::{Event, RoundFault};

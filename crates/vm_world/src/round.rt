@@ -19,7 +19,7 @@ use invocation_vm::VMResult;
 use journal_errors::{Error, Version};
 use journal_streams::Decoder;
 use std::alloc::{AllocError, Global};
-use vm_rounds::{Attempt, Handler};
+use vm_attempt::{Attempt, Handler};
 use vm_store::handed::start_bytes;
 use vm_store::types::{Event, Report, Round, RoundFault, Setting};
 

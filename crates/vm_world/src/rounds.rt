@@ -8,7 +8,7 @@ ghost use Rattle.vm_world.specs.Rounds.{AreWhole, Replays, RoundsDo, RoundsFault
 
 use crate::round::run_round;
 use crate::world::World;
-use vm_rounds::Handler;
+use vm_attempt::Handler;
 use vm_store::types::{Report, Round, RoundFault};
 
 /// Keeps a report, if there is memory.

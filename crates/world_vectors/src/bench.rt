@@ -4,7 +4,7 @@ use invocation_vm::{VMOptions, Version};
 use std::alloc::{AllocError, Global};
 use std::process::Abort;
 use std::test::Fail;
-use vm_rounds::Handler;
+use vm_attempt::Handler;
 use vm_world::{Event, Identity, Report, Round, World, run_rounds};
 use wire::{Items, Text};
 

@@ -14,7 +14,7 @@ use std::alloc::Global;
 use std::process::Abort;
 use std::test::Fail;
 use vectors::frames::{CLEAR_ALL, OUTPUT_EMPTY, OUTPUT_X, SLEEP_TO_1000};
-use vm_rounds::{Attempt, Handler};
+use vm_attempt::{Attempt, Handler};
 
 /// The attempt answers want of memory to a step, has these answers, and sends these frames.
 fn assert_starved<H: Handler>(

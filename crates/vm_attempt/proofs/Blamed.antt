@@ -1,0 +1,227 @@
+-- What each call of an attempt keeps of why it failed.
+use Rattle.std.proofs.Common.{◌≡◌, ◌≢◌, ℕ, ◌+◌, ◌<◌, Bool, true, false, List, [], ◌∷◌, ◌++◌, length, Option, Some, None, Result, Ok, Err, refl, sym, ap, ◌∙◌, subst, inl, inr, ⊎_elim, arith, Global}
+use Rattle.std.specs.Prelude.{if◌then◌else◌, is_some, unwrap_or}
+use Rattle.std.proofs.lemmas.Option.{same_Some}
+use Rattle.std.specs.declared.alloc.AllocError.{AllocError}
+use Rattle.journal_errors.specs.declared.error.Error.{Error}
+use Rattle.journal_errors.specs.declared.faults.NamedFault.TheVariants as fault
+use Rattle.journal_messages.specs.declared.message.RawMessage.{RawMessage}
+use Rattle.journal_errors.specs.declared.version.Version.{Version}
+use Rattle.journal_errors.specs.Errors.{named_error, no_memory}
+use Rattle.vm_types.specs.declared.options.VMOptions.{VMOptions}
+use Rattle.vm_types.specs.declared.steps.Answer.{Answer}
+use Rattle.vm_machine.specs.declared.machine.Machine.{Machine}
+use Rattle.vm_machine.specs.declared.phase.Phase.{Phase}
+use Rattle.vm_machine.specs.declared.phase.Phase.TheVariants.{WaitingStart, WaitingReplayEntries, Replaying, Processing, Closed}
+use Rattle.vm_machine.specs.Inputs.{close_step, closed_at, malformed_step}
+use Rattle.vm_machine.specs.Outcomes.{IsStarved, called, called_at, ruled, ruled_by, settled}
+use Rattle.vm_machine.specs.Making.{fresh}
+use Rattle.invocation_vm.specs.Frames.{Tail, Rest, Garbage, frames_of}
+use Rattle.invocation_vm.specs.Making.{Makes, made}
+use Rattle.invocation_vm.specs.Views.{StarvesAmong, View, after_closing, after_input, all_received, brought, consumed, left_by, left_over, spoiled}
+use Rattle.vm_model.specs.Calls.{Meaning}
+use Rattle.vm_steps.specs.Heard.{Heard, and_piece}
+use Rattle.vm_steps.specs.declared.progress.Fed.{Fed}
+use Rattle.vm_steps.specs.declared.progress.Progress.{Progress}
+use Rattle.vm_steps.specs.Record.{Record, Said, all_said, heard}
+use Rattle.vm_steps.specs.Stepping.{CloseDoes, Closes, FeedDoes, Feeds, Takes, fresh_record, kept, kept_at, with_vm}
+use Rattle.vm_attempt.specs.Told.{BeforeInput, Came, HasCome, bytes_fed, frames_fed}
+use Rattle.vm_attempt.specs.Blames.{BadFrame, Blame, BlamedAt, FailsAt, IsBlamed, IsShort, Place}
+use Rattle.vm_attempt.specs.Blames.Blame.{Memory, Frame, NoFrame, ClosedEarly, NoInput, NoSkip, Call, RunResult}
+use Rattle.vm_attempt.proofs.Blaming.{frames_fit}
+use Rattle.vm_attempt.proofs.Pieces.{fed_frames}
+use Rattle.vm_attempt.proofs.Placing.{bad_frame, come_keeps, come_stands, place_all}
+
+-- ---- want of memory, and a VM that stays as it is
+
+pub none_some : {A : Type 0} (e : Error) → None ≡ Some e → A
+none_some e h = absurd (cc)
+
+pub starved_blamed : (m : Meaning) (version : Version) (options : VMOptions) (over : Option Progress) (fed : Heard) (said : Said) (answers : List Answer) (v w : Machine) → v.failure ≡ None → IsStarved v no_memory w → BlamedAt m version options over fed said answers w
+starved_blamed m version options over fed said answers v w live s =
+    let is : w.failure ≡ Some no_memory = s.failure ∙ ap (λ (f : Option Error). Some (unwrap_or f no_memory)) live in
+    record {
+      open_yet = λ going none. none_some no_memory (sym none ∙ is);
+      blame = λ going e some. Memory (same_Some e no_memory (sym some ∙ is));
+    }
+
+-- a VM that is alive, and not closed
+pub alive_blamed : (m : Meaning) (version : Version) (options : VMOptions) (over : Option Progress) (fed : Heard) (said : Said) (answers : List Answer) (w : Machine) → w.failure ≡ None → w.phase ≢ Closed → BlamedAt m version options over fed said answers w
+alive_blamed m version options over fed said answers w live open_yet = record {
+  open_yet = λ going none. open_yet;
+  blame = λ going e some. none_some e (sym live ∙ some);
+}
+
+-- once it is over nothing is said
+pub over_blamed : (m : Meaning) (version : Version) (options : VMOptions) (p : Progress) (fed : Heard) (said : Said) (answers : List Answer) (w : Machine) → BlamedAt m version options (Some p) fed said answers w
+over_blamed m version options p fed said answers w = record {
+  open_yet = λ going none. absurd (cc);
+  blame = λ going e some. absurd (cc);
+}
+
+placed_open : (ph : Phase) (k : ℕ) (F : List RawMessage) → Place ph k F → ph ≢ Closed
+placed_open WaitingStart k F p = λ h. absurd (cc)
+placed_open WaitingReplayEntries k F p = λ h. absurd (cc)
+placed_open Replaying k F p = λ h. absurd (cc)
+placed_open Processing k F p = λ h. absurd (cc)
+placed_open Closed k F p = absurd p
+
+-- ---- a piece
+
+-- what stands behind the last frame
+come_tail : (version : Version) (options : VMOptions) (r : Record) → HasCome version options r → (live : r.vm.machine.failure ≡ None) → r.vm.machine.phase ≢ Closed → (frames_of (bytes_fed (heard version r))).1 ≡ Rest r.vm.undecoded
+come_tail version options r k live open_yet =
+    ⊎_elim
+    (λ (b : BeforeInput version options (heard version r) r.answers r.waiting r.taken r.vm). b.tail live)
+    (λ (b : Came version options (heard version r) r.answers r.taken r.vm). b.tail (record { failure = live; phase = ⊎_elim (λ x. x) (λ (x : r.vm.machine.phase ≡ Closed). absurd (open_yet x)) (b.phase live) }))
+    k
+
+pub spoils : (v : Machine) → v.failure ≡ None → (spoiled v).failure ≡ Some (ruled v (named_error fault.BadMessage None))
+unfolding spoiled called
+spoils v live = ap (λ f. (left_by (called_at f (malformed_step v) v)).failure) live
+
+pub spoils_not : (v : Machine) (e : Error) → v.failure ≡ Some e → spoiled v ≡ v
+unfolding spoiled called
+spoils_not v e is = ap (λ f. left_by (called_at f (malformed_step v) v)) is
+
+piece_blamed : (m : Meaning) (version : Version) (options : VMOptions) (r : Record) (f : Fed) → HasCome version options r → r.vm.machine.failure ≡ None → r.vm.machine.phase ≢ Closed → BlamedAt m version options r.over (and_piece (heard version r) f) (all_said r) r.answers (after_input r.vm f.piece).machine
+piece_blamed m version options r f k live open_yet =
+    let stands = come_stands version options r k live open_yet in
+    let frames = fed_frames (heard version r) f r.vm (come_tail version options r k live open_yet) in
+    let came = frames_of (r.vm.undecoded ++ f.piece) in
+    subst B (sym (ap (λ (o : Option Error). (if is_some o then r.vm else consumed came r.vm.machine).machine) live))
+    (⊎_elim
+    (λ (x : ((all_received came.0 r.vm.machine).failure ≡ None) × (((all_received came.0 r.vm.machine).version ≡ r.vm.machine.version) × ((all_received came.0 r.vm.machine).options ≡ r.vm.machine.options))).
+    good came.1 (all_received came.0 r.vm.machine) (ap (λ p. p.1) frames) x.0 (placed_open _ _ _ (place_all came.0 (frames_fed (heard version r)) r.vm.machine live stands.0 x.0)) (x.1.0 ∙ stands.1.0) (x.1.1 ∙ stands.1.1))
+    (λ (x : FailsAt came.0 r.vm.machine (all_received came.0 r.vm.machine)).
+    bad came.1 (all_received came.0 r.vm.machine) x stands.0 stands.1 (ap (λ p. p.0) frames))
+    (frames_fit came.0 r.vm.machine live))
+  where
+    B : Machine → Type 0
+    B w = BlamedAt m version options r.over (and_piece (heard version r) f) (all_said r) r.answers w
+
+    good : (t : Tail) (w : Machine) → (frames_of (bytes_fed (and_piece (heard version r) f))).1 ≡ t → w.failure ≡ None → w.phase ≢ Closed → w.version ≡ version → w.options ≡ options → B (left_over t w).machine
+    good (Rest bytes) w is alive still ver opt = alive_blamed m version options r.over (and_piece (heard version r) f) (all_said r) r.answers w alive still
+    good Garbage w is alive still ver opt = record {
+      open_yet = λ going none. none_some _ (sym none ∙ spoils w alive);
+      blame = λ going e some. NoFrame is (same_Some e _ (sym some ∙ spoils w alive) ∙ λ i. ruled_by (ver i) (opt i) (named_error fault.BadMessage None));
+    }
+
+    failed_frame : (w : Machine) → FailsAt (frames_of (r.vm.undecoded ++ f.piece)).0 r.vm.machine w → Place r.vm.machine.phase r.vm.machine.entries_missing (frames_fed (heard version r)) → ((r.vm.machine.version ≡ version) × (r.vm.machine.options ≡ options)) → frames_fed (and_piece (heard version r) f) ≡ frames_fed (heard version r) ++ (frames_of (r.vm.undecoded ++ f.piece)).0 → B w
+    failed_frame w x p made frames = record {
+      open_yet = λ going none. none_some _ (sym none ∙ x.failure);
+      blame = λ going e some. Frame (subst (λ (z : Version × VMOptions). BadFrame z.0 z.1 (and_piece (heard version r) f) e) (λ i. (made.0 i, made.1 i)) (bad_frame (heard version r) (r.fed ++ f ∷ []) (frames_of (r.vm.undecoded ++ f.piece)).0 frames r.vm.machine w e live p (come_keeps version options r k live open_yet) x some));
+    }
+
+    bad : (t : Tail) (w : Machine) → FailsAt (frames_of (r.vm.undecoded ++ f.piece)).0 r.vm.machine w → Place r.vm.machine.phase r.vm.machine.entries_missing (frames_fed (heard version r)) → ((r.vm.machine.version ≡ version) × (r.vm.machine.options ≡ options)) → frames_fed (and_piece (heard version r) f) ≡ frames_fed (heard version r) ++ (frames_of (r.vm.undecoded ++ f.piece)).0 → B (left_over t w).machine
+    bad (Rest bytes) w x p made frames = failed_frame w x p made frames
+    bad Garbage w x p made frames = subst B (sym (spoils_not w _ x.failure)) (failed_frame w x p made frames)
+
+pieces_blamed : (m : Meaning) (version : Version) (options : VMOptions) (r : Record) (piece : List ℕ) → HasCome version options r → IsBlamed m version options r → (over : Option Progress) → r.over ≡ over → (o : Option Error) → r.vm.machine.failure ≡ o → (ph : Phase) → r.vm.machine.phase ≡ ph → IsBlamed m version options (with_vm (after_input r.vm piece) (kept_at o ph piece r))
+pieces_blamed m version options r piece k b (Some p) over o is ph at = subst (λ x. BlamedAt m version options x (heard version (kept_at o ph piece r)) (all_said (kept_at o ph piece r)) (kept_at o ph piece r).answers (after_input r.vm piece).machine) (sym over ∙ sym (same_over o ph)) (over_blamed m version options p _ _ _ _)
+  where
+    same_over : (o : Option Error) (ph : Phase) → (kept_at o ph piece r).over ≡ r.over
+    same_over (Some e) ph = refl
+    same_over None WaitingStart = refl
+    same_over None WaitingReplayEntries = refl
+    same_over None Replaying = refl
+    same_over None Processing = refl
+    same_over None Closed = refl
+pieces_blamed m version options r piece k b None over (Some e) is ph at = subst (BlamedAt m version options r.over (heard version r) (all_said r) r.answers) (sym (ap (λ (f : Option Error). (if is_some f then r.vm else consumed (frames_of (r.vm.undecoded ++ piece)) r.vm.machine).machine) is)) b
+pieces_blamed m version options r piece k b None over None is WaitingStart at = piece_blamed m version options r _ k is (b.open_yet over is)
+pieces_blamed m version options r piece k b None over None is WaitingReplayEntries at = piece_blamed m version options r _ k is (b.open_yet over is)
+pieces_blamed m version options r piece k b None over None is Replaying at = piece_blamed m version options r _ k is (b.open_yet over is)
+pieces_blamed m version options r piece k b None over None is Processing at = piece_blamed m version options r _ k is (b.open_yet over is)
+pieces_blamed m version options r piece k b None over None is Closed at = absurd (b.open_yet over is at)
+
+feeds_blamed : (m : Meaning) (version : Version) (options : VMOptions) (piece : List ℕ) (old : Record) (result : Result Unit AllocError) (new : Record) → HasCome version options old → IsBlamed m version options old → Feeds piece old result new → IsBlamed m version options new
+feeds_blamed m version options piece old (Ok t) new k b does = subst (IsBlamed m version options) (sym does) (pieces_blamed m version options old piece k b old.over refl old.vm.machine.failure refl old.vm.machine.phase refl)
+feeds_blamed m version options piece old (Err e) new k b does =
+    ⊎_elim
+    (λ (x : new ≡ record old { starved = true }). subst (IsBlamed m version options) (sym x) b)
+    (λ (x : (w : View) × StarvesAmong (brought old.vm piece) old.vm.machine w.machine × (new ≡ with_vm w (kept piece old))).
+    subst (IsBlamed m version options) (sym x.2) (starved_blamed m version options _ _ _ _ x.1.reached x.0.machine x.1.live x.1.starved))
+    does
+
+pub feed_blames : (m : Meaning) (version : Version) (options : VMOptions) (piece : List ℕ) (old : Record) (result : Result Unit AllocError) (new : Record) → HasCome version options old → IsBlamed m version options old → FeedDoes old.starved piece old result new → IsBlamed m version options new
+feed_blames m version options piece old result new k b does = by_test old.starved does
+  where
+    by_test : (t : Bool) → FeedDoes t piece old result new → IsBlamed m version options new
+    by_test true d = subst (IsBlamed m version options) (sym d.1) b
+    by_test false d = feeds_blamed m version options piece old result new k b d
+
+-- ---- closing
+
+-- it is told that the input is closed
+abbrev pub closed_now : Said → Said
+closed_now said = record said { closed = true }
+
+-- closing changes no blame but that it says the input is closed
+pub closed_blame : (m : Meaning) (version : Version) (options : VMOptions) (fed : Heard) (said : Said) (answers : List Answer) (e : Error) → Blame m version options fed said answers e → Blame m version options fed (closed_now said) answers e
+closed_blame m version options fed said answers e (Memory x) = Memory x
+closed_blame m version options fed said answers e (Frame x) = Frame x
+closed_blame m version options fed said answers e (NoFrame x y) = NoFrame x y
+closed_blame m version options fed said answers e (ClosedEarly x y z) = ClosedEarly refl y z
+closed_blame m version options fed said answers e (NoInput x) = NoInput x
+closed_blame m version options fed said answers e (NoSkip x) = NoSkip x
+closed_blame m version options fed said answers e (Call x) = Call x
+closed_blame m version options fed said answers e (RunResult x) = RunResult x
+
+pub closing_at : (v : View) → v.machine.failure ≡ None → (ph : Phase) → v.machine.phase ≡ ph → left_by (settled (closed_at ph (record v.machine { input_closed = true }))) ≡ (after_closing v).machine
+unfolding called
+closing_at v live ph at = λ i. left_by (called_at (sym live i) (closed_at (sym at i) (record v.machine { input_closed = true })) v.machine)
+
+pub closing_not : (v : View) (e : Error) → v.machine.failure ≡ Some e → v.machine ≡ (after_closing v).machine
+unfolding called
+closing_not v e is = ap (λ f. left_by (called_at f (close_step v.machine) v.machine)) (sym is)
+
+known_missing : (F : List RawMessage) (k : ℕ) → Place WaitingReplayEntries k F → IsShort F
+known_missing F k b = inr (record { first = b.first; others = b.others; is = b.is; start = b.start; reads = b.reads; counts = fewer (length b.others) b.start.known_entries b.counts.0 b.counts.1 })
+  where
+    fewer : (n known : ℕ) → n + k ≡ known → 0 < k → n < known
+    fewer n known e h = omega (arith, e, h)
+
+close_at : (m : Meaning) (version : Version) (options : VMOptions) (r : Record) → HasCome version options r → IsBlamed m version options r → (over : Option Progress) → r.over ≡ over → (o : Option Error) → r.vm.machine.failure ≡ o → (ph : Phase) → r.vm.machine.phase ≡ ph → BlamedAt m version options r.over (heard version r) (closed_now (all_said r)) r.answers (after_closing r.vm).machine
+close_at m version options r k b (Some p) over o is ph at = subst (λ x. BlamedAt m version options x (heard version r) (closed_now (all_said r)) r.answers (after_closing r.vm).machine) (sym over) (over_blamed m version options p _ _ _ _)
+close_at m version options r k b None over (Some e) is ph at = subst (BlamedAt m version options r.over (heard version r) (closed_now (all_said r)) r.answers) (closing_not r.vm e is) (record { open_yet = b.open_yet; blame = λ going d some. closed_blame m version options (heard version r) (all_said r) r.answers d (b.blame going d some) })
+close_at m version options r k b None over None is WaitingStart at =
+    let stands = come_stands version options r k is (b.open_yet over is) in
+    subst (BlamedAt m version options r.over (heard version r) (closed_now (all_said r)) r.answers) (closing_at r.vm is WaitingStart at)
+    (record {
+      open_yet = λ going none. none_some _ (sym none);
+      blame = λ going e some. ClosedEarly refl (inl (subst (λ ph. Place ph r.vm.machine.entries_missing (frames_fed (heard version r))) at stands.0)) (sym (same_Some _ e some) ∙ λ i. ruled_by (stands.1.0 i) (stands.1.1 i) (named_error fault.InputClosedWhileWaitingEntries None));
+    })
+close_at m version options r k b None over None is WaitingReplayEntries at =
+    let stands = come_stands version options r k is (b.open_yet over is) in
+    subst (BlamedAt m version options r.over (heard version r) (closed_now (all_said r)) r.answers) (closing_at r.vm is WaitingReplayEntries at)
+    (record {
+      open_yet = λ going none. none_some _ (sym none);
+      blame = λ going e some. ClosedEarly refl (known_missing (frames_fed (heard version r)) r.vm.machine.entries_missing (subst (λ ph. Place ph r.vm.machine.entries_missing (frames_fed (heard version r))) at stands.0)) (sym (same_Some _ e some) ∙ λ i. ruled_by (stands.1.0 i) (stands.1.1 i) (named_error fault.InputClosedWhileWaitingEntries None));
+    })
+close_at m version options r k b None over None is Replaying at = subst (BlamedAt m version options r.over (heard version r) (closed_now (all_said r)) r.answers) (closing_at r.vm is Replaying at) (alive_blamed m version options r.over (heard version r) (closed_now (all_said r)) r.answers _ is (b.open_yet over is))
+close_at m version options r k b None over None is Processing at = subst (BlamedAt m version options r.over (heard version r) (closed_now (all_said r)) r.answers) (closing_at r.vm is Processing at) (alive_blamed m version options r.over (heard version r) (closed_now (all_said r)) r.answers _ is (b.open_yet over is))
+close_at m version options r k b None over None is Closed at = absurd (b.open_yet over is at)
+
+closes_blamed : (m : Meaning) (version : Version) (options : VMOptions) (old : Record) (result : Result Unit AllocError) (new : Record) → HasCome version options old → IsBlamed m version options old → Closes old result new → IsBlamed m version options new
+closes_blamed m version options old (Ok t) new k b does = subst (IsBlamed m version options) (sym does) (close_at m version options old k b old.over refl old.vm.machine.failure refl old.vm.machine.phase refl)
+closes_blamed m version options old (Err e) new k b does = subst (IsBlamed m version options) (sym does.2) (starved_blamed m version options _ _ _ _ does.1.reached does.0.machine does.1.live does.1.starved)
+
+pub close_blames : (m : Meaning) (version : Version) (options : VMOptions) (old : Record) (result : Result Unit AllocError) (new : Record) → HasCome version options old → IsBlamed m version options old → CloseDoes old.starved old result new → IsBlamed m version options new
+close_blames m version options old result new k b does = by_test old.starved does
+  where
+    by_test : (t : Bool) → CloseDoes t old result new → IsBlamed m version options new
+    by_test true d = subst (IsBlamed m version options) (sym d.1) b
+    by_test false d = closes_blamed m version options old result new k b d
+
+-- ---- making, and the output
+
+pub made_blamed : (m : Meaning) (alloc : Global) (version : Version) (options : VMOptions) → IsBlamed m version options (fresh_record (made alloc options version))
+made_blamed m alloc version options = alive_blamed m version options None (heard version (fresh_record (made alloc options version))) (all_said (fresh_record (made alloc options version))) [] (fresh alloc version options) refl (λ h. absurd (cc))
+
+pub take_blames : (m : Meaning) (version : Version) (options : VMOptions) (old : Record) (result : Result (List ℕ) AllocError) (new : Record) → IsBlamed m version options old → Takes old result new → IsBlamed m version options new
+take_blames m version options old (Ok bytes) new b does = subst (IsBlamed m version options) (sym does.1) (record { open_yet = b.open_yet; blame = b.blame })
+take_blames m version options old (Err e) new b does = subst (IsBlamed m version options) (sym does) b
+
+pub new_blamed : {S : Type 0} (m : Meaning) (alloc : Global) (options : VMOptions) (wanted : Result Version Error) (view : S → View) (vm : S) → Makes alloc options wanted view (Ok vm) → IsBlamed m (view vm).machine.version options (fresh_record (view vm))
+new_blamed m alloc options (Ok version) view vm is = subst (λ (x : View). IsBlamed m x.machine.version options (fresh_record x)) (sym is) (made_blamed m alloc version options)
+new_blamed m alloc options (Err refusal) view vm is = absurd is

@@ -1,0 +1,158 @@
+-- What came and what was written, over each call of an attempt: whatever the options are and whatever comes.
+use Rattle.std.proofs.Common.{◌≡◌, ◌≢◌, ◌⊎◌, ℕ, true, false, List, [], ◌∷◌, ◌++◌, Option, Some, None, Result, Ok, Err, sym, ap, ◌∙◌, subst, inl, inr, ⊎_elim, Global}
+use Rattle.std.specs.declared.alloc.AllocError.{AllocError}
+use Rattle.journal_errors.specs.declared.error.Error.{Error}
+use Rattle.journal_errors.specs.declared.version.Version.{Version}
+use Rattle.vm_types.specs.declared.options.VMOptions.{VMOptions}
+use Rattle.vm_types.specs.declared.steps.Answer.{Answer}
+use Rattle.await_trees.specs.declared.tree.UnresolvedFuture.{UnresolvedFuture}
+use Rattle.vm_machine.specs.declared.phase.Phase.TheVariants.{Closed, Processing}
+use Rattle.vm_machine.specs.Phases.{is_running}
+use Rattle.invocation_vm.specs.Frames.{Rest}
+use Rattle.invocation_vm.specs.Making.{made}
+use Rattle.invocation_vm.specs.Views.{View}
+use Rattle.vm_model.specs.Calls.{Meaning}
+use Rattle.vm_steps.specs.Heard.{Heard}
+use Rattle.vm_steps.specs.declared.progress.Progress.{Progress}
+use Rattle.vm_steps.specs.declared.progress.Reply.{Reply}
+use Rattle.vm_steps.specs.declared.progress.Reply.TheVariants as reply
+use Rattle.vm_steps.specs.Record.{Record, heard}
+use Rattle.vm_steps.specs.Stepping.{Asks, CloseDoes, FeedDoes, StepDoes, Takes, step_asked, fresh_record, future_in, replied}
+use Rattle.vm_asks.specs.Carried.{AreBelow, all_carried}
+use Rattle.vm_machine.specs.declared.machine.Machine.{Machine}
+use Rattle.vm_machine.specs.Inputs.{coverage_of, input_step}
+use Rattle.vm_machine.specs.Making.{fresh}
+use Rattle.vm_machine.specs.Outcomes.{Done}
+use Rattle.vm_machine.specs.Skips.{skips_replay}
+use Rattle.vm_machine.proofs.Skipping.{ReadsInput, input_is, left_alike, reads_fresh}
+use Rattle.vm_types.specs.declared.steps.Answer.TheVariants as answer
+use Rattle.vm_types.specs.declared.values.Input.{Input}
+use Rattle.journal_messages.specs.Reading.{input_in}
+use Rattle.vm_attempt.specs.Arrivals.{kept_after}
+use Rattle.vm_attempt.specs.Journals.{AcknowledgesNothing, HasAll, StillWaits, setup_for}
+use Rattle.vm_attempt.specs.Told.{Begun, Came, Comes, HasCome, IsLive, Journal, Wrote, bytes_fed, commands_of, frames_fed}
+use Rattle.invocation_vm.specs.Frames.{frames_of}
+use Rattle.std.specs.Prelude.{if◌then◌else◌}
+use Rattle.std.specs.List.{AllByRecursion}
+use Rattle.vm_attempt.proofs.Advanced.{made_new, steps_keep}
+use Rattle.vm_attempt.proofs.Arriving.{kept_none}
+use Rattle.vm_attempt.proofs.Fresh.{on_written}
+use Rattle.vm_attempt.proofs.Numbers.{Numbers, same_number, step_numbers}
+use Rattle.vm_attempt.proofs.Proposed.{none_found, none_front}
+use Rattle.vm_attempt.proofs.Kept.{KeptBy, close_keeps, feed_keeps, take_keeps}
+use Rattle.vm_attempt.proofs.Lasting.{CameBy, came_last}
+use Rattle.vm_attempt.proofs.Quiet.{quiet_same, wrote_more, wrote_quiet}
+use Rattle.vm_attempt.proofs.Sending.{IsLeft, Sends, step_leaves}
+
+-- ---- the input is read
+
+module _ (version : Version) (options : VMOptions) (fed : Heard) (none_proposed : fed.proposed ≡ []) (taken : List (List ℕ)) (v w : View) (i : Input) (b : Begun version options fed v.machine) (h : HasAll (setup_for version options b.start) (record { entries = b.state; coverage = coverage_of b.start.partial }) b.aside b.start.known_entries [] [] b.others v.machine) (r : ReadsInput v.machine i w.machine) where
+  -- the journal that the input was read from
+  journal_read : Journal fed
+  journal_read = record {
+    first_frame = b.first_frame;
+    entries = h.entries;
+    others = h.others;
+    frames = b.frames ∙ ap (λ l. b.first_frame ∷ l) h.split;
+    start = b.start;
+    reads_start = b.reads_start;
+    count = h.count;
+    none_acknowledge = none_front h.entries h.others (subst (AllByRecursion AcknowledgesNothing) h.split h.none_acknowledge);
+    state = b.state;
+    reads_state = b.reads_state;
+    first = r.first;
+    rest = r.rest;
+    commands = sym (ap (λ (x : Machine). x.commands) h.machine) ∙ r.commands;
+    input = r.input;
+    reads_input = ap (λ t. if t then input_in r.first.body else None) r.typed ∙ r.reads;
+  }
+
+  read_comes : Wrote taken v.machine.output [] → (frames_of (bytes_fed fed)).1 ≡ Rest w.undecoded → Came version options fed (answer.Input i ∷ []) taken w
+  unfolding journal_read
+  read_comes wrote tail =
+      let all = h.entries ++ h.others in
+      let a = left_alike (skips_replay v.machine.options.journal_replay) r.rest v.machine w.machine r.left in
+      record {
+        journal = journal_read;
+        answered = λ none. absurd (cc);
+        written = [];
+        wrote = wrote_quiet taken v.machine w.machine [] (quiet_same v.machine w.machine a.output) wrote;
+        made_for = λ _. (a.version ∙ ap (λ (x : Machine). x.version) h.machine, a.options ∙ ap (λ (x : Machine). x.options) h.machine);
+        keeps = λ _. (a.proposals ∙ ap (λ (x : Machine). x.proposals) h.machine ∙ sym (ap (λ kept. kept_after kept all) none_proposed ∙ kept_none all), none_found fed.proposed all (subst (AllByRecursion AcknowledgesNothing) h.split h.none_acknowledge));
+        early = λ _. inl none_proposed;
+        fresh = λ skips. record {
+          next = w.machine.counters.completion;
+          past = subst (λ cs. AreBelow w.machine.counters.completion (all_carried cs)) r.commands (reads_fresh v.machine i w.machine (ap (λ (x : Machine). skips_replay x.options.journal_replay) h.machine ∙ ap skips_replay skips) r);
+          from = tt;
+          further = λ _. same_number w.machine.counters.completion;
+        };
+        phase = λ _. inl a.runs;
+        tail = λ _. tail;
+      }
+
+-- the input is read, whatever the options are
+pub reads_come : (version : Version) (options : VMOptions) (fed : Heard) → fed.proposed ≡ [] → (taken : List (List ℕ)) (v w : View) (i : Input) → Comes version options fed v.machine → input_step v.machine ≡ Done i w.machine → Wrote taken v.machine.output [] → (frames_of (bytes_fed fed)).1 ≡ Rest w.undecoded → Came version options fed (answer.Input i ∷ []) taken w
+reads_come version options fed none taken v w i comes is wrote tail =
+    let r = input_is v.machine i w.machine is in
+    let runs : is_running v.machine.phase ≡ true = ap is_running r.phase in
+    ⊎_elim
+    (λ (x : (frames_fed fed ≡ []) × ((alloc : Global) × (v.machine ≡ fresh alloc version options))). absurd (let z : false ≡ true = sym (ap (λ (m : Machine). is_running m.phase) x.1.1) ∙ runs in cc))
+    (λ (b : Begun version options fed v.machine).
+    ⊎_elim
+    (λ (x : StillWaits (setup_for version options b.start) (record { entries = b.state; coverage = coverage_of b.start.partial }) b.aside b.start.known_entries [] [] b.others v.machine). absurd (let z : false ≡ true = sym (ap (λ (m : Machine). is_running m.phase) x.machine) ∙ runs in cc))
+    (λ (x : HasAll (setup_for version options b.start) (record { entries = b.state; coverage = coverage_of b.start.partial }) b.aside b.start.known_entries [] [] b.others v.machine). read_comes version options fed none taken v w i b x r wrote tail)
+    b.waits)
+    comes
+
+-- ---- a call
+
+never_empty : (answers : List Answer) (a : Answer) → answers ++ a ∷ [] ≢ []
+never_empty [] a = λ h. absurd (cc)
+never_empty (b ∷ answers) a = λ h. absurd (cc)
+
+module _ (version : Version) (options : VMOptions) (fed : Heard) (before : List Answer) (waiting : Option UnresolvedFuture) (taken : List (List ℕ)) (v w : View) (k : CameBy version options fed before waiting taken v) (live : IsLive v.machine) (und : w.undecoded ≡ v.undecoded) where
+  -- what was sent is written behind what was
+  came_on : (answers : List Answer) (waits : Option UnresolvedFuture) → answers ≢ [] → Numbers v.machine w.machine → Sends v.machine w.machine → (w.machine.failure ≡ None → w.machine.proposals ≡ v.machine.proposals) → (w.machine.failure ≡ None → v.machine.phase ≡ Processing → is_running w.machine.phase ≡ true → w.machine.phase ≡ Processing) → (w.machine.failure ≡ None → (is_running w.machine.phase ≡ true) ⊎ (w.machine.phase ≡ Closed)) → CameBy version options fed answers waits taken w
+  came_on answers waits answered n s kept goes phase = record {
+    journal = k.journal;
+    answered = answered;
+    written = k.written ++ commands_of n.messages;
+    wrote = wrote_more taken v.machine.output w.machine.output n.messages k.written n.output k.wrote;
+    made_for = λ _. (s.version ∙ (k.made_for live).0, s.options ∙ (k.made_for live).1);
+    keeps = λ alive. let before = k.keeps live in (kept alive.failure ∙ before.0, before.1);
+    early = λ alive. ⊎_elim (λ (none : fed.proposed ≡ []). inl none) (λ (at : v.machine.phase ≡ Processing). inr (goes alive.failure at alive.phase)) (k.early live);
+    fresh = λ skips. on_written (k.journal.first ∷ k.journal.rest) k.written v.machine w.machine (k.fresh skips) live n;
+    phase = phase;
+    tail = λ _. k.tail live ∙ ap Rest (sym und);
+  }
+
+pub asks_come : (m : Meaning) (version : Version) (options : VMOptions) (old : Record) (result : Result Progress Error) (new : Record) → CameBy version options (heard version old) old.answers old.waiting old.taken old.vm → IsLive old.vm.machine → Asks m old result new → KeptBy (CameBy version options) version options new
+asks_come m version options old result new k live (x, w, does, is, made) = subst (KeptBy (CameBy version options) version options) (sym is) (inr (by_reply x (step_leaves (step_asked m old) old.vm.machine live x w.machine does.0.0)))
+  where
+    on : (answers : List Answer) (waits : Option UnresolvedFuture) → answers ≢ [] → Sends old.vm.machine w.machine → (w.machine.failure ≡ None → w.machine.proposals ≡ old.vm.machine.proposals) → (w.machine.failure ≡ None → old.vm.machine.phase ≡ Processing → is_running w.machine.phase ≡ true → w.machine.phase ≡ Processing) → (w.machine.failure ≡ None → (is_running w.machine.phase ≡ true) ⊎ (w.machine.phase ≡ Closed)) → CameBy version options (heard version old) answers waits old.taken w
+    on answers waits answered = came_on version options (heard version old) old.answers old.waiting old.taken old.vm w k live does.0.1 answers waits answered (step_numbers (step_asked m old) old.vm.machine x w.machine does.0.0 does.1)
+
+    by_reply : (x : Result Reply Error) → IsLeft old.vm.machine x w.machine → (let r = replied old (future_in (step_asked m old)) x w in CameBy version options (heard version r) r.answers r.waiting r.taken r.vm)
+    by_reply (Ok (reply.Answer a)) h = on (old.answers ++ a ∷ []) None (never_empty old.answers a) h.sends (λ _. h.kept) (λ _. h.goes) (λ _. inl h.left)
+    by_reply (Ok (reply.Waiting input run)) h = on old.answers (future_in (step_asked m old)) k.answered h.sends (λ _. h.kept) (λ _. h.goes) (λ _. inl h.left)
+    by_reply (Ok (reply.Execute run)) h = on old.answers (future_in (step_asked m old)) k.answered h.sends (λ _. h.kept) (λ _. h.goes) (λ _. inl h.left.0)
+    by_reply (Ok reply.Suspended) h = on old.answers old.waiting k.answered h.sends (λ _. h.kept) (λ _. h.goes) (λ _. inr h.left)
+    by_reply (Ok reply.Ended) h = on old.answers old.waiting k.answered h.sends (λ _. h.kept) (λ _. h.goes) (λ _. inr h.left)
+    by_reply (Err e) h = on old.answers old.waiting k.answered h.0 (λ alive. absurd (let z : None ≡ Some e = sym alive ∙ h.1 in cc)) (λ alive. absurd (let z : None ≡ Some e = sym alive ∙ h.1 in cc)) (λ alive. absurd (let z : None ≡ Some e = sym alive ∙ h.1 in cc))
+
+-- ---- each call
+
+pub made_comes : (alloc : Global) (version : Version) (options : VMOptions) → HasCome version options (fresh_record (made alloc options version))
+made_comes alloc version options = inl (made_new alloc version options)
+
+pub step_comes : (m : Meaning) (version : Version) (options : VMOptions) (old : Record) (result : Result Progress Error) (new : Record) → HasCome version options old → StepDoes m old result new → HasCome version options new
+step_comes m version options old result new = steps_keep (CameBy version options) (λ fed. Unit {0}) (came_last version options) m version options (λ fed waiting taken v w i u none comes is none_waits wrote tail. reads_come version options fed none taken v w i comes is wrote tail) (λ fed answers waiting taken v k. k.answered) (λ before given after u. asks_come m version options before given after) old result new tt
+
+pub feed_comes : (version : Version) (options : VMOptions) (piece : List ℕ) (old : Record) (result : Result Unit AllocError) (new : Record) → HasCome version options old → FeedDoes old.starved piece old result new → HasCome version options new
+feed_comes version options = feed_keeps (CameBy version options) (came_last version options) version options
+
+pub close_comes : (version : Version) (options : VMOptions) (old : Record) (result : Result Unit AllocError) (new : Record) → HasCome version options old → CloseDoes old.starved old result new → HasCome version options new
+close_comes version options = close_keeps (CameBy version options) (came_last version options) version options
+
+pub take_comes : (version : Version) (options : VMOptions) (old : Record) (result : Result (List ℕ) AllocError) (new : Record) → HasCome version options old → Takes old result new → HasCome version options new
+take_comes version options = take_keeps (CameBy version options) (came_last version options) version options

@@ -1,0 +1,319 @@
+-- No run of an attempt is handed out twice to be executed.
+use Rattle.std.proofs.Common.{◌≡◌, ◌≢◌, ◌⊎◌, ℕ, zero, suc, ◌+◌, ◌≤◌, ◌++◌, Bool, true, false, cond, List, [], ◌∷◌, Option, Some, None, Result, Ok, Err, refl, sym, ap, ◌∙◌, subst, ⊎_elim, arith, Global}
+use Rattle.std.specs.Prelude.{◌==◌, if◌then◌else◌, nat_le, unwrap_or}
+use Rattle.std.specs.declared.alloc.AllocError.{AllocError}
+use Rattle.await_trees.specs.declared.handle.NotificationHandle.{NotificationHandle}
+use Rattle.journal_errors.specs.declared.error.Error.{Error}
+use Rattle.journal_errors.specs.declared.faults.NamedFault.{NamedFault}
+use Rattle.journal_errors.specs.declared.version.Version.{Version}
+use Rattle.journal_errors.specs.Errors.{no_memory}
+use Rattle.journal_errors.specs.Types.{type_number}
+use Rattle.journal_messages.specs.declared.message.RawMessage.{RawMessage}
+use Rattle.vm_types.specs.declared.options.VMOptions.{VMOptions}
+use Rattle.vm_machine.specs.declared.machine.Machine.{Machine}
+use Rattle.vm_machine.specs.declared.phase.Phase.{Phase}
+use Rattle.vm_machine.specs.declared.phase.Phase.TheVariants.{WaitingStart, WaitingReplayEntries, Replaying, Processing, Closed}
+use Rattle.vm_machine.specs.Inputs.{input_step}
+use Rattle.vm_machine.specs.Making.{fresh}
+use Rattle.vm_machine.specs.Outcomes.{Failed, IsStarved, Outcome, called, settled}
+use Rattle.vm_machine.specs.Phases.{is_running}
+use Rattle.invocation_vm.specs.Frames.{Garbage, Rest, Tail, frames_of}
+use Rattle.invocation_vm.specs.Making.{made}
+use Rattle.invocation_vm.specs.Views.{StarvesAmong, View, after_closing, after_input, all_received, brought, consumed, has_failed, left_by, left_over, received, spoiled}
+use Rattle.vm_model.specs.Calls.{Meaning}
+use Rattle.vm_attempt.specs.Blames.{fault_among}
+use Rattle.vm_attempt.specs.Courses.{Called, Leads}
+use Rattle.vm_attempt.specs.Courses.Called.{Closing, Feeding, Stepping, Taking, Telling}
+use Rattle.vm_attempt.specs.Journals.{is_acknowledgement, is_command, is_notification}
+use Rattle.vm_steps.specs.declared.progress.Progress.{Progress}
+use Rattle.vm_steps.specs.declared.progress.Progress.TheVariants as progress
+use Rattle.vm_steps.specs.declared.progress.Reply.{Reply}
+use Rattle.vm_steps.specs.declared.progress.Reply.TheVariants as reply
+use Rattle.vm_steps.specs.Record.{Record}
+use Rattle.vm_steps.specs.Stepping.{Advances, Asks, CloseDoes, Closes, FeedDoes, Feeds, LacksMemory, Reads, StepAt, StepDoes, StepFrom, StepUnless, Takes, fresh_record, future_in, kept, progress_of, replied, step_asked, taken_from, with_vm}
+use Rattle.vm_attempt.specs.Told.{IsLive}
+use Rattle.vm_attempt.proofs.Advanced.{done_of}
+use Rattle.vm_attempt.proofs.Ahead.{HandsOut, LivesOn, ahead, fewer_equal, fewer_same, fewer_then}
+use Rattle.vm_attempt.proofs.Arriving.{failed_receives}
+use Rattle.vm_attempt.proofs.Blamed.{closing_at, closing_not, none_some, spoils, spoils_not}
+use Rattle.vm_attempt.proofs.Blaming.{Fits, message_fits}
+use Rattle.vm_attempt.proofs.Entries.{message_by, receives_by}
+use Rattle.vm_attempt.proofs.Erring.{Opens, called_failed, input_opens}
+use Rattle.vm_attempt.proofs.Finishing.{finish_lives}
+use Rattle.vm_attempt.proofs.Late.{closes_over, feeds_over}
+use Rattle.vm_attempt.proofs.Sending.{IsLeft, step_leaves}
+
+-- ---- what comes to a machine
+
+lives_same : (v : Machine) → LivesOn v v
+lives_same v none = (none, fewer_same v)
+
+lives_then : (u v w : Machine) → LivesOn u v → LivesOn v w → LivesOn u w
+lives_then u v w a b none =
+    let last = b none in
+    let first = a last.0 in
+    (first.0, fewer_then u v w first.1 last.1)
+
+-- a machine that has failed doesn't live on
+failed_lives : (e : Error) (v w : Machine) → w.failure ≡ Some e → LivesOn v w
+failed_lives e v w is none = none_some e (sym none ∙ is)
+
+starved_lives : (e : Error) (reached v w : Machine) → IsStarved reached e w → LivesOn v w
+starved_lives e reached v w s = failed_lives (unwrap_or reached.failure no_memory) v w s.failure
+
+-- a frame comes
+one_lives : (raw : RawMessage) (v : Machine) → LivesOn v (received raw v)
+one_lives raw v = by_failure v.failure refl
+  where
+    o : Outcome Unit
+    o = message_by raw v.phase v (type_number raw.ty == 1) (is_command raw) (is_notification raw) (is_acknowledgement raw)
+
+    by_fault : (f : Option NamedFault) → v.failure ≡ None → Fits f v o → LivesOn v (left_by (settled o))
+    by_fault None live (w, done, same, runs) = subst (λ (x : Outcome Unit). LivesOn v (left_by (settled x))) (sym done) (λ none. (live, fewer_equal v w runs.0 runs.1))
+    by_fault (Some why) live refuses = subst (λ (x : Outcome Unit). LivesOn v (left_by (settled x))) (sym refuses) (λ none. none_some _ (sym none))
+
+    by_failure : (f : Option Error) → v.failure ≡ f → LivesOn v (received raw v)
+    by_failure (Some e) is = subst (LivesOn v) (sym (failed_receives e v raw is)) (lives_same v)
+    by_failure None live = subst (LivesOn v) (sym (receives_by v raw live)) (by_fault (fault_among v.proposals v.phase raw) live (message_fits raw v.phase v (type_number raw.ty == 1) (is_command raw) (is_notification raw) (is_acknowledgement raw)))
+
+all_live : (raws : List RawMessage) (v : Machine) → LivesOn v (all_received raws v)
+all_live [] v = lives_same v
+all_live (raw ∷ raws) v = lives_then v (received raw v) (all_received raws (received raw v)) (one_lives raw v) (all_live raws (received raw v))
+
+spoiled_lives : (v : Machine) → LivesOn v (spoiled v)
+spoiled_lives v = by_failure v.failure refl
+  where
+    by_failure : (f : Option Error) → v.failure ≡ f → LivesOn v (spoiled v)
+    by_failure (Some e) is = subst (LivesOn v) (sym (spoils_not v e is)) (lives_same v)
+    by_failure None live = failed_lives _ v (spoiled v) (spoils v live)
+
+left_lives : (t : Tail) (v : Machine) → LivesOn v (left_over t v).machine
+left_lives (Rest bytes) v = lives_same v
+left_lives Garbage v = spoiled_lives v
+
+-- a piece comes
+input_lives : (v : View) (bytes : List ℕ) → LivesOn v.machine (after_input v bytes).machine
+input_lives v bytes = by_test (has_failed v.machine)
+  where
+    by_test : (b : Bool) → LivesOn v.machine (if b then v else consumed (frames_of (v.undecoded ++ bytes)) v.machine).machine
+    by_test true = lives_same v.machine
+    by_test false =
+        let f = frames_of (v.undecoded ++ bytes) in
+        let w = all_received f.0 v.machine in
+        lives_then v.machine w (left_over f.1 w).machine (all_live f.0 v.machine) (left_lives f.1 w)
+
+-- the input is closed
+closing_lives : (v : View) → LivesOn v.machine (after_closing v).machine
+closing_lives v = by_failure v.machine.failure refl v.machine.phase refl
+  where
+    by_failure : (f : Option Error) → v.machine.failure ≡ f → (ph : Phase) → v.machine.phase ≡ ph → LivesOn v.machine (after_closing v).machine
+    by_failure (Some e) is ph at = subst (LivesOn v.machine) (closing_not v e is) (lives_same v.machine)
+    by_failure None live WaitingStart at = subst (LivesOn v.machine) (closing_at v live WaitingStart at) (λ none. none_some _ (sym none))
+    by_failure None live WaitingReplayEntries at = subst (LivesOn v.machine) (closing_at v live WaitingReplayEntries at) (λ none. none_some _ (sym none))
+    by_failure None live Replaying at = subst (LivesOn v.machine) (closing_at v live Replaying at) (λ none. (live, fewer_same v.machine))
+    by_failure None live Processing at = subst (LivesOn v.machine) (closing_at v live Processing at) (λ none. (live, fewer_same v.machine))
+    by_failure None live Closed at = subst (LivesOn v.machine) (closing_at v live Closed at) (λ none. (live, fewer_same v.machine))
+
+-- ---- the calls of an attempt
+
+-- what is answered once the attempt is over executes no run
+abbrev ExecutesNone : Option Progress → Type 0
+ExecutesNone None = Unit {0}
+ExecutesNone (Some progress.NotReady) = Unit {0}
+ExecutesNone (Some progress.Stepped) = Unit {0}
+ExecutesNone (Some (progress.Waiting input run)) = Unit {0}
+ExecutesNone (Some (progress.ExecuteRun run)) = ⊥
+ExecutesNone (Some progress.Suspended) = Unit {0}
+ExecutesNone (Some progress.Ended) = Unit {0}
+
+-- what each call keeps
+record Keeps (old new : Record) : Type 0 where
+  over : ExecutesNone old.over → ExecutesNone new.over
+  lives : LivesOn old.vm.machine new.vm.machine
+
+keeps_same : (r : Record) → Keeps r r
+keeps_same r = record { over = λ o. o; lives = lives_same r.vm.machine }
+
+keeps_then : (a b c : Record) → Keeps a b → Keeps b c → Keeps a c
+keeps_then a b c k l = record { over = λ o. l.over (k.over o); lives = lives_then a.vm.machine b.vm.machine c.vm.machine k.lives l.lives }
+
+-- a call that leaves how the attempt is over as it was
+keeps_going : (old new : Record) → new.over ≡ old.over → LivesOn old.vm.machine new.vm.machine → Keeps old new
+keeps_going old new over lives = record { over = λ o. subst ExecutesNone (sym over) o; lives = lives }
+
+feeds_keep : (piece : List ℕ) (old : Record) (result : Result Unit AllocError) (new : Record) → Feeds piece old result new → LivesOn old.vm.machine new.vm.machine
+feeds_keep piece old (Ok t) new does = subst (λ (r : Record). LivesOn old.vm.machine r.vm.machine) (sym does) (input_lives old.vm piece)
+feeds_keep piece old (Err e) new does =
+    ⊎_elim
+    (λ (x : new ≡ record old { starved = true }). subst (λ (r : Record). LivesOn old.vm.machine r.vm.machine) (sym x) (lives_same old.vm.machine))
+    (λ (x : (w : View) × StarvesAmong (brought old.vm piece) old.vm.machine w.machine × (new ≡ with_vm w (kept piece old))).
+    subst (λ (r : Record). LivesOn old.vm.machine r.vm.machine) (sym x.2) (starved_lives no_memory x.1.reached old.vm.machine x.0.machine x.1.starved))
+    does
+
+feed_keeps : (piece : List ℕ) (old : Record) (result : Result Unit AllocError) (new : Record) → FeedDoes old.starved piece old result new → Keeps old new
+feed_keeps piece old result new does = by_test old.starved does
+  where
+    by_test : (b : Bool) → FeedDoes b piece old result new → Keeps old new
+    by_test true d = subst (Keeps old) (sym d.1) (keeps_same old)
+    by_test false d = keeps_going old new (feeds_over piece old result new d) (feeds_keep piece old result new d)
+
+closes_keep : (old : Record) (result : Result Unit AllocError) (new : Record) → Closes old result new → LivesOn old.vm.machine new.vm.machine
+closes_keep old (Ok t) new does = subst (λ (r : Record). LivesOn old.vm.machine r.vm.machine) (sym does) (closing_lives old.vm)
+closes_keep old (Err e) new (w, starves, is) = subst (λ (r : Record). LivesOn old.vm.machine r.vm.machine) (sym is) (starved_lives no_memory starves.reached old.vm.machine w.machine starves.starved)
+
+close_keeps : (old : Record) (result : Result Unit AllocError) (new : Record) → CloseDoes old.starved old result new → Keeps old new
+close_keeps old result new does = by_test old.starved does
+  where
+    by_test : (b : Bool) → CloseDoes b old result new → Keeps old new
+    by_test true d = subst (Keeps old) (sym d.1) (keeps_same old)
+    by_test false d = keeps_going old new (closes_over old result new d) (closes_keep old result new d)
+
+take_keeps : (old : Record) (result : Result (List ℕ) AllocError) (new : Record) → Takes old result new → Keeps old new
+take_keeps old (Ok bytes) new does = subst (Keeps old) (sym does.1) (keeps_going old (taken_from old) refl (λ none. (none, fewer_same old.vm.machine)))
+take_keeps old (Err e) new does = subst (Keeps old) (sym does) (keeps_same old)
+
+-- ---- a step
+
+reads_keep : (old : Record) (result : Result Progress Error) (new : Record) → old.vm.machine.failure ≡ None → Reads old result new → Keeps old new
+reads_keep old (Ok made) new live (stepped, (input, w, does, is)) =
+    let o = subst (Opens old.vm.machine) (done_of old.vm.machine (input_step old.vm.machine) input w.machine live does.0) (input_opens old.vm.machine) in
+    keeps_going old new (ap (λ (r : Record). r.over) is) (subst (λ (r : Record). LivesOn old.vm.machine r.vm.machine) (sym is) (λ none. (live, o.2)))
+reads_keep old (Err e) new live (w, does, is) =
+    keeps_going old new (ap (λ (r : Record). r.over) is)
+    (subst (λ (r : Record). LivesOn old.vm.machine r.vm.machine) (sym is)
+    (⊎_elim
+    (λ (x : called (input_step old.vm.machine) old.vm.machine ≡ Failed e w.machine). failed_lives e old.vm.machine w.machine (called_failed old.vm.machine (input_step old.vm.machine) e w.machine live x).0)
+    (λ (x : IsStarved old.vm.machine e w.machine). starved_lives e old.vm.machine old.vm.machine w.machine x)
+    does.0))
+
+asks_keep : (m : Meaning) (old : Record) (result : Result Progress Error) (new : Record) → IsLive old.vm.machine → Asks m old result new → Keeps old new
+asks_keep m old result new live (x, w, does, is, made) = subst (Keeps old) (sym is) (by_reply x (step_leaves (step_asked m old) old.vm.machine live x w.machine does.0.0))
+  where
+    by_reply : (x : Result Reply Error) → IsLeft old.vm.machine x w.machine → Keeps old (replied old (future_in (step_asked m old)) x w)
+    by_reply (Ok (reply.Answer a)) h = keeps_going old _ refl (λ none. (live.failure, h.fewer))
+    by_reply (Ok (reply.Waiting input run)) h = keeps_going old _ refl (λ none. (live.failure, h.fewer))
+    by_reply (Ok (reply.Execute run)) h = keeps_going old _ refl (λ none. (live.failure, h.fewer))
+    by_reply (Ok reply.Suspended) h = record { over = λ o. tt; lives = λ none. (live.failure, h.fewer) }
+    by_reply (Ok reply.Ended) h = record { over = λ o. tt; lives = λ none. (live.failure, h.fewer) }
+    by_reply (Err e) h = keeps_going old _ refl (failed_lives e old.vm.machine w.machine h.1)
+
+-- what a step did, and that it handed out the run that it answers
+record Hands (old : Record) (result : Result Progress Error) (new : Record) : Type 0 where
+  keeps : Keeps old new
+  out : (handle : NotificationHandle) → result ≡ Ok (progress.ExecuteRun handle) → ExecutesNone old.over → (old.vm.machine.failure ≡ None) × HandsOut handle old.vm.machine new.vm.machine
+
+-- an answer by which no run is executed
+hands_none : (old : Record) (made : Result Progress Error) (result : Result Progress Error) (new : Record) → ((handle : NotificationHandle) → made ≢ Ok (progress.ExecuteRun handle)) → result ≡ made → Keeps old new → Hands old result new
+hands_none old made result new none is k = record { keeps = k; out = λ handle executes _. absurd (none handle (sym is ∙ executes)) }
+
+abbrev an_error : Error → Result Progress Error
+an_error e = Err e
+
+abbrev an_answer : Progress → Result Progress Error
+an_answer made = Ok made
+
+no_error : (e : Error) (handle : NotificationHandle) → an_error e ≢ an_answer (progress.ExecuteRun handle)
+no_error e handle h = absurd (cc)
+
+not_ready : (handle : NotificationHandle) → an_answer progress.NotReady ≢ an_answer (progress.ExecuteRun handle)
+not_ready handle h = absurd (cc)
+
+same_answer : (p q : Progress) → an_answer p ≡ an_answer q → p ≡ q
+same_answer p q h = cc
+
+reads_hand : (old : Record) (result : Result Progress Error) (new : Record) → old.vm.machine.failure ≡ None → Reads old result new → Hands old result new
+reads_hand old (Ok made) new live does = record { keeps = reads_keep old (Ok made) new live does; out = λ handle executes _. absurd (let stepped : made ≡ progress.Stepped = does.0 in cc) }
+reads_hand old (Err e) new live does = record { keeps = reads_keep old (Err e) new live does; out = λ handle executes _. absurd (no_error e handle executes) }
+
+asks_hand : (m : Meaning) (old : Record) (result : Result Progress Error) (new : Record) → IsLive old.vm.machine → Asks m old result new → Hands old result new
+asks_hand m old result new live (x, w, does, is, made) = record {
+  keeps = asks_keep m old result new live (x, w, does, is, made);
+  out = λ handle executes _. (live.failure, subst (λ (r : Record). HandsOut handle old.vm.machine r.vm.machine) (sym is) (by_reply x handle (sym made ∙ executes) (step_leaves (step_asked m old) old.vm.machine live x w.machine does.0.0)));
+}
+  where
+    by_reply : (x : Result Reply Error) (handle : NotificationHandle) → progress_of x ≡ Ok (progress.ExecuteRun handle) → IsLeft old.vm.machine x w.machine → HandsOut handle old.vm.machine (replied old (future_in (step_asked m old)) x w).vm.machine
+    by_reply (Ok (reply.Answer a)) handle e h = absurd (cc)
+    by_reply (Ok (reply.Waiting input run)) handle e h = absurd (cc)
+    by_reply (Ok (reply.Execute run)) handle e h = subst (λ n. HandsOut n old.vm.machine w.machine) (let same : run ≡ handle = cc in same) h.left.1
+    by_reply (Ok reply.Suspended) handle e h = absurd (cc)
+    by_reply (Ok reply.Ended) handle e h = absurd (cc)
+    by_reply (Err d) handle e h = absurd (cc)
+
+advances_hand : (m : Meaning) (old : Record) (result : Result Progress Error) (new : Record) → IsLive old.vm.machine → Advances m old result new → Hands old result new
+advances_hand m old result new live =
+    ⊎_elim
+    (λ (x : LacksMemory old result new). hands_none old (Err no_memory) result new (no_error no_memory) x.0 (subst (Keeps old) (sym x.1) (keeps_going old (record old { starved = true }) refl (lives_same old.vm.machine))))
+    (λ (o : ((old.answers ≡ []) × Reads old result new) ⊎ ((old.answers ≢ []) × Asks m old result new)).
+    ⊎_elim
+    (λ (x : (old.answers ≡ []) × Reads old result new). reads_hand old result new live.failure x.1)
+    (λ (x : (old.answers ≢ []) × Asks m old result new). asks_hand m old result new live x.1)
+    o)
+
+-- an answer that changes nothing
+hands_same : (old : Record) (made : Result Progress Error) (result : Result Progress Error) (new : Record) → ((handle : NotificationHandle) → made ≢ Ok (progress.ExecuteRun handle)) → result ≡ made → new ≡ old → Hands old result new
+hands_same old made result new none is same = hands_none old made result new none is (subst (Keeps old) (sym same) (keeps_same old))
+
+hands_at : (ph : Phase) (m : Meaning) (old : Record) (result : Result Progress Error) (new : Record) → old.vm.machine.failure ≡ None → old.vm.machine.phase ≡ ph → StepAt ph m old result new → Hands old result new
+hands_at WaitingStart m old result new live at d = hands_same old (Ok progress.NotReady) result new not_ready d.0 d.1
+hands_at WaitingReplayEntries m old result new live at d = hands_same old (Ok progress.NotReady) result new not_ready d.0 d.1
+hands_at Closed m old result new live at d = hands_same old _ result new (no_error _) d.0 d.1
+hands_at Replaying m old result new live at d = advances_hand m old result new (record { failure = live; phase = ap is_running at }) d
+hands_at Processing m old result new live at d = advances_hand m old result new (record { failure = live; phase = ap is_running at }) d
+
+hands_unless : (f : Option Error) (over : Option Progress) (m : Meaning) (old : Record) (result : Result Progress Error) (new : Record) → old.vm.machine.failure ≡ f → old.over ≡ over → StepUnless f over m old result new → Hands old result new
+hands_unless (Some e) over m old result new is at d =
+    ⊎_elim
+    (λ (x : result ≡ Err e). hands_same old (Err e) result new (no_error e) x d.1)
+    (λ (x : result ≡ Err no_memory). hands_same old (Err no_memory) result new (no_error no_memory) x d.1)
+    d.0
+hands_unless None (Some made) m old result new is at d = record {
+  keeps = subst (Keeps old) (sym d.1) (keeps_same old);
+  out = λ handle executes none. absurd (subst ExecutesNone (at ∙ λ i. Some (same_answer made (progress.ExecuteRun handle) (sym d.0 ∙ executes) i)) none);
+}
+hands_unless None None m old result new is at d = hands_at old.vm.machine.phase m old result new is refl d
+
+step_hands : (m : Meaning) (old : Record) (result : Result Progress Error) (new : Record) → StepDoes m old result new → Hands old result new
+step_hands m old result new does = by_test old.starved does
+  where
+    by_test : (b : Bool) → StepFrom b m old result new → Hands old result new
+    by_test true d = hands_same old (Err no_memory) result new (no_error no_memory) d.0 d.1
+    by_test false d = hands_unless old.vm.machine.failure old.over m old result new refl refl d
+
+-- ---- one call after another
+
+call_keeps : (m : Meaning) (old new : Record) → Called m old new → Keeps old new
+call_keeps m old new (Feeding piece result does) = feed_keeps piece old result new does
+call_keeps m old new (Closing result does) = close_keeps old result new does
+call_keeps m old new (Stepping result does) = (step_hands m old result new does).keeps
+call_keeps m old new (Telling handle exit policy result does) = let k = finish_lives handle exit policy old result new does in keeps_going old new k.1 k.0
+call_keeps m old new (Taking result does) = take_keeps old result new does
+
+leads_keep : (m : Meaning) (n : ℕ) (old new : Record) → Leads m n old new → Keeps old new
+leads_keep m zero old new is = subst (Keeps old) (sym is) (keeps_same old)
+leads_keep m (suc n) old new (mid, does, leads) = keeps_then old mid new (call_keeps m old mid does) (leads_keep m n mid new leads)
+
+-- of a new machine each run can be handed out once at most
+once_at_most : (handle : NotificationHandle) (alloc : Global) (version : Version) (options : VMOptions) → ahead handle (fresh alloc version options) ≤ 1
+once_at_most handle alloc version options = by_test (nat_le 17 handle.0)
+  where
+    by_test : (b : Bool) → 0 + cond b 1 0 ≤ 1
+    by_test true = omega arith
+    by_test false = omega arith
+
+none_left : (a b c d : ℕ) → a ≤ 1 → suc b ≤ a → c ≤ b → suc d ≤ c → ⊥
+none_left a b c d h k l n = absurd (omega (arith, h, k, l, n))
+
+pub executed_once : (m : Meaning) (alloc : Global) (version : Version) (options : VMOptions) (handle : NotificationHandle) (before between : ℕ) (a b c d : Record)
+    → Leads m before (fresh_record (made alloc options version)) a → StepDoes m a (Ok (progress.ExecuteRun handle)) b → Leads m between b c → StepDoes m c (Ok (progress.ExecuteRun handle)) d → ⊥
+executed_once m alloc version options handle before between a b c d comes first goes second =
+    let k = leads_keep m before (fresh_record (made alloc options version)) a comes in
+    let l = leads_keep m between b c goes in
+    let h = step_hands m a (Ok (progress.ExecuteRun handle)) b first in
+    let out = h.out handle refl (k.over tt) in
+    let again = (step_hands m c (Ok (progress.ExecuteRun handle)) d second).out handle refl (l.over (h.keeps.over (k.over tt))) in
+    none_left (ahead handle a.vm.machine) (ahead handle b.vm.machine) (ahead handle c.vm.machine) (ahead handle d.vm.machine)
+    (less (ahead handle a.vm.machine) (ahead handle (fresh alloc version options)) ((k.lives out.0).1 handle) (once_at_most handle alloc version options))
+    out.1 ((l.lives again.0).1 handle) again.1
+  where
+    less : (n k : ℕ) → n ≤ k → k ≤ 1 → n ≤ 1
+    less n k h l = omega (arith, h, l)

@@ -1,0 +1,165 @@
+-- What an attempt keeps as long as recorded commands are left, where no completion has two results up to there.
+use Rattle.std.proofs.Common.{◌≡◌, ◌≢◌, ◌⊎◌, ℕ, Bool, true, false, List, [], ◌∷◌, ◌++◌, Option, Some, None, Result, Ok, Err, refl, sym, ap, ◌∙◌, subst, inl, inr, ⊎_elim}
+use Rattle.std.specs.declared.alloc.AllocError.{AllocError}
+use Rattle.journal_errors.specs.declared.error.Error.{Error}
+use Rattle.journal_errors.specs.declared.version.Version.{Version}
+use Rattle.vm_parts.specs.Outboxes.{WholeFrames}
+use Rattle.vm_types.specs.declared.options.VMOptions.{VMOptions}
+use Rattle.vm_types.specs.declared.steps.Answer.{Answer}
+use Rattle.vm_machine.specs.declared.machine.Machine.{Machine}
+use Rattle.vm_machine.specs.declared.phase.Phase.{Phase}
+use Rattle.vm_machine.specs.declared.phase.Phase.TheVariants.{WaitingStart, WaitingReplayEntries, Replaying, Processing, Closed}
+use Rattle.vm_machine.specs.Commands.{phase_after}
+use Rattle.vm_machine.specs.Phases.{is_running}
+use Rattle.invocation_vm.specs.Frames.{frames_of}
+use Rattle.invocation_vm.specs.Views.{View, after_input}
+use Rattle.invocation_vm.proofs.Cuts.{frames_of-append}
+use Rattle.vm_model.specs.Calls.{Meaning}
+use Rattle.vm_model.specs.Deliveries.{HasNoTwo}
+use Rattle.vm_model.specs.Histories.{Handed}
+use Rattle.vm_model.specs.Moves.{later}
+use Rattle.vm_steps.specs.Heard.{Heard, and_piece}
+use Rattle.vm_steps.specs.declared.progress.Fed.{Fed}
+use Rattle.vm_steps.specs.declared.progress.Progress.{Progress}
+use Rattle.vm_steps.specs.declared.progress.Reply.{Reply}
+use Rattle.vm_steps.specs.declared.progress.Reply.TheVariants as reply
+use Rattle.vm_steps.specs.Record.{Record, heard}
+use Rattle.vm_steps.specs.Stepping.{Asks, CloseDoes, FeedDoes, IsReplaying, StepDoes, Takes, future_in, replied, step_asked}
+use Rattle.vm_attempt.specs.Journals.{setup_for}
+use Rattle.vm_attempt.specs.Told.{AnswersAreTold, BeforeInput, Came, InReplay, IsKeptInReplay, IsLive, ReplayPremises, Replays, Runs, bytes_fed, frames_fed, handed_out}
+use Rattle.vm_attempt.proofs.Advanced.{kept_told, reads_done, runs_of, step_replays, steps_keep}
+use Rattle.vm_attempt.proofs.Coming.{asks_come, reads_come}
+use Rattle.vm_attempt.proofs.Kept.{KeptBy, Lasts, close_keeps, feed_keeps, take_keeps}
+use Rattle.vm_attempt.proofs.Lasting.{came_last, runs_last}
+use Rattle.vm_attempt.proofs.Pieces.{bytes_behind, journal_to, more_arrivals, more_frames, not_failed, run_to, took_in}
+use Rattle.vm_attempt.proofs.Sending.{IsLeft, step_leaves}
+use Rattle.vm_attempt.proofs.Staying.{all_stay}
+use Rattle.vm_attempt.proofs.Stepped.{asks_keep}
+use Rattle.vm_attempt.proofs.Under.{Grows, close_fed, feed_grows, fewer_waiting, step_fed, take_fed}
+
+-- ---- it lasts
+
+-- a piece changes no phase in which the handler runs, unless it fails the VM
+same_phase : (fed : Heard) (v : View) (f : Fed) (version : Version) (options : VMOptions) (answers : List Answer) (taken : List (List ℕ)) → Came version options fed answers taken v → (live : IsLive v.machine) → (after_input v f.piece).machine.failure ≡ None → (after_input v f.piece).machine.phase ≡ v.machine.phase
+same_phase fed v f version options answers taken k live alive =
+    let G = (frames_of (v.undecoded ++ f.piece)).0 in
+    let is = (took_in fed f v live.failure (k.tail live) alive).0.machine in
+    ap (λ (u : Machine). u.phase) is ∙ all_stay G v.machine live.failure live.phase (ap (λ (u : Machine). u.failure) (sym is) ∙ alive)
+
+pub replay_last : (m : Meaning) (version : Version) (options : VMOptions) → Lasts (InReplay m version options)
+replay_last m version options =
+    let l = came_last version options in
+    let r = runs_last m version options in
+    record {
+      dead = λ fed to G frames answers waiting taken v w k q dead. record { came = l.dead fed to G frames answers waiting taken v w k.came q dead; run = λ alive at. not_failed w.machine dead alive };
+      closed = λ fed answers waiting taken v w k q closed. record { came = l.closed fed answers waiting taken v w k.came q closed; run = λ alive at. absurd (let z : Replaying ≡ Closed = sym at ∙ closed in cc) };
+      more = λ fed answers waiting taken v f k live. record {
+        came = l.more fed answers waiting taken v f k.came live;
+        run = λ alive at. r.more fed answers waiting taken v f (k.run live.failure (sym (same_phase fed v f version options answers taken k.came live alive) ∙ at)) live;
+      };
+      takes = λ fed answers waiting taken v f k. record { came = l.takes fed answers waiting taken v f k.came; run = λ alive at. r.takes fed answers waiting taken v f (k.run alive at) };
+      closes = λ fed answers waiting taken v k. record { came = l.closes fed answers waiting taken v k.came; run = λ alive at. r.closes fed answers waiting taken v (k.run alive at) };
+      phase = λ fed answers waiting taken v k. l.phase fed answers waiting taken v k.came;
+    }
+
+-- ---- a step
+
+-- a step of a handler that has no recorded command left leaves none
+abbrev StaysOut : Record → Type 0
+StaysOut r = r.vm.machine.failure ≡ None → is_running r.vm.machine.phase ≡ true → r.vm.machine.phase ≡ Processing
+
+asks_stay : (m : Meaning) (old : Record) (result : Result Progress Error) (new : Record) → IsLive old.vm.machine → old.vm.machine.phase ≡ Processing → Asks m old result new → StaysOut new
+asks_stay m old result new live at (x, w, does, is, made) = subst StaysOut (sym is) (by_reply x (step_leaves (step_asked m old) old.vm.machine live x w.machine does.0.0))
+  where
+    by_reply : (x : Result Reply Error) → IsLeft old.vm.machine x w.machine → StaysOut (replied old (future_in (step_asked m old)) x w)
+    by_reply (Ok (reply.Answer a)) h = λ alive. h.goes at
+    by_reply (Ok (reply.Waiting input run)) h = λ alive. h.goes at
+    by_reply (Ok (reply.Execute run)) h = λ alive. h.goes at
+    by_reply (Ok reply.Suspended) h = λ alive. h.goes at
+    by_reply (Ok reply.Ended) h = λ alive. h.goes at
+    by_reply (Err e) h = λ alive. absurd (let z : None ≡ Some e = sym alive ∙ h.1 in cc)
+
+module _ (m : Meaning) (version : Version) (options : VMOptions) where
+  -- while recorded commands are left no completion has two results
+  none_two : (r : Record) → ReplayPremises m version options (heard version r) → (k : Runs m version options (heard version r) r.answers r.waiting r.taken r.vm) → IsLive r.vm.machine → r.vm.machine.phase ≡ Replaying → HasNoTwo k.at
+  none_two r p k live at =
+      p.once k.journal k.moves k.written k.at k.run
+      (λ none. absurd (let z : Replaying ≡ Processing = sym at ∙ ap (λ (v : Machine). v.phase) (k.agrees live).machine ∙ ap phase_after none in cc))
+
+  asks_in_replay : (old : Record) (result : Result Progress Error) (new : Record) → ReplayPremises m version options (heard version old) → InReplay m version options (heard version old) old.answers old.waiting old.taken old.vm → IsLive old.vm.machine → Asks m old result new → KeptBy (InReplay m version options) version options new
+  asks_in_replay old result new p k live a =
+      ⊎_elim
+      (λ (b : BeforeInput version options (heard version new) new.answers new.waiting new.taken new.vm). inl b)
+      (λ (c : Came version options (heard version new) new.answers new.taken new.vm). inr (record { came = c; run = λ alive at. by_phase old.vm.machine.phase refl c alive at }))
+      (asks_come m version options old result new k.came live a)
+    where
+      by_phase : (ph : Phase) → old.vm.machine.phase ≡ ph → Came version options (heard version new) new.answers new.taken new.vm → new.vm.machine.failure ≡ None → new.vm.machine.phase ≡ Replaying → Runs m version options (heard version new) new.answers new.waiting new.taken new.vm
+      by_phase Replaying is c alive at =
+          let run = k.run live.failure is in
+          runs_of m version options new (asks_keep m version options old result new p.queues run (none_two old p run live is) live a) c.answered
+      by_phase Processing is c alive at = absurd (let z : Replaying ≡ Processing = sym at ∙ asks_stay m old result new live is a alive (ap is_running at) in cc)
+      by_phase WaitingStart is c alive at = absurd (let z : false ≡ true = sym (ap is_running is) ∙ live.phase in cc)
+      by_phase WaitingReplayEntries is c alive at = absurd (let z : false ≡ true = sym (ap is_running is) ∙ live.phase in cc)
+      by_phase Closed is c alive at = absurd (let z : false ≡ true = sym (ap is_running is) ∙ live.phase in cc)
+
+  pub step_in_replay : (old : Record) (result : Result Progress Error) (new : Record) → IsKeptInReplay m version options old → StepDoes m old result new → IsKeptInReplay m version options new
+  step_in_replay old result new u does p =
+      let before = subst (ReplayPremises m version options) (step_fed version m old result new does) p in
+      steps_keep (InReplay m version options) (ReplayPremises m version options) (replay_last m version options) m version options
+      (λ fed waiting taken v w i q none comes is none_waits wrote tail. record {
+        came = reads_come version options fed none taken v w i comes is wrote tail;
+        run = λ alive at. (reads_done m version options fed q.replays none waiting taken v w i comes is none_waits wrote tail).0;
+      })
+      (λ fed answers waiting taken v k. k.came.answered) asks_in_replay old result new before (u before) does
+
+  -- ---- the other calls
+
+  -- the premises of replay hold before a piece comes where they hold with it
+  premises_before : (fed : Heard) (f : Fed) → ReplayPremises m version options (and_piece fed f) → ReplayPremises m version options fed
+  premises_before fed f p =
+      let G = more_frames (frames_of (bytes_fed fed)) f.piece in
+      let frames : frames_fed (and_piece fed f) ≡ frames_fed fed ++ G.0 = ap (λ l. (frames_of l).0) (bytes_behind fed f) ∙ ap (λ p. p.0) (frames_of-append (bytes_fed fed) f.piece) ∙ G.1 in
+      record {
+        replays = p.replays;
+        queues = p.queues;
+        once = λ j n made q run some.
+            fewer_waiting q (more_arrivals j G.0)
+            (p.once (journal_to fed (fed.pieces ++ f ∷ []) G.0 frames j) n made (later (more_arrivals j G.0) q) (run_to (setup_for version options j.start) m (Handed (handed_out j)) fed j G.0 n made q run) some);
+      }
+
+  premises_of : (old new : Heard) → Grows old new → ReplayPremises m version options new → ReplayPremises m version options old
+  premises_of old new g p =
+      ⊎_elim
+      (λ (x : new ≡ old). subst (ReplayPremises m version options) x p)
+      (λ (x : (f : Fed) × (new ≡ and_piece old f)). premises_before old x.0 (subst (ReplayPremises m version options) x.1 p))
+      g
+
+  pub feed_in_replay : (piece : List ℕ) (old : Record) (result : Result Unit AllocError) (new : Record) → IsKeptInReplay m version options old → FeedDoes old.starved piece old result new → IsKeptInReplay m version options new
+  feed_in_replay piece old result new u does p = feed_keeps (InReplay m version options) (replay_last m version options) version options piece old result new (u (premises_of (heard version old) (heard version new) (feed_grows version piece old result new does) p)) does
+
+  pub close_in_replay : (old : Record) (result : Result Unit AllocError) (new : Record) → IsKeptInReplay m version options old → CloseDoes old.starved old result new → IsKeptInReplay m version options new
+  close_in_replay old result new u does p = close_keeps (InReplay m version options) (replay_last m version options) version options old result new (u (premises_of (heard version old) (heard version new) (inl (close_fed version old result new does)) p)) does
+
+  pub take_in_replay : (old : Record) (result : Result (List ℕ) AllocError) (new : Record) → IsKeptInReplay m version options old → Takes old result new → IsKeptInReplay m version options new
+  take_in_replay old result new u does p = take_keeps (InReplay m version options) (replay_last m version options) version options old result new (u (premises_of (heard version old) (heard version new) (inl (take_fed version old result new does)) p)) does
+
+  -- ---- what is said of a handler that is replaying
+
+  runs_in_replay : (r : Record) → IsKeptInReplay m version options r → ReplayPremises m version options (heard version r) → IsReplaying r → Runs m version options (heard version r) r.answers r.waiting r.taken r.vm
+  runs_in_replay r u p is =
+      ⊎_elim
+      (λ (b : BeforeInput version options (heard version r) r.answers r.waiting r.taken r.vm). absurd (is.runs b.answers))
+      (λ (k : InReplay m version options (heard version r) r.answers r.waiting r.taken r.vm). k.run is.failure is.phase)
+      (u p)
+
+  pub replays_in_replay : (old : Record) (result : Result Progress Error) (new : Record) → IsKeptInReplay m version options old → IsReplaying old → ReplayPremises m version options (heard version old) → StepDoes m old result new → Replays m version options old result new
+  replays_in_replay old result new u is p does =
+      let run = runs_in_replay old u p is in
+      step_replays m version options old result new p.queues run (none_two old p run (record { failure = is.failure; phase = ap is_running is.phase }) is.phase) is does
+
+  pub told_in_replay : (r : Record) → WholeFrames r.vm.machine.output → IsKeptInReplay m version options r → IsReplaying r → ReplayPremises m version options (heard version r) → AnswersAreTold m version options r
+  told_in_replay r f u is p =
+      ⊎_elim
+      (λ (none : r.answers ≡ []). absurd (is.runs none))
+      (λ (t : AnswersAreTold m version options r). t)
+      (kept_told m version options r f (inr (runs_in_replay r u p is)))

@@ -1,0 +1,165 @@
+-- What an attempt keeps under the premises: they hold of a beginning of what was fed where they hold of all.
+use Rattle.std.proofs.Common.{◌≡◌, ◌≢◌, ◌⊎◌, ◌≤◌, ◌+◌, length, length-append, arith, ℕ, Bool, true, false, List, [], ◌∷◌, ◌++◌, Option, Some, None, Result, Ok, Err, refl, sym, ap, ◌∙◌, subst, inl, inr, ⊎_elim}
+use Rattle.std.specs.declared.alloc.AllocError.{AllocError}
+use Rattle.journal_errors.specs.declared.error.Error.{Error}
+use Rattle.journal_values.specs.declared.notification.Notification.{Notification}
+use Rattle.arrivals.specs.Results.{results_of}
+use Rattle.arrivals.proofs.Awaited.{results-append}
+use Rattle.journal_values.specs.declared.notification.NotificationId.TheVariants.{CompletionId}
+use Rattle.journal_values.specs.declared.notification.NotificationResult.{NotificationResult}
+use Rattle.journal_errors.specs.declared.version.Version.{Version}
+use Rattle.vm_types.specs.declared.options.VMOptions.{VMOptions}
+use Rattle.vm_machine.specs.declared.phase.Phase.{Phase}
+use Rattle.vm_machine.specs.declared.phase.Phase.TheVariants.{WaitingStart, WaitingReplayEntries, Replaying, Processing, Closed}
+use Rattle.invocation_vm.specs.Frames.{frames_of}
+use Rattle.invocation_vm.proofs.Cuts.{frames_of-append}
+use Rattle.vm_model.specs.Calls.{Meaning}
+use Rattle.vm_model.specs.Deliveries.{HasNoTwo, deliveries}
+use Rattle.vm_model.specs.Histories.{Handed}
+use Rattle.vm_model.specs.Moves.{Point, later}
+use Rattle.vm_steps.specs.Heard.{Heard, and_piece}
+use Rattle.vm_steps.specs.declared.progress.Fed.{Fed}
+use Rattle.vm_steps.specs.declared.progress.Progress.{Progress}
+use Rattle.vm_attempt.specs.Journals.{setup_for}
+use Rattle.vm_steps.specs.Record.{Record, heard}
+use Rattle.vm_steps.specs.Stepping.{Advances, Asks, CloseDoes, Closes, FeedDoes, Feeds, LacksMemory, Reads, StepAt, StepDoes, StepFrom, StepUnless, Takes, kept, kept_at, step_asked, future_in, replied, with_vm}
+use Rattle.vm_attempt.specs.Told.{IsKeptUnder, Premises, Runs, bytes_fed, frames_fed, handed_out}
+use Rattle.vm_steps.specs.declared.progress.Reply.{Reply}
+use Rattle.vm_steps.specs.declared.progress.Reply.TheVariants as reply
+use Rattle.await_trees.specs.declared.tree.UnresolvedFuture.{UnresolvedFuture}
+use Rattle.invocation_vm.specs.Views.{StarvesAmong, View, brought}
+use Rattle.vm_attempt.proofs.Advanced.{step_keeps}
+use Rattle.vm_attempt.proofs.Kept.{close_keeps, feed_keeps, take_keeps}
+use Rattle.vm_attempt.proofs.Lasting.{runs_last}
+use Rattle.vm_attempt.proofs.Pieces.{bytes_behind, journal_to, more_arrivals, more_frames, run_to}
+
+-- ---- a beginning of what was fed
+
+-- no completion has two results at a point where none has with further arrivals
+pub fewer_waiting : (p : Point) (ns : List Notification) → HasNoTwo (later ns p) → HasNoTwo p
+fewer_waiting p ns two i =
+    let long = length-append (results_of (CompletionId i) p.queue) (results_of (CompletionId i) ns) in
+    let all = subst (λ (rs : List NotificationResult). length (deliveries (CompletionId i) p.derived.usage) + length rs ≤ 1) (results-append (CompletionId i) p.queue ns) (two i) in
+    omega (arith, long, all)
+
+-- the premises hold before a piece comes where they hold with it
+pub premises_before : (m : Meaning) (version : Version) (options : VMOptions) (fed : Heard) (f : Fed) → Premises m version options (and_piece fed f) → Premises m version options fed
+premises_before m version options fed f p =
+    let G = more_frames (frames_of (bytes_fed fed)) f.piece in
+    let frames : frames_fed (and_piece fed f) ≡ frames_fed fed ++ G.0 = ap (λ l. (frames_of l).0) (bytes_behind fed f) ∙ ap (λ p. p.0) (frames_of-append (bytes_fed fed) f.piece) ∙ G.1 in
+    record {
+      replays = p.replays;
+      queues = p.queues;
+      once = λ j n made q run.
+          fewer_waiting q (more_arrivals j G.0)
+          (p.once (journal_to fed (fed.pieces ++ f ∷ []) G.0 frames j) n made (later (more_arrivals j G.0) q) (run_to (setup_for version options j.start) m (Handed (handed_out j)) fed j G.0 n made q run));
+    }
+
+-- ---- what was fed
+
+-- what was fed stays, or one piece more was kept
+abbrev pub Grows : Heard → Heard → Type 0
+Grows old new = (new ≡ old) ⊎ ((f : Fed) × (new ≡ and_piece old f))
+
+pub premises_of : (m : Meaning) (version : Version) (options : VMOptions) (old new : Heard) → Grows old new → Premises m version options new → Premises m version options old
+premises_of m version options old new g p =
+    ⊎_elim
+    (λ (x : new ≡ old). subst (Premises m version options) x p)
+    (λ (x : (f : Fed) × (new ≡ and_piece old f)). premises_before m version options old x.0 (subst (Premises m version options) x.1 p))
+    g
+
+module _ (version : Version) where
+  kept_grows : (o : Option Error) (ph : Phase) (piece : List ℕ) (r : Record) → Grows (heard version r) (heard version (kept_at o ph piece r))
+  kept_grows (Some e) ph piece r = inl refl
+  kept_grows None WaitingStart piece r = inr (_, refl)
+  kept_grows None WaitingReplayEntries piece r = inr (_, refl)
+  kept_grows None Replaying piece r = inr (_, refl)
+  kept_grows None Processing piece r = inr (_, refl)
+  kept_grows None Closed piece r = inl refl
+
+  feeds_grow : (piece : List ℕ) (old : Record) (result : Result Unit AllocError) (new : Record) → Feeds piece old result new → Grows (heard version old) (heard version new)
+  feeds_grow piece old (Ok t) new does = subst (λ (r : Record). Grows (heard version old) (heard version r)) (sym does) (kept_grows old.vm.machine.failure old.vm.machine.phase piece old)
+  feeds_grow piece old (Err e) new does =
+      ⊎_elim
+      (λ (x : new ≡ record old { starved = true }). inl (ap (heard version) x))
+      (λ (x : (w : View) × StarvesAmong (brought old.vm piece) old.vm.machine w.machine × (new ≡ with_vm w (kept piece old))). subst (λ (r : Record). Grows (heard version old) (heard version r)) (sym x.2) (kept_grows old.vm.machine.failure old.vm.machine.phase piece old))
+      does
+
+  pub feed_grows : (piece : List ℕ) (old : Record) (result : Result Unit AllocError) (new : Record) → FeedDoes old.starved piece old result new → Grows (heard version old) (heard version new)
+  feed_grows piece old result new does = by_test old.starved does
+    where
+      by_test : (b : Bool) → FeedDoes b piece old result new → Grows (heard version old) (heard version new)
+      by_test true d = inl (ap (heard version) d.1)
+      by_test false d = feeds_grow piece old result new d
+
+  closes_fed : (old : Record) (result : Result Unit AllocError) (new : Record) → Closes old result new → (heard version new) ≡ (heard version old)
+  closes_fed old (Ok t) new does = ap (heard version) does
+  closes_fed old (Err e) new does = ap (heard version) does.2
+
+  pub close_fed : (old : Record) (result : Result Unit AllocError) (new : Record) → CloseDoes old.starved old result new → (heard version new) ≡ (heard version old)
+  close_fed old result new does = by_test old.starved does
+    where
+      by_test : (b : Bool) → CloseDoes b old result new → (heard version new) ≡ (heard version old)
+      by_test true d = ap (heard version) d.1
+      by_test false d = closes_fed old result new d
+
+  pub take_fed : (old : Record) (result : Result (List ℕ) AllocError) (new : Record) → Takes old result new → (heard version new) ≡ (heard version old)
+  take_fed old (Ok bytes) new does = ap (heard version) does.1
+  take_fed old (Err e) new does = ap (heard version) does
+
+  settled_fed : (r : Record) (future : Option UnresolvedFuture) (x : Result Reply Error) (w : View) → heard version (replied r future x w) ≡ (heard version r)
+  settled_fed r future (Ok (reply.Answer a)) w = refl
+  settled_fed r future (Ok (reply.Waiting input run)) w = refl
+  settled_fed r future (Ok (reply.Execute run)) w = refl
+  settled_fed r future (Ok reply.Suspended) w = refl
+  settled_fed r future (Ok reply.Ended) w = refl
+  settled_fed r future (Err e) w = refl
+
+  reads_fed : (old : Record) (result : Result Progress Error) (new : Record) → Reads old result new → (heard version new) ≡ (heard version old)
+  reads_fed old (Ok made) new does = ap (heard version) does.1.3
+  reads_fed old (Err e) new does = ap (heard version) does.2
+
+  advances_fed : (m : Meaning) (old : Record) (result : Result Progress Error) (new : Record) → Advances m old result new → (heard version new) ≡ (heard version old)
+  advances_fed m old result new =
+      ⊎_elim
+      (λ (x : LacksMemory old result new). ap (heard version) x.1)
+      (λ (o : ((old.answers ≡ []) × Reads old result new) ⊎ ((old.answers ≢ []) × Asks m old result new)).
+      ⊎_elim
+      (λ (x : (old.answers ≡ []) × Reads old result new). reads_fed old result new x.1)
+      (λ (x : (old.answers ≢ []) × Asks m old result new). ap (heard version) x.1.3 ∙ settled_fed old (future_in (step_asked m old)) x.1.0 x.1.1)
+      o)
+
+  step_at_fed : (ph : Phase) (m : Meaning) (old : Record) (result : Result Progress Error) (new : Record) → StepAt ph m old result new → (heard version new) ≡ (heard version old)
+  step_at_fed WaitingStart m old result new d = ap (heard version) d.1
+  step_at_fed WaitingReplayEntries m old result new d = ap (heard version) d.1
+  step_at_fed Closed m old result new d = ap (heard version) d.1
+  step_at_fed Replaying m old result new d = advances_fed m old result new d
+  step_at_fed Processing m old result new d = advances_fed m old result new d
+
+  step_unless_fed : (f : Option Error) (over : Option Progress) (m : Meaning) (old : Record) (result : Result Progress Error) (new : Record) → StepUnless f over m old result new → (heard version new) ≡ (heard version old)
+  step_unless_fed (Some e) over m old result new d = ap (heard version) d.1
+  step_unless_fed None (Some made) m old result new d = ap (heard version) d.1
+  step_unless_fed None None m old result new d = step_at_fed old.vm.machine.phase m old result new d
+
+  pub step_fed : (m : Meaning) (old : Record) (result : Result Progress Error) (new : Record) → StepDoes m old result new → (heard version new) ≡ (heard version old)
+  step_fed m old result new does = by_test old.starved does
+    where
+      by_test : (b : Bool) → StepFrom b m old result new → (heard version new) ≡ (heard version old)
+      by_test true d = ap (heard version) d.1
+      by_test false d = step_unless_fed old.vm.machine.failure old.over m old result new d
+
+-- ---- each call
+
+pub feed_under : (m : Meaning) (version : Version) (options : VMOptions) (piece : List ℕ) (old : Record) (result : Result Unit AllocError) (new : Record) → IsKeptUnder m version options old → FeedDoes old.starved piece old result new → IsKeptUnder m version options new
+feed_under m version options piece old result new u does p = feed_keeps (Runs m version options) (runs_last m version options) version options piece old result new (u (premises_of m version options (heard version old) (heard version new) (feed_grows version piece old result new does) p)) does
+
+pub close_under : (m : Meaning) (version : Version) (options : VMOptions) (old : Record) (result : Result Unit AllocError) (new : Record) → IsKeptUnder m version options old → CloseDoes old.starved old result new → IsKeptUnder m version options new
+close_under m version options old result new u does p = close_keeps (Runs m version options) (runs_last m version options) version options old result new (u (premises_of m version options (heard version old) (heard version new) (inl (close_fed version old result new does)) p)) does
+
+pub take_under : (m : Meaning) (version : Version) (options : VMOptions) (old : Record) (result : Result (List ℕ) AllocError) (new : Record) → IsKeptUnder m version options old → Takes old result new → IsKeptUnder m version options new
+take_under m version options old result new u does p = take_keeps (Runs m version options) (runs_last m version options) version options old result new (u (premises_of m version options (heard version old) (heard version new) (inl (take_fed version old result new does)) p)) does
+
+pub step_under : (m : Meaning) (version : Version) (options : VMOptions) (old : Record) (result : Result Progress Error) (new : Record) → IsKeptUnder m version options old → StepDoes m old result new → IsKeptUnder m version options new
+step_under m version options old result new u does p =
+    let before = premises_of m version options (heard version old) (heard version new) (inl (step_fed version m old result new does)) p in
+    step_keeps m version options old result new before (u before) does

@@ -1,0 +1,31 @@
+use Rattle.vm_steps.specs.Inside.{the_fields, the_record}
+use Rattle.vm_attempt.proofs.Blamed.{close_blames}
+use Rattle.vm_attempt.proofs.Coming.{close_comes}
+use Rattle.vm_attempt.proofs.InReplay.{close_in_replay}
+use Rattle.vm_attempt.proofs.Late.{close_late}
+use Rattle.vm_attempt.proofs.Sleeping.{close_sleeps}
+use Rattle.vm_attempt.proofs.Steady.{close_told}
+use Rattle.vm_attempt.proofs.Under.{close_under}
+use Rattle.vm_attempt.proofs.attempt.Attempt.close.Goals as goal
+
+pub invariant_of-self : goal.invariant_of-self
+invariant_of-self g c =
+    let a = c.self.inside in
+    let m = g.H.Handler.meaning a.inner.handler in
+    let old = the_record a.inner in
+    let new = the_record c.close-closed.new.self in
+    let does = close_told a.version a.options (the_fields a.inner) c.close-closed.result (the_fields c.close-closed.new.self) c.self.invariant.0 c.self.invariant.5 c.output_len.ensures.whole c.close-closed.ensures.does in
+    rw c.close-closed.ensures.handler (
+      close_comes a.version a.options old c.close-closed.result new c.self.invariant.0 does,
+      close_blames m a.version a.options old c.close-closed.result new c.self.invariant.0 c.self.invariant.1 does,
+      close_under m a.version a.options old c.close-closed.result new c.self.invariant.2 does,
+      close_late m a.version a.options old c.close-closed.result new c.self.invariant.3 does,
+      close_sleeps m a.version a.options old c.close-closed.result new c.self.invariant.4 does,
+      c.output_len.ensures.whole,
+      close_in_replay m a.version a.options old c.close-closed.result new c.self.invariant.6 does,
+    )
+
+pub returns-clause-does : goal.returns-clause-does
+returns-clause-does g c =
+    let a = c.self.inside in
+    rw (← c.self.view_is) (close_told a.version a.options (the_fields a.inner) c.close-closed.result (the_fields c.close-closed.new.self) c.self.invariant.0 c.self.invariant.5 c.output_len.ensures.whole c.close-closed.ensures.does)

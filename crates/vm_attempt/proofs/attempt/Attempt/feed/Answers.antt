@@ -1,0 +1,31 @@
+use Rattle.vm_steps.specs.Inside.{the_fields, the_record}
+use Rattle.vm_attempt.proofs.Blamed.{feed_blames}
+use Rattle.vm_attempt.proofs.Coming.{feed_comes}
+use Rattle.vm_attempt.proofs.InReplay.{feed_in_replay}
+use Rattle.vm_attempt.proofs.Late.{feed_late}
+use Rattle.vm_attempt.proofs.Sleeping.{feed_sleeps}
+use Rattle.vm_attempt.proofs.Steady.{feed_told}
+use Rattle.vm_attempt.proofs.Under.{feed_under}
+use Rattle.vm_attempt.proofs.attempt.Attempt.feed.Goals as goal
+
+pub invariant_of-self : goal.invariant_of-self
+invariant_of-self g c =
+    let a = c.self.inside in
+    let m = g.H.Handler.meaning a.inner.handler in
+    let old = the_record a.inner in
+    let new = the_record c.feed-fed.new.self in
+    let does = feed_told a.version a.options c.args.piece (the_fields a.inner) c.feed-fed.result (the_fields c.feed-fed.new.self) c.self.invariant.0 c.self.invariant.5 c.output_len.ensures.whole c.feed-fed.ensures.does in
+    rw c.feed-fed.ensures.handler (
+      feed_comes a.version a.options c.args.piece old c.feed-fed.result new c.self.invariant.0 does,
+      feed_blames m a.version a.options c.args.piece old c.feed-fed.result new c.self.invariant.0 c.self.invariant.1 does,
+      feed_under m a.version a.options c.args.piece old c.feed-fed.result new c.self.invariant.2 does,
+      feed_late m a.version a.options c.args.piece old c.feed-fed.result new c.self.invariant.1 c.self.invariant.3 does,
+      feed_sleeps m a.version a.options c.args.piece old c.feed-fed.result new c.self.invariant.3 c.self.invariant.4 does,
+      c.output_len.ensures.whole,
+      feed_in_replay m a.version a.options c.args.piece old c.feed-fed.result new c.self.invariant.6 does,
+    )
+
+pub returns-clause-does : goal.returns-clause-does
+returns-clause-does g c =
+    let a = c.self.inside in
+    rw (← c.self.view_is) (feed_told a.version a.options c.args.piece (the_fields a.inner) c.feed-fed.result (the_fields c.feed-fed.new.self) c.self.invariant.0 c.self.invariant.5 c.output_len.ensures.whole c.feed-fed.ensures.does)

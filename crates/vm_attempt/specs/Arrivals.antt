@@ -1,0 +1,59 @@
+-- What frames bring to an attempt: a notification is an arrival, and an acknowledgement stands as the completion of its run, with the
+-- result that was proposed.
+use Rattle.std.specs.Prelude.{◌≡◌, true, if◌then◌else◌, IsSome, List, [], ◌∷◌, Option, Some, None}
+use Rattle.std.specs.List.{find}
+use Rattle.std.specs.Option.{option_map}
+use Rattle.journal_attempt.specs.declared.runs.ProposeRunCompletionAck.{ProposeRunCompletionAck}
+use Rattle.journal_messages.specs.declared.message.RawMessage.{RawMessage}
+use Rattle.journal_messages.specs.Reading.{acknowledgement_in, notification_in}
+use Rattle.journal_values.specs.declared.notification.Notification.{Notification}
+use Rattle.runs.specs.Firsts.{without_first}
+use Rattle.runs.specs.Kept.{is_for}
+use Rattle.vm_parts.specs.declared.run_state.KeptProposal.{KeptProposal}
+use Rattle.vm_machine.specs.Inputs.{completion_of}
+use Rattle.vm_attempt.specs.Journals.{is_acknowledgement, is_notification, notified_by}
+
+-- the completion that an acknowledgement stands for, where a result was proposed under its id
+abbrev pub stands_for : List KeptProposal → Option ProposeRunCompletionAck → Option Notification
+stands_for kept None = None
+stands_for kept (Some ack) = option_map (completion_of ack.id) (find (is_for ack.id) kept)
+
+-- the arrival that a frame brings, if it brings one
+abbrev pub brought_by : List KeptProposal → RawMessage → Option Notification
+brought_by kept raw =
+    if is_notification raw then notification_in raw.body
+    else if is_acknowledgement raw then stands_for kept (acknowledgement_in raw.body)
+    else None
+
+-- the proposals that aren't acknowledged yet
+abbrev pub unacknowledged : List KeptProposal → Option ProposeRunCompletionAck → List KeptProposal
+unacknowledged kept None = kept
+unacknowledged kept (Some ack) = without_first (is_for ack.id) kept
+
+-- what is kept behind a frame: each proposal is acknowledged once
+abbrev pub kept_behind : List KeptProposal → RawMessage → List KeptProposal
+kept_behind kept raw = if is_acknowledgement raw then unacknowledged kept (acknowledgement_in raw.body) else kept
+
+-- the arrivals that frames bring, in order
+abbrev pub arriving : List KeptProposal → List RawMessage → List Notification
+arriving kept [] = []
+arriving kept (raw ∷ raws) = notified_by (brought_by kept raw) (arriving (kept_behind kept raw) raws)
+
+-- what is kept behind them
+abbrev pub kept_after : List KeptProposal → List RawMessage → List KeptProposal
+kept_after kept [] = kept
+kept_after kept (raw ∷ raws) = kept_after (kept_behind kept raw) raws
+
+-- an acknowledgement is of a proposal that is kept
+abbrev pub IsFound : List KeptProposal → Option ProposeRunCompletionAck → Type 0
+IsFound kept None = Unit {0}
+IsFound kept (Some ack) = IsSome (find (is_for ack.id) kept)
+
+-- the frame is no acknowledgement, or one of a proposal that is kept
+abbrev pub FindsProposal : List KeptProposal → RawMessage → Type 0
+FindsProposal kept raw = is_acknowledgement raw ≡ true → IsFound kept (acknowledgement_in raw.body)
+
+-- each acknowledgement among some frames finds its proposal
+abbrev pub AllFound : List KeptProposal → List RawMessage → Type 0
+AllFound kept [] = Unit {0}
+AllFound kept (raw ∷ raws) = FindsProposal kept raw × AllFound (kept_behind kept raw) raws

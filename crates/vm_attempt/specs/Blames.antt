@@ -1,0 +1,337 @@
+-- Why an attempt failed.
+use Rattle.std.specs.Prelude.{◌≡◌, ◌≢◌, ◌⊎◌, ℕ, ◌+◌, ◌<◌, ◌≤◌, ◌==◌, Bool, true, false, if◌then◌else◌, length, drop, List, [], ◌∷◌, ◌++◌, Option, Some, None, Result, Ok, Err}
+use Rattle.std.specs.Result.{result_err}
+use Rattle.journal_attempt.specs.declared.commands.InputCommand.{InputCommand}
+use Rattle.journal_errors.specs.declared.error.Error.{Error}
+use Rattle.journal_errors.specs.declared.error.RelatedCommand.{RelatedCommand}
+use Rattle.journal_errors.specs.declared.faults.NamedFault.{NamedFault}
+use Rattle.journal_errors.specs.declared.faults.NamedFault.TheVariants as fault
+use Rattle.journal_messages.specs.declared.message.RawMessage.{RawMessage}
+use Rattle.journal_state.specs.declared.state.GetStateEphemeralNotification.{GetStateEphemeralNotification}
+use Rattle.journal_state.specs.declared.state.VoidOrValue.{VoidOrValue}
+use Rattle.journal_values.specs.declared.notification.Notification.{Notification}
+use Rattle.journal_attempt.specs.declared.start.Start.{Start}
+use Rattle.journal_errors.specs.declared.types.MessageType.TheVariants as type
+use Rattle.journal_errors.specs.declared.version.Version.{Version}
+use Rattle.journal_errors.specs.Errors.{named_error, no_memory}
+use Rattle.journal_attempt.specs.declared.runs.ProposeRunCompletionAck.{ProposeRunCompletionAck}
+use Rattle.journal_messages.specs.Reading.{acknowledgement_in, notification_in, start_in}
+use Rattle.retries.specs.declared.policy.RetryPolicy.{RetryPolicy}
+use Rattle.runs.specs.declared.types.RunExitResult.{RunExitResult}
+use Rattle.runs.specs.Kept.{is_for}
+use Rattle.await_trees.specs.declared.handle.NotificationHandle.{NotificationHandle}
+use Rattle.vm_parts.specs.declared.run_state.KeptProposal.{KeptProposal}
+use Rattle.std.specs.List.{find}
+use Rattle.journal_errors.specs.Types.{type_number}
+use Rattle.vm_types.specs.declared.options.VMOptions.{VMOptions}
+use Rattle.vm_parts.specs.declared.context.StateMap.{StateMap}
+use Rattle.vm_parts.specs.Counting.{fresh_counters}
+use Rattle.vm_asks.specs.Carried.{past_all}
+use Rattle.vm_machine.specs.Skips.{counters_past}
+use Rattle.vm_types.specs.declared.options.JournalReplay.TheVariants.{Disabled}
+use Rattle.vm_types.specs.declared.steps.Answer.{Answer}
+use Rattle.vm_machine.specs.declared.machine.Machine.{Machine}
+use Rattle.vm_machine.specs.declared.phase.Phase.{Phase}
+use Rattle.vm_machine.specs.declared.phase.Phase.TheVariants.{WaitingStart, WaitingReplayEntries, Replaying, Processing, Closed}
+use Rattle.vm_machine.specs.Ephemerals.{ephemeral_notification_in}
+use Rattle.vm_machine.specs.Inputs.{entries_in}
+use Rattle.vm_machine.specs.Outcomes.{Failed, ruled, ruled_by}
+use Rattle.vm_machine.specs.Proposals.{Proposes}
+use Rattle.invocation_vm.specs.Frames.{Garbage, Rest, frames_of}
+use Rattle.invocation_vm.specs.Views.{View, all_received}
+use Rattle.vm_model.specs.Calls.{Meaning}
+use Rattle.vm_model.specs.Calls.Move.{Refuses}
+use Rattle.vm_model.specs.Histories.{Handed, History, Made, behind as behind_first}
+use Rattle.vm_model.specs.Journal.{input_read_from}
+use Rattle.vm_model.specs.Moves.{Point, move_at}
+use Rattle.vm_model.specs.Refusals.{IsRefusedFor}
+use Rattle.vm_attempt.specs.Arrivals.{kept_after}
+use Rattle.vm_steps.specs.Heard.{Heard}
+use Rattle.vm_steps.specs.declared.progress.Progress.{Progress}
+use Rattle.vm_attempt.specs.Journals.{as_entries, commands_among, is_acknowledgement, is_command, is_ephemeral, is_notification, setup_for}
+use Rattle.vm_steps.specs.Record.{Record, Said, all_heard, all_said, heard}
+use Rattle.vm_attempt.specs.Told.{AreRightlyKinded, ProposesLate, handed_out, Journal, Premises, begun, bytes_fed, frames_fed}
+
+-- ---- frames
+
+-- why a Start is refused: a state key is no text, or it tells of no entry
+abbrev pub refused_start : Start → Option (List (List ℕ × Option (List ℕ))) → Option NamedFault
+refused_start st None = Some fault.BadEagerStateKey
+refused_start st (Some entries) = if st.known_entries == 0 then Some fault.KnownEntriesIsZero else None
+
+-- why a body is refused as a Start
+abbrev pub start_fault : Option Start → Option NamedFault
+start_fault None = Some fault.BadMessage
+start_fault (Some st) = refused_start st (entries_in st.state)
+
+-- why a body is refused as a notification
+abbrev pub notification_fault : Option Notification → Option NamedFault
+notification_fault None = Some fault.BadMessage
+notification_fault (Some n) = None
+
+-- why an acknowledgement is refused, by the kept proposal of its id
+abbrev pub kept_fault : Option KeptProposal → Option NamedFault
+kept_fault None = Some fault.BadProposeRunCompletionAck
+kept_fault (Some kept) = None
+
+-- why a body is refused as an acknowledgement, where these proposals are kept
+abbrev pub read_fault : List KeptProposal → Option ProposeRunCompletionAck → Option NamedFault
+read_fault kept None = Some fault.BadMessage
+read_fault kept (Some ack) = kept_fault (find (is_for ack.id) kept)
+
+-- why an acknowledgement is refused in this phase
+abbrev pub acknowledgement_fault : List KeptProposal → Phase → RawMessage → Option NamedFault
+acknowledgement_fault kept Processing raw = read_fault kept (acknowledgement_in raw.body)
+acknowledgement_fault kept Closed raw = None
+acknowledgement_fault kept phase raw = Some fault.UnexpectedState
+
+-- why the result of an ephemeral read is refused: there has to be one
+abbrev pub found_fault : Option VoidOrValue → Option NamedFault
+found_fault None = Some fault.EmptyGetStateEphemeralNotification
+found_fault (Some found) = None
+
+-- why a body is refused as the notification of an ephemeral read
+abbrev pub completion_fault : Option GetStateEphemeralNotification → Option NamedFault
+completion_fault None = Some fault.BadMessage
+completion_fault (Some n) = found_fault n.result
+
+-- why the notification of an ephemeral read is refused in this phase
+abbrev pub ephemeral_fault : Phase → RawMessage → Option NamedFault
+ephemeral_fault Processing raw = completion_fault (ephemeral_notification_in raw.body)
+ephemeral_fault Closed raw = None
+ephemeral_fault phase raw = Some fault.UnexpectedState
+
+-- why a frame is refused that is of no other kind, by whether it is the notification of an ephemeral read: no other one comes
+abbrev pub unknown_fault : Bool → Phase → RawMessage → Option NamedFault
+unknown_fault true phase raw = ephemeral_fault phase raw
+unknown_fault false phase raw = Some fault.UnexpectedInputMessage
+
+-- why another frame is refused, by whether it is an acknowledgement
+abbrev pub other_fault : List KeptProposal → Phase → RawMessage → Bool → Option NamedFault
+other_fault kept phase raw true = acknowledgement_fault kept phase raw
+other_fault kept phase raw false = unknown_fault (is_ephemeral raw) phase raw
+
+-- why a frame is refused in this phase, where these proposals are kept, by whether it is a Start, a command, a notification or an
+-- acknowledgement
+abbrev pub fault_by : List KeptProposal → Phase → RawMessage → Bool → Bool → Bool → Bool → Option NamedFault
+fault_by kept WaitingStart raw true b c d = start_fault (start_in raw.body)
+fault_by kept phase raw true b c d = Some fault.UnexpectedInputMessage
+fault_by kept WaitingReplayEntries raw false true c d = None
+fault_by kept phase raw false true c d = Some fault.UnexpectedEntryMessage
+fault_by kept WaitingStart raw false false true d = Some fault.UnexpectedState
+fault_by kept Closed raw false false true d = None
+fault_by kept phase raw false false true d = notification_fault (notification_in raw.body)
+fault_by kept phase raw false false false d = other_fault kept phase raw d
+
+-- why a frame is refused in this phase, where these proposals are kept, if it is
+abbrev pub fault_among : List KeptProposal → Phase → RawMessage → Option NamedFault
+fault_among kept phase raw = fault_by kept phase raw (type_number raw.ty == 1) (is_command raw) (is_notification raw) (is_acknowledgement raw)
+
+-- why a frame that acknowledges nothing is refused in this phase of an attempt, if it is
+abbrev pub frame_fault : Phase → RawMessage → Option NamedFault
+frame_fault phase raw = fault_among [] phase raw
+
+-- The first of the frames that is refused in the phase in which it comes; the machine has failed for that reason.
+pub record FailsAt (raws : List RawMessage) (v m : Machine) : Type 0 where
+  pub before : List RawMessage
+  pub raw : RawMessage
+  pub behind : List RawMessage
+  pub split : raws ≡ before ++ raw ∷ behind
+  pub live : (all_received before v).failure ≡ None
+  pub why : NamedFault
+  pub reason : fault_among (all_received before v).proposals (all_received before v).phase raw ≡ Some why
+  pub failure : m.failure ≡ Some (ruled v (named_error why None))
+
+-- a Start came, and so many frames behind it
+pub record Began (frames : List RawMessage) (count : ℕ → ℕ → Type 0) : Type 0 where
+  pub first : RawMessage
+  pub others : List RawMessage
+  pub is : frames ≡ first ∷ others
+  pub start : Start
+  pub reads : start_in first.body ≡ Some start
+  pub counts : count (length others) start.known_entries
+
+-- In which phase a frame comes behind these, while so many known entries are missing: Start comes first, the known entries
+-- then, and others behind them.
+abbrev pub Place : Phase → ℕ → List RawMessage → Type 0
+Place WaitingStart k frames = frames ≡ []
+Place WaitingReplayEntries k frames = Began frames (λ n known. (n + k ≡ known) × (0 < k))
+Place Replaying k frames = Began frames (λ n known. known ≤ n)
+Place Processing k frames = Began frames (λ n known. known ≤ n)
+Place Closed k frames = ⊥
+
+-- One of the frames that were fed is refused in its place, where these proposals are kept that weren't acknowledged before it.
+pub record BadFrame (version : Version) (options : VMOptions) (fed : Heard) (e : Error) : Type 0 where
+  pub before : List RawMessage
+  pub raw : RawMessage
+  pub behind : List RawMessage
+  pub split : frames_fed fed ≡ before ++ raw ∷ behind
+  pub phase : Phase
+  pub missing : ℕ
+  pub place : Place phase missing before
+  pub late : ProposesLate fed phase
+  pub why : NamedFault
+  pub reason : fault_among (kept_after fed.proposed (behind_first before)) phase raw ≡ Some why
+  pub error : e ≡ ruled_by version options (named_error why None)
+
+-- known entries are missing
+abbrev pub IsShort : List RawMessage → Type 0
+IsShort frames = (frames ≡ []) ⊎ Began frames (λ n known. n < known)
+
+-- ---- calls
+
+-- the input that the first of some commands is
+abbrev pub first_input : List RawMessage → Option InputCommand
+first_input [] = None
+first_input (c ∷ cs) = input_read_from c
+
+-- the input, as an error that relates to it shows it
+abbrev pub the_input : RelatedCommand
+the_input = record { index = 0; ty = type.InputCommand; name = [] }
+
+-- why the first of some commands is no input: there is none, or it is of another type, or it can't be read
+abbrev pub no_input_fault : List RawMessage → NamedFault
+no_input_fault [] = fault.UnavailableEntry
+no_input_fault (c ∷ cs) = if type_number c.ty == type_number type.InputCommand then fault.BadMessage else fault.CommandTypeMismatch
+
+-- the known entries have come, and the first command among them is no input
+pub record LacksInput (version : Version) (options : VMOptions) (frames : List RawMessage) (e : Error) : Type 0 where
+  pub first : RawMessage
+  pub entries : List RawMessage
+  pub others : List RawMessage
+  pub is : frames ≡ first ∷ (entries ++ others)
+  pub start : Start
+  pub reads : start_in first.body ≡ Some start
+  pub count : length entries ≡ start.known_entries
+  pub none : first_input (commands_among entries) ≡ None
+  pub error : e ≡ ruled_by version options (named_error (no_input_fault (commands_among entries)) (Some the_input))
+
+-- why so many commands behind the input can't be skipped, by the completion id that is next past all that they carry, if they can be read
+abbrev pub skip_fault : ℕ → Option ℕ → Option NamedFault
+skip_fault dropped None = Some fault.BadMessage
+skip_fault dropped (Some id) = result_err (counters_past dropped id fresh_counters)
+
+-- Recorded commands are skipped, and one of those behind the input can't be read, or a kind of number runs out past them.
+pub record CannotSkip (version : Version) (options : VMOptions) (frames : List RawMessage) (e : Error) : Type 0 where
+  pub skips : options.journal_replay ≡ Disabled
+  pub first : RawMessage
+  pub entries : List RawMessage
+  pub others : List RawMessage
+  pub is : frames ≡ first ∷ (entries ++ others)
+  pub start : Start
+  pub reads : start_in first.body ≡ Some start
+  pub count : length entries ≡ start.known_entries
+  pub why : NamedFault
+  pub reason : skip_fault (length (drop 1 (commands_among entries))) (past_all 1 (drop 1 (commands_among entries))) ≡ Some why
+  pub error : e ≡ ruled_by version options (named_error why (Some the_input))
+
+-- The handler's call was refused for this reason, at the point with these answers to which the attempt's own run leads: it made what was
+-- written.
+pub record RefusedCall (m : Meaning) (version : Version) (options : VMOptions) (fed : Heard) (answers_so_far : List Answer) (e : Error) : Type 0 where
+  pub journal : Journal fed
+  pub written : List RawMessage
+  pub at : Point
+  pub moves : ℕ
+  pub made : Made (setup_for version options journal.start) m (Handed (handed_out journal)) moves (begun version options journal) written at
+  pub answers : at.answers ≡ answers_so_far
+  pub why : NamedFault
+  pub reason : IsRefusedFor (move_at (setup_for version options journal.start) m at) at.left at.queue why
+  pub related : Option RelatedCommand
+  pub error : e ≡ ruled_by version options (named_error why related)
+
+-- ---- results of runs
+
+-- What executing a run came to was refused, or fails the attempt, so that it is tried again or paused. It is the run whose result failed
+-- the VM.
+pub record RefusedResult (version : Version) (options : VMOptions) (failed_by : Option NotificationHandle) (e : Error) : Type 0 where
+  pub handle : NotificationHandle
+  pub is_told : failed_by ≡ Some handle
+  pub exit : RunExitResult
+  pub policy : RetryPolicy
+  pub machine : Machine
+  pub left : Machine
+  pub why : Error
+  pub proposes : Proposes handle exit policy machine (Failed why left)
+  pub version_is : machine.version ≡ version
+  pub error : e ≡ ruled_by version options why
+
+-- ---- why an attempt failed
+
+-- Memory was lacking; a frame was refused, or bytes were no frame; the input was closed while known entries were missing; the
+-- journal has no input, or its commands can't be skipped; the handler's call was refused, or an await found no memory for one of its
+-- commands; or a run's result failed the VM.
+pub data Blame (m : Meaning) (version : Version) (options : VMOptions) (fed : Heard) (said : Said) (answers : List Answer) (e : Error) : Type 0 where
+  Memory : e ≡ no_memory → Blame m version options fed said answers e
+  Frame : BadFrame version options fed e → Blame m version options fed said answers e
+  NoFrame : (frames_of (bytes_fed fed)).1 ≡ Garbage → e ≡ ruled_by version options (named_error fault.BadMessage None) → Blame m version options fed said answers e
+  ClosedEarly : said.closed ≡ true → IsShort (frames_fed fed) → e ≡ ruled_by version options (named_error fault.InputClosedWhileWaitingEntries None) → Blame m version options fed said answers e
+  NoInput : LacksInput version options (frames_fed fed) e → Blame m version options fed said answers e
+  NoSkip : CannotSkip version options (frames_fed fed) e → Blame m version options fed said answers e
+  Call : (Premises m version options fed → (e ≡ no_memory) ⊎ RefusedCall m version options fed answers e) → Blame m version options fed said answers e
+  RunResult : RefusedResult version options said.failed_by e → Blame m version options fed said answers e
+
+-- As long as an attempt is not over, its VM isn't closed, and has failed only for such a reason.
+pub record BlamedAt (m : Meaning) (version : Version) (options : VMOptions) (over : Option Progress) (fed : Heard) (said : Said) (answers : List Answer) (v : Machine) : Type 0 where
+  pub open_yet : over ≡ None → v.failure ≡ None → v.phase ≢ Closed
+  pub blame : over ≡ None → (e : Error) → v.failure ≡ Some e → Blame m version options fed said answers e
+
+-- the same of a record
+abbrev pub IsBlamed : Meaning → Version → VMOptions → Record → Type 0
+IsBlamed m version options r = BlamedAt m version options r.over (heard version r) (all_said r) r.answers r.vm.machine
+
+-- Once the attempt is over its VM is closed, behind the known entries, or has failed for such a reason.
+pub record BehindEnd (m : Meaning) (version : Version) (options : VMOptions) (all : Heard) (said : Said) (answers : List Answer) (vm : View) : Type 0 where
+  pub phase : vm.machine.failure ≡ None → vm.machine.phase ≡ Closed
+  pub place : vm.machine.failure ≡ None → Began (frames_fed all) (λ n known. known ≤ n)
+  pub made_for : vm.machine.failure ≡ None → (vm.machine.version ≡ version) × (vm.machine.options ≡ options)
+  pub tail : vm.machine.failure ≡ None → (frames_of (bytes_fed all)).1 ≡ Rest vm.undecoded
+  pub blame : (e : Error) → vm.machine.failure ≡ Some e → Blame m version options all said answers e
+
+-- no piece comes behind the end before it is there
+abbrev pub LateBy : Option Progress → Meaning → Version → VMOptions → Record → Type 0
+LateBy None m version options r = r.late ≡ []
+LateBy (Some made) m version options r = BehindEnd m version options (all_heard version r) (all_said r) r.answers r.vm
+
+-- the same of a record
+abbrev pub IsLate : Meaning → Version → VMOptions → Record → Type 0
+IsLate m version options r = LateBy r.over m version options r
+
+-- where a step answers an error
+abbrev pub IfError : Result Progress Error → (Error → Type 0) → Type 0
+IfError (Ok progress) P = Unit {0}
+IfError (Err e) P = P e
+
+-- ---- honest attempts
+
+-- Each frame has its place and is whole there, or acknowledges a result that the attempt has proposed, each once; no bytes are garbage,
+-- the known entries are a history of the handler, the premises hold, and each result of an invocation's id is one.
+pub record IsHonest (m : Meaning) (version : Version) (options : VMOptions) (fed : Heard) : Type 0 where
+  pub premises : Premises m version options fed
+  pub kinds : AreRightlyKinded m version options fed
+  pub frames : (before : List RawMessage) (raw : RawMessage) (behind : List RawMessage) (phase : Phase) (k : ℕ) → frames_fed fed ≡ before ++ raw ∷ behind → Place phase k before → is_acknowledgement raw ≡ false → frame_fault phase raw ≡ None
+  pub acknowledgements : (before : List RawMessage) (raw : RawMessage) (behind : List RawMessage) → frames_fed fed ≡ before ++ raw ∷ behind → is_acknowledgement raw ≡ true → read_fault (kept_after fed.proposed (behind_first before)) (acknowledgement_in raw.body) ≡ None
+  pub whole : (frames_of (bytes_fed fed)).1 ≢ Garbage
+  pub history : (first : RawMessage) (entries others : List RawMessage) (st : Start) → frames_fed fed ≡ first ∷ (entries ++ others) → start_in first.body ≡ Some st → length entries ≡ st.known_entries → (base : StateMap) × History (setup_for version options st) m base (as_entries entries)
+
+-- The call was refused for a reason of its own at the point to which the attempt's own run leads: an argument or version check, numbers that
+-- ran out, a state key that is no text. It isn't that the result of an invocation's id is none.
+pub record RefusedItself (m : Meaning) (version : Version) (options : VMOptions) (fed : Heard) (answers_so_far : List Answer) (e : Error) : Type 0 where
+  pub journal : Journal fed
+  pub written : List RawMessage
+  pub at : Point
+  pub moves : ℕ
+  pub made : Made (setup_for version options journal.start) m (Handed (handed_out journal)) moves (begun version options journal) written at
+  pub answers : at.answers ≡ answers_so_far
+  pub none_recorded : at.left ≡ []
+  pub why : NamedFault
+  pub reason : move_at (setup_for version options journal.start) m at ≡ Refuses why
+  pub expected : why ≢ fault.UnexpectedInvocationIdResult
+  pub related : Option RelatedCommand
+  pub error : e ≡ ruled_by version options (named_error why related)
+
+-- what an error of an honest attempt is
+abbrev pub IsOwnError : Meaning → Version → VMOptions → Heard → Said → List Answer → Error → Type 0
+IsOwnError m version options fed said answers e =
+    (e ≡ no_memory)
+    ⊎ (((said.closed ≡ true) × IsShort (frames_fed fed) × (e ≡ ruled_by version options (named_error fault.InputClosedWhileWaitingEntries None)))
+    ⊎ (RefusedItself m version options fed answers e ⊎ RefusedResult version options said.failed_by e))

@@ -1,0 +1,180 @@
+-- The journal that an attempt was fed, and the machine that it makes of it.
+use Rattle.std.specs.Prelude.{◌≡◌, ◌⊎◌, ℕ, zero, suc, ◌+◌, Bool, true, false, ◌&&◌, ◌==◌, nat_le, nat_lt, cond, length, List, [], ◌∷◌, ◌++◌, Option, Some, None, IsSome}
+use Rattle.std.specs.List.{AllByRecursion}
+use Rattle.std.proofs.Common.{Global}
+use Rattle.journal_attempt.specs.declared.commands.InputCommand.{InputCommand}
+use Rattle.journal_messages.specs.declared.message.RawMessage.{RawMessage}
+use Rattle.journal_values.specs.declared.notification.Notification.{Notification}
+use Rattle.journal_attempt.specs.declared.start.Start.{Start}
+use Rattle.journal_errors.specs.declared.types.MessageType.TheVariants as type
+use Rattle.journal_errors.specs.declared.version.Version.{Version}
+use Rattle.journal_messages.specs.Reading.{notification_in, start_in}
+use Rattle.journal_errors.specs.Types.{type_number}
+use Rattle.vm_parts.specs.declared.context.StateMap.{StateMap}
+use Rattle.vm_types.specs.declared.options.VMOptions.{VMOptions}
+use Rattle.vm_types.specs.declared.values.Input.{Input}
+use Rattle.vm_parts.specs.Counting.{fresh_counters}
+use Rattle.vm_parts.specs.Deliveries.{no_results, none_ready}
+use Rattle.vm_parts.specs.Ephemerals.{no_ephemerals}
+use Rattle.vm_machine.specs.declared.machine.Machine.{Machine}
+use Rattle.vm_machine.specs.declared.phase.Phase.{Phase}
+use Rattle.vm_machine.specs.declared.phase.Phase.TheVariants.{WaitingReplayEntries, Replaying}
+use Rattle.vm_machine.specs.Inputs.{coverage_of, entries_in, info_of}
+use Rattle.vm_machine.specs.Outcomes.{Outcome, Done, Failed}
+use Rattle.vm_model.specs.Calls.{Setup, identity_of}
+use Rattle.vm_model.specs.Journal.{Entry, Recorded, Notified}
+use Rattle.vm_model.specs.Moves.{start, told_input}
+use Rattle.vm_attempt.specs.Agreement.{Agrees, Aside}
+
+-- the frame is one of a command
+abbrev pub is_command : RawMessage → Bool
+is_command raw = nat_le 10 (type_number raw.ty) && nat_lt (type_number raw.ty) 30
+
+-- the frame is one of a notification
+abbrev pub is_notification : RawMessage → Bool
+is_notification raw = type_number raw.ty == 30
+
+-- the frame is an acknowledgement of a proposal
+abbrev pub is_acknowledgement : RawMessage → Bool
+is_acknowledgement raw = type_number raw.ty == 6
+
+-- the frame brings the result of an ephemeral read
+abbrev pub is_ephemeral : RawMessage → Bool
+is_ephemeral raw = type_number raw.ty == 9
+
+-- the frame is no acknowledgement
+abbrev pub AcknowledgesNothing : RawMessage → Type 0
+AcknowledgesNothing raw = is_acknowledgement raw ≡ false
+
+-- the commands among some frames
+abbrev pub commands_among : List RawMessage → List RawMessage
+commands_among [] = []
+commands_among (raw ∷ raws) = cond (is_command raw) (raw ∷ commands_among raws) (commands_among raws)
+
+-- with the notification that was read, if there was one
+abbrev pub notified_by : Option Notification → List Notification → List Notification
+notified_by None ns = ns
+notified_by (Some n) ns = n ∷ ns
+
+-- the notifications among some frames; a body that spells none brings none
+abbrev pub notifications_among : List RawMessage → List Notification
+notifications_among [] = []
+notifications_among (raw ∷ raws) = cond (is_notification raw) (notified_by (notification_in raw.body) (notifications_among raws)) (notifications_among raws)
+
+-- a command's frame as an entry, before others
+abbrev pub recorded_by : Bool → RawMessage → List Entry → List Entry
+recorded_by true raw es = Recorded raw ∷ es
+recorded_by false raw es = es
+
+-- a notification as an entry, if there is one
+abbrev pub told_by : Option Notification → List Entry → List Entry
+told_by None es = es
+told_by (Some n) es = Notified n ∷ es
+
+-- frames as the entries of a journal; a notification's body that spells none is no entry
+abbrev pub as_entries : List RawMessage → List Entry
+as_entries [] = []
+as_entries (raw ∷ raws) = recorded_by (is_command raw) raw (cond (is_notification raw) (told_by (notification_in raw.body) (as_entries raws)) (as_entries raws))
+
+-- Before the handler has read its input: the commands and notifications that came behind Start, and nothing else.
+abbrev pub machine_fed : Setup → StateMap → Aside → List RawMessage → List Notification → Phase → Machine
+machine_fed s given aside cs ns phase = record {
+  alloc = aside.alloc;
+  version = s.version;
+  options = s.options;
+  phase = phase;
+  failure = None;
+  input_closed = aside.input_closed;
+  start = aside.start;
+  entries_missing = aside.entries_missing;
+  commands = cs;
+  counters = fresh_counters;
+  last_command = record { ty = type.Start; name = [] };
+  wrote_command = false;
+  results = record { queued = ns; ready = none_ready; handles = no_results.handles };
+  state = given;
+  runs = [];
+  proposals = [];
+  tracked = [];
+  ephemeral = no_ephemerals;
+  output = aside.output;
+  output_ended = false;
+}
+
+-- Where the first command is an input, the handler is told it, the machine agrees with the first point, nothing is written, and nothing
+-- was proposed; else the call is refused.
+abbrev pub BeginsOrFails : Setup → StateMap → Aside → List RawMessage → List Notification → Option InputCommand → Outcome Input → Type 0
+BeginsOrFails s given aside rest ns (Some c) (Done i w) = (i ≡ told_input s.identity c) × (Agrees s given [] w (start s c ns rest) × ((w.output ≡ aside.output) × (w.proposals ≡ [])))
+BeginsOrFails s given aside rest ns None (Failed e w) = Unit {0}
+BeginsOrFails s given aside rest ns (Some c) (Failed e w) = ⊥
+BeginsOrFails s given aside rest ns None (Done i w) = ⊥
+
+-- ---- the machine as its journal comes
+
+-- what stands aside while so many entries are missing
+abbrev pub missing : ℕ → Aside → Aside
+missing k aside = record aside { entries_missing = k }
+
+-- the phase while so many are missing
+abbrev pub phase_missing : ℕ → Phase
+phase_missing zero = Replaying
+phase_missing (suc k) = WaitingReplayEntries
+
+-- a machine to which so many entries are missing
+abbrev pub waiting : Setup → StateMap → Aside → ℕ → List RawMessage → List Notification → Machine
+waiting s given aside k cs ns = machine_fed s given (missing k aside) cs ns (phase_missing k)
+
+-- What frames make of a machine that waits: it has failed; or it waits for those that are missing; or the journal is the
+-- first of them, as many as were missing, and all their notifications are arrivals. No frame among them is an acknowledgement.
+pub record StillWaits (s : Setup) (given : StateMap) (aside : Aside) (k : ℕ) (cs : List RawMessage) (ns : List Notification) (raws : List RawMessage) (m : Machine) : Type 0 where
+  pub left : ℕ
+  pub count : k ≡ length raws + suc left
+  pub none_acknowledge : AllByRecursion AcknowledgesNothing raws
+  pub machine : m ≡ waiting s given aside (suc left) (cs ++ commands_among raws) (ns ++ notifications_among raws)
+
+-- the known entries have all come
+pub record HasAll (s : Setup) (given : StateMap) (aside : Aside) (k : ℕ) (cs : List RawMessage) (ns : List Notification) (raws : List RawMessage) (m : Machine) : Type 0 where
+  pub entries : List RawMessage
+  pub others : List RawMessage
+  pub split : raws ≡ entries ++ others
+  pub none_acknowledge : AllByRecursion AcknowledgesNothing raws
+  pub count : length entries ≡ k
+  pub machine : m ≡ waiting s given aside 0 (cs ++ commands_among entries) (ns ++ notifications_among raws)
+
+-- what frames make of a machine that waits
+abbrev pub TakenIn : Setup → StateMap → Aside → ℕ → List RawMessage → List Notification → List RawMessage → Machine → Type 0
+TakenIn s given aside k cs ns raws m = IsSome m.failure ⊎ (StillWaits s given aside k cs ns raws m ⊎ HasAll s given aside k cs ns raws m)
+
+-- ---- from Start on
+
+-- the setup of an attempt with this Start
+abbrev pub setup_for : Version → VMOptions → Start → Setup
+setup_for version options st = record { version = version; options = options; identity = identity_of (info_of version options.fallback_random_seed st) }
+
+-- what stands aside in an attempt with this Start
+abbrev pub aside_for : Global → Version → VMOptions → Start → Aside
+aside_for alloc version options st = record { alloc = alloc; start = info_of version options.fallback_random_seed st; input_closed = false; entries_missing = 0; beside = record { last = record { ty = type.Start; name = [] }; runs = [] }; proposals = []; output = [] }
+
+-- the first frame was a Start: its state is kept, and the machine waits for as many entries as it tells
+pub record HasStarted (alloc : Global) (version : Version) (options : VMOptions) (raw : RawMessage) (m : Machine) : Type 0 where
+  pub start : Start
+  pub entries : List (List ℕ × Option (List ℕ))
+  pub reads : start_in raw.body ≡ Some start
+  pub keys : entries_in start.state ≡ Some entries
+  pub machine : m ≡ waiting (setup_for version options start) (record { entries = entries; coverage = coverage_of start.partial }) (aside_for alloc version options start) start.known_entries [] []
+
+-- the first frame came
+abbrev pub StartCame : Global → Version → VMOptions → RawMessage → Machine → Type 0
+StartCame alloc version options raw m = IsSome m.failure ⊎ HasStarted alloc version options raw m
+
+-- the first frame was a Start, and the others were fed
+pub record StartedWith (alloc : Global) (version : Version) (options : VMOptions) (first : RawMessage) (raws : List RawMessage) (m : Machine) : Type 0 where
+  pub start : Start
+  pub entries : List (List ℕ × Option (List ℕ))
+  pub reads : start_in first.body ≡ Some start
+  pub keys : entries_in start.state ≡ Some entries
+  pub fed : TakenIn (setup_for version options start) (record { entries = entries; coverage = coverage_of start.partial }) (aside_for alloc version options start) start.known_entries [] [] raws m
+
+-- what frames make of a new machine
+abbrev pub Started : Global → Version → VMOptions → RawMessage → List RawMessage → Machine → Type 0
+Started alloc version options first raws m = IsSome m.failure ⊎ StartedWith alloc version options first raws m

@@ -1,0 +1,227 @@
+//! One attempt of a handler: bytes in, steps, bytes out. Its answers are told by its journal at all times.
+ghost use Rattle.std.specs.Prelude.{codes};
+
+use bytes::Bytes;
+use invocation_vm::{CoreVM, HeaderMap, NotificationHandle, VM, VMOptions, VMResult, Version};
+use retries::RetryPolicy;
+use runs::RunExitResult;
+use std::alloc::{AllocError, Global};
+use std::marker::Model;
+use vm_parts::Answer;
+use vm_steps::{Handler, Inner, Progress};
+
+/// An attempt of a handler over the VM. It keeps a record: each piece of input until the VM failed or closed, those that
+/// came to a closed VM behind them, whether the input was closed, the run whose result failed the VM, the answers, and all output, from
+/// which what was proposed is read.
+pub struct Attempt<H: Handler> {
+    version: Version,
+    options: VMOptions,
+    inner: Inner<H>,
+}
+
+/// Written out, so that who lets an attempt go calls this: a derived drop is proved once more in each crate above.
+impl<H: Handler + Drop> Drop for Attempt<H> {
+    fn drop(self) {
+        let Self {
+            version: _,
+            options: _,
+            inner,
+        } = self;
+        drop(inner);
+    }
+}
+
+impl<H: Handler> Model for Attempt<H> {
+    ghost use Rattle.vm_steps.specs.Record.{AttemptView};
+    ghost use Rattle.vm_steps.specs.Inside.{the_record};
+    ghost use Rattle.vm_attempt.specs.Blames.{IsBlamed, IsLate};
+    ghost use Rattle.vm_attempt.specs.Told.{HasCome, IsKeptInReplay, IsKeptUnder, StillSleeps};
+    ghost use Rattle.vm_parts.specs.Outboxes.{WholeFrames};
+    ghost use Rattle.await_trees.specs.contracts.tree.UnresolvedFuture as future;
+    ghost use Rattle.std.specs.Coded.{codes};
+
+    ghost Value = { AttemptView H };
+
+    ghost coded = { Prim.hlevel (codes, future.the_row.coded) };
+
+    ghost view = { λ a. record { handler = a.inner.handler; version = a.version; options = a.options; record_of = the_record a.inner } };
+
+    ghost invariant = { λ a. HasCome a.version a.options (the_record a.inner) × IsBlamed (H.meaning a.inner.handler) a.version a.options (the_record a.inner) × IsKeptUnder (H.meaning a.inner.handler) a.version a.options (the_record a.inner) × IsLate (H.meaning a.inner.handler) a.version a.options (the_record a.inner) × StillSleeps (H.meaning a.inner.handler) a.version a.options (the_record a.inner) × WholeFrames (the_record a.inner).vm.machine.output × IsKeptInReplay (H.meaning a.inner.handler) a.version a.options (the_record a.inner) };
+}
+
+impl<H: Handler> Attempt<H> {
+    ghost use Rattle.std.specs.Prelude.{◌≡◌, ◌⊎◌, [], IfErr, None};
+    ghost use Rattle.invocation_vm.specs.Making.{version_in};
+    ghost use Rattle.vm_parts.specs.Outboxes.{WholeStream};
+    ghost use Rattle.vm_steps.specs.Stepping.{MakesAttempt, StepDoes, FeedDoes, FinishDoes, CloseDoes, IfWaits, IsReplaying, Takes, output_len};
+    ghost use Rattle.vm_attempt.specs.Attempts.{AnswersAsTold, CarriesNewIds, HasCause, IsHonestlyFed, IsItsOwn, IsWellFed, IsWellFedInReplay, StepReplays, WaitsRightly, fixed_of};
+    ghost use Rattle.vm_attempt.specs.Blames.{IfError};
+    ghost use Rattle.vm_steps.specs.Heard.{proposals_in};
+    ghost use Rattle.vm_steps.specs.Record.{bytes_written};
+    ghost use Rattle.vm_attempt.specs.Told.{HasCome, written_by};
+
+    /// An attempt for the version that the header `content-type` names; the VM's refusals are its own.
+    pub fn new<M: HeaderMap>(
+        alloc: Global,
+        headers: M,
+        options: VMOptions,
+        handler: H,
+    ) -> VMResult<Self>
+    where
+        H: Drop,
+        ensures { MakesAttempt alloc options handler (version_in (M.found headers (codes "content-type"))) result }
+    {
+        match CoreVM::new(alloc, headers, options) {
+            Ok(vm) => Ok(Attempt {
+                version: vm.version(),
+                options,
+                inner: Inner::new(alloc, vm, handler),
+            }),
+            Err(error) => Err(error),
+        }
+    }
+
+    /// The next bytes of the attempt, cut anywhere. After the attempt's own want of memory it does nothing.
+    pub fn feed(&mut self, piece: Bytes) -> Result<(), AllocError>
+        ensures does { FeedDoes self.old.record_of.starved piece
+            self.old.record_of result self.new.record_of }
+        ensures handler { self.new.handler ≡ self.old.handler }
+        ensures made_for { (self.new.version ≡ self.old.version)
+            × (self.new.options ≡ self.old.options) }
+    {
+        let fed = self.inner.feed(piece);
+        // What waits now is whole frames, from which the record reads what was proposed.
+        let _ = self.inner.output_len();
+        fed
+    }
+
+    /// No more bytes come. After the attempt's own want of memory it does nothing.
+    pub fn close(&mut self) -> Result<(), AllocError>
+        ensures does { CloseDoes self.old.record_of.starved
+            self.old.record_of result self.new.record_of }
+        ensures handler { self.new.handler ≡ self.old.handler }
+        ensures made_for { (self.new.version ≡ self.old.version)
+            × (self.new.options ≡ self.old.options) }
+    {
+        let closed = self.inner.close();
+        // What waits now is whole frames, from which the record reads what was proposed.
+        let _ = self.inner.output_len();
+        closed
+    }
+
+    /// Asks the handler, and the VM, for one answer more.
+    pub fn step(&mut self) -> VMResult<Progress>
+        ensures does { StepDoes (H.meaning self.old.handler)
+            self.old.record_of result self.new.record_of }
+        // Under the premises it waits or is suspended only where no number of the arrivals wakes the handler's await.
+        ensures waits { IsWellFed
+            (fixed_of (H.meaning self.old.handler) self.old) self.old.record_of
+            → IfWaits result (WaitsRightly
+            (fixed_of (H.meaning self.old.handler) self.old) self.new.record_of) }
+        // While recorded commands are left, the handler's next call is answered, or it is refused where the journal tells no more. This asks
+        // nothing of what comes once none is left.
+        ensures replays { IsReplaying self.old.record_of
+            → IsWellFedInReplay (fixed_of (H.meaning self.old.handler) self.old) self.old.record_of
+            → StepReplays (fixed_of (H.meaning self.old.handler) self.old)
+            self.old.record_of result self.new.record_of }
+        // An error is want of memory, a frame or bytes that were refused, input closed too early, a journal without input, a call that was
+        // refused, or a run's result that failed the VM.
+        ensures blamed { IfError result (HasCause
+            (fixed_of (H.meaning self.old.handler) self.old) self.new.record_of) }
+        // Where the bytes are an honest attempt's over a history of the handler, an error is only want of memory, input that was closed
+        // too early, a call's own refusal, where no recorded command is left, or that of a run's result that failed the VM.
+        ensures honest { IsHonestlyFed
+            (fixed_of (H.meaning self.old.handler) self.old) self.new.record_of
+            → IfError result (IsItsOwn
+            (fixed_of (H.meaning self.old.handler) self.old) self.new.record_of) }
+        // Where the options disable replay, the completion ids of the commands that it has written are greater than all that the commands of its
+        // journal carry.
+        ensures fresh { CarriesNewIds
+            (fixed_of (H.meaning self.old.handler) self.old) self.new.record_of }
+        ensures handler { self.new.handler ≡ self.old.handler }
+        ensures made_for { (self.new.version ≡ self.old.version)
+            × (self.new.options ≡ self.old.options) }
+    {
+        let progress = self.inner.step();
+        // What waits now is whole frames, from which the clauses read the commands.
+        let _ = self.inner.output_len();
+        progress
+    }
+
+    /// What executing the run of this handle came to, outside the attempt. The VM proposes it, or fails, so that the run is tried again
+    /// or the invocation paused; outside the handler's own calls it is ignored. After the attempt's own want of memory, that.
+    pub fn run_result(
+        &mut self,
+        handle: NotificationHandle,
+        exit: RunExitResult,
+        policy: RetryPolicy,
+    ) -> VMResult<()>
+        ensures does { FinishDoes self.old.record_of.starved handle exit policy
+            self.old.record_of result self.new.record_of }
+        // An error is want of memory, the VM's first error, or that of this result, which is refused, or by which the run is tried again or
+        // the invocation paused.
+        ensures blamed { IfErr result (HasCause
+            (fixed_of (H.meaning self.old.handler) self.old) self.new.record_of) }
+        ensures honest { IsHonestlyFed
+            (fixed_of (H.meaning self.old.handler) self.old) self.new.record_of
+            → IfErr result (IsItsOwn
+            (fixed_of (H.meaning self.old.handler) self.old) self.new.record_of) }
+        ensures handler { self.new.handler ≡ self.old.handler }
+        ensures made_for { (self.new.version ≡ self.old.version)
+            × (self.new.options ≡ self.old.options) }
+    {
+        let told = self.inner.run_result(handle, exit, policy);
+        // What waits now is whole frames, from which the record reads what was proposed.
+        let _ = self.inner.output_len();
+        told
+    }
+
+    /// Takes all bytes that wait to be sent, whole frames in order; where there is no memory nothing is changed.
+    pub fn take_output(&mut self) -> Result<Bytes, AllocError>
+        ensures does { Takes self.old.record_of result self.new.record_of }
+        ensures handler { self.new.handler ≡ self.old.handler }
+        ensures made_for { (self.new.version ≡ self.old.version)
+            × (self.new.options ≡ self.old.options) }
+    {
+        let taken = self.inner.take_output();
+        // What waits now is whole frames, from which the record reads what was proposed.
+        let _ = self.inner.output_len();
+        taken
+    }
+
+    /// The answers so far; the first is the input. They are those of a point that the attempt's journal tells.
+    pub fn answers(&self) -> &[Answer]
+        ensures answers { result.now ≡ self.now.record_of.answers }
+        // Before the input nothing is answered.
+        ensures came { HasCome self.now.version self.now.options self.now.record_of }
+        ensures begins { self.now.record_of.answers ≡ [] → written_by self.now.record_of ≡ [] }
+        // Under the premises the journal, which is what was fed, followed by the commands that were written, tells them; no command is
+        // written while recorded ones are left.
+        ensures told { IsWellFed
+            (fixed_of (H.meaning self.now.handler) self.now) self.now.record_of
+            → (self.now.record_of.answers ≡ []) ⊎ AnswersAsTold
+            (fixed_of (H.meaning self.now.handler) self.now) self.now.record_of }
+        // The same while recorded commands are left, whatever comes once none is left.
+        ensures replayed { IsReplaying self.now.record_of
+            → IsWellFedInReplay (fixed_of (H.meaning self.now.handler) self.now) self.now.record_of
+            → AnswersAsTold (fixed_of (H.meaning self.now.handler) self.now) self.now.record_of }
+        ensures fresh { CarriesNewIds
+            (fixed_of (H.meaning self.now.handler) self.now) self.now.record_of }
+    {
+        // What waits now is whole frames, from which the clauses read the commands.
+        let _ = self.inner.output_len();
+        self.inner.answers.as_slice()
+    }
+
+    /// How many bytes the attempt has written, taken or not, as far as a `usize` goes.
+    pub fn output_len(&self) -> usize
+        ensures len { result ≡ output_len self.now.record_of }
+        // Each frame that was written is whole: commands, proposals, errors, a suspension and the end.
+        ensures whole { WholeStream (bytes_written self.now.record_of) }
+        // The record's proposals are those among these frames.
+        ensures proposed { self.now.record_of.proposed
+            ≡ proposals_in (bytes_written self.now.record_of) }
+    {
+        self.inner.output_len()
+    }
+}

@@ -1,0 +1,132 @@
+//! What an attempt's machine and a handler's run have to do with each other.
+ghost use Rattle.std.specs.Prelude.{◌≡◌, ◌⊎◌, ◌∷◌, ◌++◌, [], IsSome, List, None};
+ghost use Rattle.journal_messages.specs.declared.message.RawMessage.{RawMessage};
+ghost use Rattle.journal_values.specs.declared.notification.Notification.{Notification};
+ghost use Rattle.vm_machine.specs.declared.machine.Machine.{Machine};
+ghost use Rattle.vm_machine.specs.declared.phase.Phase.TheVariants.{Replaying};
+ghost use Rattle.vm_machine.specs.Inputs.{input_step};
+ghost use Rattle.vm_machine.specs.Making.{fresh};
+ghost use Rattle.vm_machine.specs.Outcomes.{Outcome};
+ghost use Rattle.invocation_vm.specs.Making.{made};
+ghost use Rattle.std.proofs.Common.{Global};
+ghost use Rattle.journal_errors.specs.declared.version.Version.{Version};
+ghost use Rattle.vm_types.specs.declared.options.VMOptions.{VMOptions};
+ghost use Rattle.invocation_vm.specs.Views.{all_received};
+ghost use Rattle.vm_model.specs.Calls.{Setup, Meaning, identity_of};
+ghost use Rattle.vm_model.specs.Deliveries.{HasNoTwo};
+ghost use Rattle.vm_model.specs.Histories.{History, IsAwaiting};
+ghost use Rattle.vm_types.specs.declared.options.JournalReplay.TheVariants.{Enabled};
+ghost use Rattle.vm_types.specs.declared.options.SignalDelivery.TheVariants.{Queued};
+ghost use Rattle.vm_model.specs.Journal.{input_read_from};
+ghost use Rattle.vm_model.specs.Moves.{Point, later};
+ghost use Rattle.vm_parts.specs.declared.context.StateMap.{StateMap};
+ghost use Rattle.vm_parts.specs.Outboxes.{WholeFrames};
+ghost use Rattle.vm_attempt.specs.Agreement.{Agrees, Aside, Follows};
+ghost use Rattle.vm_attempt.specs.Courses.{Leads};
+ghost use Rattle.vm_attempt.specs.Blames.{Blame, FailsAt, IsHonest, IsOwnError};
+ghost use Rattle.vm_attempt.specs.Honest.{FeedsHonestly};
+ghost use Rattle.vm_attempt.specs.Arrivals.{arriving, kept_after};
+ghost use Rattle.vm_attempt.specs.Journals.{BeginsOrFails, Started, as_entries, machine_fed, setup_for};
+ghost use Rattle.vm_steps.specs.Steps.{IfDone, Performs, ReadsBack};
+ghost use Rattle.vm_attempt.specs.Told.{AnswersAreTold, HasCome, IsKeptUnder, Premises, RefusesReplay};
+ghost use Rattle.vm_steps.specs.declared.progress.Progress.{Progress};
+ghost use Rattle.vm_steps.specs.declared.progress.Progress.TheVariants.{ExecuteRun};
+ghost use Rattle.vm_steps.specs.declared.progress.Reply.{Reply};
+ghost use Rattle.std.specs.Prelude.{Result, Ok};
+ghost use Rattle.journal_errors.specs.declared.error.Error.{Error};
+ghost use Rattle.std.specs.declared.alloc.AllocError.{AllocError};
+ghost use Rattle.await_trees.specs.declared.handle.NotificationHandle.{NotificationHandle};
+ghost use Rattle.retries.specs.declared.policy.RetryPolicy.{RetryPolicy};
+ghost use Rattle.runs.specs.declared.types.RunExitResult.{RunExitResult};
+ghost use Rattle.vm_steps.specs.Stepping.{CloseDoes, FeedDoes, FinishDoes, StepDoes, Takes, fresh_record};
+ghost use Rattle.vm_steps.specs.Heard.{Heard};
+ghost use Rattle.vm_steps.specs.Record.{Record, Said, heard};
+ghost use Rattle.invocation_vm.specs.Views.{View, after_input};
+ghost use Rattle.std.specs.Prelude.{ℕ, Option};
+ghost use Rattle.vm_types.specs.declared.steps.Answer.{Answer};
+ghost use Rattle.await_trees.specs.declared.tree.UnresolvedFuture.{UnresolvedFuture};
+
+/// In a machine that agrees with a point of the handler's run, the handler's call does what the moves from there lead to:
+/// it is answered as they are, writes the commands that they make and no others, and agrees with the point where they lead;
+/// or an await waits, where no arrival and no recorded command is left, and asks for one more arrival; or the handler
+/// ends, where no recorded command is left; or the call is refused, where no move leads on. A cancelled await or a call with several
+/// commands that is refused, or finds no memory, has made a beginning of its commands, each whole. Of an await this is said where signals
+/// queue and no completion has two results, and of a call with several commands where none of them is made. (That a command which was written can be read back is in the contract of each call.)
+pub fn calls_follow()
+    ensures { (s : Setup) (m : Meaning) (given : StateMap) (written : List RawMessage) (v : Machine) (p : Point) (o : Outcome Reply) → ((future : UnresolvedFuture) → IsAwaiting m p future → (s.options.signal_delivery ≡ Queued) × HasNoTwo p) → p.derived.parts ≡ 0 → Agrees s given written v p → Performs (m p.answers) v o → IfDone o (ReadsBack (m p.answers) v) → Follows s m given written p v o }
+{}
+
+/// Frames that come to a machine that agrees with a point are arrivals: a notification as it is, and an acknowledgement as the completion
+/// of its run, with the result that was proposed, once. The machine then agrees with that point and these arrivals behind its own, and keeps
+/// the proposals that weren't acknowledged; or it has failed, by the first frame that is refused in the phase in which it comes.
+pub fn frames_arrive()
+    ensures { (s : Setup) (given : StateMap) (written : List RawMessage) (v : Machine) (p : Point) (raws : List RawMessage) → Agrees s given written v p → (Agrees s given written (all_received raws v) (later (arriving v.proposals raws) p) × ((all_received raws v).proposals ≡ kept_after v.proposals raws)) ⊎ FailsAt raws v (all_received raws v) }
+{}
+
+/// A machine that has the whole journal, whose commands are replayed, reads its input: where the first command is one, the handler is told
+/// it, and the machine agrees with the first point of the handler's run; else the call is refused.
+pub fn attempts_begin()
+    ensures { (s : Setup) (given : StateMap) (aside : Aside) (first : RawMessage) (rest : List RawMessage) (ns : List Notification) → s.options.journal_replay ≡ Enabled → s.identity ≡ identity_of aside.start → BeginsOrFails s given aside rest ns (input_read_from first) (input_step (machine_fed s given aside (first ∷ rest) ns Replaying)) }
+{}
+
+/// Frames that come to a new machine: it has failed; or the first is a Start, and the machine waits for as many of the known
+/// entries as are missing; or the known entries are the journal, and all notifications that came are arrivals. It fails only by
+/// a frame that is refused in the phase in which it comes: it doesn't decode, its type isn't allowed there, or Start is refused.
+pub fn journals_come()
+    ensures fails { (raws : List RawMessage) (v : Machine) → v.failure ≡ None → IsSome (all_received raws v).failure → FailsAt raws v (all_received raws v) }
+    ensures comes { (alloc : Global) (version : Version) (options : VMOptions) (first : RawMessage) (raws : List RawMessage) → Started alloc version options first raws (all_received (first ∷ raws) (fresh alloc version options)) }
+{}
+
+/// What each call of an attempt keeps, whatever the options are and whatever comes: before the input nothing was answered and no
+/// command written; then each command that was written can be read back.
+pub fn attempts_write()
+    ensures made { (alloc : Global) (version : Version) (options : VMOptions) → HasCome version options (fresh_record (made alloc options version)) }
+    ensures fed { (version : Version) (options : VMOptions) (piece : List ℕ) (old : Record) (result : Result Unit AllocError) (new : Record) → HasCome version options old → FeedDoes old.starved piece old result new → HasCome version options new }
+    ensures closed { (version : Version) (options : VMOptions) (old : Record) (result : Result Unit AllocError) (new : Record) → HasCome version options old → CloseDoes old.starved old result new → HasCome version options new }
+    ensures taken { (version : Version) (options : VMOptions) (old : Record) (result : Result (List ℕ) AllocError) (new : Record) → HasCome version options old → Takes old result new → HasCome version options new }
+    ensures stepped { (m : Meaning) (version : Version) (options : VMOptions) (old : Record) (result : Result Progress Error) (new : Record) → HasCome version options old → StepDoes m old result new → HasCome version options new }
+    ensures told { (version : Version) (options : VMOptions) (handle : NotificationHandle) (exit : RunExitResult) (policy : RetryPolicy) (old : Record) (result : Result Unit Error) (new : Record) → HasCome version options old → FinishDoes old.starved handle exit policy old result new → HasCome version options new }
+{}
+
+/// What each call of an attempt keeps under the premises: recorded commands are replayed, signals queue, and no completion has two
+/// results. So many moves of the handler's run lead to its answers and made what was written, and the machine
+/// agrees with that point as long as it can make calls.
+pub fn attempts_keep()
+    ensures made { (m : Meaning) (alloc : Global) (version : Version) (options : VMOptions) → IsKeptUnder m version options (fresh_record (made alloc options version)) }
+    ensures fed { (m : Meaning) (version : Version) (options : VMOptions) (piece : List ℕ) (old : Record) (result : Result Unit AllocError) (new : Record) → IsKeptUnder m version options old → FeedDoes old.starved piece old result new → IsKeptUnder m version options new }
+    ensures closed { (m : Meaning) (version : Version) (options : VMOptions) (old : Record) (result : Result Unit AllocError) (new : Record) → IsKeptUnder m version options old → CloseDoes old.starved old result new → IsKeptUnder m version options new }
+    ensures taken { (m : Meaning) (version : Version) (options : VMOptions) (old : Record) (result : Result (List ℕ) AllocError) (new : Record) → IsKeptUnder m version options old → Takes old result new → IsKeptUnder m version options new }
+    ensures stepped { (m : Meaning) (version : Version) (options : VMOptions) (old : Record) (result : Result Progress Error) (new : Record) → IsKeptUnder m version options old → StepDoes m old result new → IsKeptUnder m version options new }
+    ensures told { (m : Meaning) (version : Version) (options : VMOptions) (handle : NotificationHandle) (exit : RunExitResult) (policy : RetryPolicy) (old : Record) (result : Result Unit Error) (new : Record) → HasCome version options old → IsKeptUnder m version options old → FinishDoes old.starved handle exit policy old result new → IsKeptUnder m version options new }
+{}
+
+/// Where the known entries are a history of the handler, no call is refused while recorded commands are left: no mismatch, no
+/// pending await, no end before its time.
+pub fn histories_are_replayed()
+    ensures { (m : Meaning) (version : Version) (options : VMOptions) (fed : Heard) (answers : List Answer) (e : Error) (old new : Machine) (refusal : RefusesReplay m version options fed answers e old new) (recorded : RawMessage) (further : List RawMessage) → refusal.at.left ≡ recorded ∷ further → (base : StateMap) → History (setup_for version options refusal.journal.start) m base (as_entries refusal.journal.entries) → ⊥ }
+{}
+
+/// Under the premises the answers of an attempt are those of a point that its journal tells, followed by what it wrote, with the arrivals that it
+/// was fed; while recorded commands are left, it has written none.
+pub fn answers_are_told()
+    ensures { (m : Meaning) (version : Version) (options : VMOptions) (r : Record) → IsKeptUnder m version options r → WholeFrames r.vm.machine.output → Premises m version options (heard version r) → (r.answers ≡ []) ⊎ AnswersAreTold m version options r }
+{}
+
+/// Where the known entries are a history of the handler and each frame has its place, an error is only: want of memory; input that
+/// was closed while known entries were missing; or, where no recorded command is left, a call's own refusal, for an argument or
+/// version check, a kind of number that ran out, or a state key that is no text; or that of a run's result that failed the VM.
+pub fn honest_attempts_fail_by_themselves()
+    ensures { (m : Meaning) (version : Version) (options : VMOptions) (fed : Heard) (said : Said) (answers : List Answer) (e : Error) → IsHonest m version options fed → Blame m version options fed said answers e → IsOwnError m version options fed said answers e }
+{}
+
+/// Bytes that are a beginning of Start, of the whole journal, which is a history of the handler, and of notifications behind it are
+/// an honest attempt's: each of its frames has its place.
+pub fn honest_bytes_are_honest()
+    ensures { (m : Meaning) (version : Version) (options : VMOptions) (fed : Heard) → FeedsHonestly m version options fed → IsHonest m version options fed }
+{}
+
+/// A run is handed out to be executed once at most: whatever calls are made of an attempt, from its first on, and whatever they answer, no
+/// two of its steps answer `ExecuteRun` with the same handle.
+pub fn runs_are_executed_once()
+    ensures { (m : Meaning) (alloc : Global) (version : Version) (options : VMOptions) (handle : NotificationHandle) (before between : ℕ) (a b c d : Record) → Leads m before (fresh_record (made alloc options version)) a → StepDoes m a (Ok (ExecuteRun handle)) b → Leads m between b c → StepDoes m c (Ok (ExecuteRun handle)) d → ⊥ }
+{}

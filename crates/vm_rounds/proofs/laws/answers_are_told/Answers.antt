@@ -1,5 +1,0 @@
-use Rattle.vm_rounds.proofs.Advanced.{kept_told}
-use Rattle.vm_rounds.proofs.laws.answers_are_told.Goals as goal
-
-pub returns : goal.returns
-returns c = λ m version options r u f p. kept_told m version options r f (u p)

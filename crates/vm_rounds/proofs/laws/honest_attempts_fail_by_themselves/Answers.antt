@@ -1,5 +1,0 @@
-use Rattle.vm_rounds.proofs.Replayed.{honest_fails}
-use Rattle.vm_rounds.proofs.laws.honest_attempts_fail_by_themselves.Goals as goal
-
-pub returns : goal.returns
-returns c = honest_fails

@@ -1,5 +1,0 @@
-use Rattle.vm_rounds.proofs.Honest.{honestly_fed}
-use Rattle.vm_rounds.proofs.laws.honest_bytes_are_honest.Goals as goal
-
-pub returns : goal.returns
-returns c = honestly_fed

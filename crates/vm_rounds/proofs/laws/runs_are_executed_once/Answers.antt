@@ -1,5 +1,0 @@
-use Rattle.vm_rounds.proofs.Executing.{executed_once}
-use Rattle.vm_rounds.proofs.laws.runs_are_executed_once.Goals as goal
-
-pub returns : goal.returns
-returns c = executed_once
