@@ -2,8 +2,8 @@
 //! It ends without an output.
 
 use std::alloc::AllocError;
-use vm_parts::{Answer, NotificationHandle, Step, UnresolvedFuture};
 use vm_attempt::Handler;
+use vm_parts::{Answer, NotificationHandle, Step, UnresolvedFuture};
 
 /// Makes an awakeable, awaits it, takes its result and ends.
 #[derive(Drop)]

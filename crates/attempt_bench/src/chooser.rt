@@ -7,10 +7,10 @@ ghost use Rattle.attempt_bench.specs.Choosing.{bytes_of, bytes_taken};
 use crate::steps::{output, sleep};
 use bytes::Bytes;
 use std::alloc::{AllocError, Global};
+use vm_attempt::Handler;
 use vm_parts::{
     Answer, NonEmptyValue, NotificationHandle, PayloadOptions, Step, UnresolvedFuture, Value,
 };
-use vm_attempt::Handler;
 use wire::Text;
 
 /// Completes the awakeable "prom_1" with "v", makes an awakeable, awaits it and takes its result. Where that is a

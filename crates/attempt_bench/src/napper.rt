@@ -4,8 +4,8 @@
 use crate::steps::{output, sleep};
 use bytes::Bytes;
 use std::alloc::{AllocError, Global};
-use vm_parts::{Answer, NotificationHandle, Step, UnresolvedFuture};
 use vm_attempt::Handler;
+use vm_parts::{Answer, NotificationHandle, Step, UnresolvedFuture};
 
 /// Sleeps to 1000 ms, awaits the sleep, asks whether it is over, takes its result, writes an empty output and ends.
 #[derive(Drop)]

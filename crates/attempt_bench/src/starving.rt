@@ -2,8 +2,8 @@
 //! Its meaning is that of another, which it asks as long as it finds some.
 
 use std::alloc::AllocError;
-use vm_parts::{Answer, Step};
 use vm_attempt::Handler;
+use vm_parts::{Answer, Step};
 
 /// The other handler, which finds no memory for the step after so many answers.
 #[derive(Drop)]

@@ -6,8 +6,8 @@ use invocation_vm::{AwaitingOnPolicy, VMOptions, VMResult, Value};
 use std::alloc::Global;
 use std::test::Fail;
 use vectors::headers::Headers;
-use vm_parts::Answer;
 use vm_attempt::{Attempt, Handler, Progress};
+use vm_parts::Answer;
 
 /// An answer, as a row tells it.
 #[derive(Clone, Copy, Debug)]

@@ -10,8 +10,8 @@ use crate::calls::{both, call_until};
 use bytes::Bytes;
 use std::alloc::{AllocError, Global};
 use std::time::Duration;
-use vm_parts::{Answer, NonEmptyValue, NotificationHandle, PayloadOptions, Step, UnresolvedFuture};
 use vm_attempt::Handler;
+use vm_parts::{Answer, NonEmptyValue, NotificationHandle, PayloadOptions, Step, UnresolvedFuture};
 
 /// Calls with a deadline, awaits the first of result and deadline and takes it, writes what the call gave, or "timeout", and ends.
 #[derive(Debug, Drop)]

@@ -3,8 +3,8 @@ use crate::answers::{call_handle_at, cancelled_output, is_cancelled_at};
 use crate::calls::{both, call};
 use bytes::Bytes;
 use std::alloc::{AllocError, Global};
-use vm_parts::{Answer, NonEmptyValue, PayloadOptions, Step, UnresolvedFuture};
 use vm_attempt::Handler;
+use vm_parts::{Answer, NonEmptyValue, PayloadOptions, Step, UnresolvedFuture};
 
 /// Calls two handlers, awaits both results and takes them, writes "done" and ends.
 #[derive(Debug, Drop)]

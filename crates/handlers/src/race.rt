@@ -10,8 +10,8 @@ use crate::calls::{both, call};
 use bytes::Bytes;
 use std::alloc::{AllocError, Global};
 use std::time::Duration;
-use vm_parts::{Answer, NonEmptyValue, NotificationHandle, PayloadOptions, Step, UnresolvedFuture};
 use vm_attempt::Handler;
+use vm_parts::{Answer, NonEmptyValue, NotificationHandle, PayloadOptions, Step, UnresolvedFuture};
 use wire::Text;
 
 /// Sleeps, calls, awaits the first of both and takes its result, writes what the call gave, or "timeout", and ends.

@@ -3,8 +3,8 @@ use crate::answers::{cancelled_output, handle_at, is_cancelled_at};
 use bytes::Bytes;
 use std::alloc::{AllocError, Global};
 use std::time::Duration;
-use vm_parts::{Answer, NonEmptyValue, PayloadOptions, Step, UnresolvedFuture};
 use vm_attempt::Handler;
+use vm_parts::{Answer, NonEmptyValue, PayloadOptions, Step, UnresolvedFuture};
 use wire::Text;
 
 /// Sleeps, awaits the sleep, takes its result, writes an empty output and ends.

@@ -5,7 +5,7 @@ use invocation_vm::{VMOptions, Version};
 use std::alloc::{AllocError, Global};
 use std::test::Fail;
 use vm_attempt::Handler;
-pub use vm_world::{Event, Identity, Report, Round, RoundFault, World, run_rounds};
+pub use vm_rounds::{Event, Identity, Report, Round, RoundFault, World, run_rounds};
 use wire::{Items, Text};
 
 fn fail(fault: RoundFault) -> Fail {

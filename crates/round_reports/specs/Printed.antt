@@ -7,8 +7,8 @@ use Rattle.journal_errors.specs.declared.error.Error.{Error}
 use Rattle.vm_types.specs.declared.steps.Answer.{Answer}
 use Rattle.vm_types.specs.declared.steps.Answer.TheVariants as answer
 use Rattle.replies.specs.Answers.{answer_text}
-use Rattle.vm_world.specs.Inside.{report_view}
-use Rattle.vm_world.specs.Rounds.{ReportView}
+use Rattle.vm_rounds.specs.Inside.{report_view}
+use Rattle.vm_rounds.specs.Rounds.{ReportView}
 use Rattle.vm_store.specs.declared.types.Report.{Report}
 use Rattle.vm_store.specs.declared.types.RoundFault.{RoundFault}
 use Rattle.vm_store.specs.declared.types.RoundFault.TheVariants as round_fault

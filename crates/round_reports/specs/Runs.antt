@@ -6,8 +6,8 @@ use Rattle.journal_messages.specs.Message.{encoding}
 use Rattle.journal_messages.specs.declared.message.Message.TheVariants as message
 use Rattle.journal_errors.specs.declared.version.Version.{Version}
 use Rattle.vm_model.specs.Calls.{Meaning}
-use Rattle.vm_world.specs.Inside.{report_view}
-use Rattle.vm_world.specs.Rounds.{RoundsDo, RoundsFault}
+use Rattle.vm_rounds.specs.Inside.{report_view}
+use Rattle.vm_rounds.specs.Rounds.{RoundsDo, RoundsFault}
 use Rattle.vm_store.specs.Given.{AreGiven, FirstGiven}
 use Rattle.vm_store.specs.Worlds.{pairs_given}
 use Rattle.vm_store.specs.declared.types.Report.{Report}

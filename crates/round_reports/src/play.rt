@@ -12,7 +12,7 @@ use round_scripts::given::Given;
 use round_scripts::script::{Script, Unread, script_of};
 use std::alloc::{AllocError, Global};
 use vm_attempt::Handler;
-use vm_world::{Round, RoundFault, World, run_rounds};
+use vm_rounds::{Round, RoundFault, World, run_rounds};
 
 /// The report of a script, and the fault that stopped its rounds, if there is one.
 #[derive(Drop)]

@@ -1,7 +1,7 @@
 //! The report: what each round tells, and the journal behind the last.
 ghost use Rattle.std.specs.Prelude.{◌≡◌, ◌++◌, IfOk, IfSome, OnOk};
 ghost use Rattle.journal_messages.specs.Message.{frame};
-ghost use Rattle.vm_world.specs.Inside.{report_view};
+ghost use Rattle.vm_rounds.specs.Inside.{report_view};
 ghost use Rattle.round_reports.specs.Printed.{Adds, AddsSome, AreRoundTexts, IsJournalText, IsReport, IsRoundText, answer_line, answer_lines, answer_value, answer_word, count_text, error_text, fault_name, fault_text};
 
 use bytes::Bytes;
@@ -13,7 +13,7 @@ use lines::line::Line;
 use replies::Shown;
 use std::alloc::{AllocError, Global};
 use vm_parts::Answer;
-use vm_world::{Report, RoundFault, World};
+use vm_rounds::{Report, RoundFault, World};
 use wire::Fault;
 
 /// The word by which an answer is called.

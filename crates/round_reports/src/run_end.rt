@@ -3,7 +3,7 @@ ghost use Rattle.std.specs.Prelude.{◌≡◌};
 ghost use Rattle.round_reports.specs.Statuses.{code_of};
 
 use std::io;
-use vm_world::RoundFault;
+use vm_rounds::RoundFault;
 
 /// How a run ends.
 #[derive(Debug, Drop)]

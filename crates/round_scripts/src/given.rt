@@ -13,7 +13,7 @@ use line_parts::options::{policies_of, seed_in};
 use lines::pieces::words_within;
 use std::alloc::{AllocError, Global};
 use vm_parts::VMOptions;
-use vm_world::Identity;
+use vm_rounds::Identity;
 use wire::{Fault, Text};
 
 /// What a world is made of, but for the version of its attempts.

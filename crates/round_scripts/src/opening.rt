@@ -9,7 +9,7 @@ use line_parts::arguments::without_flag;
 use line_parts::atoms::{duration_of, text_of, u32_of};
 use line_parts::fields::{are_named, field_of, text_behind};
 use std::alloc::Global;
-use vm_world::Round;
+use vm_rounds::Round;
 use wire::{Fault, Items, Text};
 
 /// `[key=T]..`, among other words.

@@ -15,7 +15,7 @@ use line_parts::results::{Proposal, proposal_of};
 use line_parts::words::bytes_in;
 use lines::pieces::words;
 use std::alloc::Global;
-use vm_world::Event;
+use vm_rounds::Event;
 use wire::Fault;
 
 /// A number, or the greatest one where it is `all`.

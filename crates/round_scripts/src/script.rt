@@ -11,7 +11,7 @@ use crate::script_line::ScriptLine;
 use bytes::Bytes;
 use scripts::run::first_line;
 use std::alloc::{AllocError, Global};
-use vm_world::{Event, Round};
+use vm_rounds::{Event, Round};
 use wire::Fault;
 
 /// What a whole script says.

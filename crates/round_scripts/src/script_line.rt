@@ -1,7 +1,7 @@
 //! What a line of a script of rounds says.
 use crate::given::Given;
 use bytes::Bytes;
-use vm_world::{Event, Round};
+use vm_rounds::{Event, Round};
 
 /// A line of a script, read as a whole.
 #[derive(Drop)]

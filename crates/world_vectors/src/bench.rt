@@ -5,7 +5,7 @@ use std::alloc::{AllocError, Global};
 use std::process::Abort;
 use std::test::Fail;
 use vm_attempt::Handler;
-use vm_world::{Event, Identity, Report, Round, World, run_rounds};
+use vm_rounds::{Event, Identity, Report, Round, World, run_rounds};
 use wire::{Items, Text};
 
 /// What happens in a round.

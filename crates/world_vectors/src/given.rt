@@ -5,7 +5,7 @@ use invocation_vm::{VMOptions, Version};
 use std::alloc::Global;
 use std::test::Fail;
 use vectors::frames::{COMPLETION_1, INPUT_TILL, SLEEP_TO_1000};
-use vm_world::{RoundFault, World};
+use vm_rounds::{RoundFault, World};
 
 /// The world of the invocation "abc" with these entries.
 fn given(alloc: Global, entries: Vec<Bytes>) -> Result<World, RoundFault> {

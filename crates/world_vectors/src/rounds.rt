@@ -7,7 +7,7 @@ use std::alloc::Global;
 use std::process::Abort;
 use std::test::Fail;
 use vectors::frames::{AWAITING_ON_1, COMPLETION_1, END, INPUT_TILL, OUTPUT_EMPTY, SLEEP_TO_1000};
-use vm_world::Report;
+use vm_rounds::Report;
 
 /// The report tells these answers, this output and this many entries, and no error.
 fn assert_report(

@@ -14,9 +14,9 @@ use std::alloc::{AllocError, Global};
 use std::process::Abort;
 use std::test::Fail;
 use vectors::frames::{COMPLETION_1, INPUT_TILL, OUTPUT_EMPTY, OUTPUT_X, SLEEP_TO_1000};
-use vm_parts::NotificationHandle;
 use vm_attempt::Handler;
-use vm_world::{Event, Round, World, run_rounds};
+use vm_parts::NotificationHandle;
+use vm_rounds::{Event, Round, World, run_rounds};
 use wire::{Items, Text};
 
 /// The count is 41, read under id 1.

@@ -1,6 +1,6 @@
 use Rattle.std.proofs.Common.{◌++◌, ◌∙◌, ap, codes}
 use Rattle.round_reports.specs.Printed.{answer_lines, count_text}
-use Rattle.vm_world.specs.Inside.{report_view}
+use Rattle.vm_rounds.specs.Inside.{report_view}
 use Rattle.round_reports.proofs.Printing.{round_printed}
 use Rattle.round_reports.proofs.report.print_round.Goals as goal
 

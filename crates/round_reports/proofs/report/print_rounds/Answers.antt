@@ -1,5 +1,5 @@
 use Rattle.std.proofs.Common.{◌≡◌, ◌+◌, ap, subst, arith}
-use Rattle.vm_world.specs.Inside.{report_view}
+use Rattle.vm_rounds.specs.Inside.{report_view}
 use Rattle.round_reports.specs.Printed.{IsRoundText}
 use Rattle.round_reports.proofs.Printing.{print_all, print_more}
 use Rattle.round_reports.proofs.report.print_rounds.Goals as goal

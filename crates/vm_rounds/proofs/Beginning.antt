@@ -1,0 +1,50 @@
+-- What a round does, from what its parts did.
+use Rattle.std.proofs.Common.{◌≡◌, ◌⊎◌, inl, inr, ⊎_elim, ℕ, List, ◌++◌, refl, sym, subst, Global, Result, Ok, Err, IfOk}
+use Rattle.std.specs.Prelude.{IfErr}
+use Rattle.std.specs.List.{concat}
+use Rattle.journal_errors.specs.declared.version.Version.{Version}
+use Rattle.journal_messages.specs.Message.{encoding}
+use Rattle.journal_messages.specs.Message.{IsWhole}
+use Rattle.invocation_vm.specs.Making.{made}
+use Rattle.vm_types.specs.declared.options.VMOptions.{VMOptions}
+use Rattle.vm_model.specs.Calls.{Meaning}
+use Rattle.vm_steps.specs.Record.{Record}
+use Rattle.vm_steps.specs.Stepping.{fresh_record}
+use Rattle.vm_store.specs.declared.types.Round.{Round}
+use Rattle.vm_store.specs.declared.types.RoundFault.{RoundFault}
+use Rattle.vm_store.specs.declared.types.RoundFault.TheVariants as round_fault
+use Rattle.vm_store.specs.declared.types.Setting.{Setting}
+use Rattle.vm_rounds.specs.Rounds.{HappenFaults, IsShort, IsSupported, Ran, ReportView, RoundDoes, RoundFaults, begin, new_now}
+use Rattle.vm_store.specs.Worlds.{IsJournal, start_message}
+use Rattle.vm_rounds.proofs.Rounding.{short_all}
+
+begun_is : (w : Setting) (round : Round) (old : List (List ℕ)) (alloc : Global) (waiting : List ℕ) (r : Record) → waiting ≡ encoding (start_message w round old) ++ concat old → r ≡ fresh_record (made alloc w.options w.version) → new_now w.version old waiting r ≡ begin alloc w round old
+begun_is w round old alloc waiting r e f = λ i. new_now w.version old (e i) (f i)
+
+pub round_does : (m : Meaning) (w : Setting) (round : Round) (old : List (List ℕ)) (alloc : Global) (waiting : List ℕ) (r : Record) (version : Version) (options : VMOptions) (report : ReportView) (new : List (List ℕ)) → IsSupported w.version → IsWhole (start_message w round old) → waiting ≡ encoding (start_message w round old) ++ concat old → r ≡ fresh_record (made alloc w.options w.version) → version ≡ w.version → options ≡ w.options → Ran m version options round.events (new_now w.version old waiting r) report new → RoundDoes m w round old report new
+round_does m w round old alloc waiting r version options report new speaks whole e f v o ran = inl (record {
+  alloc = alloc;
+  speaks = speaks;
+  start = whole;
+  ran = subst (λ x. Ran m w.version w.options round.events x report new) (begun_is w round old alloc waiting r e f) (subst (λ (x : VMOptions). Ran m w.version x round.events (new_now w.version old waiting r) report new) o (subst (λ (x : Version). Ran m x options round.events (new_now w.version old waiting r) report new) v ran));
+})
+
+pub round_faults : (m : Meaning) (w : Setting) (round : Round) (old : List (List ℕ)) (alloc : Global) (waiting : List ℕ) (r : Record) (x : RoundFault) → IsSupported w.version → waiting ≡ encoding (start_message w round old) ++ concat old → r ≡ fresh_record (made alloc w.options w.version) → (x ≡ round_fault.Memory) ⊎ HappenFaults m round.events (new_now w.version old waiting r) x → RoundFaults m w round old x
+round_faults m w round old alloc waiting r x speaks e f h =
+    ⊎_elim
+    (λ (z : x ≡ round_fault.Memory). inl z)
+    (λ (z : HappenFaults m round.events (new_now w.version old waiting r) x). inr (inl (record { alloc = alloc; speaks = speaks; faults = subst (λ n. HappenFaults m round.events n x) (begun_is w round old alloc waiting r e f) z })))
+    h
+
+pub round_short : (m : Meaning) (w : Setting) (round : Round) (old : List (List ℕ)) (alloc : Global) (waiting : List ℕ) (r : Record) → IsJournal old → waiting ≡ encoding (start_message w round old) ++ concat old → r ≡ fresh_record (made alloc w.options w.version) → IsShort m round.events (new_now w.version old waiting r)
+round_short m w round old alloc waiting r j e f = subst (IsShort m round.events) (sym (begun_is w round old alloc waiting r e f)) (short_all m w.version round.events (encoding (start_message w round old)) old (fresh_record (made alloc w.options w.version)) j refl refl refl)
+
+-- what follows from what an answer ensures
+pub if_ok_then : {A E : Type 0} (r : Result A E) (P Q : A → Type 0) → ((a : A) → P a → Q a) → IfOk r P → IfOk r Q
+if_ok_then (Ok a) P Q f h = f a h
+if_ok_then (Err e) P Q f h = tt
+
+-- the same of an error
+pub if_err_then : {A E : Type 0} (r : Result A E) (P Q : E → Type 0) → ((e : E) → P e → Q e) → IfErr r P → IfErr r Q
+if_err_then (Ok a) P Q f h = tt
+if_err_then (Err e) P Q f h = f e h

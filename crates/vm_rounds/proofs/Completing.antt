@@ -1,0 +1,46 @@
+-- At no point that a world's journal tells has a completion id two results.
+use Rattle.std.proofs.Common.{◌≡◌, ℕ, false, ◌||◌, List, ◌∷◌, Option, Some, None, refl, sym, ap, ◌∙◌, subst}
+use Rattle.std.proofs.lemmas.Option.{same_Some}
+use Rattle.journal_attempt.specs.declared.commands.InputCommand.{InputCommand}
+use Rattle.journal_messages.specs.declared.message.Message.{Message}
+use Rattle.journal_messages.specs.declared.message.RawMessage.{RawMessage}
+use Rattle.journal_errors.specs.declared.types.MessageType.TheVariants as type
+use Rattle.journal_messages.specs.Reading.{message_in}
+use Rattle.journal_messages.proofs.Reading.{message_is}
+use Rattle.journal_values.specs.declared.notification.Notification.{Notification}
+use Rattle.vm_parts.specs.declared.context.StateMap.{StateMap}
+use Rattle.vm_model.specs.Calls.{Meaning, Setup}
+use Rattle.vm_model.specs.Carried.{AreCarried, ComeOnce, is_among, is_carried, read_carries}
+use Rattle.vm_model.specs.Journal.{input_read_from, notifications_in}
+use Rattle.vm_model.specs.Histories.{History, Told}
+use Rattle.vm_model.proofs.Carried.{completions_once, input_carries, typed}
+use Rattle.vm_attempt.proofs.Replayed.{commands_same, head_same, notes_same, tail_same}
+use Rattle.vm_store.specs.Entries.{entries_of, frames_in, notes_in}
+use Rattle.vm_rounds.specs.Rounds.{CompletesOnce}
+use Rattle.vm_store.specs.Worlds.{IsJournal}
+use Rattle.vm_store.proofs.Framing.{notes_are}
+use Rattle.vm_rounds.proofs.Inputs.{input_type}
+use Rattle.vm_rounds.proofs.Once.{come_once}
+
+-- a stored input carries no id
+stored_input : (raw : RawMessage) (input : InputCommand) → input_read_from raw ≡ Some input → (id : ℕ) → read_carries id (message_in raw.ty raw.body) ≡ false
+stored_input raw input reads id = by_read (message_in raw.ty raw.body) refl
+  where
+    by_read : (o : Option Message) → message_in raw.ty raw.body ≡ o → read_carries id o ≡ false
+    by_read None is = refl
+    by_read (Some m) is = ap (is_among id) (input_carries m ((message_is raw.ty raw.body m is).1 ∙ typed raw.ty type.InputCommand (input_type raw input reads)))
+
+-- behind the input the commands carry the same ids
+pub carried_behind : (ns : List Notification) (raw : RawMessage) (input : InputCommand) (rest : List RawMessage) → input_read_from raw ≡ Some input → AreCarried ns (raw ∷ rest) → AreCarried ns rest
+carried_behind ns raw input rest reads h id none = h id (ap (λ b. b || is_carried id rest) (stored_input raw input reads id) ∙ none)
+
+pub completes_once : (s : Setup) (m : Meaning) (base : StateMap) (journal : List (List ℕ)) → IsJournal journal → History s m base (entries_of journal) → CompletesOnce s m (entries_of journal)
+completes_once s m base journal j h first input rest p begins reads told =
+    let ns = notifications_in (entries_of journal) in
+    let notes : notes_in journal ≡ ns = notes_are journal ∙ sym (notes_same (frames_in journal)) in
+    let head : first ≡ h.first = head_same first h.first rest h.rest (sym begins ∙ h.begins) in
+    let tail : rest ≡ h.rest = tail_same first h.first rest h.rest (sym begins ∙ h.begins) in
+    let one : input ≡ h.input = same_Some input h.input (sym reads ∙ ap input_read_from head ∙ h.reads) in
+    let here : Told s m h.input ns h.rest p = subst (λ (x : InputCommand × List RawMessage). Told s m x.0 ns x.1 p) (λ i. (one i, tail i)) told in
+    let carry : AreCarried ns (h.first ∷ h.rest) = subst (λ (x : List Notification × List RawMessage). AreCarried x.0 x.1) (λ i. (notes i, (sym (commands_same (frames_in journal)) ∙ h.begins) i)) j.carried in
+    completions_once s m here.0 h.told.0 h.input ns h.rest p h.at here.1 h.told.1 h.uses_all (subst ComeOnce notes (come_once (notes_in journal) j.once)) (carried_behind ns h.first h.input h.rest h.reads carry)

@@ -1,0 +1,118 @@
+-- A journal that is given is one, where none of its entries has a fault.
+use Rattle.std.proofs.Common.{◌≡◌, ◌≢◌, ℕ, Bool, true, false, cond, List, [], ◌∷◌, ◌++◌, length, Option, Some, None, refl, sym, ap, ◌∙◌, subst, append_assoc, append-nil, length-append, arith}
+use Rattle.std.specs.Prelude.{◌||◌, ◌&&◌, ◌==◌, if◌then◌else◌, is_some, nat_le, nat_lt}
+use Rattle.std.proofs.lemmas.Bool.{eqb-true}
+use Rattle.std.specs.Option.{option_or}
+use Rattle.journal_attempt.specs.declared.commands.InputCommand.{InputCommand}
+use Rattle.journal_errors.specs.declared.types.MessageType.TheVariants as type
+use Rattle.journal_errors.specs.Types.{type_number}
+use Rattle.journal_messages.specs.declared.message.RawMessage.{RawMessage}
+use Rattle.journal_messages.specs.Reading.{input_in, message_in, notification_in}
+use Rattle.journal_values.specs.declared.notification.Notification.{Notification}
+use Rattle.journal_values.specs.declared.notification.NotificationId.{NotificationId}
+use Rattle.journal_values.specs.declared.notification.NotificationId.TheVariants.{CompletionId, SignalId, SignalName}
+use Rattle.journal_values.specs.declared.notification.NotificationResult.{NotificationResult}
+use Rattle.vm_model.specs.Carried.{AreCarried, is_carried}
+use Rattle.vm_attempt.specs.Journals.{commands_among, is_command, notifications_among, notified_by}
+use Rattle.vm_attempt.proofs.Pieces.{commands_append}
+use Rattle.vm_model.proofs.Once.{still_carried}
+use Rattle.vm_store.specs.declared.completions.Completes.{Completes}
+use Rattle.vm_store.specs.declared.types.RoundFault.TheVariants as round_fault
+use Rattle.vm_store.specs.Arrivals.{completes_among, is_completed, most, room_fault}
+use Rattle.vm_store.specs.Completions.{CompleteOnce, HasNoOther}
+use Rattle.vm_store.specs.Entries.{frame_in, framed_by, frames_in, may_stand, note_in, note_of, notes_in, read_from, said_by, said_in}
+use Rattle.vm_store.specs.Given.{AreGiven, as_given, framed_fault, given_fault, given_note_fault, may_be_given, noted_fault, place_fault}
+use Rattle.vm_store.specs.Worlds.{IsJournal}
+use Rattle.vm_store.proofs.Framing.{command_no_note, entries_join, frames_append, notes_append, notes_are}
+use Rattle.vm_rounds.proofs.Keeping.{one_note}
+use Rattle.vm_rounds.proofs.Once.{absent, completed_carried, not_done, not_most, not_nothing}
+use Rattle.vm_rounds.proofs.Settled.{note_keeps}
+
+-- ---- no fault
+
+neither : {A : Type 0} (x y : Option A) → option_or x y ≡ None → (x ≡ None) × (y ≡ None)
+neither None y h = (refl, h)
+neither (Some x) y h = absurd (cc)
+
+placed : (b : Bool) → place_fault b ≡ None → b ≡ true
+placed true h = refl
+placed false h = absurd (cc)
+
+given_none : (kind : Option Completes) → kind ≡ None → as_given kind ≡ None
+given_none kind h = ap as_given h
+
+-- ---- a notification
+
+note_new : (id : NotificationId) (brings : NotificationResult) (journal : List (List ℕ)) → given_note_fault id brings journal ≡ None → HasNoOther id (notes_in journal)
+note_new (CompletionId id) brings journal e = absent id (notes_in journal) (not_done (as_given (completes_among id (said_in journal) None)) (is_completed id (notes_in journal)) brings (room_fault journal) e)
+note_new (SignalId id) brings journal e = tt
+note_new (SignalName name) brings journal e = tt
+
+note_carried : (id : NotificationId) (brings : NotificationResult) (journal : List (List ℕ)) → given_note_fault id brings journal ≡ None → (i : ℕ) → id ≡ CompletionId i → is_carried i (commands_among (frames_in journal)) ≡ true
+note_carried (CompletionId id) brings journal e i is =
+    let same : id ≡ i = cc in
+    let kind = completes_among id (said_in journal) None in
+    subst (λ j. is_carried j (commands_among (frames_in journal)) ≡ true) same (completed_carried id journal (λ none. not_nothing (as_given kind) (is_completed id (notes_in journal)) brings (room_fault journal) e (given_none kind none)))
+note_carried (SignalId id) brings journal e i is = absurd (cc)
+note_carried (SignalName name) brings journal e i is = absurd (cc)
+
+-- ---- a command
+
+command_stands : (journal : List (List ℕ)) (x : List ℕ) (raw : RawMessage) → frame_in x ≡ Some raw → is_command raw ≡ true → length journal ≢ most → IsJournal journal → IsJournal (journal ++ x ∷ [])
+command_stands journal x raw is command room j =
+    let one : commands_among (frames_in (x ∷ [])) ≡ raw ∷ [] = ap (λ o. commands_among (framed_by o [])) is ∙ ap (λ b. cond b (raw ∷ []) []) command in
+    let none : notes_in (x ∷ []) ≡ [] = notes_are (x ∷ []) ∙ ap (λ o. notifications_among (framed_by o [])) is ∙ ap (λ b. cond b (notified_by (notification_in raw.body) []) []) (command_no_note raw command) in
+    let same_notes : notes_in (journal ++ x ∷ []) ≡ notes_in journal = notes_append journal (x ∷ []) ∙ ap (λ l. notes_in journal ++ l) none ∙ append-nil (notes_in journal) in
+    let more : commands_among (frames_in (journal ++ x ∷ [])) ≡ commands_among (frames_in journal) ++ raw ∷ [] =
+    ap commands_among (frames_append journal (x ∷ [])) ∙ commands_append (frames_in journal) (frames_in (x ∷ [])) ∙ ap (λ l. commands_among (frames_in journal) ++ l) one in
+    record {
+      entries = entries_join journal (x ∷ []) j.entries (ap may_stand is ∙ ap (λ b. b || is_some (note_of raw)) command, tt);
+      short = omega (arith, j.short, room, length-append journal (x ∷ []));
+      once = subst CompleteOnce (sym same_notes) j.once;
+      carried = subst (λ (y : List Notification × List RawMessage). AreCarried y.0 y.1) (λ i. (sym same_notes i, sym more i)) (still_carried (notes_in journal) (commands_among (frames_in journal)) (raw ∷ []) j.carried);
+    }
+
+-- an input is a command
+typed_command : (raw : RawMessage) → (type_number raw.ty == type_number type.InputCommand) ≡ true → is_command raw ≡ true
+typed_command raw typed = ap (λ n. nat_le 10 n && nat_lt n 30) (eqb-true (type_number raw.ty) 10 typed)
+
+-- what may stand and is no notification is a command
+given_command : (first : Bool) (raw : RawMessage) → may_be_given first raw ≡ true → note_of raw ≡ None → is_command raw ≡ true
+given_command true raw may none = by_type (type_number raw.ty == type_number type.InputCommand) refl may
+  where
+    by_type : (b : Bool) → (type_number raw.ty == type_number type.InputCommand) ≡ b → is_some (if b then input_in raw.body else None) ≡ true → is_command raw ≡ true
+    by_type true typed h = typed_command raw typed
+    by_type false typed h = absurd (cc)
+given_command false raw may none = by_command (is_command raw) refl (subst (λ o. (is_some (said_by raw) || is_some o) ≡ true) none may)
+  where
+    by_command : (b : Bool) → is_command raw ≡ b → (is_some (cond b (message_in raw.ty raw.body) None) || false) ≡ true → is_command raw ≡ true
+    by_command true is h = is
+    by_command false is h = absurd (cc)
+
+-- ---- entries
+
+-- a journal, and an entry without a fault
+given_keeps : (journal : List (List ℕ)) (x : List ℕ) → given_fault x journal ≡ None → IsJournal journal → IsJournal (journal ++ x ∷ [])
+given_keeps journal x e j = by_frame (frame_in x) refl e
+  where
+    by_note : (raw : RawMessage) → frame_in x ≡ Some raw → length journal ≢ most → may_be_given (length journal == 0) raw ≡ true → (o : Option Notification) → note_of raw ≡ o → noted_fault o journal ≡ None → IsJournal (journal ++ x ∷ [])
+    by_note raw is room may (Some n) note h =
+        let reads : note_in x ≡ Some n = ap (read_from note_of) is ∙ note in
+        let one = one_note x n reads in
+        note_keeps journal x (record { note = n; reads = reads; no_other = note_new n.id n.result journal h; carried = note_carried n.id n.result journal h }) room one.stands one.none j
+    by_note raw is room may None note h = command_stands journal x raw is (given_command (length journal == 0) raw may note) room j
+
+    by_frame : (o : Option RawMessage) → frame_in x ≡ o → framed_fault o journal ≡ None → IsJournal (journal ++ x ∷ [])
+    by_frame None is h = absurd (let z : Some round_fault.BadJournal ≡ None = (neither (room_fault journal) (Some round_fault.BadJournal) h).1 in cc)
+    by_frame (Some raw) is h =
+        let may = may_be_given (length journal == 0) raw in
+        let n = neither (noted_fault (note_of raw) journal) (option_or (room_fault journal) (place_fault may)) h in
+        let r = neither (room_fault journal) (place_fault may) n.1 in
+        by_note raw is (not_most (length journal) r.0) (placed may r.1) (note_of raw) refl n.0
+
+all_given : (journal entries : List (List ℕ)) → IsJournal journal → AreGiven journal entries → IsJournal (journal ++ entries)
+all_given journal [] j h = subst IsJournal (sym (append-nil journal)) j
+all_given journal (x ∷ xs) j h = subst IsJournal (append_assoc journal (x ∷ []) xs) (all_given (journal ++ x ∷ []) xs (given_keeps journal x h.0 j) h.1)
+
+pub given_is : (entries : List (List ℕ)) → AreGiven [] entries → IsJournal entries
+given_is entries h = all_given [] entries (record { entries = tt; short = omega arith; once = tt; carried = λ id none. refl }) h

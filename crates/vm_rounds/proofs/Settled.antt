@@ -1,0 +1,366 @@
+-- What was stored of what an attempt wrote: entries of commands and of completions, and the frames that answer proposals.
+use Rattle.std.proofs.Common.{◌≡◌, ◌≢◌, ◌<◌, ◌^◌, ◌||◌, ℕ, Bool, true, false, cond, List, [], ◌∷◌, ◌++◌, length, map, Option, Some, None, refl, sym, ap, ◌∙◌, subst, arith, append_assoc, append-nil, length-append}
+use Rattle.std.specs.Prelude.{◌==◌, ◌&&◌, if◌then◌else◌, is_some, nat_le, nat_lt}
+use Rattle.std.specs.List.{AllByRecursion, find, flat_map}
+use Rattle.std.specs.Option.{option_map}
+use Rattle.std.proofs.lemmas.Bool.Decides.{nat_tests}
+use Rattle.std.proofs.lemmas.List.{map-append}
+use Rattle.journal_attempt.specs.declared.runs.ProposeRunCompletion.{ProposeRunCompletion}
+use Rattle.journal_attempt.specs.declared.runs.ProposeRunCompletionAck.{ProposeRunCompletionAck}
+use Rattle.journal_errors.specs.declared.version.Version.{Version}
+use Rattle.journal_errors.specs.Types.{type_number}
+use Rattle.journal_messages.specs.declared.message.Message.TheVariants as message
+use Rattle.journal_messages.specs.declared.message.RawMessage.{RawMessage}
+use Rattle.journal_messages.specs.Message.{IsWhole, encoding}
+use Rattle.journal_messages.specs.Reading.{acknowledgement_in, message_in, notification_in}
+use Rattle.journal_streams.proofs.Alone.{read_back}
+use Rattle.journal_values.specs.declared.notification.Notification.{Notification}
+use Rattle.runs.specs.Kept.{is_for}
+use Rattle.vm_parts.specs.declared.run_state.KeptProposal.{KeptProposal}
+use Rattle.vm_machine.specs.Inputs.{completion_of}
+use Rattle.journal_errors.specs.Versions.{is_from_v7}
+use Rattle.vm_model.specs.Carried.{AreCarried, is_carried}
+use Rattle.vm_model.specs.Journal.{stored_form}
+use Rattle.vm_model.proofs.Once.{still_carried}
+use Rattle.vm_attempt.specs.Arrivals.{AllFound, FindsProposal, IsFound, arriving, kept_after, stands_for, unacknowledged}
+use Rattle.vm_steps.specs.Heard.{acknowledged_from, is_proposal, proposal_in, proposals_among, proposed_by}
+use Rattle.vm_attempt.specs.Journals.{commands_among, is_command, is_notification, notifications_among, notified_by}
+use Rattle.vm_attempt.proofs.Advanced.{nothing_acknowledged}
+use Rattle.vm_attempt.proofs.Arriving.{arriving_alone, kept_none}
+use Rattle.vm_attempt.proofs.Finishing.{acknowledged_more}
+use Rattle.vm_attempt.proofs.Pieces.{commands_append}
+use Rattle.vm_attempt.proofs.Proposed.{arriving_append, arriving_more, found_append, found_more, kept_append, kept_more}
+use Rattle.vm_store.specs.declared.completions.Completes.{Completes}
+use Rattle.vm_store.specs.declared.storing.Written.{Written}
+use Rattle.vm_store.specs.declared.storing.Written.TheVariants.{Command, Proposal}
+use Rattle.vm_store.specs.declared.types.RoundFault.{RoundFault}
+use Rattle.vm_store.specs.Arrivals.{completes_among, is_completed, most, proposal_fault, proposed_fault, room_fault}
+use Rattle.vm_store.specs.Completions.{CompleteOnce}
+use Rattle.vm_store.specs.Entries.{AreEntries, frame_in, frame_of, framed_by, frames_in, may_stand, note_in, note_of, notes_in, read_from, said_in}
+use Rattle.vm_store.specs.Storing.{CanBeRead, NoneFaults, acknowledgement, answered_by, completed_by, kept_of, proposal_of, stored_as, storing_fault, waits_behind, written_among, written_before}
+use Rattle.vm_store.specs.Worlds.{IsJournal}
+use Rattle.vm_store.proofs.Framing.{AreFrames, command_no_note, entries_join, frame_back, frames_append, join, none_framed, note_acknowledges_nothing, notes_append, notes_are, one_framed}
+use Rattle.vm_rounds.proofs.Once.{IsNew, absent, carried_more, completed_carried, not_most, once_more}
+
+-- ---- the commands and proposals that were stored
+
+-- the command that an item is
+abbrev pub command_in : Written → List RawMessage
+command_in (Command raw) = raw ∷ []
+command_in (Proposal p) = []
+
+-- the proposal that it is
+abbrev pub proposal_in_item : Written → List KeptProposal
+proposal_in_item (Command raw) = []
+proposal_in_item (Proposal p) = p ∷ []
+
+-- the completion of a proposal
+abbrev pub completion : KeptProposal → Notification
+completion p = completion_of p.completion_id p
+
+five : (n : ℕ) → (n == 5) ≡ true → n ≡ 5
+five n h = grind (arith, nat_tests)
+
+proposal_no_command : (raw : RawMessage) → is_proposal raw ≡ true → is_command raw ≡ false
+proposal_no_command raw h = ap (λ k. nat_le 10 k && nat_lt k 30) (five (type_number raw.ty) h)
+
+-- the commands and the proposals among frames are those of their items
+commands_by : (b : Bool) (raw : RawMessage) (o : Option KeptProposal) (ws : List Written) (cs : List RawMessage) → flat_map command_in ws ≡ cs
+    → flat_map command_in (written_before (cond b (Some (Command raw)) (option_map Proposal o)) ws) ≡ cond b (raw ∷ cs) cs
+commands_by true raw o ws cs h = ap (λ l. raw ∷ l) h
+commands_by false raw None ws cs h = h
+commands_by false raw (Some p) ws cs h = h
+
+pub commands_are : (raws : List RawMessage) → flat_map command_in (written_among raws) ≡ commands_among raws
+commands_are [] = refl
+commands_are (raw ∷ raws) = commands_by (is_command raw) raw (proposal_of raw) (written_among raws) (commands_among raws) (commands_are raws)
+
+proposals_by : (a b : Bool) (raw : RawMessage) (o : Option ProposeRunCompletion) (ws : List Written) (ps : List KeptProposal) → (b ≡ true → a ≡ false) → flat_map proposal_in_item ws ≡ ps
+    → flat_map proposal_in_item (written_before (cond a (Some (Command raw)) (option_map Proposal (cond b (option_map kept_of o) None))) ws) ≡ cond b (proposed_by o ps) ps
+proposals_by true true raw o ws ps apart h = absurd (let z : true ≡ false = apart refl in cc)
+proposals_by true false raw o ws ps apart h = h
+proposals_by false true raw None ws ps apart h = h
+proposals_by false true raw (Some p) ws ps apart h = ap (λ l. kept_of p ∷ l) h
+proposals_by false false raw o ws ps apart h = h
+
+pub proposals_are : (raws : List RawMessage) → flat_map proposal_in_item (written_among raws) ≡ proposals_among raws
+proposals_are [] = refl
+proposals_are (raw ∷ raws) = proposals_by (is_command raw) (is_proposal raw) raw (proposal_in raw.body) (written_among raws) (proposals_among raws) (proposal_no_command raw) (proposals_are raws)
+
+-- ---- an item, as an entry
+
+-- a command, or what a run came to, that can be read back
+abbrev pub IsItem : Version → Written → Type 0
+IsItem version (Command raw) = (is_command raw ≡ true) × (length raw.body < 2 ^ 64)
+IsItem version (Proposal p) = CanBeRead version (Proposal p)
+
+items_by : (version : Version) (b : Bool) (raw : RawMessage) (o : Option KeptProposal) (ws : List Written) → is_command raw ≡ b → (AllByRecursion (CanBeRead version) ws → AllByRecursion (IsItem version) ws)
+    → AllByRecursion (CanBeRead version) (written_before (cond b (Some (Command raw)) (option_map Proposal o)) ws) → AllByRecursion (IsItem version) (written_before (cond b (Some (Command raw)) (option_map Proposal o)) ws)
+items_by version true raw o ws is more h = ((is, h.0), more h.1)
+items_by version false raw None ws is more h = more h
+items_by version false raw (Some p) ws is more h = (h.0, more h.1)
+
+pub are_items : (version : Version) (raws : List RawMessage) → AllByRecursion (CanBeRead version) (written_among raws) → AllByRecursion (IsItem version) (written_among raws)
+are_items version [] h = tt
+are_items version (raw ∷ raws) h = items_by version (is_command raw) raw (proposal_of raw) (written_among raws) refl (are_items version raws) h
+
+-- a notification that is written can be read back
+pub notification_back : (n : Notification) → IsWhole (message.Notification n) → notification_in (stored_form (message.Notification n)).body ≡ Some n
+unfolding message_in notification_in
+notification_back n whole = by_read (notification_in (stored_form (message.Notification n)).body) (read_back (message.Notification n) whole)
+  where
+    by_read : (o : Option Notification) → option_map message.Notification o ≡ Some (message.Notification n) → o ≡ Some n
+    by_read None h = absurd (cc)
+    by_read (Some x) h = let e : x ≡ n = cc in ap Some e
+
+acknowledgement_back : (ack : ProposeRunCompletionAck) → IsWhole (message.ProposeRunCompletionAck ack) → acknowledgement_in (stored_form (message.ProposeRunCompletionAck ack)).body ≡ Some ack
+unfolding message_in acknowledgement_in
+acknowledgement_back ack whole = by_read (acknowledgement_in (stored_form (message.ProposeRunCompletionAck ack)).body) (read_back (message.ProposeRunCompletionAck ack) whole)
+  where
+    by_read : (o : Option ProposeRunCompletionAck) → option_map message.ProposeRunCompletionAck o ≡ Some (message.ProposeRunCompletionAck ack) → o ≡ Some ack
+    by_read None h = absurd (cc)
+    by_read (Some x) h = let e : x ≡ ack = cc in ap Some e
+
+-- What an item is as an entry: it may stand, and brings its command and its completion.
+record Entered (w : Written) : Type 0 where
+  stands : may_stand (frame_in (stored_as w)) ≡ true
+  commands : commands_among (frames_in (stored_as w ∷ [])) ≡ command_in w
+  notes : notes_in (stored_as w ∷ []) ≡ map completion (proposal_in_item w)
+
+command_entered : (raw : RawMessage) → is_command raw ≡ true → length raw.body < 2 ^ 64 → Entered (Command raw)
+command_entered raw is fits = record {
+  stands = ap may_stand (frame_back raw fits) ∙ ap (λ b. b || is_some (note_of raw)) is;
+  commands = ap (λ o. commands_among (framed_by o [])) (frame_back raw fits) ∙ ap (λ b. cond b (raw ∷ []) []) is;
+  notes = notes_are (frame_of raw ∷ []) ∙ ap (λ o. notifications_among (framed_by o [])) (frame_back raw fits) ∙ ap (λ b. cond b (notified_by (notification_in raw.body) []) []) (command_no_note raw is);
+}
+
+-- the completion of a proposal can be read from its entry
+pub completion_read : (p : KeptProposal) → IsWhole (completed_by p) → note_in (encoding (completed_by p)) ≡ Some (completion p)
+completion_read p whole = ap (λ o. read_from note_of o) (frame_back (stored_form (completed_by p)) whole.1) ∙ notification_back (completion p) whole
+
+completion_entered : (p : KeptProposal) → IsWhole (completed_by p) → Entered (Proposal p)
+completion_entered p whole =
+    let raw = stored_form (completed_by p) in
+    let back : frame_in (encoding (completed_by p)) ≡ Some raw = frame_back raw whole.1 in
+    record {
+      stands = ap may_stand back ∙ ap (λ o. is_some o) (notification_back (completion p) whole);
+      commands = ap (λ o. commands_among (framed_by o [])) back;
+      notes = ap (λ o. notified_by o []) (completion_read p whole);
+    }
+
+entered : (version : Version) (w : Written) → IsItem version w → Entered w
+entered version (Command raw) h = command_entered raw h.0 h.1
+entered version (Proposal p) h = completion_entered p h.0
+
+-- ---- the journal
+
+done_by : (kind : Option Completes) (done : Bool) (room : Option RoundFault) → proposed_fault kind done room ≡ None → done ≡ false
+done_by None done room e = absurd (cc)
+done_by (Some kind) true room e = absurd (cc)
+done_by (Some kind) false room e = refl
+
+kind_by : (kind : Option Completes) (done : Bool) (room : Option RoundFault) → proposed_fault kind done room ≡ None → kind ≡ None → ⊥
+kind_by None done room e is = absurd (cc)
+kind_by (Some kind) done room e is = absurd (cc)
+
+room_of : (kind : Option Completes) (done : Bool) (room : Option RoundFault) → proposed_fault kind done room ≡ None → room ≡ None
+room_of None done room e = absurd (cc)
+room_of (Some kind) true room e = absurd (cc)
+room_of (Some kind) false room e = e
+
+-- a notification that is new, and for which there is room, makes of a journal one again
+pub note_keeps : (journal : List (List ℕ)) (x : List ℕ) → IsNew x journal → length journal ≢ most → AreEntries (x ∷ []) → commands_among (frames_in (x ∷ [])) ≡ [] → IsJournal journal → IsJournal (journal ++ x ∷ [])
+note_keeps journal x new room stands none j =
+    let same : commands_among (frames_in (journal ++ x ∷ [])) ≡ commands_among (frames_in journal) =
+    ap commands_among (frames_append journal (x ∷ [])) ∙ commands_append (frames_in journal) (frames_in (x ∷ [])) ∙ ap (λ l. commands_among (frames_in journal) ++ l) none ∙ append-nil (commands_among (frames_in journal)) in
+    record {
+      entries = entries_join journal (x ∷ []) j.entries stands;
+      short = omega (arith, j.short, room, length-append journal (x ∷ []));
+      once = rw (notes_append journal (x ∷ []), new.reads) (once_more (notes_in journal) new.note j.once new.no_other);
+      carried = rw (notes_append journal (x ∷ []), new.reads, same) (carried_more (notes_in journal) new.note (commands_among (frames_in journal)) j.carried new.carried);
+    }
+
+completion_new : (p : KeptProposal) (journal : List (List ℕ)) → IsWhole (completed_by p) → proposal_fault p.completion_id journal ≡ None → IsNew (encoding (completed_by p)) journal
+completion_new p journal whole e =
+    let id = p.completion_id in
+    let kind = completes_among id (said_in journal) None in
+    let done = is_completed id (notes_in journal) in
+    record {
+      note = completion p;
+      reads = completion_read p whole;
+      no_other = absent id (notes_in journal) (done_by kind done (room_fault journal) e);
+      carried = λ i is. let same : id ≡ i = cc in subst (λ k. is_carried k (commands_among (frames_in journal)) ≡ true) same (completed_carried id journal (kind_by kind done (room_fault journal) e));
+    }
+
+command_keeps : (raw : RawMessage) (journal : List (List ℕ)) → is_command raw ≡ true → length raw.body < 2 ^ 64 → room_fault journal ≡ None → IsJournal journal → IsJournal (journal ++ frame_of raw ∷ [])
+command_keeps raw journal is fits room j =
+    let one = command_entered raw is fits in
+    let same_notes : notes_in (journal ++ frame_of raw ∷ []) ≡ notes_in journal = notes_append journal (frame_of raw ∷ []) ∙ ap (λ l. notes_in journal ++ l) one.notes ∙ append-nil (notes_in journal) in
+    let more : commands_among (frames_in (journal ++ frame_of raw ∷ [])) ≡ commands_among (frames_in journal) ++ raw ∷ [] =
+    ap commands_among (frames_append journal (frame_of raw ∷ [])) ∙ commands_append (frames_in journal) (frames_in (frame_of raw ∷ [])) ∙ ap (λ l. commands_among (frames_in journal) ++ l) one.commands in
+    record {
+      entries = entries_join journal (frame_of raw ∷ []) j.entries (one.stands, tt);
+      short = omega (arith, j.short, not_most (length journal) room, length-append journal (frame_of raw ∷ []));
+      once = subst CompleteOnce (sym same_notes) j.once;
+      carried = subst (λ (x : List Notification × List RawMessage). AreCarried x.0 x.1) (λ i. (sym same_notes i, sym more i)) (still_carried (notes_in journal) (commands_among (frames_in journal)) (raw ∷ []) j.carried);
+    }
+
+item_keeps : (version : Version) (w : Written) (journal : List (List ℕ)) → IsItem version w → storing_fault w journal ≡ None → IsJournal journal → IsJournal (journal ++ stored_as w ∷ [])
+item_keeps version (Command raw) journal h e j = command_keeps raw journal h.0 h.1 e j
+item_keeps version (Proposal p) journal h e j =
+    let one = completion_entered p h.0 in
+    let id = p.completion_id in
+    note_keeps journal (encoding (completed_by p)) (completion_new p journal h.0 e) (not_most (length journal) (room_of (completes_among id (said_in journal) None) (is_completed id (notes_in journal)) (room_fault journal) e)) (one.stands, tt) one.commands j
+
+-- a journal stays one as items are stored that have no fault
+pub items_keep : (version : Version) (ws : List Written) (journal : List (List ℕ)) → AllByRecursion (IsItem version) ws → NoneFaults ws journal → IsJournal journal → IsJournal (journal ++ map stored_as ws)
+items_keep version [] journal all none j = subst IsJournal (sym (append-nil journal)) j
+items_keep version (w ∷ ws) journal all none j = subst IsJournal (append_assoc journal (stored_as w ∷ []) (map stored_as ws)) (items_keep version ws (journal ++ stored_as w ∷ []) all.1 none.1 (item_keeps version w journal all.0 none.0 j))
+
+-- the commands and the completions that items are, as entries
+pub items_enter : (version : Version) (ws : List Written) → AllByRecursion (IsItem version) ws
+    → (commands_among (frames_in (map stored_as ws)) ≡ flat_map command_in ws) × (notes_in (map stored_as ws) ≡ map completion (flat_map proposal_in_item ws))
+items_enter version [] all = (refl, refl)
+items_enter version (w ∷ ws) all =
+    let one = entered version w all.0 in
+    let more = items_enter version ws all.1 in
+    let x = stored_as w in
+    let xs = map stored_as ws in (
+      ap commands_among (frames_append (x ∷ []) xs) ∙ commands_append (frames_in (x ∷ [])) (frames_in xs) ∙ (λ i. one.commands i ++ more.0 i),
+      notes_append (x ∷ []) xs ∙ (λ i. one.notes i ++ more.1 i) ∙ sym (map-append completion (proposal_in_item w) (flat_map proposal_in_item ws)),
+    )
+
+-- ---- what answers proposals
+
+-- what answers a proposal, as a frame
+abbrev pub answer_frame : Version → KeptProposal → RawMessage
+answer_frame version p = if is_from_v7 version then stored_form (acknowledgement p.completion_id) else stored_form (completed_by p)
+
+-- what answers proposals, as frames
+abbrev pub answers : Version → List KeptProposal → List RawMessage
+answers version ps = map (answer_frame version) ps
+
+-- what answers a proposal can be read
+abbrev pub IsAnswered : Version → KeptProposal → Type 0
+IsAnswered version p = CanBeRead version (Proposal p)
+
+pub proposals_answered : (version : Version) (ws : List Written) → AllByRecursion (CanBeRead version) ws → AllByRecursion (IsAnswered version) (flat_map proposal_in_item ws)
+proposals_answered version [] all = tt
+proposals_answered version (Command raw ∷ ws) all = proposals_answered version ws all.1
+proposals_answered version (Proposal p ∷ ws) all = (all.0, proposals_answered version ws all.1)
+
+-- only proposals are answered
+waits_answer : (version : Version) (ws : List Written) → flat_map (waits_behind version) ws ≡ flat_map (answered_by version) (flat_map proposal_in_item ws)
+waits_answer version [] = refl
+waits_answer version (Command raw ∷ ws) = waits_answer version ws
+waits_answer version (Proposal p ∷ ws) = ap (λ l. answered_by version p ++ l) (waits_answer version ws)
+
+answer_framed : (version : Version) (p : KeptProposal) → IsAnswered version p → AreFrames (answered_by version p) (answer_frame version p ∷ [])
+answer_framed version p h = by_test (is_from_v7 version) h.1
+  where
+    by_test : (b : Bool) → (b ≡ true → IsWhole (acknowledgement p.completion_id)) → AreFrames (if b then encoding (acknowledgement p.completion_id) else encoding (completed_by p)) ((if b then stored_form (acknowledgement p.completion_id) else stored_form (completed_by p)) ∷ [])
+    by_test true whole = one_framed (stored_form (acknowledgement p.completion_id)) (whole refl).1
+    by_test false whole = one_framed (stored_form (completed_by p)) h.0.1
+
+answers_framed : (version : Version) (ps : List KeptProposal) → AllByRecursion (IsAnswered version) ps → AreFrames (flat_map (answered_by version) ps) (answers version ps)
+answers_framed version [] all = none_framed
+answers_framed version (p ∷ ps) all = join (answered_by version p) (flat_map (answered_by version) ps) (answer_frame version p ∷ []) (answers version ps) (answer_framed version p all.0) (answers_framed version ps all.1)
+
+pub waits_framed : (version : Version) (ws : List Written) → AllByRecursion (CanBeRead version) ws → AreFrames (flat_map (waits_behind version) ws) (answers version (flat_map proposal_in_item ws))
+waits_framed version ws all = subst (λ b. AreFrames b (answers version (flat_map proposal_in_item ws))) (sym (waits_answer version ws)) (answers_framed version (flat_map proposal_in_item ws) (proposals_answered version ws all))
+
+-- ---- arrivals
+
+-- Frames bring these arrivals, by the proposals that were stored: each acknowledgement found its own, and none is left.
+pub record Brings (version : Version) (stored : List KeptProposal) (raws : List RawMessage) (notes : List Notification) : Type 0 where
+  pub found : AllFound (acknowledged_from version stored) raws
+  pub none_left : kept_after (acknowledged_from version stored) raws ≡ []
+  pub arrive : arriving (acknowledged_from version stored) raws ≡ notes
+
+pub brings_nothing : (version : Version) → Brings version [] [] []
+brings_nothing version = record { found = tt; none_left = nothing_acknowledged version; arrive = refl }
+
+-- further proposals change no arrival
+pub brings_still : (version : Version) (stored more : List KeptProposal) (raws : List RawMessage) (notes : List Notification) → Brings version stored raws notes → AllFound (acknowledged_from version (stored ++ more)) raws × (arriving (acknowledged_from version (stored ++ more)) raws ≡ notes)
+brings_still version stored more raws notes b =
+    let kept = acknowledged_from version stored in
+    let also = acknowledged_from version more in (
+      subst (λ l. AllFound l raws) (sym (acknowledged_more version stored more)) (found_more kept also raws b.found),
+      ap (λ l. arriving l raws) (acknowledged_more version stored more) ∙ arriving_more kept also raws b.found ∙ b.arrive,
+    )
+
+-- frames behind frames, where further proposals were stored
+brings_then : (version : Version) (stored more : List KeptProposal) (raws others : List RawMessage) (notes ns : List Notification) → Brings version stored raws notes → Brings version more others ns → Brings version (stored ++ more) (raws ++ others) (notes ++ ns)
+brings_then version stored more raws others notes ns a b =
+    let kept = acknowledged_from version stored in
+    let also = acknowledged_from version more in
+    let all = acknowledged_more version stored more in
+    let left : kept_after (kept ++ also) raws ≡ also = kept_more kept also raws a.found ∙ ap (λ l. l ++ also) a.none_left in
+    record {
+      found = subst (λ l. AllFound l (raws ++ others)) (sym all) (found_append (kept ++ also) raws others (found_more kept also raws a.found) (subst (λ l. AllFound l others) (sym left) b.found));
+      none_left = ap (λ l. kept_after l (raws ++ others)) all ∙ kept_append (kept ++ also) raws others ∙ ap (λ l. kept_after l others) left ∙ b.none_left;
+      arrive = ap (λ l. arriving l (raws ++ others)) all ∙ arriving_append (kept ++ also) raws others ∙ (λ i. arriving_more kept also raws a.found i ++ arriving (left i) others) ∙ (λ i. a.arrive i ++ b.arrive i);
+    }
+
+-- a notification brings itself
+note_found : (raw : RawMessage) → is_notification raw ≡ true → FindsProposal [] raw
+note_found raw is acknowledges = absurd (let z : false ≡ true = sym (note_acknowledges_nothing raw is) ∙ acknowledges in cc)
+
+note_brings : (version : Version) (raw : RawMessage) (n : Notification) → is_notification raw ≡ true → notification_in raw.body ≡ Some n → Brings version [] (raw ∷ []) (n ∷ [])
+note_brings version raw n is reads =
+    let none = nothing_acknowledged version in
+    record {
+      found = subst (λ l. AllFound l (raw ∷ [])) (sym none) (note_found raw is, tt);
+      none_left = ap (λ l. kept_after l (raw ∷ [])) none ∙ kept_none (raw ∷ []);
+      arrive = ap (λ l. arriving l (raw ∷ [])) none ∙ arriving_alone (raw ∷ []) ∙ ap (λ b. cond b (notified_by (notification_in raw.body) []) []) is ∙ ap (λ o. notified_by o []) reads;
+    }
+
+-- one notification more
+pub brings_note : (version : Version) (stored : List KeptProposal) (raws : List RawMessage) (notes : List Notification) (raw : RawMessage) (n : Notification) → is_notification raw ≡ true → notification_in raw.body ≡ Some n → Brings version stored raws notes → Brings version stored (raws ++ raw ∷ []) (notes ++ n ∷ [])
+brings_note version stored raws notes raw n is reads b = subst (λ l. Brings version l (raws ++ raw ∷ []) (notes ++ n ∷ [])) (append-nil stored) (brings_then version stored [] raws (raw ∷ []) notes (n ∷ []) b (note_brings version raw n is reads))
+
+-- what answers a proposal brings the completion with its result
+same_number : (i : ℕ) → (i == i) ≡ true
+same_number i = grind (arith, nat_tests)
+
+acknowledged_brings : (p : KeptProposal) → IsWhole (acknowledgement p.completion_id) → AllFound (p ∷ []) (stored_form (acknowledgement p.completion_id) ∷ []) × (kept_after (p ∷ []) (stored_form (acknowledgement p.completion_id) ∷ []) ≡ []) × (arriving (p ∷ []) (stored_form (acknowledgement p.completion_id) ∷ []) ≡ completion p ∷ [])
+acknowledged_brings p whole =
+    let raw = stored_form (acknowledgement p.completion_id) in
+    let reads = acknowledgement_back (record { id = p.completion_id }) whole in
+    let here : find (is_for p.completion_id) (p ∷ []) ≡ Some p = ap (λ b. cond b (Some p) None) (same_number p.completion_id) in (
+      ((λ _. subst (IsFound (p ∷ [])) (sym reads) (ap is_some here)), tt),
+      ap (unacknowledged (p ∷ [])) reads ∙ ap (λ b. if b then [] else p ∷ []) (same_number p.completion_id),
+      ap (λ o. notified_by (stands_for (p ∷ []) o) []) reads ∙ ap (λ o. notified_by (option_map (completion_of p.completion_id) o) []) here,
+    )
+
+answer_brings : (version : Version) (p : KeptProposal) → IsAnswered version p → Brings version (p ∷ []) (answer_frame version p ∷ []) (completion p ∷ [])
+answer_brings version p h = by_test (is_from_v7 version) refl h.1
+  where
+    by_test : (b : Bool) → is_from_v7 version ≡ b → (b ≡ true → IsWhole (acknowledgement p.completion_id)) → Brings version (p ∷ []) (answer_frame version p ∷ []) (completion p ∷ [])
+    by_test true is whole =
+        let x = acknowledged_brings p (whole refl) in
+        let kept : acknowledged_from version (p ∷ []) ≡ p ∷ [] = ap (λ b. if b then p ∷ [] else []) is in
+        let frame : answer_frame version p ≡ stored_form (acknowledgement p.completion_id) = ap (λ b. if b then stored_form (acknowledgement p.completion_id) else stored_form (completed_by p)) is in
+        record {
+          found = subst (λ (y : List KeptProposal × List RawMessage). AllFound y.0 y.1) (λ i. (sym kept i, sym frame i ∷ [])) x.0;
+          none_left = subst (λ (y : List KeptProposal × List RawMessage). kept_after y.0 y.1 ≡ []) (λ i. (sym kept i, sym frame i ∷ [])) x.1;
+          arrive = subst (λ (y : List KeptProposal × List RawMessage). arriving y.0 y.1 ≡ completion p ∷ []) (λ i. (sym kept i, sym frame i ∷ [])) x.2;
+        }
+    by_test false is whole =
+        let kept : acknowledged_from version (p ∷ []) ≡ [] = ap (λ b. if b then p ∷ [] else []) is in
+        let frame : answer_frame version p ≡ stored_form (completed_by p) = ap (λ b. if b then stored_form (acknowledgement p.completion_id) else stored_form (completed_by p)) is in
+        let b = note_brings version (stored_form (completed_by p)) (completion p) refl (notification_back (completion p) h.0) in
+        let none = nothing_acknowledged version in
+        record {
+          found = subst (λ (y : List KeptProposal × List RawMessage). AllFound y.0 y.1) (λ i. ((none ∙ sym kept) i, sym frame i ∷ [])) b.found;
+          none_left = subst (λ (y : List KeptProposal × List RawMessage). kept_after y.0 y.1 ≡ []) (λ i. ((none ∙ sym kept) i, sym frame i ∷ [])) b.none_left;
+          arrive = subst (λ (y : List KeptProposal × List RawMessage). arriving y.0 y.1 ≡ completion p ∷ []) (λ i. ((none ∙ sym kept) i, sym frame i ∷ [])) b.arrive;
+        }
+
+answers_bring : (version : Version) (ps : List KeptProposal) → AllByRecursion (IsAnswered version) ps → Brings version ps (answers version ps) (map completion ps)
+answers_bring version [] all = brings_nothing version
+answers_bring version (p ∷ ps) all = brings_then version (p ∷ []) ps (answer_frame version p ∷ []) (answers version ps) (completion p ∷ []) (map completion ps) (answer_brings version p all.0) (answers_bring version ps all.1)
+
+-- more proposals were stored, and what answers them
+pub brings_answers : (version : Version) (stored ps : List KeptProposal) (raws : List RawMessage) (notes : List Notification) → AllByRecursion (IsAnswered version) ps → Brings version stored raws notes → Brings version (stored ++ ps) (raws ++ answers version ps) (notes ++ map completion ps)
+brings_answers version stored ps raws notes all b = brings_then version stored ps raws (answers version ps) notes (map completion ps) b (answers_bring version ps all)

@@ -1,0 +1,69 @@
+use Rattle.std.proofs.Common.{◌+◌, arith, map, take, drop, ap, subst, sym, inl, refl}
+use Rattle.std.proofs.lemmas.List.{take_all}
+use Rattle.vm_rounds.specs.Rounds.{RoundDoes, RoundFaults, RoundsDo}
+use Rattle.vm_rounds.specs.Inside.{report_view}
+use Rattle.vm_store.specs.Worlds.{IsJournal, WorldView}
+use Rattle.vm_rounds.specs.Sound.{IsSoundFor}
+use Rattle.vm_rounds.proofs.Agreeing.{sound_rounds_agree}
+use Rattle.vm_rounds.proofs.Completing.{completes_once}
+use Rattle.vm_rounds.proofs.Freshness.{rounds_fresh}
+use Rattle.vm_rounds.proofs.Lists.{split_at, whole_at}
+use Rattle.vm_rounds.proofs.Rounding.{Grows, are_honest, rounds_fail, rounds_grow, rounds_then, stays_one_run, stays_sound, stays_undisturbed}
+use Rattle.vm_rounds.proofs.rounds.run_rounds.Given as given
+use Rattle.vm_rounds.proofs.rounds.run_rounds.Goals as goal
+
+pub returns-in-Err-clause-err : goal.returns-in-Err-clause-err
+returns-in-Err-clause-err g c =
+    rw (whole_at c.args.rounds.now c.loop-round.round-index c.round-item.result c.loop-round-test.true c.round-item.is)
+    (rounds_fail (g.H.Handler.meaning c.args.handler.now) c.args.world.setting (take c.loop-round.round-index c.args.rounds.now) c.round-item.result (drop (c.loop-round.round-index + 1) c.args.rounds.now) c.args.world.journal (map report_view c.loop-round.reports.items) c.loop-round.journal.items c.in-Err.fault c.loop-round.invariant.so_far (subst (λ x. RoundFaults (g.H.Handler.meaning c.args.handler.now) x c.round-item.result c.loop-round.journal.items c.in-Err.fault) (ap (λ (w : WorldView). w.setting) c.world.view_is) c.in-Err.ensures.err))
+
+pub loop-round-preserved : goal.loop-round-preserved
+loop-round-preserved g c = record {
+  entries = c.in-Ok.ensures.entries;
+  so_far = rw (c.if-not-keep_report.ensures, split_at c.args.rounds.now c.loop-round.round-index c.round-item.result c.loop-round-test.true c.round-item.is)
+      (rounds_then (g.H.Handler.meaning c.args.handler.now) c.args.world.setting (take c.loop-round.round-index c.args.rounds.now) c.round-item.result c.args.world.journal (map report_view c.loop-round.reports.items) c.loop-round.journal.items (report_view c.in-Ok.report) c.in-Ok.next.items c.loop-round.invariant.so_far (subst (λ x. RoundDoes (g.H.Handler.meaning c.args.handler.now) x c.round-item.result c.loop-round.journal.items (report_view c.in-Ok.report) c.in-Ok.next.items) (ap (λ (w : WorldView). w.setting) c.world.view_is) c.in-Ok.ensures.ok));
+}
+
+-- all rounds were run
+all : (g : given.Over) (c : goal.After-loop-round g) → RoundsDo (g.H.Handler.meaning c.args.handler.now) c.args.world.setting c.args.rounds.now c.args.world.journal (map report_view c.loop-round.reports.items) c.loop-round.journal.items
+all g c = rw (take_all c.loop-round.round-index c.args.rounds.now (omega (arith, c.loop-round-test.false))) at c.loop-round.invariant.so_far
+
+-- the journal before
+before : (g : given.Over) (c : goal.After-loop-round g) → IsJournal c.args.world.journal
+before g c = subst (λ (w : WorldView). IsJournal w.journal) c.world.view_is c.world.invariant
+
+grows : (g : given.Over) (c : goal.After-loop-round g) → Grows c.args.world.journal c.loop-round.journal.items
+grows g c = rounds_grow (g.H.Handler.meaning c.args.handler.now) c.args.world.setting c.args.rounds.now c.args.world.journal (map report_view c.loop-round.reports.items) c.loop-round.journal.items (before g c) (all g c)
+
+pub returns-clause-extends : goal.returns-clause-extends
+returns-clause-extends g c = ((grows g c).added, (grows g c).extends)
+
+-- what rounds guarantee where the journal is sound for the handler, and where one run made it
+pub returns-clause-honest : goal.returns-clause-honest
+returns-clause-honest g c h d = are_honest (g.H.Handler.meaning c.args.handler.now) c.args.world.setting c.args.rounds.now c.args.world.journal (map report_view c.loop-round.reports.items) c.loop-round.journal.items (before g c) d h
+
+stays : (g : given.Over) (c : goal.After-loop-round g) → IsSoundFor (g.H.Handler.meaning c.args.handler.now) c.args.world.setting c.args.world.journal → IsSoundFor (g.H.Handler.meaning c.args.handler.now) c.args.world.setting c.loop-round.journal.items
+stays g c h = stays_sound (g.H.Handler.meaning c.args.handler.now) c.args.world.setting c.args.rounds.now c.args.world.journal (map report_view c.loop-round.reports.items) c.loop-round.journal.items (before g c) (all g c) h
+
+pub returns-clause-history : goal.returns-clause-history
+returns-clause-history g c h = stays g c h
+
+pub returns-clause-once : goal.returns-clause-once
+returns-clause-once g c h = completes_once _ (g.H.Handler.meaning c.args.handler.now) _ c.loop-round.journal.items (grows g c).journal (stays g c h).history.history
+
+pub returns-clause-agree : goal.returns-clause-agree
+returns-clause-agree g c h = sound_rounds_agree (g.H.Handler.meaning c.args.handler.now) c.args.world.setting c.args.rounds.now c.args.world.journal (map report_view c.loop-round.reports.items) c.loop-round.journal.items h (before g c) (all g c)
+
+pub returns-clause-one_run : goal.returns-clause-one_run
+returns-clause-one_run g c r h = stays_one_run (g.H.Handler.meaning c.args.handler.now) c.args.world.setting c.args.rounds.now c.args.world.journal (map report_view c.loop-round.reports.items) c.loop-round.journal.items (before g c) (all g c) r h
+
+pub returns-clause-undisturbed : goal.returns-clause-undisturbed
+returns-clause-undisturbed g c r whole h = stays_undisturbed (g.H.Handler.meaning c.args.handler.now) c.args.world.setting c.args.rounds.now c.args.world.journal (map report_view c.loop-round.reports.items) c.loop-round.journal.items (before g c) (all g c) r whole h
+
+pub returns-clause-fresh : goal.returns-clause-fresh
+returns-clause-fresh g c skips = rounds_fresh (g.H.Handler.meaning c.args.handler.now) c.args.world.setting c.args.rounds.now c.args.world.journal (map report_view c.loop-round.reports.items) c.loop-round.journal.items skips (before g c) (all g c)
+
+pub returns-then-not-keep_report-clause-err : goal.returns-then-not-keep_report-clause-err
+returns-then-not-keep_report-clause-err g c =
+    rw (whole_at c.args.rounds.now c.loop-round.round-index c.round-item.result c.loop-round-test.true c.round-item.is)
+    (rounds_fail (g.H.Handler.meaning c.args.handler.now) c.args.world.setting (take c.loop-round.round-index c.args.rounds.now) c.round-item.result (drop (c.loop-round.round-index + 1) c.args.rounds.now) c.args.world.journal (map report_view c.loop-round.reports.items) c.loop-round.journal.items _ c.loop-round.invariant.so_far (inl refl))

@@ -1,0 +1,75 @@
+-- What rounds guarantee of a handler and its world. Read this file first.
+use Rattle.std.specs.Prelude.{ℕ, List, map, length}
+use Rattle.vm_model.specs.Calls.{Meaning}
+use Rattle.vm_model.specs.Histories.{Honest, Whole}
+use Rattle.vm_model.specs.HonestRounds.{IsOneRun}
+use Rattle.vm_store.specs.Entries.{entries_of}
+use Rattle.vm_store.specs.States.{base_of}
+use Rattle.vm_store.specs.Worlds.{WorldView, setup_of}
+use Rattle.vm_store.specs.declared.types.Report.{Report}
+use Rattle.vm_store.specs.declared.types.Round.{Round}
+use Rattle.vm_store.specs.declared.types.Setting.{Setting}
+use Rattle.vm_rounds.specs.Courses.{AreHonest}
+use Rattle.vm_rounds.specs.Fresh.{AreFresh}
+use Rattle.vm_rounds.specs.Inside.{report_view}
+use Rattle.vm_rounds.specs.Rounds.{Agree, CompletesOnce, ReportView, RoundsDo}
+use Rattle.vm_rounds.specs.Sound.{IsSoundFor}
+
+-- What is fixed over all rounds: what the handler calls next after the answers that it saw, and with what its attempts are made.
+pub record Case : Type 0 where
+  pub handler : Meaning
+  pub setting : Setting
+
+-- a handler in a world
+abbrev pub case_of : Meaning → WorldView → Case
+case_of handler world = record { handler = handler; setting = world.setting }
+
+-- ---- of a journal
+
+-- One run of the handler made the journal: each of its commands stands there once, in order, and no other.
+abbrev pub IsExactlyOnce : Case → List (List ℕ) → Type 0
+IsExactlyOnce c journal = IsOneRun (setup_of c.setting) c.handler (Honest (base_of c.setting)) (entries_of journal)
+
+-- So did one run that nothing interrupted: each call knew the whole state.
+abbrev pub IsUninterrupted : Case → List (List ℕ) → Type 0
+IsUninterrupted c journal = IsOneRun (setup_of c.setting) c.handler (Whole (base_of c.setting)) (entries_of journal)
+
+-- The journal can be replayed to its end, whoever made it: recorded commands are replayed, signals queue, the handler's calls are its commands
+-- in order, and these leave of the state what the calls leave.
+abbrev pub IsReplayable : Case → List (List ℕ) → Type 0
+IsReplayable c journal = IsSoundFor c.handler c.setting journal
+
+-- the world's journal can be replayed by the handler
+abbrev pub CanBeReplayed : Meaning → WorldView → Type 0
+CanBeReplayed handler world = IsReplayable (case_of handler world) world.journal
+
+-- No completion id has two results, at any point of the handler's run over the journal.
+abbrev pub HasOneResultEach : Case → List (List ℕ) → Type 0
+HasOneResultEach c journal = CompletesOnce (setup_of c.setting) c.handler (entries_of journal)
+
+-- ---- of rounds
+
+-- what some reports tell
+abbrev pub told : List Report → List ReportView
+told reports = map report_view reports
+
+-- Of the answers that an earlier report's journal tells, and those of a later report, one list begins the other.
+abbrev pub AttemptsAgree : Case → List (List ℕ) → List ReportView → Type 0
+AttemptsAgree c journal reports = Agree (setup_of c.setting) c.handler journal reports
+
+-- Each attempt saw the answers that its journal tells, and each command that was stored stands after all that its attempt was delivered before
+-- it wrote the command.
+abbrev pub RoundsAreHonest : Case → List Round → List (List ℕ) → List ReportView → List (List ℕ) → Type 0
+RoundsAreHonest c rounds old reports new =
+    (d : RoundsDo c.handler c.setting rounds old reports new)
+    → AreHonest (Honest (base_of c.setting)) c.handler c.setting rounds old reports new d
+
+-- ---- what lasts
+
+-- What a journal has, it has after the rounds too.
+abbrev pub Lasts : (List (List ℕ) → Type 0) → WorldView → WorldView → Type 0
+Lasts Has old new = Has old.journal → Has new.journal
+
+-- In each round the completion ids of the new commands are greater than all that the journal's commands carried when it began.
+abbrev pub IdsAreNew : WorldView → List ReportView → WorldView → Type 0
+IdsAreNew old reports new = AreFresh (length old.journal) new.journal reports

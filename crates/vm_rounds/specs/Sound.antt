@@ -1,0 +1,15 @@
+-- What rounds ask of a journal that is there before them, whoever made it.
+use Rattle.std.specs.Prelude.{ℕ, List}
+use Rattle.vm_model.specs.Calls.{Meaning}
+use Rattle.vm_model.specs.SoundHistories.{SoundHistory}
+use Rattle.vm_store.specs.declared.types.Setting.{Setting}
+use Rattle.vm_store.specs.Entries.{entries_of}
+use Rattle.vm_store.specs.States.{base_of}
+use Rattle.vm_store.specs.Worlds.{setup_of}
+use Rattle.vm_rounds.specs.Rounds.{Replays}
+
+-- In this setting recorded commands are replayed and signals queue, and the journal is a sound history of the handler, from the state before
+-- any command.
+pub record IsSoundFor (m : Meaning) (w : Setting) (journal : List (List ℕ)) : Type 0 where
+  pub replays : Replays w.options
+  pub history : SoundHistory (setup_of w) m (base_of w) (entries_of journal)

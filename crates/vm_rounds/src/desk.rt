@@ -1,0 +1,222 @@
+//! A round on its way, and its events one by one.
+ghost use Rattle.std.specs.Prelude.{◌≡◌, ◌⊎◌, [], ◌∷◌, ◌++◌, drop, take, Some, None, IfOk, IfErr, OnOk};
+ghost use Rattle.vm_store.specs.Arrivals.{arrival_fault};
+ghost use Rattle.vm_rounds.specs.Rounds.{first_error, memory_of, Happens, Outcome};
+ghost use Rattle.vm_store.specs.declared.types.Event.TheVariants as event;
+ghost use Rattle.vm_store.specs.declared.types.RoundFault.TheVariants as round_fault;
+ghost use Rattle.vm_rounds.specs.Inside.{the_now};
+
+use bytes::{Bytes, BytesMut};
+use journal_errors::{Error, NamedFault, Version};
+use journal_streams::Decoder;
+use retries::RetryPolicy;
+use runs::RunExitResult;
+use std::alloc::{AllocError, Global};
+use vm_attempt::{Attempt, Handler};
+use vm_parts::NotificationHandle;
+use vm_store::arrival_faults::arrival_fault;
+use vm_store::storing::store_from;
+use vm_store::types::{Event, RoundFault};
+
+/// A round on its way, but for its attempt.
+#[derive(Drop)]
+pub struct Desk {
+    pub alloc: Global,
+    pub version: Version,
+    pub journal: Vec<Bytes>,
+    pub waiting: BytesMut,
+    pub output: Vec<u8>,
+    pub unstored: Decoder,
+    pub closed: bool,
+    pub error: Option<Error>,
+}
+
+/// Keeps the first error.
+fn note(error: &mut Option<Error>, next: Option<Error>)
+    ensures { error.new ≡ first_error error.old next }
+{
+    if error.is_none() {
+        *error = next;
+    }
+}
+
+/// An arrival is stored, if it has no fault.
+pub fn arrive_in(alloc: Global, journal: &mut Vec<Bytes>, entry: &Bytes) -> Result<(), RoundFault>
+    ensures ok { OnOk result ((arrival_fault entry.now journal.old.items ≡ None) × (journal.new.items ≡ journal.old.items ++ entry.now ∷ [])) }
+    ensures err { IfErr result (λ f. (f ≡ round_fault.Memory) ⊎ (arrival_fault entry.now journal.old.items ≡ Some f)) }
+{
+    match arrival_fault(alloc, entry, journal.as_slice()) {
+        Err(_) => return Err(RoundFault::Memory),
+        Ok(Some(fault)) => return Err(fault),
+        Ok(None) => {}
+    }
+    let Ok(kept) = entry.clone() else {
+        return Err(RoundFault::Memory);
+    };
+    if journal.push(kept).is_err() {
+        return Err(RoundFault::Memory);
+    }
+    Ok(())
+}
+
+/// A notification is stored and waits.
+fn arrive(desk: &mut Desk, entry: &Bytes) -> Result<(), RoundFault>
+    ensures ok { OnOk result ((arrival_fault entry.now desk.old.journal.items ≡ None)
+        × (desk.new.journal.items ≡ desk.old.journal.items ++ entry.now ∷ []) × (desk.new.waiting.items ≡ desk.old.waiting.items ++ entry.now)) }
+    ensures same { OnOk result ((desk.new.version ≡ desk.old.version) × (desk.new.output ≡ desk.old.output) × (desk.new.unstored ≡ desk.old.unstored) × (desk.new.closed ≡ desk.old.closed) × (desk.new.error ≡ desk.old.error)) }
+    ensures err { IfErr result (λ f. (f ≡ round_fault.Memory) ⊎ (arrival_fault entry.now desk.old.journal.items ≡ Some f)) }
+{
+    arrive_in(desk.alloc, &mut desk.journal, entry)?;
+    if desk.waiting.extend_from_slice(entry.as_slice()).is_err() {
+        return Err(RoundFault::Memory);
+    }
+    Ok(())
+}
+
+/// The error of a call that answers nothing but want of memory.
+fn memory_error(answer: Result<(), AllocError>) -> Option<Error>
+    ensures { result ≡ memory_of answer }
+{
+    match answer {
+        Ok(()) => None,
+        Err(_) => Some(Error::named(NamedFault::Memory, None)),
+    }
+}
+
+/// The next bytes, or all where there are fewer.
+#[tactic(auto, using(std::proofs::lemmas::List::take_all, std::proofs::lemmas::List::drop_all))]
+fn front(waiting: &mut BytesMut, n: usize) -> Result<Bytes, AllocError>
+    ensures front { IfOk result (λ b. b ≡ take n waiting.old.items) }
+    ensures rest { OnOk result (waiting.new.items ≡ drop n waiting.old.items) }
+{
+    if n < waiting.len() {
+        waiting.freeze_to(n)
+    } else {
+        waiting.freeze_to(waiting.len())
+    }
+}
+
+/// A piece of what waits is fed.
+fn piece<H: Handler>(attempt: &mut Attempt<&H>, desk: &mut Desk, n: usize) -> Result<(), RoundFault>
+    ensures does { Outcome (H.meaning attempt.old.handler.now) (event.Piece n) (the_now desk.old attempt.old.record_of) result (the_now desk.new attempt.new.record_of) }
+    ensures handler { attempt.new.handler.now ≡ attempt.old.handler.now }
+    ensures made_for { (attempt.new.version ≡ attempt.old.version) × (attempt.new.options ≡ attempt.old.options) }
+{
+    if desk.closed {
+        return Ok(());
+    }
+    let Ok(piece) = front(&mut desk.waiting, n) else {
+        return Err(RoundFault::Memory);
+    };
+    let fed = attempt.feed(piece);
+    note(&mut desk.error, memory_error(fed));
+    Ok(())
+}
+
+/// The input is closed.
+fn close<H: Handler>(attempt: &mut Attempt<&H>, desk: &mut Desk)
+    ensures does { Happens (H.meaning attempt.old.handler.now) event.Close (the_now desk.old attempt.old.record_of) (the_now desk.new attempt.new.record_of) }
+    ensures handler { attempt.new.handler.now ≡ attempt.old.handler.now }
+    ensures made_for { (attempt.new.version ≡ attempt.old.version) × (attempt.new.options ≡ attempt.old.options) }
+{
+    let closed = attempt.close();
+    desk.closed = true;
+    note(&mut desk.error, memory_error(closed));
+}
+
+/// The attempt's step; its error is kept.
+fn step<H: Handler>(attempt: &mut Attempt<&H>, desk: &mut Desk)
+    ensures does { Happens (H.meaning attempt.old.handler.now) event.Step (the_now desk.old attempt.old.record_of) (the_now desk.new attempt.new.record_of) }
+    ensures handler { attempt.new.handler.now ≡ attempt.old.handler.now }
+    ensures made_for { (attempt.new.version ≡ attempt.old.version) × (attempt.new.options ≡ attempt.old.options) }
+{
+    let error = attempt.step().err();
+    note(&mut desk.error, error);
+}
+
+/// Copies of what a run came to, and of its policy.
+fn copy_result(
+    exit: &RunExitResult,
+    policy: &RetryPolicy,
+) -> Result<(RunExitResult, RetryPolicy), AllocError>
+    ensures { IfOk result (λ copy. (copy.0 ≡ exit.now) × (copy.1 ≡ policy.now)) }
+{
+    let exit = exit.clone()?;
+    let policy = policy.clone()?;
+    Ok((exit, policy))
+}
+
+/// What executing a run came to is told to the attempt; an error of that is kept.
+fn run_result<H: Handler>(
+    attempt: &mut Attempt<&H>,
+    desk: &mut Desk,
+    handle: NotificationHandle,
+    exit: &RunExitResult,
+    policy: &RetryPolicy,
+) -> Result<(), RoundFault>
+    ensures does { Outcome (H.meaning attempt.old.handler.now) (event.RunResult handle exit.now policy.now) (the_now desk.old attempt.old.record_of) result (the_now desk.new attempt.new.record_of) }
+    ensures handler { attempt.new.handler.now ≡ attempt.old.handler.now }
+    ensures made_for { (attempt.new.version ≡ attempt.old.version) × (attempt.new.options ≡ attempt.old.options) }
+{
+    let Ok((exit, policy)) = copy_result(exit, policy) else {
+        return Err(RoundFault::Memory);
+    };
+    let error = attempt.run_result(handle, exit, policy).err();
+    note(&mut desk.error, error);
+    Ok(())
+}
+
+/// The next commands and proposals that were written are stored.
+fn store<H: Handler>(attempt: &mut Attempt<&H>, desk: &mut Desk, n: usize) -> Result<(), RoundFault>
+    ensures does { Outcome (H.meaning attempt.old.handler.now) (event.Store n) (the_now desk.old attempt.old.record_of) result (the_now desk.new attempt.new.record_of) }
+    ensures handler { attempt.new.handler.now ≡ attempt.old.handler.now }
+    ensures made_for { (attempt.new.version ≡ attempt.old.version) × (attempt.new.options ≡ attempt.old.options) }
+{
+    // What the record says was proposed is what the output proposes.
+    let _ = attempt.output_len();
+    let Ok(bytes) = attempt.take_output() else {
+        return Err(RoundFault::Memory);
+    };
+    if desk.output.extend_from_slice(bytes.as_slice()).is_err() {
+        return Err(RoundFault::Memory);
+    }
+    if desk.unstored.push(bytes).is_err() {
+        return Err(RoundFault::Memory);
+    }
+    store_from(
+        desk.alloc,
+        desk.version,
+        &mut desk.journal,
+        &mut desk.waiting,
+        &mut desk.unstored,
+        n,
+    )
+}
+
+/// One event.
+pub fn happen<H: Handler>(
+    attempt: &mut Attempt<&H>,
+    desk: &mut Desk,
+    event: &Event,
+) -> Result<(), RoundFault>
+    ensures does { Outcome (H.meaning attempt.old.handler.now) event.now (the_now desk.old attempt.old.record_of) result (the_now desk.new attempt.new.record_of) }
+    ensures handler { attempt.new.handler.now ≡ attempt.old.handler.now }
+    ensures made_for { (attempt.new.version ≡ attempt.old.version) × (attempt.new.options ≡ attempt.old.options) }
+{
+    match event {
+        Event::Piece(n) => piece(attempt, desk, *n),
+        Event::Close => {
+            close(attempt, desk);
+            Ok(())
+        }
+        Event::Step => {
+            step(attempt, desk);
+            Ok(())
+        }
+        Event::RunResult(handle, exit, policy) => {
+            run_result(attempt, desk, *handle, exit, policy)
+        }
+        Event::Arrive(entry) => arrive(desk, entry),
+        Event::Store(n) => store(attempt, desk, *n),
+    }
+}

@@ -1,0 +1,230 @@
+//! One round: its attempt, and what happens to it.
+ghost use Rattle.std.specs.Prelude.{◌≡◌, ◌⊎◌, ◌≤◌, ◌∷◌, [], ◌++◌, length, IfOk, IfErr, OnOk};
+ghost use Rattle.std.specs.List.{concat};
+ghost use Rattle.journal_messages.specs.Message.{encoding};
+ghost use Rattle.journal_messages.specs.Message.{IsWhole};
+ghost use Rattle.invocation_vm.specs.Making.{made, supported};
+ghost use Rattle.vm_steps.specs.Stepping.{fresh_record};
+ghost use Rattle.vm_store.specs.Arrivals.{most};
+ghost use Rattle.vm_rounds.specs.Inside.{the_now, report_view};
+ghost use Rattle.vm_rounds.specs.Rounds.{new_now, report_of, ArrivalsDo, ArrivalsFault, EndsTold, Happen, HappenFaults, IsRefusal, IsShort, IsSupported, Ran, RefusedDoes, RefusedFaults, RoundDoes, RoundFaults};
+ghost use Rattle.vm_store.specs.Worlds.{IsJournal, start_message};
+ghost use Rattle.vm_store.specs.declared.types.RoundFault.TheVariants as round_fault;
+
+use crate::answers::copy_answers;
+use crate::content_type::ContentType;
+use crate::desk::{Desk, arrive_in, happen};
+use bytes::{Bytes, BytesMut};
+use invocation_vm::VMResult;
+use journal_errors::{Error, Version};
+use journal_streams::Decoder;
+use std::alloc::{AllocError, Global};
+use vm_attempt::{Attempt, Handler};
+use vm_store::handed::start_bytes;
+use vm_store::types::{Event, Report, Round, RoundFault, Setting};
+
+/// All of the journal waits.
+fn wait_all(waiting: &mut BytesMut, journal: &[Bytes]) -> Result<(), AllocError>
+    ensures { OnOk result (waiting.new.items ≡ waiting.old.items ++ concat journal.now) }
+{
+    for entry in journal {
+        waiting.extend_from_slice(entry.as_slice())?;
+    }
+    Ok(())
+}
+
+/// A round's Start and journal wait.
+fn waiting_bytes(
+    alloc: Global,
+    setting: &Setting,
+    round: &Round,
+    journal: &[Bytes],
+) -> Result<BytesMut, AllocError>
+    requires { length journal.now ≤ most }
+    ensures bytes { IfOk result (λ b. b.items ≡ encoding (start_message setting.now round.now journal.now) ++ concat journal.now) }
+    ensures whole { OnOk result (IsWhole (start_message setting.now round.now journal.now)) }
+{
+    let start = start_bytes(alloc, setting, round, journal)?;
+    let mut waiting = BytesMut::new(alloc);
+    waiting.extend_from_slice(start.as_slice())?;
+    wait_all(&mut waiting, journal)?;
+    Ok(waiting)
+}
+
+/// All events of a round.
+fn happen_all<H: Handler>(
+    attempt: &mut Attempt<&H>,
+    desk: &mut Desk,
+    events: &[Event],
+) -> Result<(), RoundFault>
+    ensures ok { OnOk result (Happen (H.meaning attempt.old.handler.now) events.now (the_now desk.old attempt.old.record_of) (the_now desk.new attempt.new.record_of)) }
+    ensures err { IfErr result (λ f. HappenFaults (H.meaning attempt.old.handler.now) events.now (the_now desk.old attempt.old.record_of) f) }
+    ensures handler { attempt.new.handler.now ≡ attempt.old.handler.now }
+    ensures made_for { (attempt.new.version ≡ attempt.old.version) × (attempt.new.options ≡ attempt.old.options) }
+{
+    for event in events {
+        happen(attempt, desk, event)?;
+    }
+    Ok(())
+}
+
+/// One event, where no attempt was made.
+fn arrive_only(alloc: Global, journal: &mut Vec<Bytes>, event: &Event) -> Result<(), RoundFault>
+    ensures ok { OnOk result (ArrivalsDo (event.now ∷ []) journal.old.items journal.new.items) }
+    ensures err { IfErr result (λ f. ArrivalsFault (event.now ∷ []) journal.old.items f) }
+{
+    match event {
+        Event::Arrive(entry) => arrive_in(alloc, journal, entry),
+        _ => Ok(()),
+    }
+}
+
+/// All events of a round, where no attempt was made: the arrivals are stored.
+fn arrive_all(alloc: Global, journal: &mut Vec<Bytes>, events: &[Event]) -> Result<(), RoundFault>
+    ensures ok { OnOk result (ArrivalsDo events.now journal.old.items journal.new.items) }
+    ensures err { IfErr result (λ f. ArrivalsFault events.now journal.old.items f) }
+{
+    for event in events {
+        arrive_only(alloc, journal, event)?;
+    }
+    Ok(())
+}
+
+/// What the round tells.
+fn report<H: Handler>(
+    alloc: Global,
+    attempt: &mut Attempt<&H>,
+    desk: Desk,
+) -> Result<(Vec<Bytes>, Report), AllocError>
+    requires { length desk.journal.items ≤ most }
+    ensures report { IfOk result (λ r. report_view r.1 ≡ report_of (the_now desk attempt.old.record_of)) }
+    ensures journal { IfOk result (λ r. r.0.items ≡ desk.journal.items) }
+    ensures ends { EndsTold (H.meaning attempt.old.handler.now) attempt.old.version attempt.old.options attempt.old.record_of }
+{
+    let answers = copy_answers(alloc, attempt.answers())?;
+    let bytes = attempt.take_output()?;
+    let Desk {
+        journal,
+        mut output,
+        error,
+        ..
+    } = desk;
+    output.extend_from_slice(bytes.as_slice())?;
+    let entries = journal.len() as u32;
+    let output = Bytes::from_vec(output)?;
+    Ok((
+        journal,
+        Report {
+            answers,
+            output,
+            error,
+            entries,
+        },
+    ))
+}
+
+/// An attempt for the setting's version.
+fn new_attempt<'a, H: Handler>(
+    alloc: Global,
+    setting: &Setting,
+    handler: &'a H,
+) -> VMResult<Attempt<&'a H>>
+    ensures record { IfOk result (λ a. a.record_of ≡ fresh_record (made alloc setting.now.options setting.now.version)) }
+    ensures handler { IfOk result (λ a. a.handler.now ≡ handler.now) }
+    ensures made_for { IfOk result (λ a. (a.version ≡ setting.now.version) × (a.options ≡ setting.now.options)) }
+    ensures supported { OnOk result (IsSupported setting.now.version) }
+    ensures refused { IfErr result (λ e. IsRefusal (supported setting.now.version) e) }
+{
+    let headers = ContentType(setting.version.content_type());
+    Attempt::new(alloc, headers, setting.options, handler)
+}
+
+/// A round whose attempt was refused.
+fn refused_round(
+    alloc: Global,
+    setting: &Setting,
+    mut journal: Vec<Bytes>,
+    round: &Round,
+    error: Error,
+) -> Result<(Vec<Bytes>, Report), RoundFault>
+    requires entries { IsJournal journal.items }
+    requires refusal { IsRefusal (supported setting.now.version) error }
+    ensures ok { IfOk result (λ r. RefusedDoes setting.now round.now journal.items (report_view r.1) r.0.items) }
+    ensures err { IfErr result (λ f. RefusedFaults setting.now round.now journal.items f) }
+{
+    arrive_all(alloc, &mut journal, round.events.as_slice())?;
+    let entries = journal.len() as u32;
+    Ok((
+        journal,
+        Report {
+            answers: Vec::new(alloc),
+            output: Bytes::new(),
+            error: Some(error),
+            entries,
+        },
+    ))
+}
+
+/// A round with its attempt.
+fn made_round<H: Handler>(
+    alloc: Global,
+    version: Version,
+    attempt: &mut Attempt<&H>,
+    journal: Vec<Bytes>,
+    waiting: BytesMut,
+    events: &[Event],
+) -> Result<(Vec<Bytes>, Report), RoundFault>
+    requires short { IsShort (H.meaning attempt.old.handler.now) events.now (new_now version journal.items waiting.items attempt.old.record_of) }
+    ensures ok { IfOk result (λ r. Ran (H.meaning attempt.old.handler.now) attempt.old.version attempt.old.options events.now (new_now version journal.items waiting.items attempt.old.record_of) (report_view r.1) r.0.items) }
+    ensures err { IfErr result (λ f. (f ≡ round_fault.Memory) ⊎ HappenFaults (H.meaning attempt.old.handler.now) events.now (new_now version journal.items waiting.items attempt.old.record_of) f) }
+{
+    let mut desk = Desk {
+        alloc,
+        version,
+        journal,
+        waiting,
+        output: Vec::new(alloc),
+        unstored: Decoder::new(alloc),
+        closed: false,
+        error: None,
+    };
+    match happen_all(attempt, &mut desk, events) {
+        Err(fault) => return Err(fault),
+        Ok(()) => {}
+    }
+    match report(alloc, attempt, desk) {
+        Ok(done) => Ok(done),
+        Err(_) => Err(RoundFault::Memory),
+    }
+}
+
+/// One round.
+pub fn run_round<H: Handler>(
+    alloc: Global,
+    setting: &Setting,
+    handler: &H,
+    journal: Vec<Bytes>,
+    round: &Round,
+) -> Result<(Vec<Bytes>, Report), RoundFault>
+    requires entries { IsJournal journal.items }
+    ensures ok { IfOk result (λ r. RoundDoes (H.meaning handler.now) setting.now round.now journal.items (report_view r.1) r.0.items) }
+    ensures entries { IfOk result (λ r. IsJournal r.0.items) }
+    ensures err { IfErr result (λ f. RoundFaults (H.meaning handler.now) setting.now round.now journal.items f) }
+{
+    match new_attempt(alloc, setting, handler) {
+        Err(error) => refused_round(alloc, setting, journal, round, error),
+        Ok(mut attempt) => {
+            let Ok(waiting) = waiting_bytes(alloc, setting, round, journal.as_slice()) else {
+                return Err(RoundFault::Memory);
+            };
+            made_round(
+                alloc,
+                setting.version,
+                &mut attempt,
+                journal,
+                waiting,
+                round.events.as_slice(),
+            )
+        }
+    }
+}

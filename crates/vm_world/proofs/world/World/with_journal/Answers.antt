@@ -1,7 +1,0 @@
-use Rattle.std.proofs.Common.{[], subst}
-use Rattle.vm_store.specs.Given.{AreGiven}
-use Rattle.vm_world.proofs.Given.{given_is}
-use Rattle.vm_world.proofs.world.World.with_journal.Goals as goal
-
-pub invariant_of-result : goal.invariant_of-result
-invariant_of-result c = given_is c.args.entries.items (subst (AreGiven []) c.as_slice.ensures.value c.in-Ok.ensures.ok)
