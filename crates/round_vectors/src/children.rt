@@ -293,29 +293,35 @@ Call service_name="Child" handler_name="a" invocation_id_notification_idx=1 resu
 Call service_name="Child" handler_name="b" invocation_id_notification_idx=3 result_completion_id=4
 "#;
 
-/// The round is stopped behind so many lines, and the last one follows. The signals and the output come if all three arrived.
-fn assert_goes_on(rt: &impl Abort, alloc: Global, at: usize) -> Result<(), Fail> {
+/// The round is stopped behind so many lines, and the last one follows.
+fn stopped_behind(alloc: Global, at: usize) -> Result<String, Fail> {
     let mut script = String::from_str(alloc, CALLS)?;
-    let mut journal = String::from_str(alloc, CALLED)?;
     for line in STOPPED.iter().take(at) {
         script.push_str(*line)?;
+    }
+    script.push_str(LAST)?;
+    Ok(script)
+}
+
+/// What is stored then: what arrived, and if all three did the signals and the output.
+fn stored_behind(alloc: Global, at: usize) -> Result<String, Fail> {
+    let mut journal = String::from_str(alloc, CALLED)?;
+    for line in STOPPED.iter().take(at) {
         if let Some(arrival) = line.strip_prefix("arrive ") {
             journal.push_str(arrival)?;
         }
     }
-    script.push_str(LAST)?;
     if at >= BEFORE + ARRIVALS {
         journal.push_str(SENT)?;
     }
-    assert_report_ends(
-        rt,
-        alloc,
-        V7,
-        "parent",
-        script.as_str(),
-        at,
-        journal.as_str(),
-    );
+    Ok(journal)
+}
+
+fn assert_goes_on(rt: &impl Abort, alloc: Global, at: usize) -> Result<(), Fail> {
+    let script = stopped_behind(alloc, at)?;
+    let journal = stored_behind(alloc, at)?;
+    let (script, journal) = (script.as_str(), journal.as_str());
+    assert_report_ends(rt, alloc, V7, "parent", script, at, journal);
     Ok(())
 }
 
@@ -388,21 +394,19 @@ fn told_at(place: usize) -> &'static str {
     }
 }
 
+fn assert_cut(rt: &impl Abort, alloc: Global, place: usize) -> Result<(), Fail> {
+    let told = told_at(place);
+    let script = format!(in alloc; "{BROUGHT}piece {place}\nclose\nstep 8\n")?;
+    let report = format!(in alloc; "{told}{BROUGHT_JOURNAL}")?;
+    let (script, report) = (script.as_bytes(), report.as_str());
+    assert_run(rt, alloc, V7, "parent", script, Told::Reported, report);
+    Ok(())
+}
+
 #[test]
 fn input_is_cut_at_each_byte_and_closed(rt: HostRuntime) -> Result<(), Fail> {
     for place in 0..=WHOLE {
-        let told = told_at(place);
-        let script = format!(in rt.alloc(); "{BROUGHT}piece {place}\nclose\nstep 8\n")?;
-        let report = format!(in rt.alloc(); "{told}{BROUGHT_JOURNAL}")?;
-        assert_run(
-            &rt,
-            rt.alloc(),
-            V7,
-            "parent",
-            script.as_bytes(),
-            Told::Reported,
-            report.as_str(),
-        );
+        assert_cut(&rt, rt.alloc(), place)?;
     }
     Ok(())
 }
