@@ -40,7 +40,7 @@ struct Row {
     end: End,
 }
 
-static ROWS: [Row; 15] = [
+static ROWS: [Row; 16] = [
     Row {
         before: Counters {
             completion: END,
@@ -112,6 +112,14 @@ static ROWS: [Row; 15] = [
         },
         line: "call_with_deadline \"s\" \"h\" \"v\" 1000",
         end: End::Refused("exhausted: command indexes"),
+    },
+    Row {
+        before: Counters {
+            signal: END,
+            ..BEGUN
+        },
+        line: "awakeable",
+        end: End::Refused("exhausted: signal ids"),
     },
     Row {
         before: Counters {

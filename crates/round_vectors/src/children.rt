@@ -279,3 +279,134 @@ fn where_a_cancelled_round_stops_leaves_no_trace(rt: HostRuntime) -> Result<(), 
     }
     Ok(())
 }
+
+/// A last round, in which nothing arrives: it goes on as far as it can.
+const LAST: &str = r#"round
+piece all
+step 8
+store 10
+"#;
+
+const CALLED: &str = r#"journal
+Input
+Call service_name="Child" handler_name="a" invocation_id_notification_idx=1 result_completion_id=2
+Call service_name="Child" handler_name="b" invocation_id_notification_idx=3 result_completion_id=4
+"#;
+
+/// The round is stopped behind so many lines, and the last one follows.
+fn stopped_behind(alloc: Global, at: usize) -> Result<String, Fail> {
+    let mut script = String::from_str(alloc, CALLS)?;
+    for line in STOPPED.iter().take(at) {
+        script.push_str(*line)?;
+    }
+    script.push_str(LAST)?;
+    Ok(script)
+}
+
+/// What is stored then: what arrived, and if all three did the signals and the output.
+fn stored_behind(alloc: Global, at: usize) -> Result<String, Fail> {
+    let mut journal = String::from_str(alloc, CALLED)?;
+    for line in STOPPED.iter().take(at) {
+        if let Some(arrival) = line.strip_prefix("arrive ") {
+            journal.push_str(arrival)?;
+        }
+    }
+    if at >= BEFORE + ARRIVALS {
+        journal.push_str(SENT)?;
+    }
+    Ok(journal)
+}
+
+fn assert_goes_on(rt: &impl Abort, alloc: Global, at: usize) -> Result<(), Fail> {
+    let script = stopped_behind(alloc, at)?;
+    let journal = stored_behind(alloc, at)?;
+    let (script, journal) = (script.as_str(), journal.as_str());
+    assert_report_ends(rt, alloc, V7, "parent", script, at, journal);
+    Ok(())
+}
+
+#[test]
+fn stopped_round_is_gone_on_with(rt: HostRuntime) -> Result<(), Fail> {
+    for at in 0..=STOPPED.len() {
+        assert_goes_on(&rt, rt.alloc(), at)?;
+    }
+    Ok(())
+}
+
+/// A cancelled parent's journal from elsewhere. The second child's id comes behind it, and the input is closed behind some bytes.
+const BROUGHT: &str = r#"entry Input
+entry Call service_name="Child" handler_name="a" invocation_id_notification_idx=1 result_completion_id=2
+entry Call service_name="Child" handler_name="b" invocation_id_notification_idx=3 result_completion_id=4
+entry Notification id=completion(1) result=invocation_id("inv1")
+entry Notification id=signal(1) result=void
+round
+arrive Notification id=completion(3) result=invocation_id("inv2")
+"#;
+
+const BROUGHT_JOURNAL: &str = r#"entries 6
+journal
+Input
+Call service_name="Child" handler_name="a" invocation_id_notification_idx=1 result_completion_id=2
+Call service_name="Child" handler_name="b" invocation_id_notification_idx=3 result_completion_id=4
+Notification id=completion(1) result=invocation_id("inv1")
+Notification id=signal(1) result=void
+Notification id=completion(3) result=invocation_id("inv2")
+"#;
+
+/// The lengths of Start, the input, both calls, the first child's id and the signal: each has ten bytes before its body.
+const KNOWN: usize = 76 + 26 + 75 + 75 + 28 + 16;
+
+/// With the second child's id.
+const WHOLE: usize = KNOWN + 28;
+
+const MISSING: &str = r#"round 1
+output Error code=571 message="INPUT_CLOSED_WHILE_WAITING_ENTRIES" behaviour=Retry
+error 571 "INPUT_CLOSED_WHILE_WAITING_ENTRIES"
+"#;
+
+const WAITING: &str = r#"round 1
+answer input id="abc" seed=0 key="" headers=[] value="" scope=- limit=- idem=-
+answer handles 17 18
+answer handles 19 20
+output Suspension future=(kind=FirstCompleted completions=[3])
+"#;
+
+const ENDED: &str = r#"round 1
+answer input id="abc" seed=0 key="" headers=[] value="" scope=- limit=- idem=-
+answer handles 17 18
+answer handles 19 20
+answer cancelled
+answer unit
+output SendSignal target_invocation_id="inv1" signal=index(1) result=void
+output SendSignal target_invocation_id="inv2" signal=index(1) result=void
+output Output result=failure(code=409 message="cancelled")
+output End
+"#;
+
+/// A known entry is missing, or the second child's id is, or nothing is.
+fn told_at(place: usize) -> &'static str {
+    if place < KNOWN {
+        MISSING
+    } else if place < WHOLE {
+        WAITING
+    } else {
+        ENDED
+    }
+}
+
+fn assert_cut(rt: &impl Abort, alloc: Global, place: usize) -> Result<(), Fail> {
+    let told = told_at(place);
+    let script = format!(in alloc; "{BROUGHT}piece {place}\nclose\nstep 8\n")?;
+    let report = format!(in alloc; "{told}{BROUGHT_JOURNAL}")?;
+    let (script, report) = (script.as_bytes(), report.as_str());
+    assert_run(rt, alloc, V7, "parent", script, Told::Reported, report);
+    Ok(())
+}
+
+#[test]
+fn input_is_cut_at_each_byte_and_closed(rt: HostRuntime) -> Result<(), Fail> {
+    for place in 0..=WHOLE {
+        assert_cut(&rt, rt.alloc(), place)?;
+    }
+    Ok(())
+}

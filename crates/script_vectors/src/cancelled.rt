@@ -1,6 +1,6 @@
 // Cancelled awaits: which invocations are sent the cancel signal, in which order, and what an await waits for before.
 use crate::places::VERSIONS;
-use crate::table::{Rows, assert_each_row, assert_table};
+use crate::table::{Rows, assert_each_row_under, assert_table, cancelling};
 use std::test::Fail;
 
 const REPLAYED: &str = r#"
@@ -442,5 +442,5 @@ fn futures_list_the_cancel_signal(rt: HostRuntime) -> Result<(), Fail> {
 /// However many of the cancel signals are recorded, the others are sent, each once.
 #[test]
 fn up_to_three_children_are_cancelled(rt: HostRuntime) -> Result<(), Fail> {
-    assert_each_row(&rt, rt.alloc(), VERSIONS, UP_TO_THREE)
+    assert_each_row_under(&rt, rt.alloc(), cancelling(), VERSIONS, UP_TO_THREE)
 }

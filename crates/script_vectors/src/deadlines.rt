@@ -1,6 +1,8 @@
 // Calls with a deadline: two commands, three ids and three handles, written, replayed, written in part, and refused.
 use crate::places::VERSIONS;
-use crate::table::{Rows, assert_each_line, assert_each_row};
+use crate::table::{
+    Rows, assert_each_line, assert_each_row, assert_each_row_under, cancelling, quiet,
+};
 use std::test::Fail;
 
 const CALLS: Rows = Rows {
@@ -321,7 +323,7 @@ state => ok WaitingPreFlight
 
 #[test]
 fn calls_are_bounded(rt: HostRuntime) -> Result<(), Fail> {
-    assert_each_row(&rt, rt.alloc(), VERSIONS, CALLS)
+    assert_each_row_under(&rt, rt.alloc(), quiet(), VERSIONS, CALLS)
 }
 
 #[test]
@@ -332,7 +334,7 @@ fn scope_comes_with_version_7(rt: HostRuntime) -> Result<(), Fail> {
 
 #[test]
 fn cancelled_call_is_cancelled(rt: HostRuntime) -> Result<(), Fail> {
-    assert_each_row(&rt, rt.alloc(), VERSIONS, CANCELLED)
+    assert_each_row_under(&rt, rt.alloc(), cancelling(), VERSIONS, CANCELLED)
 }
 
 #[test]

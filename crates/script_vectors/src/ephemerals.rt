@@ -1,6 +1,9 @@
 // Ephemeral reads of the state: keys that are known and such that are asked for, what an await and a take answer, and each state and version.
 use crate::places::VERSIONS;
-use crate::table::{Rows, assert_each_line, assert_each_row};
+use crate::table::{
+    REPLAY_OFF, Rows, assert_each_line, assert_each_line_under, assert_each_row_under, cancelling,
+    idle,
+};
 use std::test::Fail;
 
 const READS: Rows = Rows {
@@ -789,28 +792,29 @@ output => ok 0x
 
 #[test]
 fn reads_leave_no_trace(rt: HostRuntime) -> Result<(), Fail> {
-    assert_each_row(&rt, rt.alloc(), &[8], READS)
+    assert_each_row_under(&rt, rt.alloc(), idle(), &[8], READS)?;
+    assert_each_row_under(&rt, rt.alloc(), &[REPLAY_OFF], &[8], READS)
 }
 
 #[test]
 fn read_that_is_ready_comes_before_the_cancellation(rt: HostRuntime) -> Result<(), Fail> {
-    assert_each_row(&rt, rt.alloc(), &[8], CANCELLED)
+    assert_each_row_under(&rt, rt.alloc(), cancelling(), &[8], CANCELLED)
 }
 
 #[test]
 fn gets_are_refused(rt: HostRuntime) -> Result<(), Fail> {
-    assert_each_line(&rt, rt.alloc(), &[8], &REFUSED_GETS)?;
-    assert_each_line(&rt, rt.alloc(), &[5, 6, 7], &OLD_GETS)
+    assert_each_line_under(&rt, rt.alloc(), idle(), &[8], &REFUSED_GETS)?;
+    assert_each_line_under(&rt, rt.alloc(), idle(), &[5, 6, 7], &OLD_GETS)
 }
 
 #[test]
 fn takes_are_refused(rt: HostRuntime) -> Result<(), Fail> {
-    assert_each_line(&rt, rt.alloc(), VERSIONS, &REFUSED_TAKES)
+    assert_each_line_under(&rt, rt.alloc(), idle(), VERSIONS, &REFUSED_TAKES)
 }
 
 #[test]
 fn results_come_in_processing(rt: HostRuntime) -> Result<(), Fail> {
-    assert_each_row(&rt, rt.alloc(), VERSIONS, RESULTS)
+    assert_each_row_under(&rt, rt.alloc(), idle(), VERSIONS, RESULTS)
 }
 
 #[test]

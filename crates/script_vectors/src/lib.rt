@@ -16,6 +16,12 @@ mod commands;
 #[cfg(test)]
 mod deadlines;
 #[cfg(test)]
+mod each_await;
+#[cfg(test)]
+mod each_call;
+#[cfg(test)]
+mod each_command;
+#[cfg(test)]
 mod ephemerals;
 #[cfg(test)]
 mod executed_runs;

@@ -1,5 +1,7 @@
 // What each call without a command does, state by state; and what is refused whatever the state.
-use crate::places::{CLOSED, ENTRIES_MISSING, FAILED, NEW, PROCESSING, REPLAYING, VERSIONS};
+use crate::places::{
+    CLOSED, ENTRIES_MISSING, FAILED, NEW, PROCESSING, REPLAYING, UNREAD, VERSIONS,
+};
 use crate::table::{
     Rows, assert_each_line, assert_each_line_idle, assert_each_row, assert_each_row_idle,
 };
@@ -506,13 +508,6 @@ failed => err 571 "KNOWN_ENTRIES_IS_ZERO"
 "#,
     },
 ];
-
-/// All known entries are there, and the input isn't read.
-const UNREAD: &str = r#"
-input <start_2 input_till clear_all> => ok
-state                                => ok Replaying
-index                                => ok -1
-"#;
 
 /// A recorded command was dropped.
 const DROPPED: &str = r#"

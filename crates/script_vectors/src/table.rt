@@ -180,14 +180,43 @@ fn write_making(line: &mut Line, version: u8, options: &str) -> Result<(), Alloc
     line.number(u64::from(version))
 }
 
-/// Writes the script of a row.
-fn write_script(script: &mut Line, version: u8, rows: Rows, row: &str) -> Result<(), AllocError> {
-    write_making(script, version, rows.options)?;
+/// The options by which the seed of an invocation is 7 before version 6, and the one of Start from there on.
+const SEED: &str = "seed=7";
+
+/// Writes the text. Where it says that the seed is 0, that is the seed of Start.
+fn write_seeded(
+    script: &mut Line,
+    version: u8,
+    options: &str,
+    text: &str,
+) -> Result<(), AllocError> {
+    let seed = if version < 6 && options == SEED {
+        SEED
+    } else {
+        "seed=0"
+    };
+    for (place, part) in text.split("seed=0").enumerate() {
+        if place > 0 {
+            script.word(seed)?;
+        }
+        script.word(part)?;
+    }
+    Ok(())
+}
+
+/// A VM of this version with these options answers the lines of the table as it says.
+pub fn assert_script(
+    rt: &impl Abort,
+    alloc: Global,
+    version: u8,
+    options: &str,
+    table: &str,
+) -> Result<(), Fail> {
+    let mut script = Line::new(alloc);
+    write_making(&mut script, version, options)?;
     script.word("\n")?;
-    script.word(rows.before)?;
-    script.word(row)?;
-    script.word("\n")?;
-    script.word(rows.behind)
+    write_seeded(&mut script, version, options, table)?;
+    assert_table(rt, alloc, script.as_str())
 }
 
 fn assert_row(
@@ -197,9 +226,26 @@ fn assert_row(
     rows: Rows,
     row: &str,
 ) -> Result<(), Fail> {
-    let mut script = Line::new(alloc);
-    write_script(&mut script, version, rows, row)?;
-    assert_table(rt, alloc, script.as_str())
+    let mut table = Line::new(alloc);
+    table.word(rows.before)?;
+    table.word(row)?;
+    table.word("\n")?;
+    table.word(rows.behind)?;
+    assert_script(rt, alloc, version, rows.options, table.as_str())
+}
+
+/// The table holds of a VM of each of these versions, with these options.
+pub fn assert_each_version(
+    rt: &impl Abort,
+    alloc: Global,
+    versions: &[u8],
+    options: &str,
+    table: &str,
+) -> Result<(), Fail> {
+    for version in versions {
+        assert_script(rt, alloc, *version, options, table)?;
+    }
+    Ok(())
 }
 
 fn assert_each_line_of(
@@ -246,9 +292,14 @@ pub fn assert_each_row(
     Ok(())
 }
 
-/// Options that change nothing of a call that isn't an await, and none; each is set alone.
-static IDLE: [&str; 10] = [
+/// The option that drops recorded commands.
+pub const REPLAY_OFF: &str = "replay=off";
+
+/// The other options, and none; each is set alone. Of a call that isn't an await they change no answer.
+static IDLE: [&str; 12] = [
     "",
+    SEED,
+    "checks=off",
     "cancel=none",
     "cancel=sends",
     "cancel=both",
@@ -260,28 +311,115 @@ static IDLE: [&str; 10] = [
     "delivery=overwrite",
 ];
 
-/// As `assert_each_line`, on each supported version, under each of these options.
-pub fn assert_each_line_idle(rt: &impl Abort, alloc: Global, tables: &[Rows]) -> Result<(), Fail> {
-    for options in &IDLE {
+/// These options, in a function of its own: where the table is used it is proved with the rest.
+pub fn idle() -> &'static [&'static str] {
+    &IDLE
+}
+
+/// The options under which the children of calls are cancelled: the defaults, and others alone.
+static CANCELLING: [&str; 9] = [
+    "",
+    SEED,
+    "checks=off",
+    "cancel=both",
+    "awaiting=always",
+    "awaiting=never",
+    "mismatch=pause",
+    "mismatch=fail",
+    "delivery=overwrite",
+];
+
+/// These options, in a function of its own: where the table is used it is proved with the rest.
+pub fn cancelling() -> &'static [&'static str] {
+    &CANCELLING
+}
+
+/// The options that change nothing of a call and of its error.
+static QUIET: [&str; 9] = [
+    "",
+    SEED,
+    "cancel=none",
+    "cancel=sends",
+    "cancel=both",
+    "cancel=off",
+    "awaiting=always",
+    "awaiting=never",
+    "delivery=overwrite",
+];
+
+/// These options, in a function of its own: where the table is used it is proved with the rest.
+pub fn quiet() -> &'static [&'static str] {
+    &QUIET
+}
+
+/// As `assert_each_line`, under each of these options.
+pub fn assert_each_line_under(
+    rt: &impl Abort,
+    alloc: Global,
+    options: &[&'static str],
+    versions: &[u8],
+    tables: &[Rows],
+) -> Result<(), Fail> {
+    for options in options {
         for rows in tables {
             let rows = Rows {
                 options: *options,
                 ..*rows
             };
-            assert_each_line_of(rt, alloc, VERSIONS, rows)?;
+            assert_each_line_of(rt, alloc, versions, rows)?;
         }
     }
     Ok(())
 }
 
-/// As `assert_each_row`, on each supported version, under each of these options.
-pub fn assert_each_row_idle(rt: &impl Abort, alloc: Global, rows: Rows) -> Result<(), Fail> {
-    for options in &IDLE {
+/// As `assert_each_row`, under each of these options.
+pub fn assert_each_row_under(
+    rt: &impl Abort,
+    alloc: Global,
+    options: &[&'static str],
+    versions: &[u8],
+    rows: Rows,
+) -> Result<(), Fail> {
+    for options in options {
         let rows = Rows {
             options: *options,
             ..rows
         };
-        assert_each_row(rt, alloc, VERSIONS, rows)?;
+        assert_each_row(rt, alloc, versions, rows)?;
     }
     Ok(())
+}
+
+/// As `assert_each_line`, on each supported version, under each option that changes no answer.
+pub fn assert_each_line_idle(rt: &impl Abort, alloc: Global, tables: &[Rows]) -> Result<(), Fail> {
+    assert_each_line_under(rt, alloc, idle(), VERSIONS, tables)
+}
+
+/// As `assert_each_row`, on each supported version, under each option that changes no answer.
+pub fn assert_each_row_idle(rt: &impl Abort, alloc: Global, rows: Rows) -> Result<(), Fail> {
+    assert_each_row_under(rt, alloc, idle(), VERSIONS, rows)
+}
+
+/// The table holds on each of these versions, under each option that changes no answer.
+pub fn assert_idle(
+    rt: &impl Abort,
+    alloc: Global,
+    versions: &[u8],
+    table: &str,
+) -> Result<(), Fail> {
+    for options in idle() {
+        assert_each_version(rt, alloc, versions, *options, table)?;
+    }
+    Ok(())
+}
+
+/// The table holds on each of these versions, with the defaults and with each option alone.
+pub fn assert_each_option(
+    rt: &impl Abort,
+    alloc: Global,
+    versions: &[u8],
+    table: &str,
+) -> Result<(), Fail> {
+    assert_idle(rt, alloc, versions, table)?;
+    assert_each_version(rt, alloc, versions, REPLAY_OFF, table)
 }
