@@ -1,0 +1,3 @@
+pub mod KnownIds
+pub mod Appended
+pub mod Stored

@@ -1,0 +1,4 @@
+pub mod Known
+pub mod Ids
+pub mod Journals
+pub mod Stored

@@ -1,0 +1,15 @@
+//! A stored journal as its only writer knows it, without its entries: how many there are, what completes each id that its commands carry, and
+//! whether it was completed. Each question takes time that grows with the logarithm of the journal, and has the answer that `vm_store` has for the
+//! journal itself. What a transaction stores is kept or undone.
+#![tactic(auto)]
+
+mod carried;
+mod frames;
+mod ids;
+mod journal;
+mod known;
+mod storing;
+
+pub use journal::StoredJournal;
+pub use known::{Kind, Known};
+pub use storing::store_from;

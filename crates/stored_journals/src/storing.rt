@@ -1,0 +1,345 @@
+//! What an attempt wrote is stored: the commands and proposals among its frames, one after another.
+ghost use Rattle.std.specs.Prelude.{◌≡◌, ◌⊎◌, ◌∷◌, ◌++◌, ◌<◌, ◌^◌, ℕ, List, [], length, take, true, IfOk, IfErr, OnOk, None, Some, if◌then◌else◌};
+ghost use Rattle.journal_errors.specs.Versions.{is_from_v7};
+ghost use Rattle.journal_messages.specs.Message.{IsWhole, encoding};
+ghost use Rattle.journal_messages.specs.declared.message.Message.TheVariants as message;
+ghost use Rattle.vm_machine.specs.Inputs.{completion_of};
+ghost use Rattle.vm_steps.specs.Heard.{is_proposal};
+ghost use Rattle.vm_store.specs.Entries.{frame_of, note_in, note_of as note_by, said_at, said_by};
+ghost use Rattle.vm_store.specs.NextFrames.{NextWritten};
+ghost use Rattle.vm_store.specs.Storing.{acknowledgement, answered_by, completed_by, proposal_of, written_as};
+ghost use Rattle.vm_store.specs.declared.storing.Written.TheVariants as written;
+ghost use Rattle.vm_store.specs.declared.types.RoundFault.TheVariants as round_fault;
+ghost use Rattle.stored_journals.specs.Journals.{Appends, IsSameKept};
+ghost use Rattle.stored_journals.specs.Stored.{FaultsBy, IsStoringFault, NextFaultsBy, StoresBy, StoresNext, StoresOneBy, StoresRawBy, fits_in, storing_by};
+
+use crate::frames::{frame_bytes, is_command, part_of};
+use crate::journal::StoredJournal;
+use bytes::{Bytes, BytesMut};
+use journal_attempt::{ProposeRunCompletion, ProposeRunCompletionAck};
+use journal_errors::Version;
+use journal_messages::{Encoder, Message, RawMessage};
+use journal_streams::Decoder;
+use journal_values::{Notification, NotificationId};
+use runs::completion_result;
+use std::alloc::{AllocError, Global};
+use vm_parts::KeptProposal;
+use vm_store::storing::Written;
+use vm_store::types::RoundFault;
+use wire::Fault;
+
+/// Whether the frame is one of a proposal.
+fn is_proposal(raw: &RawMessage) -> bool
+    ensures { result ≡ is_proposal raw.now }
+{
+    raw.ty.number() == 5
+}
+
+/// The proposal that a frame is, if it is one and can be read.
+#[tactic(auto, unfolding(vm_steps::specs::Heard::proposal_in))]
+fn proposal_of(alloc: Global, raw: &RawMessage) -> Result<Option<KeptProposal>, AllocError>
+    ensures { IfOk result (λ proposal. proposal ≡ proposal_of raw.now) }
+{
+    if !is_proposal(raw) {
+        return Ok(None);
+    }
+    match raw.read_as::<ProposeRunCompletion>(alloc) {
+        Ok(proposal) => Ok(Some(KeptProposal {
+            completion_id: proposal.id,
+            result: proposal.result,
+        })),
+        Err(Fault::Memory) => Err(AllocError),
+        Err(Fault::Malformed) => Ok(None),
+    }
+}
+
+/// What is stored of a frame, if it is one of a command or of a proposal.
+fn written_as(alloc: Global, raw: RawMessage) -> Result<Option<Written>, AllocError>
+    ensures { IfOk result (λ written. written ≡ written_as raw) }
+{
+    if is_command(&raw) {
+        return Ok(Some(Written::Command(raw)));
+    }
+    match proposal_of(alloc, &raw) {
+        Ok(Some(proposal)) => Ok(Some(Written::Proposal(proposal))),
+        Ok(None) => Ok(None),
+        Err(error) => Err(error),
+    }
+}
+
+/// The completion with the proposed result.
+fn completion_of(proposal: KeptProposal) -> Notification
+    ensures { result ≡ completion_of proposal.completion_id proposal }
+{
+    Notification {
+        id: NotificationId::CompletionId(proposal.completion_id),
+        result: completion_result(proposal.result),
+    }
+}
+
+/// The frame of a notification.
+fn note_bytes(alloc: Global, note: Notification) -> Result<Bytes, AllocError>
+    ensures bytes { IfOk result (λ b. b ≡ encoding (message.Notification note)) }
+    ensures whole { OnOk result (IsWhole (message.Notification note)) }
+{
+    let message = Message::Notification(note);
+    Encoder::new(alloc).encode(&message)
+}
+
+/// The frame that acknowledges the proposal for the run of this id.
+fn acknowledgement_bytes(alloc: Global, id: u32) -> Result<Bytes, AllocError>
+    ensures bytes { IfOk result (λ b. b ≡ encoding (acknowledgement id)) }
+    ensures whole { OnOk result (IsWhole (acknowledgement id)) }
+{
+    let message = Message::ProposeRunCompletionAck(ProposeRunCompletionAck { id });
+    Encoder::new(alloc).encode(&message)
+}
+
+/// The frame that answers a proposal: from version 7 on its acknowledgement, before it the completion that was stored.
+fn answer_bytes(
+    alloc: Global,
+    version: Version,
+    id: u32,
+    completion: &Bytes,
+) -> Result<Bytes, AllocError>
+    ensures bytes { IfOk result (λ b. b ≡ (if is_from_v7 version then encoding (acknowledgement id) else completion.now)) }
+    ensures whole { OnOk result (is_from_v7 version ≡ true → IsWhole (acknowledgement id)) }
+{
+    if version >= Version::V7 {
+        acknowledgement_bytes(alloc, id)
+    } else {
+        completion.clone()
+    }
+}
+
+/// A frame is appended to what is known, and to the entries.
+#[tactic(auto, using(crate::proofs::Stored::frame_said, crate::proofs::Stored::frame_noted))]
+fn append_frame(
+    alloc: Global,
+    journal: &mut StoredJournal,
+    entries: &mut Vec<Bytes>,
+    raw: &RawMessage,
+) -> Result<(), AllocError>
+    requires room { journal.old.entries < 4_294_967_295 }
+    requires fits { length raw.now.body < 2 ^ 64 }
+    ensures stored { OnOk result (entries.new.items ≡ entries.old.items ++ frame_of raw.now ∷ []) }
+    ensures appended { OnOk result (Appends (said_at (frame_of raw.now)) (note_in (frame_of raw.now)) journal.old journal.new) }
+    ensures kept { IsSameKept journal.old journal.new }
+{
+    let frame = frame_bytes(alloc, raw)?;
+    let read = part_of(alloc, raw)?;
+    journal.append(&read)?;
+    entries.push(frame)?;
+    Ok(())
+}
+
+/// A command is stored, if there is room and memory.
+fn store_command(
+    alloc: Global,
+    version: Version,
+    journal: &mut StoredJournal,
+    entries: &mut Vec<Bytes>,
+    feed: &mut BytesMut,
+    raw: RawMessage,
+) -> Result<(), RoundFault>
+    requires { length raw.body < 2 ^ 64 }
+    ensures ok { OnOk result (StoresBy version (written.Command raw)
+        journal.old entries.old.items feed.old.items journal.new entries.new.items feed.new.items) }
+    ensures err { IfErr result (λ f.
+        (f ≡ round_fault.Memory) ⊎ (storing_by (written.Command raw) journal.old ≡ Some f)) }
+    ensures kept { IsSameKept journal.old journal.new }
+{
+    if let Some(fault) = journal.room() {
+        return Err(fault);
+    }
+    match append_frame(alloc, journal, entries, &raw) {
+        Ok(()) => Ok(()),
+        Err(_) => Err(RoundFault::Memory),
+    }
+}
+
+/// A completion is appended to what is known, and to the entries.
+fn append_completion(
+    alloc: Global,
+    journal: &mut StoredJournal,
+    entries: &mut Vec<Bytes>,
+    note: Notification,
+) -> Result<Bytes, AllocError>
+    requires { journal.old.entries < 4_294_967_295 }
+    ensures stored { OnOk result (entries.new.items ≡ entries.old.items ++ encoding (message.Notification note) ∷ []) }
+    ensures appended { OnOk result (Appends None (Some note) journal.old journal.new) }
+    ensures bytes { IfOk result (λ b. b ≡ encoding (message.Notification note)) }
+    ensures whole { OnOk result (IsWhole (message.Notification note)) }
+    ensures kept { IsSameKept journal.old journal.new }
+{
+    journal.note(&note)?;
+    let frame = note_bytes(alloc, note)?;
+    let copy = frame.clone()?;
+    entries.push(copy)?;
+    Ok(frame)
+}
+
+/// A proposal is stored as its run's completion, and what answers it is fed.
+fn settle(
+    alloc: Global,
+    version: Version,
+    journal: &mut StoredJournal,
+    entries: &mut Vec<Bytes>,
+    feed: &mut BytesMut,
+    proposal: KeptProposal,
+) -> Result<(), AllocError>
+    requires { journal.old.entries < 4_294_967_295 }
+    ensures stored { OnOk result (entries.new.items ≡ entries.old.items ++ encoding (completed_by proposal) ∷ []) }
+    ensures waits { OnOk result (feed.new.items ≡ feed.old.items ++ answered_by version proposal) }
+    ensures appended { OnOk result (Appends None (Some (completion_of proposal.completion_id proposal)) journal.old journal.new) }
+    ensures whole { OnOk result (IsWhole (completed_by proposal) × (is_from_v7 version ≡ true → IsWhole (acknowledgement proposal.completion_id))) }
+    ensures kept { IsSameKept journal.old journal.new }
+{
+    let id = proposal.completion_id;
+    let completion = append_completion(alloc, journal, entries, completion_of(proposal))?;
+    let answer = answer_bytes(alloc, version, id, &completion)?;
+    feed.extend_from_slice(answer.as_slice())?;
+    Ok(())
+}
+
+/// A proposal is stored, if it has no fault.
+fn store_proposal(
+    alloc: Global,
+    version: Version,
+    journal: &mut StoredJournal,
+    entries: &mut Vec<Bytes>,
+    feed: &mut BytesMut,
+    proposal: KeptProposal,
+) -> Result<(), RoundFault>
+    ensures ok { OnOk result (StoresBy version (written.Proposal proposal)
+        journal.old entries.old.items feed.old.items journal.new entries.new.items feed.new.items) }
+    ensures err { IfErr result (λ f.
+        (f ≡ round_fault.Memory) ⊎ (storing_by (written.Proposal proposal) journal.old ≡ Some f)) }
+    ensures kept { IsSameKept journal.old journal.new }
+{
+    match journal.proposing_fault(proposal.completion_id) {
+        Some(fault) => return Err(fault),
+        None => {}
+    }
+    match settle(alloc, version, journal, entries, feed, proposal) {
+        Ok(()) => Ok(()),
+        Err(_) => Err(RoundFault::Memory),
+    }
+}
+
+/// What was written is stored, if it has no fault.
+fn store_item(
+    alloc: Global,
+    version: Version,
+    journal: &mut StoredJournal,
+    entries: &mut Vec<Bytes>,
+    feed: &mut BytesMut,
+    item: Written,
+) -> Result<(), RoundFault>
+    requires { fits_in item }
+    ensures ok { OnOk result (StoresBy version item
+        journal.old entries.old.items feed.old.items journal.new entries.new.items feed.new.items) }
+    ensures err { IfErr result (λ f. (f ≡ round_fault.Memory) ⊎ (storing_by item journal.old ≡ Some f)) }
+    ensures kept { IsSameKept journal.old journal.new }
+{
+    match item {
+        Written::Command(raw) => store_command(alloc, version, journal, entries, feed, raw),
+        Written::Proposal(proposal) => {
+            store_proposal(alloc, version, journal, entries, feed, proposal)
+        }
+    }
+}
+
+/// The next frame that was written, if it is whole.
+fn next_written(unstored: &mut Decoder) -> Result<Option<RawMessage>, RoundFault>
+    ensures ok { IfOk result (λ o. NextWritten unstored.old o unstored.new) }
+    ensures err { IfErr result (λ f. f ≡ round_fault.Memory) }
+{
+    match unstored.next_frame() {
+        Ok(raw) => Ok(raw),
+        Err(Fault::Memory) => Err(RoundFault::Memory),
+        Err(Fault::Malformed) => Ok(None),
+    }
+}
+
+/// The frame is stored where it is one of a command or of a proposal.
+#[tactic(auto, using(crate::proofs::Stored::item_fits))]
+fn store_raw(
+    alloc: Global,
+    version: Version,
+    journal: &mut StoredJournal,
+    entries: &mut Vec<Bytes>,
+    feed: &mut BytesMut,
+    raw: RawMessage,
+) -> Result<bool, RoundFault>
+    requires { length raw.body < 2 ^ 64 }
+    ensures ok { IfOk result (λ b. StoresRawBy version raw b
+        journal.old entries.old.items feed.old.items journal.new entries.new.items feed.new.items) }
+    ensures err { IfErr result (λ f. (f ≡ round_fault.Memory) ⊎ FaultsBy raw journal.old f) }
+    ensures kept { IsSameKept journal.old journal.new }
+{
+    match written_as(alloc, raw) {
+        Err(_) => Err(RoundFault::Memory),
+        Ok(None) => Ok(false),
+        Ok(Some(item)) => match store_item(alloc, version, journal, entries, feed, item) {
+            Ok(()) => Ok(true),
+            Err(fault) => Err(fault),
+        },
+    }
+}
+
+/// The next frame is looked at, and stored where it is one of a command or of a proposal; `None` where none is whole.
+fn store_one(
+    alloc: Global,
+    version: Version,
+    journal: &mut StoredJournal,
+    entries: &mut Vec<Bytes>,
+    feed: &mut BytesMut,
+    unstored: &mut Decoder,
+) -> Result<Option<bool>, RoundFault>
+    ensures ok { IfOk result (λ o. StoresOneBy version unstored.old o unstored.new
+        journal.old entries.old.items feed.old.items journal.new entries.new.items feed.new.items) }
+    ensures err { IfErr result (λ f. (f ≡ round_fault.Memory) ⊎ NextFaultsBy unstored.old journal.old f) }
+    ensures kept { IsSameKept journal.old journal.new }
+{
+    match next_written(unstored) {
+        Err(fault) => Err(fault),
+        Ok(None) => Ok(None),
+        Ok(Some(raw)) => match store_raw(alloc, version, journal, entries, feed, raw) {
+            Ok(stored) => Ok(Some(stored)),
+            Err(fault) => Err(fault),
+        },
+    }
+}
+
+/// The next commands and proposals among what an attempt wrote are stored, or all where there are fewer: `entries` gets those that are to be
+/// appended, in order, and `feed` the frames that answer proposals, which the attempt is fed after the commit. After an error `undo` leads
+/// back to the last commit.
+pub fn store_from(
+    alloc: Global,
+    version: Version,
+    journal: &mut StoredJournal,
+    entries: &mut Vec<Bytes>,
+    feed: &mut BytesMut,
+    unstored: &mut Decoder,
+    n: usize,
+) -> Result<(), RoundFault>
+    ensures ok { OnOk result (StoresNext version n unstored.old unstored.new
+        journal.old entries.old.items feed.old.items journal.new entries.new.items feed.new.items) }
+    ensures err { IfErr result (λ f. IsStoringFault n unstored.old journal.old entries.old.items f) }
+    ensures kept { IsSameKept journal.old journal.new }
+{
+    let mut left = n;
+    while left > 0 {
+        match store_one(alloc, version, journal, entries, feed, unstored) {
+            Err(fault) => return Err(fault),
+            Ok(None) => return Ok(()),
+            Ok(Some(stored)) => {
+                if stored {
+                    left -= 1;
+                }
+            }
+        }
+    }
+    Ok(())
+}
