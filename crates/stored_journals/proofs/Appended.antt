@@ -163,7 +163,9 @@ given_room raw read view l e =
 proposed_room : (kind : Option Completes) (done : Bool) (room : Option RoundFault) → proposed_fault kind done room ≡ None → room ≡ None
 proposed_room None done room e = absurd (cc)
 proposed_room (Some kind) true room e = absurd (cc)
-proposed_room (Some kind) false room e = e
+proposed_room (Some completes.InvocationId) false room e = absurd (cc)
+proposed_room (Some completes.Proposal) false room e = e
+proposed_room (Some completes.AnyResult) false room e = e
 
 pub proposing_room : (id : ℕ) (view : View) → view.entries ≤ most → proposing_fault id view ≡ None → view.entries < most
 proposing_room id view l e = not_full view.entries l (proposed_room (option_map as_completes (known_now view.ids id).kind) (known_now view.ids id).done (room_at view.entries) e)

@@ -103,7 +103,9 @@ impl Known {
         match (self.kind, self.done) {
             (None, _) => Some(RoundFault::NoSuchId),
             (Some(_), true) => Some(RoundFault::SecondCompletion),
-            (Some(_), false) => room,
+            (Some(Kind::InvocationId), false) => Some(RoundFault::WrongKind),
+            (Some(Kind::Proposal), false) => room,
+            (Some(Kind::AnyResult), false) => room,
         }
     }
 }
