@@ -29,11 +29,11 @@ round_does m w round old alloc waiting r version options report new speaks whole
   ran = subst (λ x. Ran m w.version w.options round.events x report new) (begun_is w round old alloc waiting r e f) (subst (λ (x : VMOptions). Ran m w.version x round.events (new_now w.version old waiting r) report new) o (subst (λ (x : Version). Ran m x options round.events (new_now w.version old waiting r) report new) v ran));
 })
 
-pub round_faults : (m : Meaning) (w : Setting) (round : Round) (old : List (List ℕ)) (alloc : Global) (waiting : List ℕ) (r : Record) (x : RoundFault) → IsSupported w.version → waiting ≡ encoding (start_message w round old) ++ concat old → r ≡ fresh_record (made alloc w.options w.version) → (x ≡ round_fault.Memory) ⊎ HappenFaults m round.events (new_now w.version old waiting r) x → RoundFaults m w round old x
-round_faults m w round old alloc waiting r x speaks e f h =
+pub round_faults : (m : Meaning) (w : Setting) (round : Round) (old : List (List ℕ)) (alloc : Global) (waiting : List ℕ) (r : Record) (x : RoundFault) → IsSupported w.version → IsWhole (start_message w round old) → waiting ≡ encoding (start_message w round old) ++ concat old → r ≡ fresh_record (made alloc w.options w.version) → (x ≡ round_fault.Memory) ⊎ HappenFaults m round.events (new_now w.version old waiting r) x → RoundFaults m w round old x
+round_faults m w round old alloc waiting r x speaks start e f h =
     ⊎_elim
     (λ (z : x ≡ round_fault.Memory). inl z)
-    (λ (z : HappenFaults m round.events (new_now w.version old waiting r) x). inr (inl (record { alloc = alloc; speaks = speaks; faults = subst (λ n. HappenFaults m round.events n x) (begun_is w round old alloc waiting r e f) z })))
+    (λ (z : HappenFaults m round.events (new_now w.version old waiting r) x). inr (inl (record { alloc = alloc; speaks = speaks; start = start; faults = subst (λ n. HappenFaults m round.events n x) (begun_is w round old alloc waiting r e f) z })))
     h
 
 pub round_short : (m : Meaning) (w : Setting) (round : Round) (old : List (List ℕ)) (alloc : Global) (waiting : List ℕ) (r : Record) → IsJournal old → waiting ≡ encoding (start_message w round old) ++ concat old → r ≡ fresh_record (made alloc w.options w.version) → IsShort m round.events (new_now w.version old waiting r)

@@ -56,7 +56,7 @@ pub once_more : (ns : List Notification) (n : Notification) → CompleteOnce ns 
 once_more [] n once h = (none_other n.id, tt)
 once_more (m ∷ ns) n once h = (no_other_more m.id ns n once.0 (differs n.id m ns h), once_more ns n once.1 (no_other_behind n.id m ns h))
 
-none_true : (a b : Bool) → (a || b) ≡ false → (a ≡ false) × (b ≡ false)
+pub none_true : (a b : Bool) → (a || b) ≡ false → (a ≡ false) × (b ≡ false)
 none_true true b e = absurd (cc)
 none_true false b e = (refl, e)
 
@@ -78,7 +78,7 @@ by_two true b one other before e = absurd (cc)
 by_two false b one other before e = by_one b other before e
 
 -- a command that doesn't carry the id leaves what completes it
-completes_not : (id : ℕ) (m : Message) (before : Option Completes) → is_among id (carried m) ≡ false → completes_by id m before ≡ before
+pub completes_not : (id : ℕ) (m : Message) (before : Option Completes) → is_among id (carried m) ≡ false → completes_by id m before ≡ before
 completes_not id (message.Sleep c) before e = by_one (c.result_completion_id == id) completes.AnyResult before e
 completes_not id (message.GetLazyState c) before e = by_one (c.result_completion_id == id) completes.AnyResult before e
 completes_not id (message.GetLazyStateKeys c) before e = by_one (c.result_completion_id == id) completes.AnyResult before e
@@ -92,7 +92,7 @@ completes_not id (message.OneWayCall c) before e = by_one (c.request.invocation_
 completes_not id (message.Run c) before e = by_one (c.result_completion_id == id) completes.Proposal before e
 completes_not id m before e = refl
 
-completes_none : (id : ℕ) (cs : List RawMessage) (before : Option Completes) → is_carried id cs ≡ false → completes_among id (messages_in cs) before ≡ before
+pub completes_none : (id : ℕ) (cs : List RawMessage) (before : Option Completes) → is_carried id cs ≡ false → completes_among id (messages_in cs) before ≡ before
 completes_none id [] before e = refl
 completes_none id (c ∷ cs) before e = by_read (message_in c.ty c.body) e (completes_none id cs before)
   where

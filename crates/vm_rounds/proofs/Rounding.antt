@@ -53,7 +53,7 @@ use Rattle.vm_rounds.proofs.Settled.{brings_nothing}
 -- ---- one round
 
 -- a round begins with the whole journal
-begun : (version : Version) (start : List ℕ) (old : List (List ℕ)) (r : Record) → IsJournal old → r.fed ≡ [] → r.taken ≡ [] → r.proposed ≡ [] → Going version start old (new_now version old (start ++ concat old) r)
+pub begun : (version : Version) (start : List ℕ) (old : List (List ℕ)) (r : Record) → IsJournal old → r.fed ≡ [] → r.taken ≡ [] → r.proposed ≡ [] → Going version start old (new_now version old (start ++ concat old) r)
 begun version start old r j fed taken nothing = record {
   made_for = refl;
   bytes = [];

@@ -199,7 +199,7 @@ module _ (m : Meaning) (w : Setting) (begin_bytes : List ℕ) (raw : RawMessage)
     feed_comes w.version w.options (take n now.waiting) now.attempt result a came d,
   )
 
-  event_runs : (e : Event) (now mid : Now) → Happens m e now mid → Going w.version begin_bytes old now → Goes now → Goes mid
+  pub event_runs : (e : Event) (now mid : Now) → Happens m e now mid → Going w.version begin_bytes old now → Goes now → Goes mid
   event_runs (event.Piece n) now mid d g goes = pieces_run now.closed n now mid d goes
   event_runs event.Close now mid (result, a, d, is) g (kept, came) = subst Goes (sym is) (
     close_keeps (Runs m w.version w.options) (runs_last m w.version w.options) w.version w.options now.attempt result a kept d,

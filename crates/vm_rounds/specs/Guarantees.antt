@@ -8,11 +8,12 @@ use Rattle.vm_store.specs.States.{base_of}
 use Rattle.vm_store.specs.Worlds.{WorldView, setup_of}
 use Rattle.vm_store.specs.declared.types.Report.{Report}
 use Rattle.vm_store.specs.declared.types.Round.{Round}
+use Rattle.vm_store.specs.declared.types.RoundFault.{RoundFault}
 use Rattle.vm_store.specs.declared.types.Setting.{Setting}
 use Rattle.vm_rounds.specs.Courses.{AreHonest}
 use Rattle.vm_rounds.specs.Fresh.{AreFresh}
 use Rattle.vm_rounds.specs.Inside.{report_view}
-use Rattle.vm_rounds.specs.Rounds.{Agree, CompletesOnce, ReportView, RoundsDo}
+use Rattle.vm_rounds.specs.Rounds.{Agree, ComesFromOutside, CompletesOnce, ReportView, RoundsDo}
 use Rattle.vm_rounds.specs.Sound.{IsSoundFor}
 
 -- What is fixed over all rounds: what the handler calls next after the answers that it saw, and with what its attempts are made.
@@ -63,6 +64,11 @@ abbrev pub RoundsAreHonest : Case → List Round → List (List ℕ) → List Re
 RoundsAreHonest c rounds old reports new =
     (d : RoundsDo c.handler c.setting rounds old reports new)
     → AreHonest (Honest (base_of c.setting)) c.handler c.setting rounds old reports new d
+
+-- A fault is want of memory, a full journal, or that of an arrival, on a journal that begins with the old one: what an attempt wrote can always
+-- be stored.
+abbrev pub FaultsComeFromOutside : List Round → List (List ℕ) → RoundFault → Type 0
+FaultsComeFromOutside rounds old f = ComesFromOutside rounds old f
 
 -- ---- what lasts
 
