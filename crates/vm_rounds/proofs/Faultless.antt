@@ -393,7 +393,7 @@ module _ (m : Meaning) (w : Setting) (begin_bytes : List ℕ) (raw : RawMessage)
     };
   }
 
-  pub round_blames : (es : List Event) (now : Now) (f : RoundFault) → Going w.version begin_bytes old now → Kept now → HasCome w.version w.options now.attempt → now.journal ≡ old → now.output ≡ [] → now.unstored ≡ [] → now.attempt.taken ≡ [] → now.attempt.vm.machine.output ≡ [] → now.attempt.vm.machine.runs ≡ [] → HappenFaults m es now f → Blames es f
+  round_blames : (es : List Event) (now : Now) (f : RoundFault) → Going w.version begin_bytes old now → Kept now → HasCome w.version w.options now.attempt → now.journal ≡ old → now.output ≡ [] → now.unstored ≡ [] → now.attempt.taken ≡ [] → now.attempt.vm.machine.output ≡ [] → now.attempt.vm.machine.runs ≡ [] → HappenFaults m es now f → Blames es f
   round_blames es now f g kept came_so journal output unstored taken nothing runs h = events_blame es now f (begins_well now g kept came_so journal output unstored taken nothing runs) h
 
 -- ---- rounds

@@ -361,7 +361,7 @@ of_same i (CompletionId other) = refl
 of_same i (SignalId other) = refl
 of_same i (SignalName name) = refl
 
-pub completed_has : (i : ℕ) (ns : List Notification) → is_completed i ns ≡ has_result_among (CompletionId i) ns
+completed_has : (i : ℕ) (ns : List Notification) → is_completed i ns ≡ has_result_among (CompletionId i) ns
 completed_has i [] = refl
 completed_has i (n ∷ ns) = λ k. of_same i n.id k || completed_has i ns k
 

@@ -140,7 +140,7 @@ among_append id (x ∷ xs) ys = by_test (x == id) (among_append id xs ys)
     by_test false ih = ih
 
 -- not among some, and not another one
-pub among_not : (id : ℕ) (xs : List ℕ) (other : ℕ) → is_among id xs ≡ false → (other == id) ≡ false → is_among id (xs ++ other ∷ []) ≡ false
+among_not : (id : ℕ) (xs : List ℕ) (other : ℕ) → is_among id xs ≡ false → (other == id) ≡ false → is_among id (xs ++ other ∷ []) ≡ false
 among_not id xs other h k = among_append id xs (other ∷ []) ∙ (λ i. h i || (k i || false))
 
 pub pending_below : (next : ℕ) (ns : List Notification) (cs : List RawMessage) (ps ids : List ℕ) → ArePending next ns cs ps ids → AreBelow next ids

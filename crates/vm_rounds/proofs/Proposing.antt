@@ -62,7 +62,8 @@ use Rattle.vm_model.specs.Journal.{stored_form}
 use Rattle.vm_store.specs.declared.storing.Written.{Written}
 use Rattle.vm_store.specs.declared.storing.Written.TheVariants.{Proposal}
 use Rattle.vm_store.specs.Arrivals.{is_completed}
-use Rattle.vm_store.specs.Storing.{kept_of, written_among, written_as, written_before}
+use Rattle.vm_store.specs.Storing.{kept_of, written_among, written_before}
+use Rattle.vm_store.proofs.Scanned.{written_append}
 use Rattle.vm_steps.specs.declared.progress.Progress.{Progress}
 use Rattle.vm_steps.specs.declared.progress.Reply.{Reply}
 use Rattle.vm_steps.specs.declared.progress.Reply.TheVariants as reply
@@ -89,20 +90,12 @@ use Rattle.vm_rounds.proofs.Settled.{command_in, commands_are, proposal_in_item,
 
 -- ---- what is written, as items
 
-item_join : (o : Option Written) (us ws : List Written) → written_before o (us ++ ws) ≡ written_before o us ++ ws
-item_join None us ws = refl
-item_join (Some w) us ws = refl
-
-pub written_join : (raws more : List RawMessage) → written_among (raws ++ more) ≡ written_among raws ++ written_among more
-written_join [] more = refl
-written_join (raw ∷ raws) more = ap (written_before (written_as raw)) (written_join raws more) ∙ item_join (written_as raw) (written_among raws) (written_among more)
-
 -- the items of some messages
 abbrev pub items : List Message → List Written
 items ms = written_among (map stored_form ms)
 
 items_join : (ms ns : List Message) → items (ms ++ ns) ≡ items ms ++ items ns
-items_join ms ns = ap written_among (forms_append ms ns) ∙ written_join (map stored_form ms) (map stored_form ns)
+items_join ms ns = ap written_among (forms_append ms ns) ∙ written_append (map stored_form ms) (map stored_form ns)
 
 -- messages of which none proposes a result have no item of a proposal
 items_propose : (ms : List Message) → proposals_among (map stored_form ms) ≡ [] → flat_map proposal_in_item (items ms) ≡ []
@@ -142,7 +135,7 @@ module _ (ns : List Notification) (cs : List RawMessage) (ws more : List Written
       (pending_later next later ns (cs ++ flat_map command_in ws) (flat_map command_in more) (proposed_ids ws) ids l h)
 
   -- more was written without a proposal, and the runs stay
-  pub sound_more : (answers answers' : List Answer) (v w : Machine) → LivesOn v w → (w.failure ≡ None → answers' ≡ [] → answers ≡ []) → Sound ns cs ws answers v → Sound ns cs (ws ++ more) answers' w
+  sound_more : (answers answers' : List Answer) (v w : Machine) → LivesOn v w → (w.failure ≡ None → answers' ≡ [] → answers ≡ []) → Sound ns cs ws answers v → Sound ns cs (ws ++ more) answers' w
   sound_more answers answers' v w lives early s = record {
     well = well_more s.well;
     below = λ alive. let l = lives alive in subst (AreBelow (next_of w)) (sym (same_ids ws more none)) (below_later (next_of v) (next_of w) (proposed_ids ws) l.2 (s.below l.0));
@@ -151,7 +144,7 @@ module _ (ns : List Notification) (cs : List RawMessage) (ws more : List Written
   }
 
   -- more was written without a proposal, and one more run is pending
-  pub sound_called : (answers answers' : List Answer) (v w : Machine) → v.failure ≡ None → IsCalled v w → has_run (next_of v) (cs ++ flat_map command_in (ws ++ more)) ≡ true → is_completed (next_of v) ns ≡ false → (answers' ≡ [] → ⊥) → Sound ns cs ws answers v → Sound ns cs (ws ++ more) answers' w
+  sound_called : (answers answers' : List Answer) (v w : Machine) → v.failure ≡ None → IsCalled v w → has_run (next_of v) (cs ++ flat_map command_in (ws ++ more)) ≡ true → is_completed (next_of v) ns ≡ false → (answers' ≡ [] → ⊥) → Sound ns cs ws answers v → Sound ns cs (ws ++ more) answers' w
   sound_called answers answers' v w alive c run free late s =
       let below = s.below alive in
       let pending = s.pending alive in
@@ -177,7 +170,7 @@ no_runs told [] run none found = absurd (cc)
 no_runs told (x ∷ runs) run none found = absurd (cc)
 
 -- the result of a pending run is proposed
-pub sound_proposed : (ns : List Notification) (cs : List RawMessage) (ws : List Written) (answers : List Answer) (v w : Machine) (told : NotificationHandle) (run : PendingRun) (p : KeptProposal) → v.failure ≡ None → find (has_handle told) v.runs ≡ Some run → p.completion_id ≡ run_id run
+sound_proposed : (ns : List Notification) (cs : List RawMessage) (ws : List Written) (answers : List Answer) (v w : Machine) (told : NotificationHandle) (run : PendingRun) (p : KeptProposal) → v.failure ≡ None → find (has_handle told) v.runs ≡ Some run → p.completion_id ≡ run_id run
     → w.runs ≡ without_first (has_handle told) v.runs → next_of w ≡ next_of v → Sound ns cs ws answers v → Sound ns cs (ws ++ Proposal p ∷ []) answers w
 sound_proposed ns cs ws answers v w told run p alive found id runs next s =
     let t = told_at (next_of v) ns (cs ++ flat_map command_in ws) (proposed_ids ws) told v.runs run found (s.pending alive) in

@@ -45,10 +45,6 @@ or_else : (a b : Bool) → b ≡ true → (a || b) ≡ true
 or_else true b h = refl
 or_else false b h = h
 
-neither : (a b : Bool) → (a || b) ≡ false → (a ≡ false) × (b ≡ false)
-neither true b h = absurd (cc)
-neither false b h = (refl, h)
-
 runs_complete : (id : ℕ) (m : Message) (before : Option Completes) → read_runs id (Some m) ≡ true → completes_by id m before ≡ Some completes.Proposal
 runs_complete id (message.Run c) before h = ap (λ b. if_same b completes.Proposal before) h
 runs_complete id m before h = absurd (let z : false ≡ true = h in cc)
@@ -73,7 +69,7 @@ not_run id cs none = by_test (has_run id cs) refl
     by_test false e = refl
 
 -- Of commands whose ids rise, what is a run's id is completed by a proposal.
-pub run_completes : (low id : ℕ) (cs : List RawMessage) (before : Option Completes) → Rises low (all_carried cs) → has_run id cs ≡ true → completes_among id (messages_in cs) before ≡ Some completes.Proposal
+run_completes : (low id : ℕ) (cs : List RawMessage) (before : Option Completes) → Rises low (all_carried cs) → has_run id cs ≡ true → completes_among id (messages_in cs) before ≡ Some completes.Proposal
 run_completes low id [] before rises h = absurd (cc)
 run_completes low id (c ∷ cs) before rises h = by_read (message_in c.ty c.body) refl rises h (λ b. run_completes low id cs b (rises_behind low (carried_by c) (all_carried cs) rises))
   where
@@ -312,7 +308,7 @@ module _ (version : Version) (ns : List Notification) (first : RawMessage) where
       by_test true h = absurd (not_proposed (completes_among other (said_in journal) None) (is_completed other (notes_in journal)) brings (room_fault journal) e (completed_as other journal cs commands rises h))
 
   -- what arrives without a fault is no result of a run
-  pub arrival_apart : (x : List ℕ) (journal : List (List ℕ)) (cs : List RawMessage) (n : Notification) → note_in x ≡ Some n → commands_among (frames_in journal) ≡ first ∷ cs → Rises 1 (all_carried cs) → arrival_fault x journal ≡ None → (id : ℕ) → n.id ≡ CompletionId id → has_run id cs ≡ false
+  arrival_apart : (x : List ℕ) (journal : List (List ℕ)) (cs : List RawMessage) (n : Notification) → note_in x ≡ Some n → commands_among (frames_in journal) ≡ first ∷ cs → Rises 1 (all_carried cs) → arrival_fault x journal ≡ None → (id : ℕ) → n.id ≡ CompletionId id → has_run id cs ≡ false
   arrival_apart x journal cs n reads commands rises e = note_apart n.id n.result journal cs commands rises (ap (λ o. read_fault o journal) (sym reads) ∙ e)
 
   -- and the completions are explained still
