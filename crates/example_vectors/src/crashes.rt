@@ -1,12 +1,13 @@
 // Each example through a crash at every step. Steps count from 1, the input; an await and the take after it are two steps.
+use examples::approval::Approval;
 use examples::race::Race;
 use examples::retry::Retry;
 use examples::saga::Saga;
 use examples::sleeper::Sleeper;
 use palqytun::handler::Durable;
 use palqytun::testing::{
-    cancel, crash_at_each_step, ends_with, failed, failed_output, invocation_id, output, value,
-    void, world_of,
+    cancel, crash_at_each_step, ends_with, failed, failed_output, invocation_id, output, signal,
+    value, void, world_of,
 };
 use std::test::Fail;
 
@@ -87,5 +88,22 @@ fn a_cancelled_trip_gives_the_flight_back(rt: HostRuntime) -> Result<(), Fail> {
     ];
     let world = crash_at_each_step(alloc, &handler, world, 10, &arrivals)?;
     assert!(rt; ends_with(&world, &failed_output(alloc, 409, "cancelled")?));
+    Ok(())
+}
+
+#[test]
+fn the_person_approves(rt: HostRuntime) -> Result<(), Fail> {
+    let alloc = rt.alloc();
+    let (handler, world) = (
+        Durable {
+            alloc,
+            flow: Approval,
+        },
+        world_of(alloc, b"trip")?,
+    );
+    let arrivals = [(4, signal(alloc, 17, b"yes")?)];
+    let world = crash_at_each_step(alloc, &handler, world, 7, &arrivals)?;
+    assert_eq!(rt; world.journal().len(), 4);
+    assert!(rt; ends_with(&world, &output(alloc, b"yes")?));
     Ok(())
 }

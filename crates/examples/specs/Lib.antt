@@ -1,3 +1,4 @@
+pub mod Approval
 pub mod Race
 pub mod Retry
 pub mod Saga

@@ -1,6 +1,7 @@
 //! Handlers as ordinary code, to read and to copy: each with its tree in `specs/`, and so with all that is proved of handlers.
 #![tactic(auto)]
 
+pub mod approval;
 pub mod race;
 pub mod retry;
 pub mod saga;

@@ -2,6 +2,7 @@
 use Rattle.std.specs.Prelude.{Bool, List, [], ℕ, Option, Some, None}
 use Rattle.vm_types.specs.declared.steps.Answer.{Answer}
 use Rattle.vm_types.specs.declared.steps.Answer.TheVariants as answer
+use Rattle.vm_types.specs.declared.types.AwakeableHandle.{AwakeableHandle}
 use Rattle.vm_types.specs.declared.values.Value.{Value}
 use Rattle.vm_types.specs.declared.values.Value.TheVariants as value
 use Rattle.await_trees.specs.declared.handle.NotificationHandle.{NotificationHandle}
@@ -29,6 +30,11 @@ unit_in _ = None
 abbrev pub taken_in : Answer → Option (Option Value)
 taken_in (answer.Taken taken) = Some taken
 taken_in _ = None
+
+-- an awakeable
+abbrev pub awakeable_in : Answer → Option AwakeableHandle
+awakeable_in (answer.Awakeable awakeable) = Some awakeable
+awakeable_in _ = None
 
 -- whether a result is there
 abbrev pub completed_in : Answer → Option Bool

@@ -1,13 +1,13 @@
 //! What a handler reads from the answer to a step.
 ghost use Rattle.std.specs.Prelude.{◌≡◌, IfOk};
-ghost use Rattle.flows.specs.Answers.{awake, bytes_of, completed_in, given, handle_in, state_of, taken_in, unit_in};
+ghost use Rattle.flows.specs.Answers.{awakeable_in, awake, bytes_of, completed_in, given, handle_in, state_of, taken_in, unit_in};
 ghost use Rattle.flows.specs.Follows.{Follows};
 
 use crate::context::Context;
 use crate::exit::{Exit, Fault};
 use bytes::Bytes;
 use std::alloc::AllocError;
-use vm_types::{Answer, NotificationHandle, Step, Value};
+use vm_types::{Answer, AwakeableHandle, NotificationHandle, Step, Value};
 
 /// The handle of a sleep, a call, a read or a run.
 pub(crate) fn handle_in(answer: &Answer) -> Option<NotificationHandle>
@@ -37,6 +37,16 @@ pub(crate) fn taken_in(answer: &Answer) -> Result<Option<Option<Value>>, AllocEr
     match answer {
         Answer::Taken(Some(value)) => Ok(Some(Some(value.clone()?))),
         Answer::Taken(None) => Ok(Some(None)),
+        _ => Ok(None),
+    }
+}
+
+/// An awakeable.
+pub(crate) fn awakeable_in(answer: &Answer) -> Result<Option<AwakeableHandle>, AllocError>
+    ensures { IfOk result (λ awakeable. awakeable ≡ awakeable_in answer.now) }
+{
+    match answer {
+        Answer::Awakeable(awakeable) => Ok(Some(awakeable.clone()?)),
         _ => Ok(None),
     }
 }

@@ -31,7 +31,11 @@ impl<'a> Model for Context<'a> {
 }
 
 /// A service's handler, without a key.
-fn target(alloc: Global, service: &str, handler: &str) -> Result<Boxed<Target>, AllocError>
+pub(crate) fn target(
+    alloc: Global,
+    service: &str,
+    handler: &str,
+) -> Result<Boxed<Target>, AllocError>
     ensures { IfOk result (λ target. target ≡ target_of service.now handler.now) }
 {
     let target = Target {
@@ -66,7 +70,7 @@ impl<'a> Context<'a> {
     }
 
     /// The next answer.
-    fn answered(&mut self) -> Option<&'a Answer>
+    pub(crate) fn answered(&mut self) -> Option<&'a Answer>
         ensures { MatchOption result ((self.old ≡ []) × (self.new ≡ [])) (λ answer. self.old ≡ answer.now ∷ self.new) }
     {
         let (answer, rest) = self.answers.split_first()?;

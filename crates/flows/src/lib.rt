@@ -8,6 +8,8 @@ mod calls;
 pub mod context;
 pub mod exit;
 pub mod flow;
+mod invocations;
+mod promises;
 
 pub use context::Context;
 pub use exit::{Exit, Fault};

@@ -53,6 +53,14 @@ pub fn cancel(alloc: Global) -> Result<Bytes, AllocError> {
     }))
 }
 
+/// An awakeable is completed with these bytes, or a signal of this index is sent; those of a handler count from 17.
+pub fn signal(alloc: Global, index: u32, bytes: &'static [u8]) -> Result<Bytes, AllocError> {
+    Encoder::new(alloc).encode(&Message::Notification(Notification {
+        id: NotificationId::SignalId(index),
+        result: NotificationResult::Value(Bytes::from_static(bytes)),
+    }))
+}
+
 /// The journal's entry of an output of these bytes.
 pub fn output(alloc: Global, bytes: &'static [u8]) -> Result<Bytes, AllocError> {
     Encoder::new(alloc).encode(&Message::Output(OutputCommand {

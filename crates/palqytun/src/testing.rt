@@ -1,5 +1,7 @@
 //! Crash tests: a world holds an invocation's journal, and rounds play attempts over it that die where you say.
-pub use crate::frames::{cancel, failed, failed_output, invocation_id, output, value, void};
+pub use crate::frames::{
+    cancel, failed, failed_output, invocation_id, output, signal, value, void,
+};
 use bytes::Bytes;
 use invocation_vm::{VMOptions, Version};
 use std::alloc::{AllocError, Global};

@@ -5,7 +5,7 @@ ghost use Rattle.std.specs.Prelude.{◌<◌, length};
 use crate::frame_rows::{control_rows, expect, frame_rows, other_rows, parts_of, state_rows};
 use crate::reading::{encoded, frame_in, whole_in};
 use bytes::Bytes;
-use journal_messages::{Message, RawMessage};
+use journal_protocol::{Message, RawMessage};
 use std::alloc::Global;
 use std::test::Fail;
 use wire::Fault;

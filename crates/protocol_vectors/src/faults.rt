@@ -1,7 +1,7 @@
 // The names that others read: versions, types of messages, faults and errors; and small values, copied and read.
 use crate::frame_rows::expect;
 use bytes::Bytes;
-use journal_errors::{Error, MessageType, NamedFault, Said, Version};
+use journal_protocol::{Error, MessageType, NamedFault, Said, Version};
 use std::str::FromStr;
 use std::test::Fail;
 use wire::{Fault, Items, Text, copy_of, is_same, whole};

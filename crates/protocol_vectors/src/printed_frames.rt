@@ -6,7 +6,7 @@ use bytes::Bytes;
 use frame_lines::entry::{frame_of, print_frame};
 use frame_lines::exit_status::ExitStatus;
 use frame_lines::run::{Unread, decode, encode, frames_of};
-use journal_messages::RawMessage;
+use journal_protocol::RawMessage;
 use lines::line::Line;
 use std::alloc::{AllocError, Global};
 use std::io::{self, Read, Write};

@@ -1,8 +1,6 @@
 // Frames and messages, read and written: what several tests do, each with one thing that it lets go of.
 use bytes::Bytes;
-use journal_errors::Error;
-use journal_messages::{Encoder, Message, RawMessage};
-use journal_streams::Decoder;
+use journal_protocol::{Decoder, Encoder, Error, Message, RawMessage};
 use std::alloc::Global;
 use std::test::Fail;
 use wire::Fault;

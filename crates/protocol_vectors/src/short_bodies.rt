@@ -1,7 +1,6 @@
 // Every body of up to two bytes, for every number of a type.
 use bytes::Bytes;
-use journal_errors::MessageType;
-use journal_messages::RawMessage;
+use journal_protocol::{MessageType, RawMessage};
 use std::alloc::Global;
 use std::test::Fail;
 use wire::Fault;

@@ -17,6 +17,7 @@ use Rattle.vm_attempt.proofs.Under.{close_under, feed_under, step_under}
 use Rattle.runner.specs.Runs.{SendsWhole, Stepped, Drives, IsFed, IsTold, Runs, ServesAnew, end_after}
 use Rattle.runner.specs.declared.run_end.AttemptEnd.{AttemptEnd}
 use Rattle.runner.specs.declared.run_end.AttemptEnd.TheVariants as attempt_end
+use Rattle.vm_attempt.specs.Fixed.{Fixed, fixed_by}
 
 -- only a step that gives an answer is not the last one
 goes_on : (last : Result Progress Error) → None ≡ end_after last → last ≡ Ok progress.Stepped
@@ -46,19 +47,19 @@ all_left (Some xs) old new input e k h = k ∙ h ∙ ap (λ t. t ++ xs) e
 
 -- ---- what a run keeps
 
-steps_keep : (m : Meaning) (version : Version) (options : VMOptions) (n : ℕ) (first now : Record) → IsKeptUnder m version options first → Stepped m n first now → IsKeptUnder m version options now
-steps_keep m version options zero first now k is = subst (IsKeptUnder m version options) (sym is) k
-steps_keep m version options (suc n) first now k (before, steps, does) = step_under m version options before (Ok progress.Stepped) now (steps_keep m version options n first before k steps) does
+steps_keep : (fixed : Fixed) (n : ℕ) (first now : Record) → IsKeptUnder fixed first → Stepped fixed.handler n first now → IsKeptUnder fixed now
+steps_keep fixed zero first now k is = subst (IsKeptUnder fixed) (sym is) k
+steps_keep fixed (suc n) first now k (before, steps, does) = step_under fixed before (Ok progress.Stepped) now (steps_keep fixed n first before k steps) does
 
-drive_keeps : (m : Meaning) (version : Version) (options : VMOptions) (first now : Record) (ending : AttemptEnd) → IsKeptUnder m version options first → Drives m first ending now → IsKeptUnder m version options now
-drive_keeps m version options first now ending k =
+drive_keeps : (fixed : Fixed) (first now : Record) (ending : AttemptEnd) → IsKeptUnder fixed first → Drives fixed.handler first ending now → IsKeptUnder fixed now
+drive_keeps fixed first now ending k =
     ⊎_elim
-    (λ (d : (n : ℕ) × (before : Record) × (last : Result Progress Error) × Stepped m n first before × StepDoes m before last now × (end_after last ≡ Some ending)). step_under m version options d.1 d.2 now (steps_keep m version options d.0 first d.1 k d.3) d.4)
-    (λ (d : Stepped m (2 ^ 64 - 1) first now × (ending ≡ attempt_end.Stalled)). steps_keep m version options (2 ^ 64 - 1) first now k d.0)
+    (λ (d : (n : ℕ) × (before : Record) × (last : Result Progress Error) × Stepped fixed.handler n first before × StepDoes fixed.handler before last now × (end_after last ≡ Some ending)). step_under fixed d.1 d.2 now (steps_keep fixed d.0 first d.1 k d.3) d.4)
+    (λ (d : Stepped fixed.handler (2 ^ 64 - 1) first now × (ending ≡ attempt_end.Stalled)). steps_keep fixed (2 ^ 64 - 1) first now k d.0)
 
-run_keeps : (m : Meaning) (version : Version) (options : VMOptions) (input : List ℕ) (first fed now : Record) (ending : AttemptEnd) → IsKeptUnder m version options first → IsFed input first fed → Drives m fed ending now → IsKeptUnder m version options now
-run_keeps m version options input first fed now ending k (between, a, b) d =
-    drive_keeps m version options fed now ending (close_under m version options between b.0 fed (feed_under m version options input first a.0 between k a.1) b.1) d
+run_keeps : (fixed : Fixed) (input : List ℕ) (first fed now : Record) (ending : AttemptEnd) → IsKeptUnder fixed first → IsFed input first fed → Drives fixed.handler fed ending now → IsKeptUnder fixed now
+run_keeps fixed input first fed now ending k (between, a, b) d =
+    drive_keeps fixed fed now ending (close_under fixed between b.0 fed (feed_under fixed input first a.0 between k a.1) b.1) d
 
 -- a run of the attempt that was made
 pub run_served : {H : Type 0} (mean : H → Meaning) (alloc : Global) (options : VMOptions) (handler : H) (version : Result Version Error) (a : AttemptView H) (input output : List ℕ) (ending : AttemptEnd) → options ≡ default_options → MakesAttempt alloc options handler version (Ok a) → Runs SendsWhole (mean a.handler) a.record_of input ending output
@@ -69,8 +70,8 @@ run_served {H} mean alloc options handler (Ok v) a input output ending o m s =
     let fresh = fresh_record (made alloc default_options v) in
     let t = subst (λ h. Runs SendsWhole (mean h) a.record_of input ending output) (ap (λ (x : AttemptView H). x.handler) m) s in
     let u = subst (λ r. Runs SendsWhole meaning r input ending output) (ap (λ (x : AttemptView H). x.record_of) m ∙ ap (λ x. fresh_record (made alloc x v)) o) t in
-    let kept = run_keeps meaning v default_options input fresh u.0 u.1 ending (λ premises. made_kept meaning alloc v default_options) u.2 u.3 in
-    let told : IsTold meaning v u.1 = λ once. kept_told meaning v default_options u.1 u.5 (kept (record { replays = refl; queues = refl; once = once })) in
+    let kept = run_keeps (fixed_by meaning v default_options) input fresh u.0 u.1 ending (λ premises. made_kept (fixed_by meaning v default_options) alloc) u.2 u.3 in
+    let told : IsTold meaning v u.1 = λ once. kept_told (fixed_by meaning v default_options) u.1 u.5 (kept (record { replays = refl; queues = refl; once = once })) in
     (input, output, refl, (u.0, u.1, u.2, u.3, u.4, told), refl)
 
 -- the same of what a call answers

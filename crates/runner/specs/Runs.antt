@@ -20,6 +20,7 @@ use Rattle.runner.specs.declared.run_end.AttemptEnd.{AttemptEnd}
 use Rattle.runner.specs.declared.run_end.AttemptEnd.TheVariants as attempt_end
 use Rattle.runner.specs.declared.run_end.RunEnd.{RunEnd}
 use Rattle.runner.specs.declared.run_end.RunEnd.TheVariants.{UnknownHandler, Refused, ReadFailed, NoMemory, WriteFailed, Written}
+use Rattle.vm_attempt.specs.Fixed.{fixed_by}
 
 -- so many steps, each of which gave the handler one answer
 abbrev pub Stepped : Meaning → ℕ → Record → Record → Type 0
@@ -64,7 +65,7 @@ Serves holds_then meaning fresh left written ending =
 -- Where no completion has two results, the answers of an attempt with the options by default are told by the journal that it was
 -- fed and what it wrote.
 abbrev pub IsTold : Meaning → Version → Record → Type 0
-IsTold meaning version r = NoneHasTwo meaning version default_options (heard version r) → (r.answers ≡ []) ⊎ AnswersAreTold meaning version default_options r
+IsTold meaning version r = NoneHasTwo (fixed_by meaning version default_options) (heard version r) → (r.answers ≡ []) ⊎ AnswersAreTold (fixed_by meaning version default_options) r
 
 -- the same of a new attempt with the options by default, for the version that was asked for: its answers are told
 abbrev pub ServesAnew : Global → Result Version Error → Meaning → Option (List ℕ) → (List ℕ → Type 0) → AttemptEnd → Type 0

@@ -66,6 +66,7 @@ use Rattle.vm_attempt.proofs.Pieces.{agrees_running}
 use Rattle.vm_attempt.proofs.Quiet.{Silent, error_quiet, quiet_same, wrote_quiet}
 use Rattle.vm_attempt.proofs.Written.{written_is}
 use Rattle.vm_attempt.proofs.Stepped.{asks_keep, asks_replay, asks_wait}
+use Rattle.vm_attempt.specs.Fixed.{Fixed, fixed_by}
 
 -- ---- an event that failed
 
@@ -160,27 +161,27 @@ no_command_reads s given aside ns i w is =
     absurd (let z : [] ≡ r.first ∷ r.rest = r.commands in cc)
 
 -- the handler runs, and nothing was written
-abbrev pub Begins : Meaning → Version → VMOptions → Heard → List Answer → Option UnresolvedFuture → List (List ℕ) → View → Type 0
-Begins m version options fed answers waiting taken v = (k : Runs m version options fed answers waiting taken v) × (k.written ≡ []) × (fed.proposed ≡ [])
+abbrev pub Begins : Fixed → Heard → List Answer → Option UnresolvedFuture → List (List ℕ) → View → Type 0
+Begins fixed fed answers waiting taken v = (k : Runs fixed fed answers waiting taken v) × (k.written ≡ []) × (fed.proposed ≡ [])
 
-read_begins : (m : Meaning) (version : Version) (options : VMOptions) (fed : Heard) (replays : options.journal_replay ≡ Enabled) (nothing : fed.proposed ≡ []) (before : Option UnresolvedFuture) (taken : List (List ℕ)) (v w : View) (b : Begun version options fed v.machine) (h : HasAll (setup_for version options b.start) (record { entries = b.state; coverage = coverage_of b.start.partial }) b.aside b.start.known_entries [] [] b.others v.machine)
+read_begins : (fixed : Fixed) (fed : Heard) (replays : fixed.options.journal_replay ≡ Enabled) (nothing : fed.proposed ≡ []) (before : Option UnresolvedFuture) (taken : List (List ℕ)) (v w : View) (b : Begun fixed fed v.machine) (h : HasAll (setup_for fixed b.start) (record { entries = b.state; coverage = coverage_of b.start.partial }) b.aside b.start.known_entries [] [] b.others v.machine)
     → (i : Input) → input_step v.machine ≡ Done i w.machine → before ≡ None → Wrote taken v.machine.output [] → (frames_of (bytes_fed fed)).1 ≡ Rest w.undecoded
-    → (cs : List RawMessage) → commands_among h.entries ≡ cs → Begins m version options fed (answer.Input i ∷ []) before taken w
-read_begins m version options fed replays nothing before taken v w b h i is none wrote tail [] e =
-    let s = setup_for version options b.start in
+    → (cs : List RawMessage) → commands_among h.entries ≡ cs → Begins fixed fed (answer.Input i ∷ []) before taken w
+read_begins fixed fed replays nothing before taken v w b h i is none wrote tail [] e =
+    let s = setup_for fixed b.start in
     let given : StateMap = record { entries = b.state; coverage = coverage_of b.start.partial } in
     no_command_reads s given (missing 0 b.aside) (notifications_among b.others) i w.machine (sym (ap input_step (h.machine ∙ λ j. machine_fed s given (missing 0 b.aside) (e j) (notifications_among b.others) Replaying)) ∙ is)
-read_begins m version options fed replays nothing before taken v w b h i is none wrote tail (first ∷ rest) e =
-    let s = setup_for version options b.start in
+read_begins fixed fed replays nothing before taken v w b h i is none wrote tail (first ∷ rest) e =
+    let s = setup_for fixed b.start in
     let given : StateMap = record { entries = b.state; coverage = coverage_of b.start.partial } in
     let ns = notifications_among b.others in
     let at : v.machine ≡ machine_fed s given (missing 0 b.aside) (first ∷ rest) ns Replaying = h.machine ∙ λ j. machine_fed s given (missing 0 b.aside) (e j) ns Replaying in
     by_input (input_read_from first) refl (subst (BeginsOrFails s given (missing 0 b.aside) rest ns (input_read_from first)) (sym (ap input_step at) ∙ is) (input_begins s given (missing 0 b.aside) first rest ns replays (ap identity_of (sym b.of_start))))
   where
-    by_input : (o : Option InputCommand) → input_read_from first ≡ o → BeginsOrFails (setup_for version options b.start) (record { entries = b.state; coverage = coverage_of b.start.partial }) (missing 0 b.aside) rest (notifications_among b.others) o (Done i w.machine) → Begins m version options fed (answer.Input i ∷ []) before taken w
+    by_input : (o : Option InputCommand) → input_read_from first ≡ o → BeginsOrFails (setup_for fixed b.start) (record { entries = b.state; coverage = coverage_of b.start.partial }) (missing 0 b.aside) rest (notifications_among b.others) o (Done i w.machine) → Begins fixed fed (answer.Input i ∷ []) before taken w
     by_input None reads g = absurd g
     by_input (Some c) reads g =
-        let s = setup_for version options b.start in
+        let s = setup_for fixed b.start in
         let all = h.entries ++ h.others in
         let brings : notifications_among b.others ≡ arriving fed.proposed all = ap notifications_among h.split ∙ sym (arriving_alone all) ∙ ap (λ kept. arriving kept all) (sym nothing) in
         let agrees = subst (λ ns. Agrees s (record { entries = b.state; coverage = coverage_of b.start.partial }) [] w.machine (start s c ns rest)) brings g.1.0 in (
@@ -208,7 +209,7 @@ read_begins m version options fed replays nothing before taken v w b h i is none
             moves = 0;
             run = (refl, refl);
             answers = ap (λ x. answer.Input x ∷ []) (sym g.0);
-            awaits = subst (StillAwaits m (start s c (arriving fed.proposed all) rest)) (sym none) tt;
+            awaits = subst (StillAwaits fixed.handler (start s c (arriving fed.proposed all) rest)) (sym none) tt;
             agrees = λ _. agrees;
             rests = λ _. refl;
             keeps = λ _. (g.1.1.1 ∙ sym (ap (λ kept. kept_after kept all) nothing ∙ kept_none all), none_found fed.proposed all (subst (AllByRecursion AcknowledgesNothing) h.split h.none_acknowledge));
@@ -219,89 +220,88 @@ read_begins m version options fed replays nothing before taken v w b h i is none
           nothing,
         )
 
-pub reads_done : (m : Meaning) (version : Version) (options : VMOptions) (fed : Heard) (replays : options.journal_replay ≡ Enabled) (nothing : fed.proposed ≡ []) (before : Option UnresolvedFuture) (taken : List (List ℕ)) (v w : View) (i : Input) → Comes version options fed v.machine → input_step v.machine ≡ Done i w.machine → before ≡ None → Wrote taken v.machine.output [] → (frames_of (bytes_fed fed)).1 ≡ Rest w.undecoded → Begins m version options fed (answer.Input i ∷ []) before taken w
-reads_done m version options fed replays nothing before taken v w i comes is none wrote tail =
+pub reads_done : (fixed : Fixed) (fed : Heard) (replays : fixed.options.journal_replay ≡ Enabled) (nothing : fed.proposed ≡ []) (before : Option UnresolvedFuture) (taken : List (List ℕ)) (v w : View) (i : Input) → Comes fixed fed v.machine → input_step v.machine ≡ Done i w.machine → before ≡ None → Wrote taken v.machine.output [] → (frames_of (bytes_fed fed)).1 ≡ Rest w.undecoded → Begins fixed fed (answer.Input i ∷ []) before taken w
+reads_done fixed fed replays nothing before taken v w i comes is none wrote tail =
     ⊎_elim
-    (λ (x : (frames_fed fed ≡ []) × ((alloc : Global) × (v.machine ≡ fresh alloc version options))). waits_reads v.machine i w.machine (ap (λ (z : Machine). is_running z.phase) x.1.1) is)
-    (λ (b : Begun version options fed v.machine).
+    (λ (x : (frames_fed fed ≡ []) × ((alloc : Global) × (v.machine ≡ fresh alloc fixed.version fixed.options))). waits_reads v.machine i w.machine (ap (λ (z : Machine). is_running z.phase) x.1.1) is)
+    (λ (b : Begun fixed fed v.machine).
     ⊎_elim
-    (λ (x : StillWaits (setup_for version options b.start) (record { entries = b.state; coverage = coverage_of b.start.partial }) b.aside b.start.known_entries [] [] b.others v.machine). waits_reads v.machine i w.machine (ap (λ (z : Machine). is_running z.phase) x.machine) is)
-    (λ (x : HasAll (setup_for version options b.start) (record { entries = b.state; coverage = coverage_of b.start.partial }) b.aside b.start.known_entries [] [] b.others v.machine). read_begins m version options fed replays nothing before taken v w b x i is none wrote tail (commands_among x.entries) refl)
+    (λ (x : StillWaits (setup_for fixed b.start) (record { entries = b.state; coverage = coverage_of b.start.partial }) b.aside b.start.known_entries [] [] b.others v.machine). waits_reads v.machine i w.machine (ap (λ (z : Machine). is_running z.phase) x.machine) is)
+    (λ (x : HasAll (setup_for fixed b.start) (record { entries = b.state; coverage = coverage_of b.start.partial }) b.aside b.start.known_entries [] [] b.others v.machine). read_begins fixed fed replays nothing before taken v w b x i is none wrote tail (commands_among x.entries) refl)
     b.waits)
     comes
 
 -- ---- a step
 
 -- once the handler runs there is an answer
-pub runs_answered : (m : Meaning) (version : Version) (options : VMOptions) (fed : Heard) (answers : List Answer) (before : Option UnresolvedFuture) (taken : List (List ℕ)) (v : View) → Runs m version options fed answers before taken v → answers ≢ []
-runs_answered m version options fed answers before taken v k none =
-    let s = setup_for version options k.journal.start in
+pub runs_answered : (fixed : Fixed) (fed : Heard) (answers : List Answer) (before : Option UnresolvedFuture) (taken : List (List ℕ)) (v : View) → Runs fixed fed answers before taken v → answers ≢ []
+runs_answered fixed fed answers before taken v k none =
+    let s = setup_for fixed k.journal.start in
     let p = start s k.journal.input (arrivals k.journal) k.journal.rest in
-    let a = after_answers s m k.moves (longer k.written p) k.at (made_after s m (Handed (handed_out k.journal)) k.moves p k.written k.at k.run) in
+    let a = after_answers s fixed.handler k.moves (longer k.written p) k.at (made_after s fixed.handler (Handed (handed_out k.journal)) k.moves p k.written k.at k.run) in
     let z : [] ≡ answer.Input (told_input s.identity k.journal.input) ∷ a.0 = sym none ∙ sym k.answers ∙ a.1 in
     cc
 
 -- What is told of a handler that runs is kept by each step, where reading the input gives it, and each call keeps it, by what is asked of
 -- what was fed.
-module _ (R : Reading) (P : Heard → Type 0) (l : Lasts R) (m : Meaning) (version : Version) (options : VMOptions)
-    (reads : (fed : Heard) (waiting : Option UnresolvedFuture) (taken : List (List ℕ)) (v w : View) (i : Input) → P fed → fed.proposed ≡ [] → Comes version options fed v.machine → input_step v.machine ≡ Done i w.machine → waiting ≡ None → Wrote taken v.machine.output [] → (frames_of (bytes_fed fed)).1 ≡ Rest w.undecoded → R fed (answer.Input i ∷ []) waiting taken w)
+module _ (R : Reading) (P : Heard → Type 0) (l : Lasts R) (fixed : Fixed) (reads : (fed : Heard) (waiting : Option UnresolvedFuture) (taken : List (List ℕ)) (v w : View) (i : Input) → P fed → fed.proposed ≡ [] → Comes fixed fed v.machine → input_step v.machine ≡ Done i w.machine → waiting ≡ None → Wrote taken v.machine.output [] → (frames_of (bytes_fed fed)).1 ≡ Rest w.undecoded → R fed (answer.Input i ∷ []) waiting taken w)
     (answered : (fed : Heard) (answers : List Answer) (waiting : Option UnresolvedFuture) (taken : List (List ℕ)) (v : View) → R fed answers waiting taken v → answers ≢ [])
-    (asks : (old : Record) (result : Result Progress Error) (new : Record) → P (heard version old) → R (heard version old) old.answers old.waiting old.taken old.vm → IsLive old.vm.machine → Asks m old result new → KeptBy R version options new) where
+    (asks : (old : Record) (result : Result Progress Error) (new : Record) → P (heard fixed.version old) → R (heard fixed.version old) old.answers old.waiting old.taken old.vm → IsLive old.vm.machine → Asks fixed.handler old result new → KeptBy R fixed new) where
   abbrev Kept : Record → Type 0
-  Kept = KeptBy R version options
+  Kept = KeptBy R fixed
 
-  reads_keep : (old : Record) (result : Result Progress Error) (new : Record) → P (heard version old) → BeforeInput version options (heard version old) old.answers old.waiting old.taken old.vm → old.vm.machine.failure ≡ None → Reads old result new → Kept new
+  reads_keep : (old : Record) (result : Result Progress Error) (new : Record) → P (heard fixed.version old) → BeforeInput fixed (heard fixed.version old) old.answers old.waiting old.taken old.vm → old.vm.machine.failure ≡ None → Reads old result new → Kept new
   reads_keep old (Ok progress) new under b live (stepped, (i, w, does, is)) =
-      subst Kept (sym is) (inr (reads (heard version old) old.waiting old.taken old.vm w i under b.none_proposed (b.comes live) (done_of old.vm.machine (input_step old.vm.machine) i w.machine live does.0) b.waits_not b.wrote (b.tail live ∙ ap Rest (sym does.1))))
+      subst Kept (sym is) (inr (reads (heard fixed.version old) old.waiting old.taken old.vm w i under b.none_proposed (b.comes live) (done_of old.vm.machine (input_step old.vm.machine) i w.machine live does.0) b.waits_not b.wrote (b.tail live ∙ ap Rest (sym does.1))))
   reads_keep old (Err e) new under b live (w, does, is) =
       subst Kept (sym is)
       (⊎_elim
       (λ (x : called (input_step old.vm.machine) old.vm.machine ≡ Failed e w.machine).
       let q = failed_quiet old.vm.machine (input_step old.vm.machine) e w.machine (input_silent old.vm.machine) x in
-      dead_same R l version options old w (inl b) q.0 q.1)
-      (λ (x : IsStarved old.vm.machine e w.machine). dead_same R l version options old w (inl b) (quiet_same old.vm.machine w.machine x.output) (rw x.failure refl))
+      dead_same R l fixed old w (inl b) q.0 q.1)
+      (λ (x : IsStarved old.vm.machine e w.machine). dead_same R l fixed old w (inl b) (quiet_same old.vm.machine w.machine x.output) (rw x.failure refl))
       does.0)
 
-  advances_keep : (old : Record) (result : Result Progress Error) (new : Record) → P (heard version old) → Kept old → IsLive old.vm.machine → Advances m old result new → Kept new
+  advances_keep : (old : Record) (result : Result Progress Error) (new : Record) → P (heard fixed.version old) → Kept old → IsLive old.vm.machine → Advances fixed.handler old result new → Kept new
   advances_keep old result new under k live =
       ⊎_elim
       (λ (x : LacksMemory old result new). subst Kept (sym x.1) k)
-      (λ (o : ((old.answers ≡ []) × Reads old result new) ⊎ ((old.answers ≢ []) × Asks m old result new)).
+      (λ (o : ((old.answers ≡ []) × Reads old result new) ⊎ ((old.answers ≢ []) × Asks fixed.handler old result new)).
       ⊎_elim
       (λ (x : (old.answers ≡ []) × Reads old result new).
       ⊎_elim
-      (λ (b : BeforeInput version options (heard version old) old.answers old.waiting old.taken old.vm). reads_keep old result new under b live.failure x.1)
-      (λ (b : R (heard version old) old.answers old.waiting old.taken old.vm). absurd (answered (heard version old) old.answers old.waiting old.taken old.vm b x.0))
+      (λ (b : BeforeInput fixed (heard fixed.version old) old.answers old.waiting old.taken old.vm). reads_keep old result new under b live.failure x.1)
+      (λ (b : R (heard fixed.version old) old.answers old.waiting old.taken old.vm). absurd (answered (heard fixed.version old) old.answers old.waiting old.taken old.vm b x.0))
       k)
-      (λ (x : (old.answers ≢ []) × Asks m old result new).
+      (λ (x : (old.answers ≢ []) × Asks fixed.handler old result new).
       ⊎_elim
-      (λ (b : BeforeInput version options (heard version old) old.answers old.waiting old.taken old.vm). absurd (x.0 b.answers))
-      (λ (b : R (heard version old) old.answers old.waiting old.taken old.vm). asks old result new under b live x.1)
+      (λ (b : BeforeInput fixed (heard fixed.version old) old.answers old.waiting old.taken old.vm). absurd (x.0 b.answers))
+      (λ (b : R (heard fixed.version old) old.answers old.waiting old.taken old.vm). asks old result new under b live x.1)
       k)
       o)
 
-  step_at : (old : Record) (result : Result Progress Error) (new : Record) → P (heard version old) → Kept old → old.vm.machine.failure ≡ None → (ph : Phase) → old.vm.machine.phase ≡ ph → StepAt ph m old result new → Kept new
+  step_at : (old : Record) (result : Result Progress Error) (new : Record) → P (heard fixed.version old) → Kept old → old.vm.machine.failure ≡ None → (ph : Phase) → old.vm.machine.phase ≡ ph → StepAt ph fixed.handler old result new → Kept new
   step_at old result new under k live WaitingStart at d = subst Kept (sym d.1) k
   step_at old result new under k live WaitingReplayEntries at d = subst Kept (sym d.1) k
   step_at old result new under k live Closed at d = subst Kept (sym d.1) k
   step_at old result new under k live Replaying at d = advances_keep old result new under k (record { failure = live; phase = ap is_running at }) d
   step_at old result new under k live Processing at d = advances_keep old result new under k (record { failure = live; phase = ap is_running at }) d
 
-  step_unless : (old : Record) (result : Result Progress Error) (new : Record) → P (heard version old) → Kept old → (f : Option Error) → old.vm.machine.failure ≡ f → (over : Option Progress) → StepUnless f over m old result new → Kept new
+  step_unless : (old : Record) (result : Result Progress Error) (new : Record) → P (heard fixed.version old) → Kept old → (f : Option Error) → old.vm.machine.failure ≡ f → (over : Option Progress) → StepUnless f over fixed.handler old result new → Kept new
   step_unless old result new under k (Some e) is over d = subst Kept (sym d.1) k
   step_unless old result new under k None is (Some made) d = subst Kept (sym d.1) k
   step_unless old result new under k None is None d = step_at old result new under k is old.vm.machine.phase refl d
 
-  pub steps_keep : (old : Record) (result : Result Progress Error) (new : Record) → P (heard version old) → Kept old → StepDoes m old result new → Kept new
+  pub steps_keep : (old : Record) (result : Result Progress Error) (new : Record) → P (heard fixed.version old) → Kept old → StepDoes fixed.handler old result new → Kept new
   steps_keep old result new under k does = by_test old.starved does
     where
-      by_test : (b : Bool) → StepFrom b m old result new → Kept new
+      by_test : (b : Bool) → StepFrom b fixed.handler old result new → Kept new
       by_test true d = subst Kept (sym d.1) k
       by_test false d = step_unless old result new under k old.vm.machine.failure refl old.over d
 
 -- the run of a handler is kept by each step
-pub step_keeps : (m : Meaning) (version : Version) (options : VMOptions) (old : Record) (result : Result Progress Error) (new : Record) → Premises m version options (heard version old) → IsKept m version options old → StepDoes m old result new → IsKept m version options new
-step_keeps m version options = steps_keep (Runs m version options) (Premises m version options) (runs_last m version options) m version options (λ fed waiting taken v w i p none comes is none_waits wrote tail. (reads_done m version options fed p.replays none waiting taken v w i comes is none_waits wrote tail).0) (runs_answered m version options) (λ old result new p k. asks_keep m version options old result new p.queues k (p.once k.journal k.moves k.written k.at k.run))
+pub step_keeps : (fixed : Fixed) (old : Record) (result : Result Progress Error) (new : Record) → Premises fixed (heard fixed.version old) → IsKept fixed old → StepDoes fixed.handler old result new → IsKept fixed new
+step_keeps fixed = steps_keep (Runs fixed) (Premises fixed) (runs_last fixed) fixed (λ fed waiting taken v w i p none comes is none_waits wrote tail. (reads_done fixed fed p.replays none waiting taken v w i comes is none_waits wrote tail).0) (runs_answered fixed) (λ old result new p k. asks_keep fixed old result new p.queues k (p.once k.journal k.moves k.written k.at k.run))
 
 -- ---- a step that waits
 
@@ -313,49 +313,49 @@ error_waits : (P : Type 0) (result : Result Progress Error) (e : Error) → resu
 error_waits P result e is = subst (λ z. IfWaits z P) (sym is) tt
 
 -- the handler runs, as it was answered
-pub runs_of : (m : Meaning) (version : Version) (options : VMOptions) (r : Record) → IsKept m version options r → r.answers ≢ [] → Runs m version options (heard version r) r.answers r.waiting r.taken r.vm
-runs_of m version options r k some =
+pub runs_of : (fixed : Fixed) (r : Record) → IsKept fixed r → r.answers ≢ [] → Runs fixed (heard fixed.version r) r.answers r.waiting r.taken r.vm
+runs_of fixed r k some =
     ⊎_elim
-    (λ (b : BeforeInput version options (heard version r) r.answers r.waiting r.taken r.vm). absurd (some b.answers))
-    (λ (b : Runs m version options (heard version r) r.answers r.waiting r.taken r.vm). b)
+    (λ (b : BeforeInput fixed (heard fixed.version r) r.answers r.waiting r.taken r.vm). absurd (some b.answers))
+    (λ (b : Runs fixed (heard fixed.version r) r.answers r.waiting r.taken r.vm). b)
     k
 
-advances_wait : (m : Meaning) (version : Version) (options : VMOptions) (old : Record) (result : Result Progress Error) (new : Record) → Premises m version options (heard version old) → IsKept m version options old → IsLive old.vm.machine → Advances m old result new → IfWaits result (Sleeps m version options (heard version new) new.answers new.taken new.vm)
-advances_wait m version options old result new under k live =
-    let P = Sleeps m version options (heard version new) new.answers new.taken new.vm in
+advances_wait : (fixed : Fixed) (old : Record) (result : Result Progress Error) (new : Record) → Premises fixed (heard fixed.version old) → IsKept fixed old → IsLive old.vm.machine → Advances fixed.handler old result new → IfWaits result (Sleeps fixed (heard fixed.version new) new.answers new.taken new.vm)
+advances_wait fixed old result new under k live =
+    let P = Sleeps fixed (heard fixed.version new) new.answers new.taken new.vm in
     ⊎_elim
     (λ (x : LacksMemory old result new). error_waits P result _ x.0)
-    (λ (o : ((old.answers ≡ []) × Reads old result new) ⊎ ((old.answers ≢ []) × Asks m old result new)).
+    (λ (o : ((old.answers ≡ []) × Reads old result new) ⊎ ((old.answers ≢ []) × Asks fixed.handler old result new)).
     ⊎_elim
     (λ (x : (old.answers ≡ []) × Reads old result new). reads_wait P old result new x.1)
-    (λ (x : (old.answers ≢ []) × Asks m old result new).
-    let run = runs_of m version options old k x.0 in
-    asks_wait m version options old result new under.queues run (under.once run.journal run.moves run.written run.at run.run) live x.1)
+    (λ (x : (old.answers ≢ []) × Asks fixed.handler old result new).
+    let run = runs_of fixed old k x.0 in
+    asks_wait fixed old result new under.queues run (under.once run.journal run.moves run.written run.at run.run) live x.1)
     o)
 
-wait_at : (m : Meaning) (version : Version) (options : VMOptions) (old : Record) (result : Result Progress Error) (new : Record) → Premises m version options (heard version old) → IsKept m version options old → old.vm.machine.failure ≡ None → (ph : Phase) → old.vm.machine.phase ≡ ph → StepAt ph m old result new → IfWaits result (Sleeps m version options (heard version new) new.answers new.taken new.vm)
-wait_at m version options old result new under k live WaitingStart at d = subst (λ z. IfWaits z (Sleeps m version options (heard version new) new.answers new.taken new.vm)) (sym d.0) tt
-wait_at m version options old result new under k live WaitingReplayEntries at d = subst (λ z. IfWaits z (Sleeps m version options (heard version new) new.answers new.taken new.vm)) (sym d.0) tt
-wait_at m version options old result new under k live Closed at d = error_waits _ result _ d.0
-wait_at m version options old result new under k live Replaying at d = advances_wait m version options old result new under k (record { failure = live; phase = ap is_running at }) d
-wait_at m version options old result new under k live Processing at d = advances_wait m version options old result new under k (record { failure = live; phase = ap is_running at }) d
+wait_at : (fixed : Fixed) (old : Record) (result : Result Progress Error) (new : Record) → Premises fixed (heard fixed.version old) → IsKept fixed old → old.vm.machine.failure ≡ None → (ph : Phase) → old.vm.machine.phase ≡ ph → StepAt ph fixed.handler old result new → IfWaits result (Sleeps fixed (heard fixed.version new) new.answers new.taken new.vm)
+wait_at fixed old result new under k live WaitingStart at d = subst (λ z. IfWaits z (Sleeps fixed (heard fixed.version new) new.answers new.taken new.vm)) (sym d.0) tt
+wait_at fixed old result new under k live WaitingReplayEntries at d = subst (λ z. IfWaits z (Sleeps fixed (heard fixed.version new) new.answers new.taken new.vm)) (sym d.0) tt
+wait_at fixed old result new under k live Closed at d = error_waits _ result _ d.0
+wait_at fixed old result new under k live Replaying at d = advances_wait fixed old result new under k (record { failure = live; phase = ap is_running at }) d
+wait_at fixed old result new under k live Processing at d = advances_wait fixed old result new under k (record { failure = live; phase = ap is_running at }) d
 
-wait_unless : (m : Meaning) (version : Version) (options : VMOptions) (old : Record) (result : Result Progress Error) (new : Record) → Premises m version options (heard version old) → IsKept m version options old → (f : Option Error) → old.vm.machine.failure ≡ f → StepUnless f None m old result new → IfWaits result (Sleeps m version options (heard version new) new.answers new.taken new.vm)
-wait_unless m version options old result new under k (Some e) is d = ⊎_elim (λ (x : result ≡ Err e). error_waits _ result e x) (λ (x : result ≡ Err no_memory). error_waits _ result no_memory x) d.0
-wait_unless m version options old result new under k None is d = wait_at m version options old result new under k is old.vm.machine.phase refl d
+wait_unless : (fixed : Fixed) (old : Record) (result : Result Progress Error) (new : Record) → Premises fixed (heard fixed.version old) → IsKept fixed old → (f : Option Error) → old.vm.machine.failure ≡ f → StepUnless f None fixed.handler old result new → IfWaits result (Sleeps fixed (heard fixed.version new) new.answers new.taken new.vm)
+wait_unless fixed old result new under k (Some e) is d = ⊎_elim (λ (x : result ≡ Err e). error_waits _ result e x) (λ (x : result ≡ Err no_memory). error_waits _ result no_memory x) d.0
+wait_unless fixed old result new under k None is d = wait_at fixed old result new under k is old.vm.machine.phase refl d
 
 -- a step waits only where nothing wakes
-pub step_waits : (m : Meaning) (version : Version) (options : VMOptions) (old : Record) (result : Result Progress Error) (new : Record) → Premises m version options (heard version old) → IsKept m version options old → old.over ≡ None → StepDoes m old result new → IfWaits result (Sleeps m version options (heard version new) new.answers new.taken new.vm)
-step_waits m version options old result new under k going does = by_test old.starved does
+pub step_waits : (fixed : Fixed) (old : Record) (result : Result Progress Error) (new : Record) → Premises fixed (heard fixed.version old) → IsKept fixed old → old.over ≡ None → StepDoes fixed.handler old result new → IfWaits result (Sleeps fixed (heard fixed.version new) new.answers new.taken new.vm)
+step_waits fixed old result new under k going does = by_test old.starved does
   where
-    by_test : (b : Bool) → StepFrom b m old result new → IfWaits result (Sleeps m version options (heard version new) new.answers new.taken new.vm)
+    by_test : (b : Bool) → StepFrom b fixed.handler old result new → IfWaits result (Sleeps fixed (heard fixed.version new) new.answers new.taken new.vm)
     by_test true d = error_waits _ result no_memory d.0
-    by_test false d = wait_unless m version options old result new under k old.vm.machine.failure refl (subst (λ over. StepUnless old.vm.machine.failure over m old result new) going d)
+    by_test false d = wait_unless fixed old result new under k old.vm.machine.failure refl (subst (λ over. StepUnless old.vm.machine.failure over fixed.handler old result new) going d)
 
 -- ---- a step while recorded commands are left
 
-lacks_replay : (m : Meaning) (version : Version) (options : VMOptions) (old : Record) (result : Result Progress Error) (new : Record) → LacksMemory old result new → Replays m version options old result new
-lacks_replay m version options old result new (is, left) = subst (λ z. Replays m version options old z new) (sym is) (inl (ap (λ (r : Record). r.starved) left))
+lacks_replay : (fixed : Fixed) (old : Record) (result : Result Progress Error) (new : Record) → LacksMemory old result new → Replays fixed old result new
+lacks_replay fixed old result new (is, left) = subst (λ z. Replays fixed old z new) (sym is) (inl (ap (λ (r : Record). r.starved) left))
 
 -- a step of a handler that is replaying, as the step is at this phase
 replays_advance : (m : Meaning) (old : Record) (result : Result Progress Error) (new : Record) → IsReplaying old → StepDoes m old result new → Advances m old result new
@@ -364,22 +364,22 @@ replays_advance m old result new is d =
     (subst (λ f. StepUnless f None m old result new) is.failure
     (subst (λ over. StepUnless old.vm.machine.failure over m old result new) is.over (subst (λ b. StepFrom b m old result new) is.starved d)))
 
-pub step_replays : (m : Meaning) (version : Version) (options : VMOptions) (old : Record) (result : Result Progress Error) (new : Record) → options.signal_delivery ≡ Queued → (k : Runs m version options (heard version old) old.answers old.waiting old.taken old.vm) → HasNoTwo k.at → IsReplaying old → StepDoes m old result new → Replays m version options old result new
-step_replays m version options old result new queues k two is does =
+pub step_replays : (fixed : Fixed) (old : Record) (result : Result Progress Error) (new : Record) → fixed.options.signal_delivery ≡ Queued → (k : Runs fixed (heard fixed.version old) old.answers old.waiting old.taken old.vm) → HasNoTwo k.at → IsReplaying old → StepDoes fixed.handler old result new → Replays fixed old result new
+step_replays fixed old result new queues k two is does =
     ⊎_elim
-    (λ (x : LacksMemory old result new). lacks_replay m version options old result new x)
-    (λ (o : ((old.answers ≡ []) × Reads old result new) ⊎ ((old.answers ≢ []) × Asks m old result new)).
+    (λ (x : LacksMemory old result new). lacks_replay fixed old result new x)
+    (λ (o : ((old.answers ≡ []) × Reads old result new) ⊎ ((old.answers ≢ []) × Asks fixed.handler old result new)).
     ⊎_elim
     (λ (x : (old.answers ≡ []) × Reads old result new). absurd (is.runs x.0))
-    (λ (x : (old.answers ≢ []) × Asks m old result new). asks_replay m version options old result new queues k two (record { failure = is.failure; phase = ap is_running is.phase }) is.phase x.1)
+    (λ (x : (old.answers ≢ []) × Asks fixed.handler old result new). asks_replay fixed old result new queues k two (record { failure = is.failure; phase = ap is_running is.phase }) is.phase x.1)
     o)
-    (replays_advance m old result new is does)
+    (replays_advance fixed.handler old result new is does)
 
 -- ---- a new attempt, and what is told
 
 -- nothing was answered or written yet
-abbrev pub IsNew : Version → VMOptions → Record → Type 0
-IsNew version options r = BeforeInput version options (heard version r) r.answers r.waiting r.taken r.vm
+abbrev pub IsNew : Fixed → Record → Type 0
+IsNew fixed r = BeforeInput fixed (heard fixed.version r) r.answers r.waiting r.taken r.vm
 
 pub nothing_acknowledged : (version : Version) → acknowledged_from version [] ≡ []
 nothing_acknowledged version = by_test (is_from_v7 version)
@@ -391,24 +391,24 @@ nothing_acknowledged version = by_test (is_from_v7 version)
     by_test true = refl
     by_test false = refl
 
-pub made_new : (alloc : Global) (version : Version) (options : VMOptions) → IsNew version options (fresh_record (made alloc options version))
+pub made_new : (alloc : Global) (fixed : Fixed) → IsNew fixed (fresh_record (made alloc fixed.options fixed.version))
 unfolding frames_of
-made_new alloc version options = record {
+made_new alloc fixed = record {
   answers = refl;
-  none_proposed = nothing_acknowledged version;
+  none_proposed = nothing_acknowledged fixed.version;
   waits_not = refl;
   wrote = record { sent = []; bytes = refl; whole = tt; waiting = []; frames = refl; commands = refl };
   comes = λ _. inl (refl, (alloc, refl));
   tail = λ _. refl;
 }
 
-pub made_kept : (m : Meaning) (alloc : Global) (version : Version) (options : VMOptions) → IsKept m version options (fresh_record (made alloc options version))
-made_kept m alloc version options = inl (made_new alloc version options)
+pub made_kept : (fixed : Fixed) (alloc : Global) → IsKept fixed (fresh_record (made alloc fixed.options fixed.version))
+made_kept fixed alloc = inl (made_new alloc fixed)
 
 -- the attempt that is made
-pub new_is_new : {S : Type 0} (alloc : Global) (options : VMOptions) (wanted : Result Version Error) (view : S → View) (vm : S) → Makes alloc options wanted view (Ok vm) → IsNew (view vm).machine.version options (fresh_record (view vm))
-new_is_new alloc options (Ok version) view vm is = subst (λ (x : View). IsNew x.machine.version options (fresh_record x)) (sym is) (made_new alloc version options)
-new_is_new alloc options (Err refusal) view vm is = absurd is
+pub new_is_new : {S : Type 0} (m : Meaning) (alloc : Global) (options : VMOptions) (wanted : Result Version Error) (view : S → View) (vm : S) → Makes alloc options wanted view (Ok vm) → IsNew (fixed_by m (view vm).machine.version options) (fresh_record (view vm))
+new_is_new m alloc options (Ok version) view vm is = subst (λ (x : View). IsNew (fixed_by m x.machine.version options) (fresh_record x)) (sym is) (made_new alloc (fixed_by m version options))
+new_is_new m alloc options (Err refusal) view vm is = absurd is
 
 -- it has written nothing
 pub new_whole : {S : Type 0} (alloc : Global) (options : VMOptions) (wanted : Result Version Error) (view : S → View) (vm : S) → Makes alloc options wanted view (Ok vm) → WholeFrames (view vm).machine.output
@@ -416,23 +416,23 @@ new_whole alloc options (Ok version) view vm is = subst (λ (x : View). WholeFra
 new_whole alloc options (Err refusal) view vm is = absurd is
 
 -- the answers of an attempt are told by what is read from its output
-pub kept_told : (m : Meaning) (version : Version) (options : VMOptions) (r : Record) → WholeFrames r.vm.machine.output → IsKept m version options r → (r.answers ≡ []) ⊎ AnswersAreTold m version options r
-kept_told m version options r f =
+pub kept_told : (fixed : Fixed) (r : Record) → WholeFrames r.vm.machine.output → IsKept fixed r → (r.answers ≡ []) ⊎ AnswersAreTold fixed r
+kept_told fixed r f =
     ⊎_elim
-    (λ (b : BeforeInput version options (heard version r) r.answers r.waiting r.taken r.vm). inl b.answers)
-    (λ (k : Runs m version options (heard version r) r.answers r.waiting r.taken r.vm).
-    let told = attempt_is_told (setup_for version options k.journal.start) m (handed_out k.journal) k.journal.input k.moves (arrivals k.journal) k.journal.rest k.written k.at k.run in
-    inr (subst (ToldBy m version options (heard version r) r.answers) (written_is r.taken r.vm.machine.output k.written k.wrote f) (record { journal = k.journal; at = k.at; told = told.0; answers = k.answers; moves = k.moves; made = k.run; in_order = told.1 })))
+    (λ (b : BeforeInput fixed (heard fixed.version r) r.answers r.waiting r.taken r.vm). inl b.answers)
+    (λ (k : Runs fixed (heard fixed.version r) r.answers r.waiting r.taken r.vm).
+    let told = attempt_is_told (setup_for fixed k.journal.start) fixed.handler (handed_out k.journal) k.journal.input k.moves (arrivals k.journal) k.journal.rest k.written k.at k.run in
+    inr (subst (ToldBy fixed (heard fixed.version r) r.answers) (written_is r.taken r.vm.machine.output k.written k.wrote f) (record { journal = k.journal; at = k.at; told = told.0; answers = k.answers; moves = k.moves; made = k.run; in_order = told.1 })))
 
 -- an await sleeps by what is read from its output
-sleeps_on : (m : Meaning) (version : Version) (options : VMOptions) (r : Record) → WholeFrames r.vm.machine.output → Sleeps m version options (heard version r) r.answers r.taken r.vm → NothingWakes m version options r
-sleeps_on m version options r f (written, wrote, asleep) = subst (IsAsleep m version options (heard version r) r.answers) (written_is r.taken r.vm.machine.output written wrote f) asleep
+sleeps_on : (fixed : Fixed) (r : Record) → WholeFrames r.vm.machine.output → Sleeps fixed (heard fixed.version r) r.answers r.taken r.vm → NothingWakes fixed r
+sleeps_on fixed r f (written, wrote, asleep) = subst (IsAsleep fixed (heard fixed.version r) r.answers) (written_is r.taken r.vm.machine.output written wrote f) asleep
 
-pub asleep_waits : (m : Meaning) (version : Version) (options : VMOptions) (r : Record) (result : Result Progress Error) → WholeFrames r.vm.machine.output → IfWaits result (Sleeps m version options (heard version r) r.answers r.taken r.vm) → IfWaits result (NothingWakes m version options r)
-asleep_waits m version options r (Ok (progress.Waiting input run)) f h = sleeps_on m version options r f h
-asleep_waits m version options r (Ok (progress.ExecuteRun run)) f h = sleeps_on m version options r f h
-asleep_waits m version options r (Ok progress.Suspended) f h = sleeps_on m version options r f h
-asleep_waits m version options r (Ok progress.NotReady) f h = tt
-asleep_waits m version options r (Ok progress.Stepped) f h = tt
-asleep_waits m version options r (Ok progress.Ended) f h = tt
-asleep_waits m version options r (Err e) f h = tt
+pub asleep_waits : (fixed : Fixed) (r : Record) (result : Result Progress Error) → WholeFrames r.vm.machine.output → IfWaits result (Sleeps fixed (heard fixed.version r) r.answers r.taken r.vm) → IfWaits result (NothingWakes fixed r)
+asleep_waits fixed r (Ok (progress.Waiting input run)) f h = sleeps_on fixed r f h
+asleep_waits fixed r (Ok (progress.ExecuteRun run)) f h = sleeps_on fixed r f h
+asleep_waits fixed r (Ok progress.Suspended) f h = sleeps_on fixed r f h
+asleep_waits fixed r (Ok progress.NotReady) f h = tt
+asleep_waits fixed r (Ok progress.Stepped) f h = tt
+asleep_waits fixed r (Ok progress.Ended) f h = tt
+asleep_waits fixed r (Err e) f h = tt

@@ -2,8 +2,6 @@
 use Rattle.std.proofs.Common.{◌≡◌, ◌≢◌, ◌⊎◌, ℕ, true, false, List, [], ◌∷◌, ◌++◌, Option, Some, None, Result, Ok, Err, sym, ap, ◌∙◌, subst, inl, inr, ⊎_elim, Global}
 use Rattle.std.specs.declared.alloc.AllocError.{AllocError}
 use Rattle.journal_errors.specs.declared.error.Error.{Error}
-use Rattle.journal_errors.specs.declared.version.Version.{Version}
-use Rattle.vm_types.specs.declared.options.VMOptions.{VMOptions}
 use Rattle.vm_types.specs.declared.steps.Answer.{Answer}
 use Rattle.await_trees.specs.declared.tree.UnresolvedFuture.{UnresolvedFuture}
 use Rattle.vm_machine.specs.declared.phase.Phase.TheVariants.{Closed, Processing}
@@ -11,7 +9,6 @@ use Rattle.vm_machine.specs.Phases.{is_running}
 use Rattle.invocation_vm.specs.Frames.{Rest}
 use Rattle.invocation_vm.specs.Making.{made}
 use Rattle.invocation_vm.specs.Views.{View}
-use Rattle.vm_model.specs.Calls.{Meaning}
 use Rattle.vm_steps.specs.Heard.{Heard}
 use Rattle.vm_steps.specs.declared.progress.Progress.{Progress}
 use Rattle.vm_steps.specs.declared.progress.Reply.{Reply}
@@ -43,10 +40,11 @@ use Rattle.vm_attempt.proofs.Kept.{KeptBy, close_keeps, feed_keeps, take_keeps}
 use Rattle.vm_attempt.proofs.Lasting.{CameBy, came_last}
 use Rattle.vm_attempt.proofs.Quiet.{quiet_same, wrote_more, wrote_quiet}
 use Rattle.vm_attempt.proofs.Sending.{IsLeft, Sends, step_leaves}
+use Rattle.vm_attempt.specs.Fixed.{Fixed}
 
 -- ---- the input is read
 
-module _ (version : Version) (options : VMOptions) (fed : Heard) (none_proposed : fed.proposed ≡ []) (taken : List (List ℕ)) (v w : View) (i : Input) (b : Begun version options fed v.machine) (h : HasAll (setup_for version options b.start) (record { entries = b.state; coverage = coverage_of b.start.partial }) b.aside b.start.known_entries [] [] b.others v.machine) (r : ReadsInput v.machine i w.machine) where
+module _ (fixed : Fixed) (fed : Heard) (none_proposed : fed.proposed ≡ []) (taken : List (List ℕ)) (v w : View) (i : Input) (b : Begun fixed fed v.machine) (h : HasAll (setup_for fixed b.start) (record { entries = b.state; coverage = coverage_of b.start.partial }) b.aside b.start.known_entries [] [] b.others v.machine) (r : ReadsInput v.machine i w.machine) where
   -- the journal that the input was read from
   journal_read : Journal fed
   journal_read = record {
@@ -67,7 +65,7 @@ module _ (version : Version) (options : VMOptions) (fed : Heard) (none_proposed 
     reads_input = ap (λ t. if t then input_in r.first.body else None) r.typed ∙ r.reads;
   }
 
-  read_comes : Wrote taken v.machine.output [] → (frames_of (bytes_fed fed)).1 ≡ Rest w.undecoded → Came version options fed (answer.Input i ∷ []) taken w
+  read_comes : Wrote taken v.machine.output [] → (frames_of (bytes_fed fed)).1 ≡ Rest w.undecoded → Came fixed fed (answer.Input i ∷ []) taken w
   unfolding journal_read
   read_comes wrote tail =
       let all = h.entries ++ h.others in
@@ -91,16 +89,16 @@ module _ (version : Version) (options : VMOptions) (fed : Heard) (none_proposed 
       }
 
 -- the input is read, whatever the options are
-pub reads_come : (version : Version) (options : VMOptions) (fed : Heard) → fed.proposed ≡ [] → (taken : List (List ℕ)) (v w : View) (i : Input) → Comes version options fed v.machine → input_step v.machine ≡ Done i w.machine → Wrote taken v.machine.output [] → (frames_of (bytes_fed fed)).1 ≡ Rest w.undecoded → Came version options fed (answer.Input i ∷ []) taken w
-reads_come version options fed none taken v w i comes is wrote tail =
+pub reads_come : (fixed : Fixed) (fed : Heard) → fed.proposed ≡ [] → (taken : List (List ℕ)) (v w : View) (i : Input) → Comes fixed fed v.machine → input_step v.machine ≡ Done i w.machine → Wrote taken v.machine.output [] → (frames_of (bytes_fed fed)).1 ≡ Rest w.undecoded → Came fixed fed (answer.Input i ∷ []) taken w
+reads_come fixed fed none taken v w i comes is wrote tail =
     let r = input_is v.machine i w.machine is in
     let runs : is_running v.machine.phase ≡ true = ap is_running r.phase in
     ⊎_elim
-    (λ (x : (frames_fed fed ≡ []) × ((alloc : Global) × (v.machine ≡ fresh alloc version options))). absurd (let z : false ≡ true = sym (ap (λ (m : Machine). is_running m.phase) x.1.1) ∙ runs in cc))
-    (λ (b : Begun version options fed v.machine).
+    (λ (x : (frames_fed fed ≡ []) × ((alloc : Global) × (v.machine ≡ fresh alloc fixed.version fixed.options))). absurd (let z : false ≡ true = sym (ap (λ (m : Machine). is_running m.phase) x.1.1) ∙ runs in cc))
+    (λ (b : Begun fixed fed v.machine).
     ⊎_elim
-    (λ (x : StillWaits (setup_for version options b.start) (record { entries = b.state; coverage = coverage_of b.start.partial }) b.aside b.start.known_entries [] [] b.others v.machine). absurd (let z : false ≡ true = sym (ap (λ (m : Machine). is_running m.phase) x.machine) ∙ runs in cc))
-    (λ (x : HasAll (setup_for version options b.start) (record { entries = b.state; coverage = coverage_of b.start.partial }) b.aside b.start.known_entries [] [] b.others v.machine). read_comes version options fed none taken v w i b x r wrote tail)
+    (λ (x : StillWaits (setup_for fixed b.start) (record { entries = b.state; coverage = coverage_of b.start.partial }) b.aside b.start.known_entries [] [] b.others v.machine). absurd (let z : false ≡ true = sym (ap (λ (m : Machine). is_running m.phase) x.machine) ∙ runs in cc))
+    (λ (x : HasAll (setup_for fixed b.start) (record { entries = b.state; coverage = coverage_of b.start.partial }) b.aside b.start.known_entries [] [] b.others v.machine). read_comes fixed fed none taken v w i b x r wrote tail)
     b.waits)
     comes
 
@@ -110,9 +108,9 @@ never_empty : (answers : List Answer) (a : Answer) → answers ++ a ∷ [] ≢ [
 never_empty [] a = λ h. absurd (cc)
 never_empty (b ∷ answers) a = λ h. absurd (cc)
 
-module _ (version : Version) (options : VMOptions) (fed : Heard) (before : List Answer) (waiting : Option UnresolvedFuture) (taken : List (List ℕ)) (v w : View) (k : CameBy version options fed before waiting taken v) (live : IsLive v.machine) (und : w.undecoded ≡ v.undecoded) where
+module _ (fixed : Fixed) (fed : Heard) (before : List Answer) (waiting : Option UnresolvedFuture) (taken : List (List ℕ)) (v w : View) (k : CameBy fixed fed before waiting taken v) (live : IsLive v.machine) (und : w.undecoded ≡ v.undecoded) where
   -- what was sent is written behind what was
-  came_on : (answers : List Answer) (waits : Option UnresolvedFuture) → answers ≢ [] → Numbers v.machine w.machine → Sends v.machine w.machine → (w.machine.failure ≡ None → w.machine.proposals ≡ v.machine.proposals) → (w.machine.failure ≡ None → v.machine.phase ≡ Processing → is_running w.machine.phase ≡ true → w.machine.phase ≡ Processing) → (w.machine.failure ≡ None → (is_running w.machine.phase ≡ true) ⊎ (w.machine.phase ≡ Closed)) → CameBy version options fed answers waits taken w
+  came_on : (answers : List Answer) (waits : Option UnresolvedFuture) → answers ≢ [] → Numbers v.machine w.machine → Sends v.machine w.machine → (w.machine.failure ≡ None → w.machine.proposals ≡ v.machine.proposals) → (w.machine.failure ≡ None → v.machine.phase ≡ Processing → is_running w.machine.phase ≡ true → w.machine.phase ≡ Processing) → (w.machine.failure ≡ None → (is_running w.machine.phase ≡ true) ⊎ (w.machine.phase ≡ Closed)) → CameBy fixed fed answers waits taken w
   came_on answers waits answered n s kept goes phase = record {
     journal = k.journal;
     answered = answered;
@@ -126,33 +124,33 @@ module _ (version : Version) (options : VMOptions) (fed : Heard) (before : List 
     tail = λ _. k.tail live ∙ ap Rest (sym und);
   }
 
-pub asks_come : (m : Meaning) (version : Version) (options : VMOptions) (old : Record) (result : Result Progress Error) (new : Record) → CameBy version options (heard version old) old.answers old.waiting old.taken old.vm → IsLive old.vm.machine → Asks m old result new → KeptBy (CameBy version options) version options new
-asks_come m version options old result new k live (x, w, does, is, made) = subst (KeptBy (CameBy version options) version options) (sym is) (inr (by_reply x (step_leaves (step_asked m old) old.vm.machine live x w.machine does.0.0)))
+pub asks_come : (fixed : Fixed) (old : Record) (result : Result Progress Error) (new : Record) → CameBy fixed (heard fixed.version old) old.answers old.waiting old.taken old.vm → IsLive old.vm.machine → Asks fixed.handler old result new → KeptBy (CameBy fixed) fixed new
+asks_come fixed old result new k live (x, w, does, is, made) = subst (KeptBy (CameBy fixed) fixed) (sym is) (inr (by_reply x (step_leaves (step_asked fixed.handler old) old.vm.machine live x w.machine does.0.0)))
   where
-    on : (answers : List Answer) (waits : Option UnresolvedFuture) → answers ≢ [] → Sends old.vm.machine w.machine → (w.machine.failure ≡ None → w.machine.proposals ≡ old.vm.machine.proposals) → (w.machine.failure ≡ None → old.vm.machine.phase ≡ Processing → is_running w.machine.phase ≡ true → w.machine.phase ≡ Processing) → (w.machine.failure ≡ None → (is_running w.machine.phase ≡ true) ⊎ (w.machine.phase ≡ Closed)) → CameBy version options (heard version old) answers waits old.taken w
-    on answers waits answered = came_on version options (heard version old) old.answers old.waiting old.taken old.vm w k live does.0.1 answers waits answered (step_numbers (step_asked m old) old.vm.machine x w.machine does.0.0 does.1)
+    on : (answers : List Answer) (waits : Option UnresolvedFuture) → answers ≢ [] → Sends old.vm.machine w.machine → (w.machine.failure ≡ None → w.machine.proposals ≡ old.vm.machine.proposals) → (w.machine.failure ≡ None → old.vm.machine.phase ≡ Processing → is_running w.machine.phase ≡ true → w.machine.phase ≡ Processing) → (w.machine.failure ≡ None → (is_running w.machine.phase ≡ true) ⊎ (w.machine.phase ≡ Closed)) → CameBy fixed (heard fixed.version old) answers waits old.taken w
+    on answers waits answered = came_on fixed (heard fixed.version old) old.answers old.waiting old.taken old.vm w k live does.0.1 answers waits answered (step_numbers (step_asked fixed.handler old) old.vm.machine x w.machine does.0.0 does.1)
 
-    by_reply : (x : Result Reply Error) → IsLeft old.vm.machine x w.machine → (let r = replied old (future_in (step_asked m old)) x w in CameBy version options (heard version r) r.answers r.waiting r.taken r.vm)
+    by_reply : (x : Result Reply Error) → IsLeft old.vm.machine x w.machine → (let r = replied old (future_in (step_asked fixed.handler old)) x w in CameBy fixed (heard fixed.version r) r.answers r.waiting r.taken r.vm)
     by_reply (Ok (reply.Answer a)) h = on (old.answers ++ a ∷ []) None (never_empty old.answers a) h.sends (λ _. h.kept) (λ _. h.goes) (λ _. inl h.left)
-    by_reply (Ok (reply.Waiting input run)) h = on old.answers (future_in (step_asked m old)) k.answered h.sends (λ _. h.kept) (λ _. h.goes) (λ _. inl h.left)
-    by_reply (Ok (reply.Execute run)) h = on old.answers (future_in (step_asked m old)) k.answered h.sends (λ _. h.kept) (λ _. h.goes) (λ _. inl h.left.0)
+    by_reply (Ok (reply.Waiting input run)) h = on old.answers (future_in (step_asked fixed.handler old)) k.answered h.sends (λ _. h.kept) (λ _. h.goes) (λ _. inl h.left)
+    by_reply (Ok (reply.Execute run)) h = on old.answers (future_in (step_asked fixed.handler old)) k.answered h.sends (λ _. h.kept) (λ _. h.goes) (λ _. inl h.left.0)
     by_reply (Ok reply.Suspended) h = on old.answers old.waiting k.answered h.sends (λ _. h.kept) (λ _. h.goes) (λ _. inr h.left)
     by_reply (Ok reply.Ended) h = on old.answers old.waiting k.answered h.sends (λ _. h.kept) (λ _. h.goes) (λ _. inr h.left)
     by_reply (Err e) h = on old.answers old.waiting k.answered h.0 (λ alive. absurd (let z : None ≡ Some e = sym alive ∙ h.1 in cc)) (λ alive. absurd (let z : None ≡ Some e = sym alive ∙ h.1 in cc)) (λ alive. absurd (let z : None ≡ Some e = sym alive ∙ h.1 in cc))
 
 -- ---- each call
 
-pub made_comes : (alloc : Global) (version : Version) (options : VMOptions) → HasCome version options (fresh_record (made alloc options version))
-made_comes alloc version options = inl (made_new alloc version options)
+pub made_comes : (alloc : Global) (fixed : Fixed) → HasCome fixed (fresh_record (made alloc fixed.options fixed.version))
+made_comes alloc fixed = inl (made_new alloc fixed)
 
-pub step_comes : (m : Meaning) (version : Version) (options : VMOptions) (old : Record) (result : Result Progress Error) (new : Record) → HasCome version options old → StepDoes m old result new → HasCome version options new
-step_comes m version options old result new = steps_keep (CameBy version options) (λ fed. Unit {0}) (came_last version options) m version options (λ fed waiting taken v w i u none comes is none_waits wrote tail. reads_come version options fed none taken v w i comes is wrote tail) (λ fed answers waiting taken v k. k.answered) (λ before given after u. asks_come m version options before given after) old result new tt
+pub step_comes : (fixed : Fixed) (old : Record) (result : Result Progress Error) (new : Record) → HasCome fixed old → StepDoes fixed.handler old result new → HasCome fixed new
+step_comes fixed old result new = steps_keep (CameBy fixed) (λ fed. Unit {0}) (came_last fixed) fixed (λ fed waiting taken v w i u none comes is none_waits wrote tail. reads_come fixed fed none taken v w i comes is wrote tail) (λ fed answers waiting taken v k. k.answered) (λ before given after u. asks_come fixed before given after) old result new tt
 
-pub feed_comes : (version : Version) (options : VMOptions) (piece : List ℕ) (old : Record) (result : Result Unit AllocError) (new : Record) → HasCome version options old → FeedDoes old.starved piece old result new → HasCome version options new
-feed_comes version options = feed_keeps (CameBy version options) (came_last version options) version options
+pub feed_comes : (fixed : Fixed) (piece : List ℕ) (old : Record) (result : Result Unit AllocError) (new : Record) → HasCome fixed old → FeedDoes old.starved piece old result new → HasCome fixed new
+feed_comes fixed = feed_keeps (CameBy fixed) (came_last fixed) fixed
 
-pub close_comes : (version : Version) (options : VMOptions) (old : Record) (result : Result Unit AllocError) (new : Record) → HasCome version options old → CloseDoes old.starved old result new → HasCome version options new
-close_comes version options = close_keeps (CameBy version options) (came_last version options) version options
+pub close_comes : (fixed : Fixed) (old : Record) (result : Result Unit AllocError) (new : Record) → HasCome fixed old → CloseDoes old.starved old result new → HasCome fixed new
+close_comes fixed = close_keeps (CameBy fixed) (came_last fixed) fixed
 
-pub take_comes : (version : Version) (options : VMOptions) (old : Record) (result : Result (List ℕ) AllocError) (new : Record) → HasCome version options old → Takes old result new → HasCome version options new
-take_comes version options = take_keeps (CameBy version options) (came_last version options) version options
+pub take_comes : (fixed : Fixed) (old : Record) (result : Result (List ℕ) AllocError) (new : Record) → HasCome fixed old → Takes old result new → HasCome fixed new
+take_comes fixed = take_keeps (CameBy fixed) (came_last fixed) fixed

@@ -24,7 +24,7 @@ use Rattle.vm_machine.specs.Outcomes.{Outcome, Done, refused, settled}
 use Rattle.invocation_vm.specs.Views.{all_received, left_by, received}
 use Rattle.vm_model.specs.Calls.{Setup}
 use Rattle.vm_attempt.specs.Agreement.{Aside}
-use Rattle.vm_attempt.specs.Journals.{AcknowledgesNothing, TakenIn, HasAll, HasStarted, StartCame, aside_for, setup_for, Started, StillWaits, commands_among, is_command, is_ephemeral, is_notification, machine_fed, missing, notifications_among, notified_by, phase_missing, waiting, is_acknowledgement}
+use Rattle.vm_attempt.specs.Journals.{AcknowledgesNothing, HasAll, HasStarted, StartCame, Started, StillWaits, TakenIn, aside_for, commands_among, is_acknowledgement, is_command, is_ephemeral, is_notification, machine_fed, missing, notifications_among, notified_by, phase_missing, setup_with, waiting}
 use Rattle.vm_attempt.proofs.Arriving.{behind_one, failed_stays, live_receives, some_failure, unknown_fails, unknown_step}
 
 -- one entry less is missing
@@ -236,6 +236,6 @@ journals_come alloc version options first raws =
       entries = c.entries;
       reads = c.reads;
       keys = c.keys;
-      fed = subst (λ w. TakenIn (setup_for version options c.start) (record { entries = c.entries; coverage = coverage_of c.start.partial }) (aside_for alloc version options c.start) c.start.known_entries [] [] raws (all_received raws w)) (sym c.machine) (entries_come (setup_for version options c.start) (record { entries = c.entries; coverage = coverage_of c.start.partial }) (aside_for alloc version options c.start) c.start.known_entries [] [] raws);
+      fed = subst (λ w. TakenIn (setup_with version options c.start) (record { entries = c.entries; coverage = coverage_of c.start.partial }) (aside_for alloc version options c.start) c.start.known_entries [] [] raws (all_received raws w)) (sym c.machine) (entries_come (setup_with version options c.start) (record { entries = c.entries; coverage = coverage_of c.start.partial }) (aside_for alloc version options c.start) c.start.known_entries [] [] raws);
     }))
     (first_comes alloc version options first)

@@ -10,12 +10,10 @@ use Rattle.journal_errors.specs.declared.faults.NamedFault.{NamedFault}
 use Rattle.journal_errors.specs.declared.faults.NamedFault.TheVariants as fault
 use Rattle.journal_messages.specs.declared.message.RawMessage.{RawMessage}
 use Rattle.journal_errors.specs.declared.types.MessageType.TheVariants as type
-use Rattle.journal_errors.specs.declared.version.Version.{Version}
 use Rattle.journal_errors.specs.Errors.{named_error, no_memory}
 use Rattle.journal_messages.specs.Reading.{input_in}
 use Rattle.journal_errors.specs.Types.{type_number}
 use Rattle.vm_parts.specs.declared.context.StateMap.{StateMap}
-use Rattle.vm_types.specs.declared.options.VMOptions.{VMOptions}
 use Rattle.vm_types.specs.declared.steps.Answer.{Answer}
 use Rattle.vm_parts.specs.Counting.{missing as lacking}
 use Rattle.vm_machine.specs.declared.machine.Machine.{Machine}
@@ -57,6 +55,7 @@ use Rattle.vm_attempt.proofs.Blamed.{alive_blamed, over_blamed}
 use Rattle.vm_attempt.proofs.Following.{agreeing_follows}
 use Rattle.vm_attempt.proofs.Sending.{IsLeft, step_leaves}
 use Rattle.vm_attempt.proofs.Stepped.{asks_next}
+use Rattle.vm_attempt.specs.Fixed.{Fixed}
 
 none_some : {A : Type 0} (e : Error) → None ≡ Some e → A
 none_some e h = absurd (cc)
@@ -82,10 +81,10 @@ called_done {A} v o a w live is = by_outcome o (ap (λ f. called_at f o v) (sym 
     by_outcome (Failed e x) h = absurd (cc)
 
 -- a machine whose only failure is this error, and the reason for it
-pub error_blamed : (m : Meaning) (version : Version) (options : VMOptions) (over : Option Progress) (fed : Heard) (said : Said) (answers : List Answer) (w : Machine) (e : Error) → w.failure ≡ Some e → Blame m version options fed said answers e → BlamedAt m version options over fed said answers w
-error_blamed m version options over fed said answers w e is b = record {
+pub error_blamed : (fixed : Fixed) (over : Option Progress) (fed : Heard) (said : Said) (answers : List Answer) (w : Machine) (e : Error) → w.failure ≡ Some e → Blame fixed fed said answers e → BlamedAt fixed over fed said answers w
+error_blamed fixed over fed said answers w e is b = record {
   open_yet = λ going none. none_some e (sym none ∙ is);
-  blame = λ going d some. subst (Blame m version options fed said answers) (same_Some e d (sym is ∙ some)) b;
+  blame = λ going d some. subst (Blame fixed fed said answers) (same_Some e d (sym is ∙ some)) b;
 }
 
 -- ---- the input is read
@@ -204,17 +203,17 @@ skips_disabled Enabled h = absurd (cc)
 skips_disabled Disabled h = refl
 
 -- the first command is no input, or recorded commands can't be skipped; with this error
-abbrev Lacks : Version → VMOptions → Heard → Error → Type 0
-Lacks version options fed e = LacksInput version options (frames_fed fed) e ⊎ CannotSkip version options (frames_fed fed) e
+abbrev Lacks : Fixed → Heard → Error → Type 0
+Lacks fixed fed e = LacksInput fixed (frames_fed fed) e ⊎ CannotSkip fixed (frames_fed fed) e
 
 -- an input that isn't read: the journal has none, or its commands can't be skipped
-read_lacks : (version : Version) (options : VMOptions) (fed : Heard) (v : Machine) (b : Begun version options fed v) (h : HasAll (setup_for version options b.start) (record { entries = b.state; coverage = coverage_of b.start.partial }) b.aside b.start.known_entries [] [] b.others v)
-    → (d : Error) (u : Machine) → input_step v ≡ Failed d u → (e : Error) → e ≡ ruled u d → Lacks version options fed e
+read_lacks : (fixed : Fixed) (fed : Heard) (v : Machine) (b : Begun fixed fed v) (h : HasAll (setup_for fixed b.start) (record { entries = b.state; coverage = coverage_of b.start.partial }) b.aside b.start.known_entries [] [] b.others v)
+    → (d : Error) (u : Machine) → input_step v ≡ Failed d u → (e : Error) → e ≡ ruled u d → Lacks fixed fed e
 unfolding input_step
-read_lacks version options fed v b h d u is err ruling = fails (sym (ap input_step h.machine) ∙ is)
+read_lacks fixed fed v b h d u is err ruling = fails (sym (ap input_step h.machine) ∙ is)
   where
     s : Setup
-    s = setup_for version options b.start
+    s = setup_for fixed b.start
 
     given : StateMap
     given = record { entries = b.state; coverage = coverage_of b.start.partial }
@@ -229,68 +228,68 @@ read_lacks version options fed v b h d u is err ruling = fails (sym (ap input_st
     frames = b.frames ∙ ap (λ l. b.first_frame ∷ l) h.split
 
     -- what failed says this, in a machine that was made for this version and these options
-    says : (a : Error) → (d ≡ a) × (u.version ≡ version) × (u.options ≡ options) → err ≡ ruled_by version options a
+    says : (a : Error) → (d ≡ a) × (u.version ≡ fixed.version) × (u.options ≡ fixed.options) → err ≡ ruled_by fixed.version fixed.options a
     says a p = ruling ∙ λ i. ruled_by (p.1 i) (p.2 i) (p.0 i)
 
-    lacks : input_counted None x ≡ Failed d u → Lacks version options fed err
+    lacks : input_counted None x ≡ Failed d u → Lacks fixed fed err
     lacks e = inl (record { first = b.first_frame; entries = h.entries; others = h.others; is = frames; start = b.start; reads = b.reads_start; count = h.count; none = counted_lacks cs x refl d u e; error = says (named_error (no_input_fault cs) (Some the_input)) (counted_says cs x refl d u e) })
 
-    cannot : skips_replay options.journal_replay ≡ true → (why : NamedFault) → skip_fault (length (drop 1 cs)) (past_all 1 (drop 1 cs)) ≡ Some why → (d ≡ named_error why (Some the_input)) × (u.version ≡ version) × (u.options ≡ options) → Lacks version options fed err
-    cannot skips why reason p = inr (record { skips = skips_disabled options.journal_replay skips; first = b.first_frame; entries = h.entries; others = h.others; is = frames; start = b.start; reads = b.reads_start; count = h.count; why = why; reason = reason; error = says (named_error why (Some the_input)) p })
+    cannot : skips_replay fixed.options.journal_replay ≡ true → (why : NamedFault) → skip_fault (length (drop 1 cs)) (past_all 1 (drop 1 cs)) ≡ Some why → (d ≡ named_error why (Some the_input)) × (u.version ≡ fixed.version) × (u.options ≡ fixed.options) → Lacks fixed fed err
+    cannot skips why reason p = inr (record { skips = skips_disabled fixed.options.journal_replay skips; first = b.first_frame; entries = h.entries; others = h.others; is = frames; start = b.start; reads = b.reads_start; count = h.count; why = why; reason = reason; error = says (named_error why (Some the_input)) p })
 
     behind_input : (counters : Counters) (o : Outcome Input) → input_counted None x ≡ o → (o >>= λ input w. Done input (skipped counters w)) ≡ Failed d u → input_counted None x ≡ Failed d u
     behind_input counters (Done input w) at e = absurd (cc)
     behind_input counters (Failed f w) at e = at ∙ e
 
-    by_counters : skips_replay options.journal_replay ≡ true → (id : ℕ) → past_all 1 (drop 1 cs) ≡ Some id → (r : Result Counters NamedFault) → counters_past (length (drop 1 cs)) id fresh_counters ≡ r → input_numbered r x ≡ Failed d u → Lacks version options fed err
+    by_counters : skips_replay fixed.options.journal_replay ≡ true → (id : ℕ) → past_all 1 (drop 1 cs) ≡ Some id → (r : Result Counters NamedFault) → counters_past (length (drop 1 cs)) id fresh_counters ≡ r → input_numbered r x ≡ Failed d u → Lacks fixed fed err
     by_counters skips id past (Err name) counts e = cannot skips name (ap (skip_fault (length (drop 1 cs))) past ∙ ap result_err counts) (same_failed (named_error name (Some the_input)) d x u (Failed d u) (sym e) refl)
     by_counters skips id past (Ok counters) counts e = lacks (behind_input counters (input_counted None x) refl e)
 
-    by_past : skips_replay options.journal_replay ≡ true → (o : Option ℕ) → past_all 1 (drop 1 cs) ≡ o → input_past o x ≡ Failed d u → Lacks version options fed err
+    by_past : skips_replay fixed.options.journal_replay ≡ true → (o : Option ℕ) → past_all 1 (drop 1 cs) ≡ o → input_past o x ≡ Failed d u → Lacks fixed fed err
     by_past skips None past e = cannot skips fault.BadMessage (ap (skip_fault (length (drop 1 cs))) past) (same_failed (named_error fault.BadMessage (Some the_input)) d (entered type.InputCommand [] x) u (Failed d u) (sym e) refl)
     by_past skips (Some id) past e = by_counters skips id past (counters_past (length (drop 1 cs)) id fresh_counters) refl e
 
-    by_skip : (b : Bool) → skips_replay options.journal_replay ≡ b → input_by b x ≡ Failed d u → Lacks version options fed err
+    by_skip : (b : Bool) → skips_replay fixed.options.journal_replay ≡ b → input_by b x ≡ Failed d u → Lacks fixed fed err
     by_skip false skips e = lacks e
     by_skip true skips e = by_past skips (past_all 1 (drop 1 cs)) refl e
 
-    fails : input_step x ≡ Failed d u → Lacks version options fed err
-    fails e = by_skip (skips_replay options.journal_replay) refl e
+    fails : input_step x ≡ Failed d u → Lacks fixed fed err
+    fails e = by_skip (skips_replay fixed.options.journal_replay) refl e
 
 waits_not : {A : Type 0} (v : Machine) → is_running v.phase ≡ true → is_running v.phase ≡ false → A
 waits_not v runs not_yet = absurd (let z : true ≡ false = sym runs ∙ not_yet in cc)
 
-input_lacks : (version : Version) (options : VMOptions) (fed : Heard) (v : Machine) → is_running v.phase ≡ true → (d : Error) (u : Machine) → input_step v ≡ Failed d u → (e : Error) → e ≡ ruled u d → Comes version options fed v → Lacks version options fed e
-input_lacks version options fed v runs d u is e ruling =
+input_lacks : (fixed : Fixed) (fed : Heard) (v : Machine) → is_running v.phase ≡ true → (d : Error) (u : Machine) → input_step v ≡ Failed d u → (e : Error) → e ≡ ruled u d → Comes fixed fed v → Lacks fixed fed e
+input_lacks fixed fed v runs d u is e ruling =
     ⊎_elim
-    (λ (x : (frames_fed fed ≡ []) × ((alloc : Global) × (v ≡ fresh alloc version options))). waits_not v runs (ap (λ (z : Machine). is_running z.phase) x.1.1))
-    (λ (b : Begun version options fed v).
+    (λ (x : (frames_fed fed ≡ []) × ((alloc : Global) × (v ≡ fresh alloc fixed.version fixed.options))). waits_not v runs (ap (λ (z : Machine). is_running z.phase) x.1.1))
+    (λ (b : Begun fixed fed v).
     ⊎_elim
-    (λ (x : StillWaits (setup_for version options b.start) (record { entries = b.state; coverage = coverage_of b.start.partial }) b.aside b.start.known_entries [] [] b.others v). waits_not v runs (ap (λ (z : Machine). is_running z.phase) x.machine))
-    (λ (x : HasAll (setup_for version options b.start) (record { entries = b.state; coverage = coverage_of b.start.partial }) b.aside b.start.known_entries [] [] b.others v). read_lacks version options fed v b x d u is e ruling)
+    (λ (x : StillWaits (setup_for fixed b.start) (record { entries = b.state; coverage = coverage_of b.start.partial }) b.aside b.start.known_entries [] [] b.others v). waits_not v runs (ap (λ (z : Machine). is_running z.phase) x.machine))
+    (λ (x : HasAll (setup_for fixed b.start) (record { entries = b.state; coverage = coverage_of b.start.partial }) b.aside b.start.known_entries [] [] b.others v). read_lacks fixed fed v b x d u is e ruling)
     b.waits)
 
-reads_blamed : (m : Meaning) (version : Version) (options : VMOptions) (old : Record) (result : Result Progress Error) (new : Record) → BeforeInput version options (heard version old) old.answers old.waiting old.taken old.vm → IsLive old.vm.machine → Reads old result new → IsBlamed m version options new
-reads_blamed m version options old (Ok made) new b live (stepped, (i, w, does, is)) =
+reads_blamed : (fixed : Fixed) (old : Record) (result : Result Progress Error) (new : Record) → BeforeInput fixed (heard fixed.version old) old.answers old.waiting old.taken old.vm → IsLive old.vm.machine → Reads old result new → IsBlamed fixed new
+reads_blamed fixed old (Ok made) new b live (stepped, (i, w, does, is)) =
     let o = subst (Opens old.vm.machine) (called_done old.vm.machine (input_step old.vm.machine) i w.machine live.failure does.0) (input_opens old.vm.machine) in
-    subst (IsBlamed m version options) (sym is) (alive_blamed m version options _ _ _ _ w.machine (o.0 ∙ live.failure) (λ closed. let z : false ≡ true = sym o.1 ∙ ap is_closed closed in absurd (cc)))
-reads_blamed m version options old (Err e) new b live (w, does, is) =
-    subst (IsBlamed m version options) (sym is)
+    subst (IsBlamed fixed) (sym is) (alive_blamed fixed _ _ _ _ w.machine (o.0 ∙ live.failure) (λ closed. let z : false ≡ true = sym o.1 ∙ ap is_closed closed in absurd (cc)))
+reads_blamed fixed old (Err e) new b live (w, does, is) =
+    subst (IsBlamed fixed) (sym is)
     (⊎_elim
     (λ (x : called (input_step old.vm.machine) old.vm.machine ≡ Failed e w.machine).
     let f = called_failed old.vm.machine (input_step old.vm.machine) e w.machine live.failure x in
-    error_blamed m version options _ _ _ _ w.machine e f.0
-    (⊎_elim (λ (y : LacksInput version options (frames_fed (heard version old)) e). NoInput y) (λ (y : CannotSkip version options (frames_fed (heard version old)) e). NoSkip y) (input_lacks version options (heard version old) old.vm.machine live.phase f.1.0 f.1.1 f.1.2 e f.1.3 (b.comes live.failure))))
-    (λ (x : IsStarved old.vm.machine e w.machine). starves m version options old w e live.failure x)
+    error_blamed fixed _ _ _ _ w.machine e f.0
+    (⊎_elim (λ (y : LacksInput fixed (frames_fed (heard fixed.version old)) e). NoInput y) (λ (y : CannotSkip fixed (frames_fed (heard fixed.version old)) e). NoSkip y) (input_lacks fixed (heard fixed.version old) old.vm.machine live.phase f.1.0 f.1.1 f.1.2 e f.1.3 (b.comes live.failure))))
+    (λ (x : IsStarved old.vm.machine e w.machine). starves old w e live.failure x)
     does.0)
   where
-    starves : (m : Meaning) (version : Version) (options : VMOptions) (r : Record) (w : View) (e : Error) → r.vm.machine.failure ≡ None → IsStarved r.vm.machine e w.machine → BlamedAt m version options r.over (heard version r) (all_said r) r.answers w.machine
-    starves m version options r w e live x = error_blamed m version options _ _ _ _ w.machine no_memory (x.failure ∙ ap (λ (f : Option Error). Some (unwrap_or f no_memory)) live) (Memory refl)
+    starves : (r : Record) (w : View) (e : Error) → r.vm.machine.failure ≡ None → IsStarved r.vm.machine e w.machine → BlamedAt fixed r.over (heard fixed.version r) (all_said r) r.answers w.machine
+    starves r w e live x = error_blamed fixed _ _ _ _ w.machine no_memory (x.failure ∙ ap (λ (f : Option Error). Some (unwrap_or f no_memory)) live) (Memory refl)
 
 -- ---- the handler's call
 
-module _ (m : Meaning) (version : Version) (options : VMOptions) (r : Record) (under : Premises m version options (heard version r)) (k : Runs m version options (heard version r) r.answers r.waiting r.taken r.vm) (live : IsLive r.vm.machine) (w : View) where
-  refused_call : (e : Error) → IsRefused (setup_for version options k.journal.start) m (handed_out k.journal) k.at r.vm.machine e w.machine → RefusedCall m version options (heard version r) r.answers e
+module _ (fixed : Fixed) (r : Record) (under : Premises fixed (heard fixed.version r)) (k : Runs fixed (heard fixed.version r) r.answers r.waiting r.taken r.vm) (live : IsLive r.vm.machine) (w : View) where
+  refused_call : (e : Error) → IsRefused (setup_for fixed k.journal.start) fixed.handler (handed_out k.journal) k.at r.vm.machine e w.machine → RefusedCall fixed (heard fixed.version r) r.answers e
   refused_call e g =
       let a = k.agrees live in
       record {
@@ -298,7 +297,7 @@ module _ (m : Meaning) (version : Version) (options : VMOptions) (r : Record) (u
         written = k.written ++ g.made;
         at = g.at;
         moves = k.moves + g.moves.moves;
-        made = made_add (setup_for version options k.journal.start) m (Handed (handed_out k.journal)) k.moves g.moves.moves (begun version options k.journal) k.written k.at g.made g.at k.run g.moves.run;
+        made = made_add (setup_for fixed k.journal.start) fixed.handler (Handed (handed_out k.journal)) k.moves g.moves.moves (begun fixed k.journal) k.written k.at g.made g.at k.run g.moves.run;
         answers = g.moves.answers ∙ append-nil k.at.answers ∙ k.answers;
         why = g.why;
         reason = g.reason;
@@ -307,68 +306,68 @@ module _ (m : Meaning) (version : Version) (options : VMOptions) (r : Record) (u
       }
 
   -- the handler's call was refused, or memory was lacking
-  call_refused : (e : Error) → Performs (step_asked m r) r.vm.machine (Failed e w.machine) → (e ≡ no_memory) ⊎ RefusedCall m version options (heard version r) r.answers e
+  call_refused : (e : Error) → Performs (step_asked fixed.handler r) r.vm.machine (Failed e w.machine) → (e ≡ no_memory) ⊎ RefusedCall fixed (heard fixed.version r) r.answers e
   call_refused e does =
-      let same : step_asked m r ≡ m k.at.answers = asks_next m k.at r.answers r.waiting k.answers k.awaits in
+      let same : step_asked fixed.handler r ≡ fixed.handler k.at.answers = asks_next fixed.handler k.at r.answers r.waiting k.answers k.awaits in
       ⊎_elim
-      (λ (x : IsRefused (setup_for version options k.journal.start) m (handed_out k.journal) k.at r.vm.machine e w.machine). inr (refused_call e x))
-      (λ (x : IsCutShort (setup_for version options k.journal.start) m (handed_out k.journal) k.at r.vm.machine e w.machine). inl x.error)
-      (agreeing_follows (setup_for version options k.journal.start) m (handed_out k.journal) k.written r.vm.machine k.at (Failed e w.machine) (λ future _. (under.queues, under.once k.journal k.moves k.written k.at k.run)) (k.rests live) (k.agrees live) (subst (λ q. Performs q r.vm.machine (Failed e w.machine)) same does) (tt {0}))
+      (λ (x : IsRefused (setup_for fixed k.journal.start) fixed.handler (handed_out k.journal) k.at r.vm.machine e w.machine). inr (refused_call e x))
+      (λ (x : IsCutShort (setup_for fixed k.journal.start) fixed.handler (handed_out k.journal) k.at r.vm.machine e w.machine). inl x.error)
+      (agreeing_follows (setup_for fixed k.journal.start) fixed.handler (handed_out k.journal) k.written r.vm.machine k.at (Failed e w.machine) (λ future _. (under.queues, under.once k.journal k.moves k.written k.at k.run)) (k.rests live) (k.agrees live) (subst (λ q. Performs q r.vm.machine (Failed e w.machine)) same does) (tt {0}))
 
-asks_blamed : (m : Meaning) (version : Version) (options : VMOptions) (old : Record) (result : Result Progress Error) (new : Record) → (Premises m version options (heard version old) → Runs m version options (heard version old) old.answers old.waiting old.taken old.vm) → IsLive old.vm.machine → Asks m old result new → IsBlamed m version options new
-asks_blamed m version options old result new runs live (x, w, does, is, made) = subst (IsBlamed m version options) (sym is) (by_reply x (step_leaves (step_asked m old) old.vm.machine live x w.machine does.0.0) does.0.0)
+asks_blamed : (fixed : Fixed) (old : Record) (result : Result Progress Error) (new : Record) → (Premises fixed (heard fixed.version old) → Runs fixed (heard fixed.version old) old.answers old.waiting old.taken old.vm) → IsLive old.vm.machine → Asks fixed.handler old result new → IsBlamed fixed new
+asks_blamed fixed old result new runs live (x, w, does, is, made) = subst (IsBlamed fixed) (sym is) (by_reply x (step_leaves (step_asked fixed.handler old) old.vm.machine live x w.machine does.0.0) does.0.0)
   where
     -- a VM whose handler runs
-    running : (answers : List Answer) → w.machine.failure ≡ old.vm.machine.failure → is_running w.machine.phase ≡ true → BlamedAt m version options old.over (heard version old) (all_said old) answers w.machine
-    running answers failure at = alive_blamed m version options old.over (heard version old) (all_said old) answers w.machine (failure ∙ live.failure) (λ closed. absurd (let z : false ≡ true = sym (ap is_running closed) ∙ at in cc))
+    running : (answers : List Answer) → w.machine.failure ≡ old.vm.machine.failure → is_running w.machine.phase ≡ true → BlamedAt fixed old.over (heard fixed.version old) (all_said old) answers w.machine
+    running answers failure at = alive_blamed fixed old.over (heard fixed.version old) (all_said old) answers w.machine (failure ∙ live.failure) (λ closed. absurd (let z : false ≡ true = sym (ap is_running closed) ∙ at in cc))
 
-    by_reply : (x : Result Reply Error) → IsLeft old.vm.machine x w.machine → DoesBy (Performs (step_asked m old) old.vm.machine) x old.vm.machine w.machine → IsBlamed m version options (stepping.replied old (future_in (step_asked m old)) x w)
+    by_reply : (x : Result Reply Error) → IsLeft old.vm.machine x w.machine → DoesBy (Performs (step_asked fixed.handler old) old.vm.machine) x old.vm.machine w.machine → IsBlamed fixed (stepping.replied old (future_in (step_asked fixed.handler old)) x w)
     by_reply (Ok (reply.Answer a)) h d = running (old.answers ++ a ∷ []) h.failure h.left
     by_reply (Ok (reply.Waiting input run)) h d = running old.answers h.failure h.left
     by_reply (Ok (reply.Execute run)) h d = running old.answers h.failure h.left.0
-    by_reply (Ok reply.Suspended) h d = over_blamed m version options progress.Suspended _ _ _ _
-    by_reply (Ok reply.Ended) h d = over_blamed m version options progress.Ended _ _ _ _
+    by_reply (Ok reply.Suspended) h d = over_blamed fixed progress.Suspended _ _ _ _
+    by_reply (Ok reply.Ended) h d = over_blamed fixed progress.Ended _ _ _ _
     by_reply (Err e) h d =
-        error_blamed m version options old.over (heard version old) (all_said old) old.answers w.machine e h.1
+        error_blamed fixed old.over (heard fixed.version old) (all_said old) old.answers w.machine e h.1
         (⊎_elim
-        (λ (y : Performs (step_asked m old) old.vm.machine (Failed e w.machine)). Call (λ p. call_refused m version options old p (runs p) live w e y))
+        (λ (y : Performs (step_asked fixed.handler old) old.vm.machine (Failed e w.machine)). Call (λ p. call_refused fixed old p (runs p) live w e y))
         (λ (y : IsStarved old.vm.machine e w.machine). Memory y.error)
         d)
 
 -- ---- a step
 
-advances_blamed : (m : Meaning) (version : Version) (options : VMOptions) (old : Record) (result : Result Progress Error) (new : Record) → HasCome version options old → IsKeptUnder m version options old → IsBlamed m version options old → IsLive old.vm.machine → Advances m old result new → IsBlamed m version options new
-advances_blamed m version options old result new k u b live =
+advances_blamed : (fixed : Fixed) (old : Record) (result : Result Progress Error) (new : Record) → HasCome fixed old → IsKeptUnder fixed old → IsBlamed fixed old → IsLive old.vm.machine → Advances fixed.handler old result new → IsBlamed fixed new
+advances_blamed fixed old result new k u b live =
     ⊎_elim
-    (λ (x : LacksMemory old result new). subst (IsBlamed m version options) (sym x.1) b)
-    (λ (o : ((old.answers ≡ []) × Reads old result new) ⊎ ((old.answers ≢ []) × Asks m old result new)).
+    (λ (x : LacksMemory old result new). subst (IsBlamed fixed) (sym x.1) b)
+    (λ (o : ((old.answers ≡ []) × Reads old result new) ⊎ ((old.answers ≢ []) × Asks fixed.handler old result new)).
     ⊎_elim
     (λ (x : (old.answers ≡ []) × Reads old result new).
     ⊎_elim
-    (λ (y : BeforeInput version options (heard version old) old.answers old.waiting old.taken old.vm). reads_blamed m version options old result new y live x.1)
-    (λ (y : Came version options (heard version old) old.answers old.taken old.vm). absurd (y.answered x.0))
+    (λ (y : BeforeInput fixed (heard fixed.version old) old.answers old.waiting old.taken old.vm). reads_blamed fixed old result new y live x.1)
+    (λ (y : Came fixed (heard fixed.version old) old.answers old.taken old.vm). absurd (y.answered x.0))
     k)
-    (λ (x : (old.answers ≢ []) × Asks m old result new). asks_blamed m version options old result new (λ p. runs_of m version options old (u p) x.0) live x.1)
+    (λ (x : (old.answers ≢ []) × Asks fixed.handler old result new). asks_blamed fixed old result new (λ p. runs_of fixed old (u p) x.0) live x.1)
     o)
 
-step_at : (m : Meaning) (version : Version) (options : VMOptions) (old : Record) (result : Result Progress Error) (new : Record) → HasCome version options old → IsKeptUnder m version options old → IsBlamed m version options old → old.vm.machine.failure ≡ None → (ph : Phase) → old.vm.machine.phase ≡ ph → StepAt ph m old result new → IsBlamed m version options new
-step_at m version options old result new k u b live WaitingStart at d = subst (IsBlamed m version options) (sym d.1) b
-step_at m version options old result new k u b live WaitingReplayEntries at d = subst (IsBlamed m version options) (sym d.1) b
-step_at m version options old result new k u b live Closed at d = subst (IsBlamed m version options) (sym d.1) b
-step_at m version options old result new k u b live Replaying at d = advances_blamed m version options old result new k u b (record { failure = live; phase = ap is_running at }) d
-step_at m version options old result new k u b live Processing at d = advances_blamed m version options old result new k u b (record { failure = live; phase = ap is_running at }) d
+step_at : (fixed : Fixed) (old : Record) (result : Result Progress Error) (new : Record) → HasCome fixed old → IsKeptUnder fixed old → IsBlamed fixed old → old.vm.machine.failure ≡ None → (ph : Phase) → old.vm.machine.phase ≡ ph → StepAt ph fixed.handler old result new → IsBlamed fixed new
+step_at fixed old result new k u b live WaitingStart at d = subst (IsBlamed fixed) (sym d.1) b
+step_at fixed old result new k u b live WaitingReplayEntries at d = subst (IsBlamed fixed) (sym d.1) b
+step_at fixed old result new k u b live Closed at d = subst (IsBlamed fixed) (sym d.1) b
+step_at fixed old result new k u b live Replaying at d = advances_blamed fixed old result new k u b (record { failure = live; phase = ap is_running at }) d
+step_at fixed old result new k u b live Processing at d = advances_blamed fixed old result new k u b (record { failure = live; phase = ap is_running at }) d
 
-step_unless : (m : Meaning) (version : Version) (options : VMOptions) (old : Record) (result : Result Progress Error) (new : Record) → HasCome version options old → IsKeptUnder m version options old → IsBlamed m version options old → (f : Option Error) → old.vm.machine.failure ≡ f → (over : Option Progress) → StepUnless f over m old result new → IsBlamed m version options new
-step_unless m version options old result new k u b (Some e) is over d = subst (IsBlamed m version options) (sym d.1) b
-step_unless m version options old result new k u b None is (Some made) d = subst (IsBlamed m version options) (sym d.1) b
-step_unless m version options old result new k u b None is None d = step_at m version options old result new k u b is old.vm.machine.phase refl d
+step_unless : (fixed : Fixed) (old : Record) (result : Result Progress Error) (new : Record) → HasCome fixed old → IsKeptUnder fixed old → IsBlamed fixed old → (f : Option Error) → old.vm.machine.failure ≡ f → (over : Option Progress) → StepUnless f over fixed.handler old result new → IsBlamed fixed new
+step_unless fixed old result new k u b (Some e) is over d = subst (IsBlamed fixed) (sym d.1) b
+step_unless fixed old result new k u b None is (Some made) d = subst (IsBlamed fixed) (sym d.1) b
+step_unless fixed old result new k u b None is None d = step_at fixed old result new k u b is old.vm.machine.phase refl d
 
-pub step_blames : (m : Meaning) (version : Version) (options : VMOptions) (old : Record) (result : Result Progress Error) (new : Record) → HasCome version options old → IsKeptUnder m version options old → IsBlamed m version options old → StepDoes m old result new → IsBlamed m version options new
-step_blames m version options old result new k u b does = by_test old.starved does
+pub step_blames : (fixed : Fixed) (old : Record) (result : Result Progress Error) (new : Record) → HasCome fixed old → IsKeptUnder fixed old → IsBlamed fixed old → StepDoes fixed.handler old result new → IsBlamed fixed new
+step_blames fixed old result new k u b does = by_test old.starved does
   where
-    by_test : (t : Bool) → StepFrom t m old result new → IsBlamed m version options new
-    by_test true d = subst (IsBlamed m version options) (sym d.1) b
-    by_test false d = step_unless m version options old result new k u b old.vm.machine.failure refl old.over d
+    by_test : (t : Bool) → StepFrom t fixed.handler old result new → IsBlamed fixed new
+    by_test true d = subst (IsBlamed fixed) (sym d.1) b
+    by_test false d = step_unless fixed old result new k u b old.vm.machine.failure refl old.over d
 
 -- ---- the error of a step
 
@@ -411,25 +410,25 @@ advances_errs m old result new live =
     (λ (x : (old.answers ≢ []) × Asks m old result new). asks_errs m old result new live x.1)
     o)
 
-errs_at : (m : Meaning) (version : Version) (options : VMOptions) (old : Record) (result : Result Progress Error) (new : Record) → IsBlamed m version options old → old.over ≡ None → old.vm.machine.failure ≡ None → (ph : Phase) → old.vm.machine.phase ≡ ph → StepAt ph m old result new → Errs old result new
-errs_at m version options old result new b going live WaitingStart at d = made_errs old progress.NotReady result new d.0
-errs_at m version options old result new b going live WaitingReplayEntries at d = made_errs old progress.NotReady result new d.0
-errs_at m version options old result new b going live Closed at d = absurd (b.open_yet going live at)
-errs_at m version options old result new b going live Replaying at d = advances_errs m old result new (record { failure = live; phase = ap is_running at }) d
-errs_at m version options old result new b going live Processing at d = advances_errs m old result new (record { failure = live; phase = ap is_running at }) d
+errs_at : (fixed : Fixed) (old : Record) (result : Result Progress Error) (new : Record) → IsBlamed fixed old → old.over ≡ None → old.vm.machine.failure ≡ None → (ph : Phase) → old.vm.machine.phase ≡ ph → StepAt ph fixed.handler old result new → Errs old result new
+errs_at fixed old result new b going live WaitingStart at d = made_errs old progress.NotReady result new d.0
+errs_at fixed old result new b going live WaitingReplayEntries at d = made_errs old progress.NotReady result new d.0
+errs_at fixed old result new b going live Closed at d = absurd (b.open_yet going live at)
+errs_at fixed old result new b going live Replaying at d = advances_errs fixed.handler old result new (record { failure = live; phase = ap is_running at }) d
+errs_at fixed old result new b going live Processing at d = advances_errs fixed.handler old result new (record { failure = live; phase = ap is_running at }) d
 
-errs_unless : (m : Meaning) (version : Version) (options : VMOptions) (old : Record) (result : Result Progress Error) (new : Record) → IsBlamed m version options old → old.over ≡ None → (f : Option Error) → old.vm.machine.failure ≡ f → (over : Option Progress) → StepUnless f over m old result new → Errs old result new
-errs_unless m version options old result new b going (Some e) is over d =
+errs_unless : (fixed : Fixed) (old : Record) (result : Result Progress Error) (new : Record) → IsBlamed fixed old → old.over ≡ None → (f : Option Error) → old.vm.machine.failure ≡ f → (over : Option Progress) → StepUnless f over fixed.handler old result new → Errs old result new
+errs_unless fixed old result new b going (Some e) is over d =
     ⊎_elim
     (λ (x : result ≡ Err e). subst (λ z. Errs old z new) (sym x) (inr (ap (λ (z : Record). z.vm.machine.failure) d.1 ∙ is, ap (λ (z : Record). z.over) d.1)))
     (λ (x : result ≡ Err no_memory). lacks_errs old result new x)
     d.0
-errs_unless m version options old result new b going None is (Some made) d = made_errs old made result new d.0
-errs_unless m version options old result new b going None is None d = errs_at m version options old result new b going is old.vm.machine.phase refl d
+errs_unless fixed old result new b going None is (Some made) d = made_errs old made result new d.0
+errs_unless fixed old result new b going None is None d = errs_at fixed old result new b going is old.vm.machine.phase refl d
 
-pub step_errs : (m : Meaning) (version : Version) (options : VMOptions) (old : Record) (result : Result Progress Error) (new : Record) → IsBlamed m version options old → old.over ≡ None → StepDoes m old result new → Errs old result new
-step_errs m version options old result new b going does = by_test old.starved does
+pub step_errs : (fixed : Fixed) (old : Record) (result : Result Progress Error) (new : Record) → IsBlamed fixed old → old.over ≡ None → StepDoes fixed.handler old result new → Errs old result new
+step_errs fixed old result new b going does = by_test old.starved does
   where
-    by_test : (t : Bool) → StepFrom t m old result new → Errs old result new
+    by_test : (t : Bool) → StepFrom t fixed.handler old result new → Errs old result new
     by_test true d = lacks_errs old result new d.0
-    by_test false d = errs_unless m version options old result new b going old.vm.machine.failure refl old.over d
+    by_test false d = errs_unless fixed old result new b going old.vm.machine.failure refl old.over d

@@ -22,6 +22,7 @@ use Rattle.invocation_vm.specs.Making.{made}
 use Rattle.invocation_vm.specs.Views.{StarvesAmong, View, after_closing, after_input, all_received, brought, consumed, has_failed, left_by, left_over, received, spoiled}
 use Rattle.vm_model.specs.Calls.{Meaning}
 use Rattle.vm_attempt.specs.Blames.{fault_among}
+use Rattle.vm_attempt.specs.Fixed.{Fixed}
 use Rattle.vm_attempt.specs.Courses.{Called, Leads}
 use Rattle.vm_attempt.specs.Courses.Called.{Closing, Feeding, Stepping, Taking, Telling}
 use Rattle.vm_attempt.specs.Journals.{is_acknowledgement, is_command, is_notification}
@@ -303,16 +304,16 @@ once_at_most handle alloc version options = by_test (nat_le 17 handle.0)
 none_left : (a b c d : ℕ) → a ≤ 1 → suc b ≤ a → c ≤ b → suc d ≤ c → ⊥
 none_left a b c d h k l n = absurd (omega (arith, h, k, l, n))
 
-pub executed_once : (m : Meaning) (alloc : Global) (version : Version) (options : VMOptions) (handle : NotificationHandle) (before between : ℕ) (a b c d : Record)
-    → Leads m before (fresh_record (made alloc options version)) a → StepDoes m a (Ok (progress.ExecuteRun handle)) b → Leads m between b c → StepDoes m c (Ok (progress.ExecuteRun handle)) d → ⊥
-executed_once m alloc version options handle before between a b c d comes first goes second =
-    let k = leads_keep m before (fresh_record (made alloc options version)) a comes in
-    let l = leads_keep m between b c goes in
-    let h = step_hands m a (Ok (progress.ExecuteRun handle)) b first in
+pub executed_once : (fixed : Fixed) (alloc : Global) (handle : NotificationHandle) (before between : ℕ) (a b c d : Record)
+    → Leads fixed.handler before (fresh_record (made alloc fixed.options fixed.version)) a → StepDoes fixed.handler a (Ok (progress.ExecuteRun handle)) b → Leads fixed.handler between b c → StepDoes fixed.handler c (Ok (progress.ExecuteRun handle)) d → ⊥
+executed_once fixed alloc handle before between a b c d comes first goes second =
+    let k = leads_keep fixed.handler before (fresh_record (made alloc fixed.options fixed.version)) a comes in
+    let l = leads_keep fixed.handler between b c goes in
+    let h = step_hands fixed.handler a (Ok (progress.ExecuteRun handle)) b first in
     let out = h.out handle refl (k.over tt) in
-    let again = (step_hands m c (Ok (progress.ExecuteRun handle)) d second).out handle refl (l.over (h.keeps.over (k.over tt))) in
+    let again = (step_hands fixed.handler c (Ok (progress.ExecuteRun handle)) d second).out handle refl (l.over (h.keeps.over (k.over tt))) in
     none_left (ahead handle a.vm.machine) (ahead handle b.vm.machine) (ahead handle c.vm.machine) (ahead handle d.vm.machine)
-    (less (ahead handle a.vm.machine) (ahead handle (fresh alloc version options)) ((k.lives out.0).1 handle) (once_at_most handle alloc version options))
+    (less (ahead handle a.vm.machine) (ahead handle (fresh alloc fixed.version fixed.options)) ((k.lives out.0).1 handle) (once_at_most handle alloc fixed.version fixed.options))
     out.1 ((l.lives again.0).1 handle) again.1
   where
     less : (n k : ℕ) → n ≤ k → k ≤ 1 → n ≤ 1

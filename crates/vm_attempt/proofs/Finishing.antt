@@ -21,7 +21,6 @@ use Rattle.runs.specs.declared.settling.Settlement.TheVariants as settlement
 use Rattle.runs.specs.declared.types.RunExitResult.{RunExitResult}
 use Rattle.runs.specs.Firsts.{without_first}
 use Rattle.runs.specs.Pending.{has_handle}
-use Rattle.vm_types.specs.declared.options.VMOptions.{VMOptions}
 use Rattle.vm_parts.specs.declared.run_state.KeptProposal.{KeptProposal}
 use Rattle.vm_parts.specs.declared.run_state.PendingRun.{PendingRun}
 use Rattle.vm_types.specs.declared.steps.Answer.{Answer}
@@ -38,7 +37,7 @@ use Rattle.vm_machine.specs.Proposals.{Proposes, Settled, SettledAt, SettledUnle
 use Rattle.vm_machine.proofs.Calling.{called_from}
 use Rattle.invocation_vm.specs.Views.{View}
 use Rattle.invocation_vm.proofs.Failing.{first_proposed}
-use Rattle.vm_model.specs.Calls.{Meaning, Setup}
+use Rattle.vm_model.specs.Calls.{Setup}
 use Rattle.vm_model.specs.Histories.{Handed, IsPrefix, Made}
 use Rattle.vm_model.specs.Moves.{Point, start}
 use Rattle.vm_model.specs.Journal.{stored_form}
@@ -66,6 +65,7 @@ use Rattle.vm_attempt.proofs.Replayed.{honest_fails}
 use Rattle.vm_attempt.proofs.Sleeping.{still_quiet}
 use Rattle.vm_attempt.proofs.Steady.{all_proposed, with_proposed, wrote_of}
 use Rattle.vm_attempt.proofs.Written.{frames_propose, proposes_more, proposes_one}
+use Rattle.vm_attempt.specs.Fixed.{Fixed}
 
 -- ---- the event
 
@@ -351,16 +351,16 @@ same_behind first other xs ys h = cc
 wrote_proposal : (taken output : List (List ℕ)) (written : List RawMessage) (id : ℕ) (result : ValueOrFailure) → Wrote taken output written → Wrote taken (output ++ encoding (proposal id result) ∷ []) written
 wrote_proposal taken output written id result w = subst (Wrote taken (output ++ encoding (proposal id result) ∷ [])) (append-nil written) (wrote_more taken output (output ++ encoding (proposal id result) ∷ []) (proposal id result ∷ []) written refl w)
 
-module _ (version : Version) (options : VMOptions) (fed : Heard) (answers : List Answer) (waiting : Option UnresolvedFuture) (taken : List (List ℕ)) (vm : View) (live : IsLive vm.machine) (processing : vm.machine.phase ≡ Processing) (handle : NotificationHandle) (id : ℕ) (result : ValueOrFailure) (more : List KeptProposal) where
+module _ (fixed : Fixed) (fed : Heard) (answers : List Answer) (waiting : Option UnresolvedFuture) (taken : List (List ℕ)) (vm : View) (live : IsLive vm.machine) (processing : vm.machine.phase ≡ Processing) (handle : NotificationHandle) (id : ℕ) (result : ValueOrFailure) (more : List KeptProposal) where
   abbrev after : View
   after = record vm { machine = proposed_in handle more (proposal id result) vm.machine }
 
-  module _ (c : Came version options fed answers taken vm) where
+  module _ (c : Came fixed fed answers taken vm) where
     -- each acknowledgement found its proposal
     found_all : (j : Journal fed) → AllFound fed.proposed (j.entries ++ j.others)
     found_all j = subst (AllFound fed.proposed) (same_behind c.journal.first_frame j.first_frame (c.journal.entries ++ c.journal.others) (j.entries ++ j.others) (sym c.journal.frames ∙ j.frames)) (c.keeps live).1
 
-    came_proposes : Came version options (and_proposed fed more) answers taken after
+    came_proposes : Came fixed (and_proposed fed more) answers taken after
     came_proposes = record {
       journal = journal_as fed more c.journal;
       answered = c.answered;
@@ -378,26 +378,26 @@ module _ (version : Version) (options : VMOptions) (fed : Heard) (answers : List
     }
 
     -- the run with the same arrivals
-    run_with : (s : Setup) (m : Meaning) (j : Journal fed) (moves : ℕ) (written : List RawMessage) (at : Point) → Made s m (Handed (handed_out j)) moves (start s j.input (arrivals j) j.rest) written at
-        → Made s m (Handed (handed_out j)) moves (start s j.input (arriving (fed.proposed ++ more) (j.entries ++ j.others)) j.rest) written at
-    run_with s m j moves written at run = subst (λ ns. Made s m (Handed (handed_out j)) moves (start s j.input ns j.rest) written at) (sym (arriving_more fed.proposed more (j.entries ++ j.others) (found_all j))) run
+    run_with : (s : Setup) (j : Journal fed) (moves : ℕ) (written : List RawMessage) (at : Point) → Made s fixed.handler (Handed (handed_out j)) moves (start s j.input (arrivals j) j.rest) written at
+        → Made s fixed.handler (Handed (handed_out j)) moves (start s j.input (arriving (fed.proposed ++ more) (j.entries ++ j.others)) j.rest) written at
+    run_with s j moves written at run = subst (λ ns. Made s fixed.handler (Handed (handed_out j)) moves (start s j.input ns j.rest) written at) (sym (arriving_more fed.proposed more (j.entries ++ j.others) (found_all j))) run
 
     -- what is asked of the journal was so before the proposal
-    premises_less : (m : Meaning) → Premises m version options (and_proposed fed more) → Premises m version options fed
-    premises_less m p = record {
+    premises_less : Premises fixed (and_proposed fed more) → Premises fixed fed
+    premises_less p = record {
       replays = p.replays;
       queues = p.queues;
-      once = λ j n made q run. p.once (journal_as fed more j) n made q (run_with (setup_for version options j.start) m j n made q run);
+      once = λ j n made q run. p.once (journal_as fed more j) n made q (run_with (setup_for fixed j.start) j n made q run);
     }
 
-    runs_proposes : (m : Meaning) → Runs m version options fed answers waiting taken vm → Runs m version options (and_proposed fed more) answers waiting taken after
-    runs_proposes m k = record {
+    runs_proposes : Runs fixed fed answers waiting taken vm → Runs fixed (and_proposed fed more) answers waiting taken after
+    runs_proposes k = record {
       journal = journal_as fed more k.journal;
       written = k.written;
       wrote = wrote_proposal taken vm.machine.output k.written id result k.wrote;
       at = k.at;
       moves = k.moves;
-      run = run_with (setup_for version options k.journal.start) m k.journal k.moves k.written k.at k.run;
+      run = run_with (setup_for fixed k.journal.start) k.journal k.moves k.written k.at k.run;
       answers = k.answers;
       awaits = k.awaits;
       agrees = λ _.
@@ -419,137 +419,137 @@ module _ (version : Version) (options : VMOptions) (fed : Heard) (answers : List
 -- ---- what each kind of outcome keeps
 
 -- before the input no VM is in Processing
-no_processing : {A : Type 0} (version : Version) (options : VMOptions) (fed : Heard) (v : Machine) → Comes version options fed v → v.phase ≡ Processing → A
-no_processing version options fed v c at =
+no_processing : {A : Type 0} (fixed : Fixed) (fed : Heard) (v : Machine) → Comes fixed fed v → v.phase ≡ Processing → A
+no_processing fixed fed v c at =
     ⊎_elim
-    (λ (x : (frames_fed fed ≡ []) × ((alloc : Global) × (v ≡ fresh alloc version options))). absurd (let z : WaitingStart ≡ Processing = sym (ap (λ w. w.phase) x.1.1) ∙ at in cc))
-    (λ (b : Begun version options fed v).
+    (λ (x : (frames_fed fed ≡ []) × ((alloc : Global) × (v ≡ fresh alloc fixed.version fixed.options))). absurd (let z : WaitingStart ≡ Processing = sym (ap (λ w. w.phase) x.1.1) ∙ at in cc))
+    (λ (b : Begun fixed fed v).
     ⊎_elim
-    (λ (x : StillWaits (setup_for version options b.start) (record { entries = b.state; coverage = coverage_of b.start.partial }) b.aside b.start.known_entries [] [] b.others v). absurd (let z : WaitingReplayEntries ≡ Processing = sym (ap (λ w. w.phase) x.machine) ∙ at in cc))
-    (λ (x : HasAll (setup_for version options b.start) (record { entries = b.state; coverage = coverage_of b.start.partial }) b.aside b.start.known_entries [] [] b.others v). absurd (let z : Replaying ≡ Processing = sym (ap (λ w. w.phase) x.machine) ∙ at in cc))
+    (λ (x : StillWaits (setup_for fixed b.start) (record { entries = b.state; coverage = coverage_of b.start.partial }) b.aside b.start.known_entries [] [] b.others v). absurd (let z : WaitingReplayEntries ≡ Processing = sym (ap (λ w. w.phase) x.machine) ∙ at in cc))
+    (λ (x : HasAll (setup_for fixed b.start) (record { entries = b.state; coverage = coverage_of b.start.partial }) b.aside b.start.known_entries [] [] b.others v). absurd (let z : Replaying ≡ Processing = sym (ap (λ w. w.phase) x.machine) ∙ at in cc))
     b.waits)
     c
 
-module _ (version : Version) (options : VMOptions) (handle : NotificationHandle) (exit : RunExitResult) (policy : RetryPolicy) (old new : Record) (came : HasCome version options old) where
+module _ (fixed : Fixed) (handle : NotificationHandle) (exit : RunExitResult) (policy : RetryPolicy) (old new : Record) (came : HasCome fixed old) where
   abbrev OldCame : Type 0
-  OldCame = Came version options (heard version old) old.answers old.taken old.vm
+  OldCame = Came fixed (heard fixed.version old) old.answers old.taken old.vm
 
   -- where a result is proposed the handler has read its input
   has_come : ProposesOne handle old new → OldCame
-  has_come p = ⊎_elim (λ (b : BeforeInput version options (heard version old) old.answers old.waiting old.taken old.vm). no_processing version options (heard version old) old.vm.machine (b.comes p.live) p.phase) (λ (c : OldCame). c) came
+  has_come p = ⊎_elim (λ (b : BeforeInput fixed (heard fixed.version old) old.answers old.waiting old.taken old.vm). no_processing fixed (heard fixed.version old) old.vm.machine (b.comes p.live) p.phase) (λ (c : OldCame). c) came
 
   is_live : ProposesOne handle old new → IsLive old.vm.machine
   is_live p = record { failure = p.live; phase = ap is_running p.phase }
 
   abbrev further : ProposesOne handle old new → List KeptProposal
-  further p = acknowledged_from version (kept_as p.id p.result ∷ [])
+  further p = acknowledged_from fixed.version (kept_as p.id p.result ∷ [])
 
   -- the machine, for the version of the attempt
   machine_is : (p : ProposesOne handle old new) → proposed p.id p.result (without_run handle old.vm.machine) ≡ proposed_in handle (further p) (proposal p.id p.result) old.vm.machine
   machine_is p = proposed_is handle p.id p.result old.vm.machine ∙ ap (λ v. proposed_in handle (acknowledged_from v (kept_as p.id p.result ∷ [])) (proposal p.id p.result) old.vm.machine) ((has_come p).made_for (is_live p)).0
 
-  heard_is : (p : ProposesOne handle old new) → heard version (proposed_to handle p.id p.result old) ≡ and_proposed (heard version old) (further p)
-  heard_is p = ap (λ ps. record { pieces = old.fed; proposed = ps }) (acknowledged_more version old.proposed (kept_as p.id p.result ∷ []))
+  heard_is : (p : ProposesOne handle old new) → heard fixed.version (proposed_to handle p.id p.result old) ≡ and_proposed (heard fixed.version old) (further p)
+  heard_is p = ap (λ ps. record { pieces = old.fed; proposed = ps }) (acknowledged_more fixed.version old.proposed (kept_as p.id p.result ∷ []))
 
   -- what is told of the VM of which this is so, and of what was heard
-  told_of : (T : Heard → View → Type 0) (p : ProposesOne handle old new) → T (and_proposed (heard version old) (further p)) (record old.vm { machine = proposed_in handle (further p) (proposal p.id p.result) old.vm.machine }) → T (heard version (proposed_to handle p.id p.result old)) (proposed_to handle p.id p.result old).vm
+  told_of : (T : Heard → View → Type 0) (p : ProposesOne handle old new) → T (and_proposed (heard fixed.version old) (further p)) (record old.vm { machine = proposed_in handle (further p) (proposal p.id p.result) old.vm.machine }) → T (heard fixed.version (proposed_to handle p.id p.result old)) (proposed_to handle p.id p.result old).vm
   told_of T p t = subst (λ (x : Heard × Machine). T x.0 (record old.vm { machine = x.1 })) (λ i. (sym (heard_is p) i, sym (machine_is p) i)) t
 
   -- ---- what came
 
-  proposes_comes : ProposesOne handle old new → HasCome version options new
+  proposes_comes : ProposesOne handle old new → HasCome fixed new
   proposes_comes p =
-      subst (HasCome version options) (sym p.is)
-      (inr (told_of (λ h v. Came version options h old.answers old.taken v) p (came_proposes version options (heard version old) old.answers old.waiting old.taken old.vm (is_live p) p.phase handle p.id p.result (further p) (has_come p))))
+      subst (HasCome fixed) (sym p.is)
+      (inr (told_of (λ h v. Came fixed h old.answers old.taken v) p (came_proposes fixed (heard fixed.version old) old.answers old.waiting old.taken old.vm (is_live p) p.phase handle p.id p.result (further p) (has_come p))))
 
   some_failed : (f : FailsBy handle exit policy old new) → is_some f.vm.machine.failure ≡ true
   some_failed f = ap is_some f.fails.failure
 
-  fails_comes : FailsBy handle exit policy old new → HasCome version options new
-  fails_comes f = subst (HasCome version options) (sym f.is) (dead_same (CameBy version options) (came_last version options) version options old f.vm came f.fails.quiet (some_failed f))
+  fails_comes : FailsBy handle exit policy old new → HasCome fixed new
+  fails_comes f = subst (HasCome fixed) (sym f.is) (dead_same (CameBy fixed) (came_last fixed) fixed old f.vm came f.fails.quiet (some_failed f))
 
   -- ---- the handler's run
 
-  proposes_keeps : (m : Meaning) → IsKept m version options old → ProposesOne handle old new → IsKept m version options new
-  proposes_keeps m kept p =
+  proposes_keeps : IsKept fixed old → ProposesOne handle old new → IsKept fixed new
+  proposes_keeps kept p =
       let c = has_come p in
-      subst (IsKept m version options) (sym p.is)
+      subst (IsKept fixed) (sym p.is)
       (⊎_elim
-      (λ (b : BeforeInput version options (heard version old) old.answers old.waiting old.taken old.vm). absurd (c.answered b.answers))
-      (λ (k : Runs m version options (heard version old) old.answers old.waiting old.taken old.vm).
-      inr (told_of (λ h v. Runs m version options h old.answers old.waiting old.taken v) p (runs_proposes version options (heard version old) old.answers old.waiting old.taken old.vm (is_live p) p.phase handle p.id p.result (further p) c m k)))
+      (λ (b : BeforeInput fixed (heard fixed.version old) old.answers old.waiting old.taken old.vm). absurd (c.answered b.answers))
+      (λ (k : Runs fixed (heard fixed.version old) old.answers old.waiting old.taken old.vm).
+      inr (told_of (λ h v. Runs fixed h old.answers old.waiting old.taken v) p (runs_proposes fixed (heard fixed.version old) old.answers old.waiting old.taken old.vm (is_live p) p.phase handle p.id p.result (further p) c k)))
       kept)
 
-  fails_keeps : (m : Meaning) → IsKept m version options old → FailsBy handle exit policy old new → IsKept m version options new
-  fails_keeps m kept f = subst (IsKept m version options) (sym f.is) (dead_same (Runs m version options) (runs_last m version options) version options old f.vm kept f.fails.quiet (some_failed f))
+  fails_keeps : IsKept fixed old → FailsBy handle exit policy old new → IsKept fixed new
+  fails_keeps kept f = subst (IsKept fixed) (sym f.is) (dead_same (Runs fixed) (runs_last fixed) fixed old f.vm kept f.fails.quiet (some_failed f))
 
-  proposes_under : (m : Meaning) → IsKeptUnder m version options old → ProposesOne handle old new → IsKeptUnder m version options new
-  proposes_under m u p q =
-      let here : Premises m version options (and_proposed (heard version old) (further p)) = subst (Premises m version options) (ap (heard version) p.is ∙ heard_is p) q in
-      proposes_keeps m (u (premises_less version options (heard version old) old.answers old.waiting old.taken old.vm (is_live p) p.phase handle p.id p.result (further p) (has_come p) m here)) p
+  proposes_under : IsKeptUnder fixed old → ProposesOne handle old new → IsKeptUnder fixed new
+  proposes_under u p q =
+      let here : Premises fixed (and_proposed (heard fixed.version old) (further p)) = subst (Premises fixed) (ap (heard fixed.version) p.is ∙ heard_is p) q in
+      proposes_keeps (u (premises_less fixed (heard fixed.version old) old.answers old.waiting old.taken old.vm (is_live p) p.phase handle p.id p.result (further p) (has_come p) here)) p
 
-  fails_under : (m : Meaning) → IsKeptUnder m version options old → FailsBy handle exit policy old new → IsKeptUnder m version options new
-  fails_under m u f q = fails_keeps m (u (subst (λ r. Premises m version options (heard version r)) f.is q)) f
+  fails_under : IsKeptUnder fixed old → FailsBy handle exit policy old new → IsKeptUnder fixed new
+  fails_under u f q = fails_keeps (u (subst (λ r. Premises fixed (heard fixed.version r)) f.is q)) f
 
   -- ---- replay
 
   -- a result is proposed only where no recorded command is left
-  proposes_in_replay : (m : Meaning) → ProposesOne handle old new → IsKeptInReplay m version options new
-  proposes_in_replay m p q =
+  proposes_in_replay : ProposesOne handle old new → IsKeptInReplay fixed new
+  proposes_in_replay p q =
       ⊎_elim
-      (λ (b : BeforeInput version options (heard version new) new.answers new.waiting new.taken new.vm). inl b)
-      (λ (c : Came version options (heard version new) new.answers new.taken new.vm).
+      (λ (b : BeforeInput fixed (heard fixed.version new) new.answers new.waiting new.taken new.vm). inl b)
+      (λ (c : Came fixed (heard fixed.version new) new.answers new.taken new.vm).
       inr (record {
         came = c;
         run = λ alive at. absurd (let z : Processing ≡ Replaying = sym p.phase ∙ ap (λ (w : Machine). w.phase) (sym (machine_is p)) ∙ ap (λ (r : Record). r.vm.machine.phase) (sym p.is) ∙ at in cc);
       }))
       (proposes_comes p)
 
-  fails_in_replay : (m : Meaning) → IsKeptInReplay m version options old → FailsBy handle exit policy old new → IsKeptInReplay m version options new
-  fails_in_replay m u f q =
-      subst (KeptBy (InReplay m version options) version options) (sym f.is)
-      (dead_same (InReplay m version options) (replay_last m version options) version options old f.vm (u (subst (λ r. ReplayPremises m version options (heard version r)) f.is q)) f.fails.quiet (some_failed f))
+  fails_in_replay : IsKeptInReplay fixed old → FailsBy handle exit policy old new → IsKeptInReplay fixed new
+  fails_in_replay u f q =
+      subst (KeptBy (InReplay fixed) fixed) (sym f.is)
+      (dead_same (InReplay fixed) (replay_last fixed) fixed old f.vm (u (subst (λ r. ReplayPremises fixed (heard fixed.version r)) f.is q)) f.fails.quiet (some_failed f))
 
   -- ---- why it failed
 
   -- a result was refused, or memory was lacking
-  refuses_for : (m : Meaning) (fed : Heard) (said : Said) (answers : List Answer) → said.failed_by ≡ Some handle → (f : FailsBy handle exit policy old new) → (old.vm.machine.version ≡ version) → (old.vm.machine.options ≡ options) → Blame m version options fed said answers f.error
-  refuses_for m fed said answers told f ver opt =
+  refuses_for : (fed : Heard) (said : Said) (answers : List Answer) → said.failed_by ≡ Some handle → (f : FailsBy handle exit policy old new) → (old.vm.machine.version ≡ fixed.version) → (old.vm.machine.options ≡ fixed.options) → Blame fixed fed said answers f.error
+  refuses_for fed said answers told f ver opt =
       ⊎_elim
       (λ (x : f.error ≡ no_memory). Memory x)
       (λ (x : Refuses handle exit policy old.vm.machine f.error).
       RunResult (record { handle = handle; is_told = told; exit = exit; policy = policy; machine = old.vm.machine; left = x.left; why = x.why; proposes = x.proposes; version_is = ver; error = x.error ∙ λ i. ruled_by (ver i) (opt i) x.why }))
       f.fails.why
 
-  proposes_blames : (m : Meaning) → IsBlamed m version options old → ProposesOne handle old new → IsBlamed m version options new
-  proposes_blames m b p =
-      subst (IsBlamed m version options) (sym p.is)
-      (alive_blamed m version options old.over (heard version (proposed_to handle p.id p.result old)) (all_said old) old.answers (proposed_to handle p.id p.result old).vm.machine
+  proposes_blames : IsBlamed fixed old → ProposesOne handle old new → IsBlamed fixed new
+  proposes_blames b p =
+      subst (IsBlamed fixed) (sym p.is)
+      (alive_blamed fixed old.over (heard fixed.version (proposed_to handle p.id p.result old)) (all_said old) old.answers (proposed_to handle p.id p.result old).vm.machine
       (ap (λ (w : Machine). w.failure) (machine_is p) ∙ p.live)
       (λ closed. absurd (let z : Processing ≡ Closed = sym p.phase ∙ ap (λ (w : Machine). w.phase) (sym (machine_is p)) ∙ closed in cc)))
 
-  fails_blames : (m : Meaning) → IsBlamed m version options old → FailsBy handle exit policy old new → IsBlamed m version options new
-  fails_blames m b f = subst (IsBlamed m version options) (sym f.is) (by_over old.over refl)
+  fails_blames : IsBlamed fixed old → FailsBy handle exit policy old new → IsBlamed fixed new
+  fails_blames b f = subst (IsBlamed fixed) (sym f.is) (by_over old.over refl)
     where
-      by_over : (over : Option Progress) → old.over ≡ over → IsBlamed m version options (with_vm f.vm (noting handle old))
-      by_over (Some p) is = subst (λ o. BlamedAt m version options o (heard version old) (all_said (noting handle old)) old.answers f.vm.machine) (sym is) (over_blamed m version options p (heard version old) (all_said (noting handle old)) old.answers f.vm.machine)
+      by_over : (over : Option Progress) → old.over ≡ over → IsBlamed fixed (with_vm f.vm (noting handle old))
+      by_over (Some p) is = subst (λ o. BlamedAt fixed o (heard fixed.version old) (all_said (noting handle old)) old.answers f.vm.machine) (sym is) (over_blamed fixed p (heard fixed.version old) (all_said (noting handle old)) old.answers f.vm.machine)
       by_over None is =
-          let stands = come_stands version options old came f.live (b.open_yet is f.live) in
-          error_blamed m version options old.over (heard version old) (all_said (noting handle old)) old.answers f.vm.machine f.error f.fails.failure (refuses_for m (heard version old) (all_said (noting handle old)) old.answers refl f stands.1.0 stands.1.1)
+          let stands = come_stands fixed old came f.live (b.open_yet is f.live) in
+          error_blamed fixed old.over (heard fixed.version old) (all_said (noting handle old)) old.answers f.vm.machine f.error f.fails.failure (refuses_for (heard fixed.version old) (all_said (noting handle old)) old.answers refl f stands.1.0 stands.1.1)
 
   -- ---- behind the end
 
-  proposes_late : (m : Meaning) → IsLate m version options old → ProposesOne handle old new → IsLate m version options new
-  proposes_late m l p = subst (IsLate m version options) (sym p.is) (by_over old.over l)
+  proposes_late : IsLate fixed old → ProposesOne handle old new → IsLate fixed new
+  proposes_late l p = subst (IsLate fixed) (sym p.is) (by_over old.over l)
     where
-      by_over : (over : Option Progress) → LateBy over m version options old → LateBy over m version options (proposed_to handle p.id p.result old)
+      by_over : (over : Option Progress) → LateBy over fixed old → LateBy over fixed (proposed_to handle p.id p.result old)
       by_over None k = k
       by_over (Some made) k = absurd (let z : Processing ≡ Closed = sym p.phase ∙ k.phase p.live in cc)
 
-  fails_late : (m : Meaning) → IsLate m version options old → FailsBy handle exit policy old new → IsLate m version options new
-  fails_late m l f = subst (IsLate m version options) (sym f.is) (by_over old.over l)
+  fails_late : IsLate fixed old → FailsBy handle exit policy old new → IsLate fixed new
+  fails_late l f = subst (IsLate fixed) (sym f.is) (by_over old.over l)
     where
-      by_over : (over : Option Progress) → LateBy over m version options old → LateBy over m version options (with_vm f.vm (noting handle old))
+      by_over : (over : Option Progress) → LateBy over fixed old → LateBy over fixed (with_vm f.vm (noting handle old))
       by_over None k = k
       by_over (Some made) k =
           let for = k.made_for f.live in
@@ -558,48 +558,48 @@ module _ (version : Version) (options : VMOptions) (handle : NotificationHandle)
             place = λ none. none_some f.error (sym none ∙ f.fails.failure);
             made_for = λ none. none_some f.error (sym none ∙ f.fails.failure);
             tail = λ none. none_some f.error (sym none ∙ f.fails.failure);
-            blame = λ e some. subst (Blame m version options (all_heard version old) (all_said (noting handle old)) old.answers) (same_Some f.error e (sym f.fails.failure ∙ some)) (refuses_for m (all_heard version old) (all_said (noting handle old)) old.answers refl f for.0 for.1);
+            blame = λ e some. subst (Blame fixed (all_heard fixed.version old) (all_said (noting handle old)) old.answers) (same_Some f.error e (sym f.fails.failure ∙ some)) (refuses_for (all_heard fixed.version old) (all_said (noting handle old)) old.answers refl f for.0 for.1);
           }
 
   -- ---- a suspension
 
-  proposes_sleeps : (m : Meaning) → IsLate m version options old → StillSleeps m version options old → ProposesOne handle old new → StillSleeps m version options new
-  proposes_sleeps m l s p =
-      subst (StillSleeps m version options) (sym p.is)
+  proposes_sleeps : IsLate fixed old → StillSleeps fixed old → ProposesOne handle old new → StillSleeps fixed new
+  proposes_sleeps l s p =
+      subst (StillSleeps fixed) (sym p.is)
       (λ q made over.
-      let k = subst (λ o. LateBy o m version options old) over l in
+      let k = subst (λ o. LateBy o fixed old) over l in
       absurd (let z : Processing ≡ Closed = sym p.phase ∙ k.phase p.live in cc))
 
-  fails_sleeps : (m : Meaning) → StillSleeps m version options old → FailsBy handle exit policy old new → StillSleeps m version options new
-  fails_sleeps m s f = subst (StillSleeps m version options) (sym f.is) (still_quiet m version options old f.vm f.fails.quiet s)
+  fails_sleeps : StillSleeps fixed old → FailsBy handle exit policy old new → StillSleeps fixed new
+  fails_sleeps s f = subst (StillSleeps fixed) (sym f.is) (still_quiet fixed old f.vm f.fails.quiet s)
 
 -- ---- the call
 
-module _ (version : Version) (options : VMOptions) (handle : NotificationHandle) (exit : RunExitResult) (policy : RetryPolicy) (old : Record) (result : Result Unit Error) (new : Record) (came : HasCome version options old) (does : FinishDoes old.starved handle exit policy old result new) where
+module _ (fixed : Fixed) (handle : NotificationHandle) (exit : RunExitResult) (policy : RetryPolicy) (old : Record) (result : Result Unit Error) (new : Record) (came : HasCome fixed old) (does : FinishDoes old.starved handle exit policy old result new) where
   by_case : (K : Record → Type 0) → K old → (ProposesOne handle old new → K new) → (FailsBy handle exit policy old new → K new) → K new
   by_case K = in_case handle exit policy old result new does K
 
-  pub finish_comes : HasCome version options new
-  finish_comes = by_case (HasCome version options) came (proposes_comes version options handle exit policy old new came) (fails_comes version options handle exit policy old new came)
+  pub finish_comes : HasCome fixed new
+  finish_comes = by_case (HasCome fixed) came (proposes_comes fixed handle exit policy old new came) (fails_comes fixed handle exit policy old new came)
 
   -- the handler's run goes on, whatever the premises are
-  pub finish_keeps : (m : Meaning) → IsKept m version options old → IsKept m version options new
-  finish_keeps m kept = by_case (IsKept m version options) kept (proposes_keeps version options handle exit policy old new came m kept) (fails_keeps version options handle exit policy old new came m kept)
+  pub finish_keeps : IsKept fixed old → IsKept fixed new
+  finish_keeps kept = by_case (IsKept fixed) kept (proposes_keeps fixed handle exit policy old new came kept) (fails_keeps fixed handle exit policy old new came kept)
 
-  pub finish_under : (m : Meaning) → IsKeptUnder m version options old → IsKeptUnder m version options new
-  finish_under m u = by_case (IsKeptUnder m version options) u (proposes_under version options handle exit policy old new came m u) (fails_under version options handle exit policy old new came m u)
+  pub finish_under : IsKeptUnder fixed old → IsKeptUnder fixed new
+  finish_under u = by_case (IsKeptUnder fixed) u (proposes_under fixed handle exit policy old new came u) (fails_under fixed handle exit policy old new came u)
 
-  pub finish_in_replay : (m : Meaning) → IsKeptInReplay m version options old → IsKeptInReplay m version options new
-  finish_in_replay m u = by_case (IsKeptInReplay m version options) u (proposes_in_replay version options handle exit policy old new came m) (fails_in_replay version options handle exit policy old new came m u)
+  pub finish_in_replay : IsKeptInReplay fixed old → IsKeptInReplay fixed new
+  finish_in_replay u = by_case (IsKeptInReplay fixed) u (proposes_in_replay fixed handle exit policy old new came) (fails_in_replay fixed handle exit policy old new came u)
 
-  pub finish_blames : (m : Meaning) → IsBlamed m version options old → IsBlamed m version options new
-  finish_blames m b = by_case (IsBlamed m version options) b (proposes_blames version options handle exit policy old new came m b) (fails_blames version options handle exit policy old new came m b)
+  pub finish_blames : IsBlamed fixed old → IsBlamed fixed new
+  finish_blames b = by_case (IsBlamed fixed) b (proposes_blames fixed handle exit policy old new came b) (fails_blames fixed handle exit policy old new came b)
 
-  pub finish_late : (m : Meaning) → IsLate m version options old → IsLate m version options new
-  finish_late m l = by_case (IsLate m version options) l (proposes_late version options handle exit policy old new came m l) (fails_late version options handle exit policy old new came m l)
+  pub finish_late : IsLate fixed old → IsLate fixed new
+  finish_late l = by_case (IsLate fixed) l (proposes_late fixed handle exit policy old new came l) (fails_late fixed handle exit policy old new came l)
 
-  pub finish_sleeps : (m : Meaning) → IsLate m version options old → StillSleeps m version options old → StillSleeps m version options new
-  finish_sleeps m l s = by_case (StillSleeps m version options) s (proposes_sleeps version options handle exit policy old new came m l s) (fails_sleeps version options handle exit policy old new came m s)
+  pub finish_sleeps : IsLate fixed old → StillSleeps fixed old → StillSleeps fixed new
+  finish_sleeps l s = by_case (StillSleeps fixed) s (proposes_sleeps fixed handle exit policy old new came l s) (fails_sleeps fixed handle exit policy old new came s)
 
 -- ---- runs
 
@@ -688,26 +688,26 @@ error_is handle exit policy old e new does = by_test old.starved does
     by_test false d = by_failure old.vm.machine.failure refl d
 
 -- the VM of an attempt has failed for a reason
-failed_for : (m : Meaning) (version : Version) (options : VMOptions) (r : Record) (e : Error) → IsBlamed m version options r → IsLate m version options r → r.vm.machine.failure ≡ Some e → Blame m version options (all_heard version r) (all_said r) r.answers e
-failed_for m version options r e b l some = by_over r.over refl l
+failed_for : (fixed : Fixed) (r : Record) (e : Error) → IsBlamed fixed r → IsLate fixed r → r.vm.machine.failure ≡ Some e → Blame fixed (all_heard fixed.version r) (all_said r) r.answers e
+failed_for fixed r e b l some = by_over r.over refl l
   where
-    by_over : (over : Option Progress) → r.over ≡ over → LateBy over m version options r → Blame m version options (all_heard version r) (all_said r) r.answers e
-    by_over None going none = subst (λ fed. Blame m version options fed (all_said r) r.answers e) (ap (λ l. with_pieces l (heard version r)) (sym (append-nil r.fed) ∙ ap (λ l. r.fed ++ l) (sym none))) (b.blame going e some)
+    by_over : (over : Option Progress) → r.over ≡ over → LateBy over fixed r → Blame fixed (all_heard fixed.version r) (all_said r) r.answers e
+    by_over None going none = subst (λ fed. Blame fixed fed (all_said r) r.answers e) (ap (λ l. with_pieces l (heard fixed.version r)) (sym (append-nil r.fed) ∙ ap (λ l. r.fed ++ l) (sym none))) (b.blame going e some)
     by_over (Some made) over k = k.blame e some
 
 -- an error has a reason
-pub finish_blame : (m : Meaning) (version : Version) (options : VMOptions) (handle : NotificationHandle) (exit : RunExitResult) (policy : RetryPolicy) (old : Record) (result : Result Unit Error) (new : Record) → FinishDoes old.starved handle exit policy old result new → IsBlamed m version options new → IsLate m version options new
-    → IfErr result (λ e. Blame m version options (all_heard version new) (all_said new) new.answers e)
-finish_blame m version options handle exit policy old (Ok t) new does b l = tt
-finish_blame m version options handle exit policy old (Err e) new does b l =
+pub finish_blame : (fixed : Fixed) (handle : NotificationHandle) (exit : RunExitResult) (policy : RetryPolicy) (old : Record) (result : Result Unit Error) (new : Record) → FinishDoes old.starved handle exit policy old result new → IsBlamed fixed new → IsLate fixed new
+    → IfErr result (λ e. Blame fixed (all_heard fixed.version new) (all_said new) new.answers e)
+finish_blame fixed handle exit policy old (Ok t) new does b l = tt
+finish_blame fixed handle exit policy old (Err e) new does b l =
     ⊎_elim
     (λ (x : e ≡ no_memory). Memory x)
-    (λ (x : new.vm.machine.failure ≡ Some e). failed_for m version options new e b l x)
+    (λ (x : new.vm.machine.failure ≡ Some e). failed_for fixed new e b l x)
     (error_is handle exit policy old e new does)
 
-pub finish_honest : (m : Meaning) (version : Version) (options : VMOptions) (all : Heard) (said : Said) (answers : List Answer) (result : Result Unit Error) → IsHonest m version options all → IfErr result (λ e. Blame m version options all said answers e) → IfErr result (λ e. IsOwnError m version options all said answers e)
-finish_honest m version options all said answers (Ok t) honest b = tt
-finish_honest m version options all said answers (Err e) honest b = honest_fails m version options all said answers e honest b
+pub finish_honest : (fixed : Fixed) (all : Heard) (said : Said) (answers : List Answer) (result : Result Unit Error) → IsHonest fixed all → IfErr result (λ e. Blame fixed all said answers e) → IfErr result (λ e. IsOwnError fixed all said answers e)
+finish_honest fixed all said answers (Ok t) honest b = tt
+finish_honest fixed all said answers (Err e) honest b = honest_fails fixed all said answers e honest b
 
 -- ---- the fields, and the record
 
@@ -724,9 +724,9 @@ noted_taken (Ok t) handle r = refl
 noted_taken (Err e) handle r = noted_at_taken r.vm.machine.failure handle r
 
 -- what it does to the fields, where what is written is read, is what it does to the record
-pub finish_told : (version : Version) (options : VMOptions) (handle : NotificationHandle) (exit : RunExitResult) (policy : RetryPolicy) (old : Record) (result : Result Unit Error) (new : Record) → HasCome version options (with_proposed (all_proposed old) old) → WholeFrames old.vm.machine.output → WholeFrames new.vm.machine.output
+pub finish_told : (fixed : Fixed) (handle : NotificationHandle) (exit : RunExitResult) (policy : RetryPolicy) (old : Record) (result : Result Unit Error) (new : Record) → HasCome fixed (with_proposed (all_proposed old) old) → WholeFrames old.vm.machine.output → WholeFrames new.vm.machine.output
     → TellsUnless old.starved handle exit policy old result new → FinishDoes old.starved handle exit policy (with_proposed (all_proposed old) old) result (with_proposed (all_proposed new) new)
-finish_told version options handle exit policy old result new came f g does = by_test old.starved does
+finish_told fixed handle exit policy old result new came f g does = by_test old.starved does
   where
     -- what was proposed is read from what was taken and from what waits
     told_to : (result : Result Unit Error) (w : View) → new ≡ with_vm w (noted result handle old) → all_proposed new ≡ proposals_in (concat old.taken ++ concat w.machine.output)
@@ -738,7 +738,7 @@ finish_told version options handle exit policy old result new came f g does = by
 
     quiet_told : (result : Result Unit Error) (w : View) → new ≡ with_vm w (noted result handle old) → (ms : List Message) → w.machine.output ≡ old.vm.machine.output ++ map encoding ms → all_proposed new ≡ all_proposed old ++ proposals_among (map stored_form ms)
     quiet_told result w is ms output =
-        let wrote = wrote_of version options (with_proposed (all_proposed old) old) came in
+        let wrote = wrote_of fixed (with_proposed (all_proposed old) old) came in
         told_to result w is
         ∙ proposes_more old.taken old.vm.machine.output w.machine.output wrote.0 wrote.1 f (subst WholeFrames (ap (λ (r : Record). r.vm.machine.output) is) g) ms output
 

@@ -1,20 +1,19 @@
 -- The completion ids of what an attempt wrote, where recorded commands are skipped.
 use Rattle.std.proofs.Common.{[], ◌∷◌, sym, subst, inl, inr, ⊎_elim}
-use Rattle.journal_errors.specs.declared.version.Version.{Version}
 use Rattle.vm_asks.specs.Carried.{AreGreater, all_carried}
-use Rattle.vm_types.specs.declared.options.VMOptions.{VMOptions}
 use Rattle.vm_parts.specs.Outboxes.{WholeFrames}
 use Rattle.vm_steps.specs.Record.{Record, heard}
 use Rattle.vm_attempt.specs.Told.{BeforeInput, Came, HasCome, NumbersFreshly}
 use Rattle.vm_attempt.proofs.Fresh.{on_greater}
 use Rattle.vm_attempt.proofs.Written.{written_is}
+use Rattle.vm_attempt.specs.Fixed.{Fixed}
 
 -- they are greater than those of the recorded commands
-pub come_fresh : (version : Version) (options : VMOptions) (r : Record) → HasCome version options r → WholeFrames r.vm.machine.output → NumbersFreshly version options r
-come_fresh version options r k f skips =
+pub come_fresh : (fixed : Fixed) (r : Record) → HasCome fixed r → WholeFrames r.vm.machine.output → NumbersFreshly fixed r
+come_fresh fixed r k f skips =
     ⊎_elim
-    (λ (b : BeforeInput version options (heard version r) r.answers r.waiting r.taken r.vm). inl (sym (written_is r.taken r.vm.machine.output [] b.wrote f)))
-    (λ (c : Came version options (heard version r) r.answers r.taken r.vm).
+    (λ (b : BeforeInput fixed (heard fixed.version r) r.answers r.waiting r.taken r.vm). inl (sym (written_is r.taken r.vm.machine.output [] b.wrote f)))
+    (λ (c : Came fixed (heard fixed.version r) r.answers r.taken r.vm).
     let recorded = c.journal.first ∷ c.journal.rest in
     inr (record {
       journal = c.journal;

@@ -10,19 +10,16 @@ use Rattle.journal_messages.specs.declared.message.Message.TheVariants as messag
 use Rattle.journal_messages.specs.declared.message.RawMessage.{RawMessage}
 use Rattle.journal_values.specs.declared.notification.Notification.{Notification}
 use Rattle.journal_attempt.specs.declared.start.Start.{Start}
-use Rattle.journal_errors.specs.declared.version.Version.{Version}
 use Rattle.journal_messages.specs.Reading.{body_as, notification_in, start_in}
 use Rattle.journal_messages.specs.Message.{IsWhole}
 use Rattle.journal_errors.specs.Types.{type_number}
 use Rattle.wire.proofs.Read.{all_read}
 use Rattle.journal_values.specs.Bodies.{notification_format}
 use Rattle.journal_attempt.specs.Bodies.{start_format}
-use Rattle.vm_types.specs.declared.options.VMOptions.{VMOptions}
 use Rattle.vm_machine.specs.declared.phase.Phase.{Phase}
 use Rattle.vm_machine.specs.declared.phase.Phase.TheVariants.{WaitingStart, WaitingReplayEntries, Replaying, Processing, Closed}
 use Rattle.invocation_vm.specs.Frames.{Tail, Rest, Garbage, frames_of, joined}
 use Rattle.invocation_vm.proofs.Cuts.{frames_of-append}
-use Rattle.vm_model.specs.Calls.{Meaning}
 use Rattle.vm_machine.specs.Inputs.{coverage_of, entries_in}
 use Rattle.vm_model.specs.Histories.{Handed, History, Made}
 use Rattle.vm_model.specs.Moves.{Point, later, start as first_point}
@@ -53,6 +50,7 @@ use Rattle.vm_attempt.proofs.Proposed.{arriving_append, arriving_notified, found
 use Rattle.vm_attempt.proofs.Replayed.{commands_same, head_same, notes_same, tail_same}
 use Rattle.vm_attempt.proofs.Under.{fewer_waiting}
 use Rattle.vm_attempt.proofs.Written.{Fits, frames_spelled}
+use Rattle.vm_attempt.specs.Fixed.{Fixed}
 
 -- ---- frames of bytes
 
@@ -222,7 +220,7 @@ some_entries : (journal : List Entry) (first : RawMessage) (rest : List RawMessa
 some_entries [] first rest is = absurd (cc)
 some_entries (e ∷ journal) first rest is = not_none (length journal)
 
-module _ (m : Meaning) (version : Version) (options : VMOptions) (fed : Heard) (h : FeedsHonestly m version options fed) where
+module _ (fixed : Fixed) (fed : Heard) (h : FeedsHonestly fixed fed) where
   abbrev J : List RawMessage
   J = map entry_frame h.journal
 
@@ -298,14 +296,14 @@ module _ (m : Meaning) (version : Version) (options : VMOptions) (fed : Heard) (
       taken_fault (kept_after fed.proposed before) (acknowledgement_in raw.body) (readable before raw rest tail acknowledges) (found_at fed.proposed before raw rest (subst (AllFound fed.proposed) tail all_found) acknowledges)
 
   -- the known entries are the journal
-  known_are : (first : RawMessage) (entries others : List RawMessage) (st : Start) → frames_fed fed ≡ first ∷ (entries ++ others) → start_in first.body ≡ Some st → length entries ≡ st.known_entries → (base : StateMap) × History (setup_for version options st) m base (as_entries entries)
+  known_are : (first : RawMessage) (entries others : List RawMessage) (st : Start) → frames_fed fed ≡ first ∷ (entries ++ others) → start_in first.body ≡ Some st → length entries ≡ st.known_entries → (base : StateMap) × History (setup_for fixed st) fixed.handler base (as_entries entries)
   known_are first entries others st is reads count =
       let all : first ∷ (entries ++ (others ++ begins.others)) ≡ S ∷ (J ++ N) = sym (ap (λ l. first ∷ l) (append_assoc entries others begins.others)) ∙ ap (λ l. l ++ begins.others) (sym is) ∙ begins.all in
       let same : st ≡ h.start = same_start first st (head_same first S (entries ++ (others ++ begins.others)) (J ++ N) all) reads in
       let long : length entries ≡ length J = count ∙ ap (λ (x : Start). x.known_entries) same ∙ h.known ∙ sym (length_entries h.journal) in
       let front : entries ≡ J = same_front entries (others ++ begins.others) J N (tail_same first S (entries ++ (others ++ begins.others)) (J ++ N) all) long in
       let read : as_entries entries ≡ h.journal = ap as_entries front ∙ journal_read h.journal h.journal_is_whole in
-      (h.base, subst (λ (x : Start × List Entry). History (setup_for version options x.0) m h.base x.1) (λ i. (sym same i, sym read i)) h.history)
+      (h.base, subst (λ (x : Start × List Entry). History (setup_for fixed x.0) fixed.handler h.base x.1) (λ i. (sym same i, sym read i)) h.history)
 
   abbrev given : StateMap
   given = record { entries = h.state; coverage = coverage_of h.start.partial }
@@ -317,7 +315,7 @@ module _ (m : Meaning) (version : Version) (options : VMOptions) (fed : Heard) (
   -- of the run over all.
   abbrev Along : Journal fed → Type 0
   Along j = (more : List Notification) × (arrivals j ++ more ≡ all_notes) × (j.rest ≡ h.history.rest)
-      × ((n : ℕ) (made : List RawMessage) (p : Point) → Made (setup_for version options j.start) m (Handed (handed_out j)) n (begun version options j) made p → Made (setup_for version options h.start) m (Handed given) n (first_point (setup_for version options h.start) h.history.input all_notes h.history.rest) made (later more p))
+      × ((n : ℕ) (made : List RawMessage) (p : Point) → Made (setup_for fixed j.start) fixed.handler (Handed (handed_out j)) n (begun fixed j) made p → Made (setup_for fixed h.start) fixed.handler (Handed given) n (first_point (setup_for fixed h.start) h.history.input all_notes h.history.rest) made (later more p))
 
   along : (j : Journal fed) → Along j
   along j =
@@ -343,21 +341,21 @@ module _ (m : Meaning) (version : Version) (options : VMOptions) (fed : Heard) (
         rest,
         λ n made p run.
             subst
-            (λ (x : Start × List (List ℕ × Option (List ℕ)) × InputCommand × List Notification × List RawMessage). Made (setup_for version options x.0) m (Handed (record { entries = x.1; coverage = coverage_of x.0.partial })) n (first_point (setup_for version options x.0) x.2 x.3 x.4) made (later more p))
+            (λ (x : Start × List (List ℕ × Option (List ℕ)) × InputCommand × List Notification × List RawMessage). Made (setup_for fixed x.0) fixed.handler (Handed (record { entries = x.1; coverage = coverage_of x.0.partial })) n (first_point (setup_for fixed x.0) x.2 x.3 x.4) made (later more p))
             (λ i. (same i, state i, input i, notes i, rest i))
-            (made_later (setup_for version options j.start) m (Handed (handed_out j)) more n (begun version options j) made p run),
+            (made_later (setup_for fixed j.start) fixed.handler (Handed (handed_out j)) more n (begun fixed j) made p run),
       )
 
-  none_two : NoneHasTwo m version options fed
+  none_two : NoneHasTwo fixed fed
   none_two j n made p run = let a = along j in fewer_waiting p a.0 (h.once n made (later a.0 p) (a.3 n made p run))
 
-  rightly_kinded : AreRightlyKinded m version options fed
+  rightly_kinded : AreRightlyKinded fixed fed
   rightly_kinded j n made p run =
       let a = along j in
       fewer_kinds (arrivals j) a.0 (j.rest ++ made)
       (subst (λ (x : List Notification × List RawMessage). AreOfTheirKind x.0 (x.1 ++ made)) (λ i. (sym a.1 i, sym a.2 i)) (h.kinds n made (later a.0 p) (a.3 n made p run)))
 
-  pub honestly_fed : IsHonest m version options fed
+  pub honestly_fed : IsHonest fixed fed
   honestly_fed = record {
     premises = record { replays = h.replays; queues = h.queues; once = none_two };
     kinds = rightly_kinded;

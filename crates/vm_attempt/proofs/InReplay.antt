@@ -2,9 +2,7 @@
 use Rattle.std.proofs.Common.{◌≡◌, ◌≢◌, ◌⊎◌, ℕ, Bool, true, false, List, [], ◌∷◌, ◌++◌, Option, Some, None, Result, Ok, Err, refl, sym, ap, ◌∙◌, subst, inl, inr, ⊎_elim}
 use Rattle.std.specs.declared.alloc.AllocError.{AllocError}
 use Rattle.journal_errors.specs.declared.error.Error.{Error}
-use Rattle.journal_errors.specs.declared.version.Version.{Version}
 use Rattle.vm_parts.specs.Outboxes.{WholeFrames}
-use Rattle.vm_types.specs.declared.options.VMOptions.{VMOptions}
 use Rattle.vm_types.specs.declared.steps.Answer.{Answer}
 use Rattle.vm_machine.specs.declared.machine.Machine.{Machine}
 use Rattle.vm_machine.specs.declared.phase.Phase.{Phase}
@@ -36,26 +34,27 @@ use Rattle.vm_attempt.proofs.Sending.{IsLeft, step_leaves}
 use Rattle.vm_attempt.proofs.Staying.{all_stay}
 use Rattle.vm_attempt.proofs.Stepped.{asks_keep}
 use Rattle.vm_attempt.proofs.Under.{Grows, close_fed, feed_grows, fewer_waiting, step_fed, take_fed}
+use Rattle.vm_attempt.specs.Fixed.{Fixed}
 
 -- ---- it lasts
 
 -- a piece changes no phase in which the handler runs, unless it fails the VM
-same_phase : (fed : Heard) (v : View) (f : Fed) (version : Version) (options : VMOptions) (answers : List Answer) (taken : List (List ℕ)) → Came version options fed answers taken v → (live : IsLive v.machine) → (after_input v f.piece).machine.failure ≡ None → (after_input v f.piece).machine.phase ≡ v.machine.phase
-same_phase fed v f version options answers taken k live alive =
+same_phase : (fed : Heard) (v : View) (f : Fed) (fixed : Fixed) (answers : List Answer) (taken : List (List ℕ)) → Came fixed fed answers taken v → (live : IsLive v.machine) → (after_input v f.piece).machine.failure ≡ None → (after_input v f.piece).machine.phase ≡ v.machine.phase
+same_phase fed v f fixed answers taken k live alive =
     let G = (frames_of (v.undecoded ++ f.piece)).0 in
     let is = (took_in fed f v live.failure (k.tail live) alive).0.machine in
     ap (λ (u : Machine). u.phase) is ∙ all_stay G v.machine live.failure live.phase (ap (λ (u : Machine). u.failure) (sym is) ∙ alive)
 
-pub replay_last : (m : Meaning) (version : Version) (options : VMOptions) → Lasts (InReplay m version options)
-replay_last m version options =
-    let l = came_last version options in
-    let r = runs_last m version options in
+pub replay_last : (fixed : Fixed) → Lasts (InReplay fixed)
+replay_last fixed =
+    let l = came_last fixed in
+    let r = runs_last fixed in
     record {
       dead = λ fed to G frames answers waiting taken v w k q dead. record { came = l.dead fed to G frames answers waiting taken v w k.came q dead; run = λ alive at. not_failed w.machine dead alive };
       closed = λ fed answers waiting taken v w k q closed. record { came = l.closed fed answers waiting taken v w k.came q closed; run = λ alive at. absurd (let z : Replaying ≡ Closed = sym at ∙ closed in cc) };
       more = λ fed answers waiting taken v f k live. record {
         came = l.more fed answers waiting taken v f k.came live;
-        run = λ alive at. r.more fed answers waiting taken v f (k.run live.failure (sym (same_phase fed v f version options answers taken k.came live alive) ∙ at)) live;
+        run = λ alive at. r.more fed answers waiting taken v f (k.run live.failure (sym (same_phase fed v f fixed answers taken k.came live alive) ∙ at)) live;
       };
       takes = λ fed answers waiting taken v f k. record { came = l.takes fed answers waiting taken v f k.came; run = λ alive at. r.takes fed answers waiting taken v f (k.run alive at) };
       closes = λ fed answers waiting taken v k. record { came = l.closes fed answers waiting taken v k.came; run = λ alive at. r.closes fed answers waiting taken v (k.run alive at) };
@@ -79,43 +78,43 @@ asks_stay m old result new live at (x, w, does, is, made) = subst StaysOut (sym 
     by_reply (Ok reply.Ended) h = λ alive. h.goes at
     by_reply (Err e) h = λ alive. absurd (let z : None ≡ Some e = sym alive ∙ h.1 in cc)
 
-module _ (m : Meaning) (version : Version) (options : VMOptions) where
+module _ (fixed : Fixed) where
   -- while recorded commands are left no completion has two results
-  none_two : (r : Record) → ReplayPremises m version options (heard version r) → (k : Runs m version options (heard version r) r.answers r.waiting r.taken r.vm) → IsLive r.vm.machine → r.vm.machine.phase ≡ Replaying → HasNoTwo k.at
+  none_two : (r : Record) → ReplayPremises fixed (heard fixed.version r) → (k : Runs fixed (heard fixed.version r) r.answers r.waiting r.taken r.vm) → IsLive r.vm.machine → r.vm.machine.phase ≡ Replaying → HasNoTwo k.at
   none_two r p k live at =
       p.once k.journal k.moves k.written k.at k.run
       (λ none. absurd (let z : Replaying ≡ Processing = sym at ∙ ap (λ (v : Machine). v.phase) (k.agrees live).machine ∙ ap phase_after none in cc))
 
-  asks_in_replay : (old : Record) (result : Result Progress Error) (new : Record) → ReplayPremises m version options (heard version old) → InReplay m version options (heard version old) old.answers old.waiting old.taken old.vm → IsLive old.vm.machine → Asks m old result new → KeptBy (InReplay m version options) version options new
+  asks_in_replay : (old : Record) (result : Result Progress Error) (new : Record) → ReplayPremises fixed (heard fixed.version old) → InReplay fixed (heard fixed.version old) old.answers old.waiting old.taken old.vm → IsLive old.vm.machine → Asks fixed.handler old result new → KeptBy (InReplay fixed) fixed new
   asks_in_replay old result new p k live a =
       ⊎_elim
-      (λ (b : BeforeInput version options (heard version new) new.answers new.waiting new.taken new.vm). inl b)
-      (λ (c : Came version options (heard version new) new.answers new.taken new.vm). inr (record { came = c; run = λ alive at. by_phase old.vm.machine.phase refl c alive at }))
-      (asks_come m version options old result new k.came live a)
+      (λ (b : BeforeInput fixed (heard fixed.version new) new.answers new.waiting new.taken new.vm). inl b)
+      (λ (c : Came fixed (heard fixed.version new) new.answers new.taken new.vm). inr (record { came = c; run = λ alive at. by_phase old.vm.machine.phase refl c alive at }))
+      (asks_come fixed old result new k.came live a)
     where
-      by_phase : (ph : Phase) → old.vm.machine.phase ≡ ph → Came version options (heard version new) new.answers new.taken new.vm → new.vm.machine.failure ≡ None → new.vm.machine.phase ≡ Replaying → Runs m version options (heard version new) new.answers new.waiting new.taken new.vm
+      by_phase : (ph : Phase) → old.vm.machine.phase ≡ ph → Came fixed (heard fixed.version new) new.answers new.taken new.vm → new.vm.machine.failure ≡ None → new.vm.machine.phase ≡ Replaying → Runs fixed (heard fixed.version new) new.answers new.waiting new.taken new.vm
       by_phase Replaying is c alive at =
           let run = k.run live.failure is in
-          runs_of m version options new (asks_keep m version options old result new p.queues run (none_two old p run live is) live a) c.answered
-      by_phase Processing is c alive at = absurd (let z : Replaying ≡ Processing = sym at ∙ asks_stay m old result new live is a alive (ap is_running at) in cc)
+          runs_of fixed new (asks_keep fixed old result new p.queues run (none_two old p run live is) live a) c.answered
+      by_phase Processing is c alive at = absurd (let z : Replaying ≡ Processing = sym at ∙ asks_stay fixed.handler old result new live is a alive (ap is_running at) in cc)
       by_phase WaitingStart is c alive at = absurd (let z : false ≡ true = sym (ap is_running is) ∙ live.phase in cc)
       by_phase WaitingReplayEntries is c alive at = absurd (let z : false ≡ true = sym (ap is_running is) ∙ live.phase in cc)
       by_phase Closed is c alive at = absurd (let z : false ≡ true = sym (ap is_running is) ∙ live.phase in cc)
 
-  pub step_in_replay : (old : Record) (result : Result Progress Error) (new : Record) → IsKeptInReplay m version options old → StepDoes m old result new → IsKeptInReplay m version options new
+  pub step_in_replay : (old : Record) (result : Result Progress Error) (new : Record) → IsKeptInReplay fixed old → StepDoes fixed.handler old result new → IsKeptInReplay fixed new
   step_in_replay old result new u does p =
-      let before = subst (ReplayPremises m version options) (step_fed version m old result new does) p in
-      steps_keep (InReplay m version options) (ReplayPremises m version options) (replay_last m version options) m version options
+      let before = subst (ReplayPremises fixed) (step_fed fixed.version fixed.handler old result new does) p in
+      steps_keep (InReplay fixed) (ReplayPremises fixed) (replay_last fixed) fixed
       (λ fed waiting taken v w i q none comes is none_waits wrote tail. record {
-        came = reads_come version options fed none taken v w i comes is wrote tail;
-        run = λ alive at. (reads_done m version options fed q.replays none waiting taken v w i comes is none_waits wrote tail).0;
+        came = reads_come fixed fed none taken v w i comes is wrote tail;
+        run = λ alive at. (reads_done fixed fed q.replays none waiting taken v w i comes is none_waits wrote tail).0;
       })
       (λ fed answers waiting taken v k. k.came.answered) asks_in_replay old result new before (u before) does
 
   -- ---- the other calls
 
   -- the premises of replay hold before a piece comes where they hold with it
-  premises_before : (fed : Heard) (f : Fed) → ReplayPremises m version options (and_piece fed f) → ReplayPremises m version options fed
+  premises_before : (fed : Heard) (f : Fed) → ReplayPremises fixed (and_piece fed f) → ReplayPremises fixed fed
   premises_before fed f p =
       let G = more_frames (frames_of (bytes_fed fed)) f.piece in
       let frames : frames_fed (and_piece fed f) ≡ frames_fed fed ++ G.0 = ap (λ l. (frames_of l).0) (bytes_behind fed f) ∙ ap (λ p. p.0) (frames_of-append (bytes_fed fed) f.piece) ∙ G.1 in
@@ -124,42 +123,42 @@ module _ (m : Meaning) (version : Version) (options : VMOptions) where
         queues = p.queues;
         once = λ j n made q run some.
             fewer_waiting q (more_arrivals j G.0)
-            (p.once (journal_to fed (fed.pieces ++ f ∷ []) G.0 frames j) n made (later (more_arrivals j G.0) q) (run_to (setup_for version options j.start) m (Handed (handed_out j)) fed j G.0 n made q run) some);
+            (p.once (journal_to fed (fed.pieces ++ f ∷ []) G.0 frames j) n made (later (more_arrivals j G.0) q) (run_to (setup_for fixed j.start) fixed.handler (Handed (handed_out j)) fed j G.0 n made q run) some);
       }
 
-  premises_of : (old new : Heard) → Grows old new → ReplayPremises m version options new → ReplayPremises m version options old
+  premises_of : (old new : Heard) → Grows old new → ReplayPremises fixed new → ReplayPremises fixed old
   premises_of old new g p =
       ⊎_elim
-      (λ (x : new ≡ old). subst (ReplayPremises m version options) x p)
-      (λ (x : (f : Fed) × (new ≡ and_piece old f)). premises_before old x.0 (subst (ReplayPremises m version options) x.1 p))
+      (λ (x : new ≡ old). subst (ReplayPremises fixed) x p)
+      (λ (x : (f : Fed) × (new ≡ and_piece old f)). premises_before old x.0 (subst (ReplayPremises fixed) x.1 p))
       g
 
-  pub feed_in_replay : (piece : List ℕ) (old : Record) (result : Result Unit AllocError) (new : Record) → IsKeptInReplay m version options old → FeedDoes old.starved piece old result new → IsKeptInReplay m version options new
-  feed_in_replay piece old result new u does p = feed_keeps (InReplay m version options) (replay_last m version options) version options piece old result new (u (premises_of (heard version old) (heard version new) (feed_grows version piece old result new does) p)) does
+  pub feed_in_replay : (piece : List ℕ) (old : Record) (result : Result Unit AllocError) (new : Record) → IsKeptInReplay fixed old → FeedDoes old.starved piece old result new → IsKeptInReplay fixed new
+  feed_in_replay piece old result new u does p = feed_keeps (InReplay fixed) (replay_last fixed) fixed piece old result new (u (premises_of (heard fixed.version old) (heard fixed.version new) (feed_grows fixed.version piece old result new does) p)) does
 
-  pub close_in_replay : (old : Record) (result : Result Unit AllocError) (new : Record) → IsKeptInReplay m version options old → CloseDoes old.starved old result new → IsKeptInReplay m version options new
-  close_in_replay old result new u does p = close_keeps (InReplay m version options) (replay_last m version options) version options old result new (u (premises_of (heard version old) (heard version new) (inl (close_fed version old result new does)) p)) does
+  pub close_in_replay : (old : Record) (result : Result Unit AllocError) (new : Record) → IsKeptInReplay fixed old → CloseDoes old.starved old result new → IsKeptInReplay fixed new
+  close_in_replay old result new u does p = close_keeps (InReplay fixed) (replay_last fixed) fixed old result new (u (premises_of (heard fixed.version old) (heard fixed.version new) (inl (close_fed fixed.version old result new does)) p)) does
 
-  pub take_in_replay : (old : Record) (result : Result (List ℕ) AllocError) (new : Record) → IsKeptInReplay m version options old → Takes old result new → IsKeptInReplay m version options new
-  take_in_replay old result new u does p = take_keeps (InReplay m version options) (replay_last m version options) version options old result new (u (premises_of (heard version old) (heard version new) (inl (take_fed version old result new does)) p)) does
+  pub take_in_replay : (old : Record) (result : Result (List ℕ) AllocError) (new : Record) → IsKeptInReplay fixed old → Takes old result new → IsKeptInReplay fixed new
+  take_in_replay old result new u does p = take_keeps (InReplay fixed) (replay_last fixed) fixed old result new (u (premises_of (heard fixed.version old) (heard fixed.version new) (inl (take_fed fixed.version old result new does)) p)) does
 
   -- ---- what is said of a handler that is replaying
 
-  runs_in_replay : (r : Record) → IsKeptInReplay m version options r → ReplayPremises m version options (heard version r) → IsReplaying r → Runs m version options (heard version r) r.answers r.waiting r.taken r.vm
+  runs_in_replay : (r : Record) → IsKeptInReplay fixed r → ReplayPremises fixed (heard fixed.version r) → IsReplaying r → Runs fixed (heard fixed.version r) r.answers r.waiting r.taken r.vm
   runs_in_replay r u p is =
       ⊎_elim
-      (λ (b : BeforeInput version options (heard version r) r.answers r.waiting r.taken r.vm). absurd (is.runs b.answers))
-      (λ (k : InReplay m version options (heard version r) r.answers r.waiting r.taken r.vm). k.run is.failure is.phase)
+      (λ (b : BeforeInput fixed (heard fixed.version r) r.answers r.waiting r.taken r.vm). absurd (is.runs b.answers))
+      (λ (k : InReplay fixed (heard fixed.version r) r.answers r.waiting r.taken r.vm). k.run is.failure is.phase)
       (u p)
 
-  pub replays_in_replay : (old : Record) (result : Result Progress Error) (new : Record) → IsKeptInReplay m version options old → IsReplaying old → ReplayPremises m version options (heard version old) → StepDoes m old result new → Replays m version options old result new
+  pub replays_in_replay : (old : Record) (result : Result Progress Error) (new : Record) → IsKeptInReplay fixed old → IsReplaying old → ReplayPremises fixed (heard fixed.version old) → StepDoes fixed.handler old result new → Replays fixed old result new
   replays_in_replay old result new u is p does =
       let run = runs_in_replay old u p is in
-      step_replays m version options old result new p.queues run (none_two old p run (record { failure = is.failure; phase = ap is_running is.phase }) is.phase) is does
+      step_replays fixed old result new p.queues run (none_two old p run (record { failure = is.failure; phase = ap is_running is.phase }) is.phase) is does
 
-  pub told_in_replay : (r : Record) → WholeFrames r.vm.machine.output → IsKeptInReplay m version options r → IsReplaying r → ReplayPremises m version options (heard version r) → AnswersAreTold m version options r
+  pub told_in_replay : (r : Record) → WholeFrames r.vm.machine.output → IsKeptInReplay fixed r → IsReplaying r → ReplayPremises fixed (heard fixed.version r) → AnswersAreTold fixed r
   told_in_replay r f u is p =
       ⊎_elim
       (λ (none : r.answers ≡ []). absurd (is.runs none))
-      (λ (t : AnswersAreTold m version options r). t)
-      (kept_told m version options r f (inr (runs_in_replay r u p is)))
+      (λ (t : AnswersAreTold fixed r). t)
+      (kept_told fixed r f (inr (runs_in_replay r u p is)))

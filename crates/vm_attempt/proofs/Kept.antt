@@ -5,8 +5,6 @@ use Rattle.std.specs.List.{concat}
 use Rattle.std.specs.declared.alloc.AllocError.{AllocError}
 use Rattle.journal_errors.specs.declared.error.Error.{Error}
 use Rattle.journal_messages.specs.declared.message.RawMessage.{RawMessage}
-use Rattle.journal_errors.specs.declared.version.Version.{Version}
-use Rattle.vm_types.specs.declared.options.VMOptions.{VMOptions}
 use Rattle.vm_types.specs.declared.steps.Answer.{Answer}
 use Rattle.await_trees.specs.declared.tree.UnresolvedFuture.{UnresolvedFuture}
 use Rattle.vm_machine.specs.declared.machine.Machine.{Machine}
@@ -36,11 +34,12 @@ use Rattle.vm_attempt.proofs.Entries.{message_by, receives_by}
 use Rattle.vm_attempt.proofs.Pieces.{before_fed, bytes_behind, more_frames, not_failed}
 use Rattle.vm_attempt.proofs.Written.{takes_wrote}
 use Rattle.vm_attempt.proofs.Quiet.{closing_quiet, input_quiet, quiet_same, wrote_quiet}
+use Rattle.vm_attempt.specs.Fixed.{Fixed}
 
 -- ---- a VM that has failed
 
-before_dead : (version : Version) (options : VMOptions) (fed : Heard) (to : List Fed) (answers : List Answer) (waiting : Option UnresolvedFuture) (taken : List (List ℕ)) (v w : View) → BeforeInput version options fed answers waiting taken v → Quiet v.machine w.machine → IsSome w.machine.failure → BeforeInput version options (with_pieces to fed) answers waiting taken w
-before_dead version options fed to answers waiting taken v w b q dead = record {
+before_dead : (fixed : Fixed) (fed : Heard) (to : List Fed) (answers : List Answer) (waiting : Option UnresolvedFuture) (taken : List (List ℕ)) (v w : View) → BeforeInput fixed fed answers waiting taken v → Quiet v.machine w.machine → IsSome w.machine.failure → BeforeInput fixed (with_pieces to fed) answers waiting taken w
+before_dead fixed fed to answers waiting taken v w b q dead = record {
   answers = b.answers;
   none_proposed = b.none_proposed;
   waits_not = b.waits_not;
@@ -101,14 +100,14 @@ pub not_live : {A : Type 0} (v : Machine) → v.phase ≡ Closed → IsLive v �
 not_live v closed live = absurd (let z : false ≡ true = sym (ap is_running closed) ∙ live.phase in cc)
 
 -- before the input no VM is closed
-pub open_before : {A : Type 0} (version : Version) (options : VMOptions) (fed : Heard) (v : Machine) → Comes version options fed v → v.phase ≡ Closed → A
-open_before {A} version options fed v c closed =
+pub open_before : {A : Type 0} (fixed : Fixed) (fed : Heard) (v : Machine) → Comes fixed fed v → v.phase ≡ Closed → A
+open_before {A} fixed fed v c closed =
     ⊎_elim
-    (λ (x : (frames_fed fed ≡ []) × ((alloc : Global) × (v ≡ fresh alloc version options))). absurd (let z : WaitingStart ≡ Closed = sym (ap (λ w. w.phase) x.1.1) ∙ closed in cc))
-    (λ (b : Begun version options fed v).
+    (λ (x : (frames_fed fed ≡ []) × ((alloc : Global) × (v ≡ fresh alloc fixed.version fixed.options))). absurd (let z : WaitingStart ≡ Closed = sym (ap (λ w. w.phase) x.1.1) ∙ closed in cc))
+    (λ (b : Begun fixed fed v).
     ⊎_elim
-    (λ (x : StillWaits (setup_for version options b.start) (record { entries = b.state; coverage = coverage_of b.start.partial }) b.aside b.start.known_entries [] [] b.others v). absurd (let z : WaitingReplayEntries ≡ Closed = sym (ap (λ w. w.phase) x.machine) ∙ closed in cc))
-    (λ (x : HasAll (setup_for version options b.start) (record { entries = b.state; coverage = coverage_of b.start.partial }) b.aside b.start.known_entries [] [] b.others v). absurd (let z : Replaying ≡ Closed = sym (ap (λ w. w.phase) x.machine) ∙ closed in cc))
+    (λ (x : StillWaits (setup_for fixed b.start) (record { entries = b.state; coverage = coverage_of b.start.partial }) b.aside b.start.known_entries [] [] b.others v). absurd (let z : WaitingReplayEntries ≡ Closed = sym (ap (λ w. w.phase) x.machine) ∙ closed in cc))
+    (λ (x : HasAll (setup_for fixed b.start) (record { entries = b.state; coverage = coverage_of b.start.partial }) b.aside b.start.known_entries [] [] b.others v). absurd (let z : Replaying ≡ Closed = sym (ap (λ w. w.phase) x.machine) ∙ closed in cc))
     b.waits)
     c
 
@@ -121,9 +120,9 @@ piece_dropped v piece e is = ap (λ o. if is_some o then v else consumed (frames
 -- ---- the output is taken
 
 -- what came, beside something else
-with_aside : (version : Version) (options : VMOptions) (fed : Heard) (v w : Machine) (b : Begun version options fed v) (aside : Aside) → aside.start ≡ info_of version options.fallback_random_seed b.start
-    → StillWaits (setup_for version options b.start) (record { entries = b.state; coverage = coverage_of b.start.partial }) aside b.start.known_entries [] [] b.others w ⊎ HasAll (setup_for version options b.start) (record { entries = b.state; coverage = coverage_of b.start.partial }) aside b.start.known_entries [] [] b.others w → Begun version options fed w
-with_aside version options fed v w b aside is waits = record {
+with_aside : (fixed : Fixed) (fed : Heard) (v w : Machine) (b : Begun fixed fed v) (aside : Aside) → aside.start ≡ info_of fixed.version fixed.options.fallback_random_seed b.start
+    → StillWaits (setup_for fixed b.start) (record { entries = b.state; coverage = coverage_of b.start.partial }) aside b.start.known_entries [] [] b.others w ⊎ HasAll (setup_for fixed b.start) (record { entries = b.state; coverage = coverage_of b.start.partial }) aside b.start.known_entries [] [] b.others w → Begun fixed fed w
+with_aside fixed fed v w b aside is waits = record {
   first_frame = b.first_frame;
   others = b.others;
   frames = b.frames;
@@ -136,45 +135,45 @@ with_aside version options fed v w b aside is waits = record {
   waits = waits;
 }
 
-comes_emptied : (version : Version) (options : VMOptions) (fed : Heard) (v : Machine) → Comes version options fed v → Comes version options fed (record v { output = [] })
-comes_emptied version options fed v =
+comes_emptied : (fixed : Fixed) (fed : Heard) (v : Machine) → Comes fixed fed v → Comes fixed fed (record v { output = [] })
+comes_emptied fixed fed v =
     ⊎_elim
-    (λ (x : (frames_fed fed ≡ []) × ((alloc : Global) × (v ≡ fresh alloc version options))). inl (x.0, (x.1.0, ap (λ (w : Machine). record w { output = [] }) x.1.1)))
-    (λ (b : Begun version options fed v). inr (with_aside version options fed v (record v { output = [] }) b (record b.aside { output = [] }) b.of_start
+    (λ (x : (frames_fed fed ≡ []) × ((alloc : Global) × (v ≡ fresh alloc fixed.version fixed.options))). inl (x.0, (x.1.0, ap (λ (w : Machine). record w { output = [] }) x.1.1)))
+    (λ (b : Begun fixed fed v). inr (with_aside fixed fed v (record v { output = [] }) b (record b.aside { output = [] }) b.of_start
     (⊎_elim
-    (λ (x : StillWaits (setup_for version options b.start) (record { entries = b.state; coverage = coverage_of b.start.partial }) b.aside b.start.known_entries [] [] b.others v). inl (record { left = x.left; count = x.count; none_acknowledge = x.none_acknowledge; machine = ap (λ (w : Machine). record w { output = [] }) x.machine }))
-    (λ (x : HasAll (setup_for version options b.start) (record { entries = b.state; coverage = coverage_of b.start.partial }) b.aside b.start.known_entries [] [] b.others v). inr (record { entries = x.entries; others = x.others; split = x.split; none_acknowledge = x.none_acknowledge; count = x.count; machine = ap (λ (w : Machine). record w { output = [] }) x.machine }))
+    (λ (x : StillWaits (setup_for fixed b.start) (record { entries = b.state; coverage = coverage_of b.start.partial }) b.aside b.start.known_entries [] [] b.others v). inl (record { left = x.left; count = x.count; none_acknowledge = x.none_acknowledge; machine = ap (λ (w : Machine). record w { output = [] }) x.machine }))
+    (λ (x : HasAll (setup_for fixed b.start) (record { entries = b.state; coverage = coverage_of b.start.partial }) b.aside b.start.known_entries [] [] b.others v). inr (record { entries = x.entries; others = x.others; split = x.split; none_acknowledge = x.none_acknowledge; count = x.count; machine = ap (λ (w : Machine). record w { output = [] }) x.machine }))
     b.waits)))
 
-comes_closed : (version : Version) (options : VMOptions) (fed : Heard) (v : Machine) → is_running v.phase ≡ true → Comes version options fed v → Comes version options fed (record v { input_closed = true })
-comes_closed version options fed v runs =
+comes_closed : (fixed : Fixed) (fed : Heard) (v : Machine) → is_running v.phase ≡ true → Comes fixed fed v → Comes fixed fed (record v { input_closed = true })
+comes_closed fixed fed v runs =
     ⊎_elim
-    (λ (x : (frames_fed fed ≡ []) × ((alloc : Global) × (v ≡ fresh alloc version options))). absurd (let z : false ≡ true = sym (ap (λ w. is_running w.phase) x.1.1) ∙ runs in cc))
-    (λ (b : Begun version options fed v). inr (with_aside version options fed v (record v { input_closed = true }) b (record b.aside { input_closed = true }) b.of_start
+    (λ (x : (frames_fed fed ≡ []) × ((alloc : Global) × (v ≡ fresh alloc fixed.version fixed.options))). absurd (let z : false ≡ true = sym (ap (λ w. is_running w.phase) x.1.1) ∙ runs in cc))
+    (λ (b : Begun fixed fed v). inr (with_aside fixed fed v (record v { input_closed = true }) b (record b.aside { input_closed = true }) b.of_start
     (⊎_elim
-    (λ (x : StillWaits (setup_for version options b.start) (record { entries = b.state; coverage = coverage_of b.start.partial }) b.aside b.start.known_entries [] [] b.others v). inl (record { left = x.left; count = x.count; none_acknowledge = x.none_acknowledge; machine = ap (λ (w : Machine). record w { input_closed = true }) x.machine }))
-    (λ (x : HasAll (setup_for version options b.start) (record { entries = b.state; coverage = coverage_of b.start.partial }) b.aside b.start.known_entries [] [] b.others v). inr (record { entries = x.entries; others = x.others; split = x.split; none_acknowledge = x.none_acknowledge; count = x.count; machine = ap (λ (w : Machine). record w { input_closed = true }) x.machine }))
+    (λ (x : StillWaits (setup_for fixed b.start) (record { entries = b.state; coverage = coverage_of b.start.partial }) b.aside b.start.known_entries [] [] b.others v). inl (record { left = x.left; count = x.count; none_acknowledge = x.none_acknowledge; machine = ap (λ (w : Machine). record w { input_closed = true }) x.machine }))
+    (λ (x : HasAll (setup_for fixed b.start) (record { entries = b.state; coverage = coverage_of b.start.partial }) b.aside b.start.known_entries [] [] b.others v). inr (record { entries = x.entries; others = x.others; split = x.split; none_acknowledge = x.none_acknowledge; count = x.count; machine = ap (λ (w : Machine). record w { input_closed = true }) x.machine }))
     b.waits)))
 
-before_takes : (version : Version) (options : VMOptions) (fed : Heard) (answers : List Answer) (waiting : Option UnresolvedFuture) (taken : List (List ℕ)) (v : View) → WholeFrames v.machine.output → BeforeInput version options fed answers waiting taken v → BeforeInput version options fed answers waiting (taken ++ concat v.machine.output ∷ []) (emptied v)
-before_takes version options fed answers waiting taken v f b = record {
+before_takes : (fixed : Fixed) (fed : Heard) (answers : List Answer) (waiting : Option UnresolvedFuture) (taken : List (List ℕ)) (v : View) → WholeFrames v.machine.output → BeforeInput fixed fed answers waiting taken v → BeforeInput fixed fed answers waiting (taken ++ concat v.machine.output ∷ []) (emptied v)
+before_takes fixed fed answers waiting taken v f b = record {
   answers = b.answers;
   none_proposed = b.none_proposed;
   waits_not = b.waits_not;
   wrote = takes_wrote taken v.machine.output [] f b.wrote;
-  comes = λ alive. comes_emptied version options fed v.machine (b.comes alive);
+  comes = λ alive. comes_emptied fixed fed v.machine (b.comes alive);
   tail = b.tail;
 }
 
 -- ---- the input is closed
 
-before_closes : (version : Version) (options : VMOptions) (fed : Heard) (answers : List Answer) (waiting : Option UnresolvedFuture) (taken : List (List ℕ)) (v : View) → BeforeInput version options fed answers waiting taken v → v.machine.failure ≡ None → is_running v.machine.phase ≡ true → BeforeInput version options fed answers waiting taken (record v { machine = record v.machine { input_closed = true } })
-before_closes version options fed answers waiting taken v b live runs = record {
+before_closes : (fixed : Fixed) (fed : Heard) (answers : List Answer) (waiting : Option UnresolvedFuture) (taken : List (List ℕ)) (v : View) → BeforeInput fixed fed answers waiting taken v → v.machine.failure ≡ None → is_running v.machine.phase ≡ true → BeforeInput fixed fed answers waiting taken (record v { machine = record v.machine { input_closed = true } })
+before_closes fixed fed answers waiting taken v b live runs = record {
   answers = b.answers;
   none_proposed = b.none_proposed;
   waits_not = b.waits_not;
   wrote = b.wrote;
-  comes = λ alive. comes_closed version options fed v.machine runs (b.comes live);
+  comes = λ alive. comes_closed fixed fed v.machine runs (b.comes live);
   tail = b.tail;
 }
 
@@ -194,8 +193,8 @@ abbrev pub Reading : Type 1
 Reading = Heard → List Answer → Option UnresolvedFuture → List (List ℕ) → View → Type 0
 
 -- the handler hasn't read its input, or this holds
-abbrev pub KeptBy : Reading → Version → VMOptions → Record → Type 0
-KeptBy R version options r = BeforeInput version options (heard version r) r.answers r.waiting r.taken r.vm ⊎ R (heard version r) r.answers r.waiting r.taken r.vm
+abbrev pub KeptBy : Reading → Fixed → Record → Type 0
+KeptBy R fixed r = BeforeInput fixed (heard fixed.version r) r.answers r.waiting r.taken r.vm ⊎ R (heard fixed.version r) r.answers r.waiting r.taken r.vm
 
 -- It lasts: where the VM has failed or is closed, with further input, where the output is taken, and where the input is closed.
 pub record Lasts (R : Reading) : Type 0 where
@@ -206,41 +205,41 @@ pub record Lasts (R : Reading) : Type 0 where
   pub closes : (fed : Heard) (answers : List Answer) (waiting : Option UnresolvedFuture) (taken : List (List ℕ)) (v : View) → R fed answers waiting taken v → R fed answers waiting taken (record v { machine = record v.machine { input_closed = true } })
   pub phase : (fed : Heard) (answers : List Answer) (waiting : Option UnresolvedFuture) (taken : List (List ℕ)) (v : View) → R fed answers waiting taken v → v.machine.failure ≡ None → (is_running v.machine.phase ≡ true) ⊎ (v.machine.phase ≡ Closed)
 
-module _ (R : Reading) (l : Lasts R) (version : Version) (options : VMOptions) where
+module _ (R : Reading) (l : Lasts R) (fixed : Fixed) where
   abbrev Kept : Record → Type 0
-  Kept = KeptBy R version options
+  Kept = KeptBy R fixed
 
   pub dead_same : (r : Record) (w : View) → Kept r → Quiet r.vm.machine w.machine → IsSome w.machine.failure → Kept (with_vm w r)
   dead_same r w k q dead =
       ⊎_elim
-      (λ (b : BeforeInput version options (heard version r) r.answers r.waiting r.taken r.vm). inl (before_dead version options (heard version r) r.fed r.answers r.waiting r.taken r.vm w b q dead))
-      (λ (b : R (heard version r) r.answers r.waiting r.taken r.vm). inr (l.dead (heard version r) r.fed [] (sym (append-nil (frames_fed (heard version r)))) r.answers r.waiting r.taken r.vm w b q dead))
+      (λ (b : BeforeInput fixed (heard fixed.version r) r.answers r.waiting r.taken r.vm). inl (before_dead fixed (heard fixed.version r) r.fed r.answers r.waiting r.taken r.vm w b q dead))
+      (λ (b : R (heard fixed.version r) r.answers r.waiting r.taken r.vm). inr (l.dead (heard fixed.version r) r.fed [] (sym (append-nil (frames_fed (heard fixed.version r)))) r.answers r.waiting r.taken r.vm w b q dead))
       k
 
   dead_more : (r : Record) (f : Fed) (w : View) → Kept r → Quiet r.vm.machine w.machine → IsSome w.machine.failure → Kept (record r { fed = r.fed ++ f ∷ []; vm = w })
   dead_more r f w k q dead =
-      let more = more_frames (frames_of (bytes_fed (heard version r))) f.piece in
-      let frames : frames_fed (and_piece (heard version r) f) ≡ frames_fed (heard version r) ++ more.0 = ap (λ l. (frames_of l).0) (bytes_behind (heard version r) f) ∙ ap (λ p. p.0) (frames_of-append (bytes_fed (heard version r)) f.piece) ∙ more.1 in
+      let more = more_frames (frames_of (bytes_fed (heard fixed.version r))) f.piece in
+      let frames : frames_fed (and_piece (heard fixed.version r) f) ≡ frames_fed (heard fixed.version r) ++ more.0 = ap (λ l. (frames_of l).0) (bytes_behind (heard fixed.version r) f) ∙ ap (λ p. p.0) (frames_of-append (bytes_fed (heard fixed.version r)) f.piece) ∙ more.1 in
       ⊎_elim
-      (λ (b : BeforeInput version options (heard version r) r.answers r.waiting r.taken r.vm). inl (before_dead version options (heard version r) (r.fed ++ f ∷ []) r.answers r.waiting r.taken r.vm w b q dead))
-      (λ (b : R (heard version r) r.answers r.waiting r.taken r.vm). inr (l.dead (heard version r) (r.fed ++ f ∷ []) more.0 frames r.answers r.waiting r.taken r.vm w b q dead))
+      (λ (b : BeforeInput fixed (heard fixed.version r) r.answers r.waiting r.taken r.vm). inl (before_dead fixed (heard fixed.version r) (r.fed ++ f ∷ []) r.answers r.waiting r.taken r.vm w b q dead))
+      (λ (b : R (heard fixed.version r) r.answers r.waiting r.taken r.vm). inr (l.dead (heard fixed.version r) (r.fed ++ f ∷ []) more.0 frames r.answers r.waiting r.taken r.vm w b q dead))
       k
 
   -- a piece that is kept
   piece_kept : (r : Record) (f : Fed) → Kept r → r.vm.machine.failure ≡ None → r.vm.machine.phase ≢ Closed → Kept (record r { fed = r.fed ++ f ∷ []; vm = after_input r.vm f.piece })
   piece_kept r f k live open_yet =
       ⊎_elim
-      (λ (b : BeforeInput version options (heard version r) r.answers r.waiting r.taken r.vm). inl (before_fed version options (heard version r) r.answers r.waiting r.taken r.vm f b live))
-      (λ (b : R (heard version r) r.answers r.waiting r.taken r.vm).
-      inr (l.more (heard version r) r.answers r.waiting r.taken r.vm f b (record { failure = live; phase = ⊎_elim (λ (x : is_running r.vm.machine.phase ≡ true). x) (λ (x : r.vm.machine.phase ≡ Closed). absurd (open_yet x)) (l.phase (heard version r) r.answers r.waiting r.taken r.vm b live) })))
+      (λ (b : BeforeInput fixed (heard fixed.version r) r.answers r.waiting r.taken r.vm). inl (before_fed fixed (heard fixed.version r) r.answers r.waiting r.taken r.vm f b live))
+      (λ (b : R (heard fixed.version r) r.answers r.waiting r.taken r.vm).
+      inr (l.more (heard fixed.version r) r.answers r.waiting r.taken r.vm f b (record { failure = live; phase = ⊎_elim (λ (x : is_running r.vm.machine.phase ≡ true). x) (λ (x : r.vm.machine.phase ≡ Closed). absurd (open_yet x)) (l.phase (heard fixed.version r) r.answers r.waiting r.taken r.vm b live) })))
       k
 
   -- a piece for a VM that is closed
   piece_closed : (r : Record) (piece : List ℕ) → Kept r → r.vm.machine.failure ≡ None → r.vm.machine.phase ≡ Closed → Kept (with_vm (after_input r.vm piece) r)
   piece_closed r piece k live closed =
       ⊎_elim
-      (λ (b : BeforeInput version options (heard version r) r.answers r.waiting r.taken r.vm). open_before version options (heard version r) r.vm.machine (b.comes live) closed)
-      (λ (b : R (heard version r) r.answers r.waiting r.taken r.vm). inr (l.closed (heard version r) r.answers r.waiting r.taken r.vm (after_input r.vm piece) b (input_quiet r.vm piece) (closed_input r.vm piece closed)))
+      (λ (b : BeforeInput fixed (heard fixed.version r) r.answers r.waiting r.taken r.vm). open_before fixed (heard fixed.version r) r.vm.machine (b.comes live) closed)
+      (λ (b : R (heard fixed.version r) r.answers r.waiting r.taken r.vm). inr (l.closed (heard fixed.version r) r.answers r.waiting r.taken r.vm (after_input r.vm piece) b (input_quiet r.vm piece) (closed_input r.vm piece closed)))
       k
 
   piece_comes : (r : Record) (piece : List ℕ) → Kept r → (o : Option Error) → r.vm.machine.failure ≡ o → (ph : Phase) → r.vm.machine.phase ≡ ph → Kept (with_vm (after_input r.vm piece) (kept_at o ph piece r))
@@ -279,16 +278,16 @@ module _ (R : Reading) (l : Lasts R) (version : Version) (options : VMOptions) w
   take_keeps old (Ok bytes) new k does =
       subst Kept (sym does.1)
       (⊎_elim
-      (λ (b : BeforeInput version options (heard version old) old.answers old.waiting old.taken old.vm). inl (before_takes version options (heard version old) old.answers old.waiting old.taken old.vm does.2 b))
-      (λ (b : R (heard version old) old.answers old.waiting old.taken old.vm). inr (l.takes (heard version old) old.answers old.waiting old.taken old.vm does.2 b))
+      (λ (b : BeforeInput fixed (heard fixed.version old) old.answers old.waiting old.taken old.vm). inl (before_takes fixed (heard fixed.version old) old.answers old.waiting old.taken old.vm does.2 b))
+      (λ (b : R (heard fixed.version old) old.answers old.waiting old.taken old.vm). inr (l.takes (heard fixed.version old) old.answers old.waiting old.taken old.vm does.2 b))
       k)
   take_keeps old (Err e) new k does = subst Kept (sym does) k
 
   closing_runs : (r : Record) → Kept r → r.vm.machine.failure ≡ None → is_running r.vm.machine.phase ≡ true → Kept (with_vm (record r.vm { machine = record r.vm.machine { input_closed = true } }) r)
   closing_runs r k live runs =
       ⊎_elim
-      (λ (b : BeforeInput version options (heard version r) r.answers r.waiting r.taken r.vm). inl (before_closes version options (heard version r) r.answers r.waiting r.taken r.vm b live runs))
-      (λ (b : R (heard version r) r.answers r.waiting r.taken r.vm). inr (l.closes (heard version r) r.answers r.waiting r.taken r.vm b))
+      (λ (b : BeforeInput fixed (heard fixed.version r) r.answers r.waiting r.taken r.vm). inl (before_closes fixed (heard fixed.version r) r.answers r.waiting r.taken r.vm b live runs))
+      (λ (b : R (heard fixed.version r) r.answers r.waiting r.taken r.vm). inr (l.closes (heard fixed.version r) r.answers r.waiting r.taken r.vm b))
       k
 
   closing_keeps : (r : Record) → Kept r → (o : Option Error) → r.vm.machine.failure ≡ o → (ph : Phase) → r.vm.machine.phase ≡ ph → Kept (with_vm (after_closing r.vm) r)
@@ -299,8 +298,8 @@ module _ (R : Reading) (l : Lasts R) (version : Version) (options : VMOptions) w
   closing_keeps r k None is Processing at = subst (λ w. Kept (with_vm (record r.vm { machine = w }) r)) (closing_notes r.vm is Processing at) (closing_runs r k is (ap is_running at))
   closing_keeps r k None is Closed at =
       ⊎_elim
-      (λ (b : BeforeInput version options (heard version r) r.answers r.waiting r.taken r.vm). open_before version options (heard version r) r.vm.machine (b.comes is) at)
-      (λ (b : R (heard version r) r.answers r.waiting r.taken r.vm). inr (l.closed (heard version r) r.answers r.waiting r.taken r.vm (after_closing r.vm) b (closing_quiet r.vm) (ap (λ w. w.phase) (sym (closing_notes r.vm is Closed at)) ∙ at)))
+      (λ (b : BeforeInput fixed (heard fixed.version r) r.answers r.waiting r.taken r.vm). open_before fixed (heard fixed.version r) r.vm.machine (b.comes is) at)
+      (λ (b : R (heard fixed.version r) r.answers r.waiting r.taken r.vm). inr (l.closed (heard fixed.version r) r.answers r.waiting r.taken r.vm (after_closing r.vm) b (closing_quiet r.vm) (ap (λ w. w.phase) (sym (closing_notes r.vm is Closed at)) ∙ at)))
       k
 
   closes_keep : (old : Record) (result : Result Unit AllocError) (new : Record) → Kept old → Closes old result new → Kept new

@@ -4,8 +4,6 @@ use Rattle.std.proofs.Common.{◌≡◌, ℕ, true, List, [], ◌∷◌, ◌++�
 use Rattle.std.specs.Prelude.{IsSome}
 use Rattle.std.specs.List.{concat}
 use Rattle.journal_messages.specs.declared.message.RawMessage.{RawMessage}
-use Rattle.journal_errors.specs.declared.version.Version.{Version}
-use Rattle.vm_types.specs.declared.options.VMOptions.{VMOptions}
 use Rattle.vm_types.specs.declared.steps.Answer.{Answer}
 use Rattle.await_trees.specs.declared.tree.UnresolvedFuture.{UnresolvedFuture}
 use Rattle.vm_machine.specs.declared.machine.Machine.{Machine}
@@ -14,7 +12,7 @@ use Rattle.vm_model.specs.Moves.{Point, later}
 use Rattle.vm_machine.specs.Phases.{is_running}
 use Rattle.invocation_vm.specs.Frames.{frames_of}
 use Rattle.invocation_vm.specs.Views.{View, after_input, all_received}
-use Rattle.vm_model.specs.Calls.{Meaning, Setup}
+use Rattle.vm_model.specs.Calls.{Setup}
 use Rattle.vm_steps.specs.Heard.{Heard, and_piece, with_pieces}
 use Rattle.vm_steps.specs.declared.progress.Fed.{Fed}
 use Rattle.vm_parts.specs.declared.context.StateMap.{StateMap}
@@ -31,19 +29,20 @@ use Rattle.vm_attempt.proofs.Staying.{all_stay, no_failure}
 use Rattle.vm_attempt.proofs.Fresh.{all_same, on_over, on_still}
 use Rattle.vm_attempt.proofs.Kept.{Lasts, Reading, not_live}
 use Rattle.vm_attempt.proofs.Written.{takes_wrote}
+use Rattle.vm_attempt.specs.Fixed.{Fixed}
 
 -- ---- its run is told
 
-runs_dead : (m : Meaning) (version : Version) (options : VMOptions) (fed : Heard) (to : List Fed) (G : List RawMessage) → frames_fed (with_pieces to fed) ≡ frames_fed fed ++ G → (answers : List Answer) (waiting : Option UnresolvedFuture) (taken : List (List ℕ)) (v w : View) → Runs m version options fed answers waiting taken v → Quiet v.machine w.machine → IsSome w.machine.failure → Runs m version options (with_pieces to fed) answers waiting taken w
-runs_dead m version options fed to G frames answers waiting taken v w k q dead = record {
+runs_dead : (fixed : Fixed) (fed : Heard) (to : List Fed) (G : List RawMessage) → frames_fed (with_pieces to fed) ≡ frames_fed fed ++ G → (answers : List Answer) (waiting : Option UnresolvedFuture) (taken : List (List ℕ)) (v w : View) → Runs fixed fed answers waiting taken v → Quiet v.machine w.machine → IsSome w.machine.failure → Runs fixed (with_pieces to fed) answers waiting taken w
+runs_dead fixed fed to G frames answers waiting taken v w k q dead = record {
   journal = journal_to fed to G frames k.journal;
   written = k.written;
   wrote = wrote_quiet taken v.machine w.machine k.written q k.wrote;
   at = later (more_arrivals k.journal G) k.at;
   moves = k.moves;
-  run = run_to (setup_for version options k.journal.start) m (Handed (handed_out k.journal)) fed k.journal G k.moves k.written k.at k.run;
+  run = run_to (setup_for fixed k.journal.start) fixed.handler (Handed (handed_out k.journal)) fed k.journal G k.moves k.written k.at k.run;
   answers = k.answers;
-  awaits = still_awaits m k.at (more_arrivals k.journal G) waiting k.awaits;
+  awaits = still_awaits fixed.handler k.at (more_arrivals k.journal G) waiting k.awaits;
   agrees = λ alive. not_failed w.machine dead alive.failure;
   rests = λ alive. not_failed w.machine dead alive.failure;
   keeps = λ alive. not_failed w.machine dead alive.failure;
@@ -52,8 +51,8 @@ runs_dead m version options fed to G frames answers waiting taken v w k q dead =
 }
 
 -- a run whose VM is closed, and stays so
-pub runs_closed : (m : Meaning) (version : Version) (options : VMOptions) (fed : Heard) (answers : List Answer) (waiting : Option UnresolvedFuture) (taken : List (List ℕ)) (v w : View) → Runs m version options fed answers waiting taken v → Quiet v.machine w.machine → w.machine.phase ≡ Closed → Runs m version options fed answers waiting taken w
-runs_closed m version options fed answers waiting taken v w k q closed = record {
+pub runs_closed : (fixed : Fixed) (fed : Heard) (answers : List Answer) (waiting : Option UnresolvedFuture) (taken : List (List ℕ)) (v w : View) → Runs fixed fed answers waiting taken v → Quiet v.machine w.machine → w.machine.phase ≡ Closed → Runs fixed fed answers waiting taken w
+runs_closed fixed fed answers waiting taken v w k q closed = record {
   journal = k.journal;
   written = k.written;
   wrote = wrote_quiet taken v.machine w.machine k.written q k.wrote;
@@ -75,8 +74,8 @@ agrees_emptied s given written v p a = record { aside = record a.aside { output 
 agrees_closed : (s : Setup) (given : StateMap) (written : List RawMessage) (v : Machine) (p : Point) → Agrees s given written v p → Agrees s given written (record v { input_closed = true }) p
 agrees_closed s given written v p a = record { aside = record a.aside { input_closed = true }; machine = ap (λ (w : Machine). record w { input_closed = true }) a.machine; identity = a.identity }
 
-runs_takes : (m : Meaning) (version : Version) (options : VMOptions) (fed : Heard) (answers : List Answer) (waiting : Option UnresolvedFuture) (taken : List (List ℕ)) (v : View) → WholeFrames v.machine.output → Runs m version options fed answers waiting taken v → Runs m version options fed answers waiting (taken ++ concat v.machine.output ∷ []) (emptied v)
-runs_takes m version options fed answers waiting taken v f k = record {
+runs_takes : (fixed : Fixed) (fed : Heard) (answers : List Answer) (waiting : Option UnresolvedFuture) (taken : List (List ℕ)) (v : View) → WholeFrames v.machine.output → Runs fixed fed answers waiting taken v → Runs fixed fed answers waiting (taken ++ concat v.machine.output ∷ []) (emptied v)
+runs_takes fixed fed answers waiting taken v f k = record {
   journal = k.journal;
   written = k.written;
   wrote = takes_wrote taken v.machine.output k.written f k.wrote;
@@ -85,15 +84,15 @@ runs_takes m version options fed answers waiting taken v f k = record {
   run = k.run;
   answers = k.answers;
   awaits = k.awaits;
-  agrees = λ live. agrees_emptied (setup_for version options k.journal.start) (handed_out k.journal) k.written v.machine k.at (k.agrees (record { failure = live.failure; phase = live.phase }));
+  agrees = λ live. agrees_emptied (setup_for fixed k.journal.start) (handed_out k.journal) k.written v.machine k.at (k.agrees (record { failure = live.failure; phase = live.phase }));
   rests = λ live. k.rests (record { failure = live.failure; phase = live.phase });
   keeps = λ live. k.keeps (record { failure = live.failure; phase = live.phase });
   phase = k.phase;
   tail = λ live. k.tail (record { failure = live.failure; phase = live.phase });
 }
 
-runs_closes : (m : Meaning) (version : Version) (options : VMOptions) (fed : Heard) (answers : List Answer) (waiting : Option UnresolvedFuture) (taken : List (List ℕ)) (v : View) → Runs m version options fed answers waiting taken v → Runs m version options fed answers waiting taken (record v { machine = record v.machine { input_closed = true } })
-runs_closes m version options fed answers waiting taken v k = record {
+runs_closes : (fixed : Fixed) (fed : Heard) (answers : List Answer) (waiting : Option UnresolvedFuture) (taken : List (List ℕ)) (v : View) → Runs fixed fed answers waiting taken v → Runs fixed fed answers waiting taken (record v { machine = record v.machine { input_closed = true } })
+runs_closes fixed fed answers waiting taken v k = record {
   journal = k.journal;
   written = k.written;
   wrote = k.wrote;
@@ -102,7 +101,7 @@ runs_closes m version options fed answers waiting taken v k = record {
   run = k.run;
   answers = k.answers;
   awaits = k.awaits;
-  agrees = λ live. agrees_closed (setup_for version options k.journal.start) (handed_out k.journal) k.written v.machine k.at (k.agrees (record { failure = live.failure; phase = live.phase }));
+  agrees = λ live. agrees_closed (setup_for fixed k.journal.start) (handed_out k.journal) k.written v.machine k.at (k.agrees (record { failure = live.failure; phase = live.phase }));
   rests = λ live. k.rests (record { failure = live.failure; phase = live.phase });
   keeps = λ live. k.keeps (record { failure = live.failure; phase = live.phase });
   phase = k.phase;
@@ -110,24 +109,24 @@ runs_closes m version options fed answers waiting taken v k = record {
 }
 
 -- the run of a handler lasts
-pub runs_last : (m : Meaning) (version : Version) (options : VMOptions) → Lasts (Runs m version options)
-runs_last m version options = record {
-  dead = runs_dead m version options;
-  closed = runs_closed m version options;
-  more = running_fed m version options;
-  takes = runs_takes m version options;
-  closes = runs_closes m version options;
+pub runs_last : (fixed : Fixed) → Lasts (Runs fixed)
+runs_last fixed = record {
+  dead = runs_dead fixed;
+  closed = runs_closed fixed;
+  more = running_fed fixed;
+  takes = runs_takes fixed;
+  closes = runs_closes fixed;
   phase = λ fed answers waiting taken v k. k.phase;
 }
 
 -- ---- what came and what was written
 
 -- what came, as a reading of an attempt
-abbrev pub CameBy : Version → VMOptions → Reading
-CameBy version options fed answers waiting taken vm = Came version options fed answers taken vm
+abbrev pub CameBy : Fixed → Reading
+CameBy fixed fed answers waiting taken vm = Came fixed fed answers taken vm
 
-came_dead : (version : Version) (options : VMOptions) (fed : Heard) (to : List Fed) (G : List RawMessage) → frames_fed (with_pieces to fed) ≡ frames_fed fed ++ G → (answers : List Answer) (waiting : Option UnresolvedFuture) (taken : List (List ℕ)) (v w : View) → CameBy version options fed answers waiting taken v → Quiet v.machine w.machine → IsSome w.machine.failure → CameBy version options (with_pieces to fed) answers waiting taken w
-came_dead version options fed to G frames answers waiting taken v w k q dead = record {
+came_dead : (fixed : Fixed) (fed : Heard) (to : List Fed) (G : List RawMessage) → frames_fed (with_pieces to fed) ≡ frames_fed fed ++ G → (answers : List Answer) (waiting : Option UnresolvedFuture) (taken : List (List ℕ)) (v w : View) → CameBy fixed fed answers waiting taken v → Quiet v.machine w.machine → IsSome w.machine.failure → CameBy fixed (with_pieces to fed) answers waiting taken w
+came_dead fixed fed to G frames answers waiting taken v w k q dead = record {
   journal = journal_to fed to G frames k.journal;
   answered = k.answered;
   written = k.written;
@@ -140,8 +139,8 @@ came_dead version options fed to G frames answers waiting taken v w k q dead = r
   tail = λ alive. not_failed w.machine dead alive.failure;
 }
 
-came_closed : (version : Version) (options : VMOptions) (fed : Heard) (answers : List Answer) (waiting : Option UnresolvedFuture) (taken : List (List ℕ)) (v w : View) → CameBy version options fed answers waiting taken v → Quiet v.machine w.machine → w.machine.phase ≡ Closed → CameBy version options fed answers waiting taken w
-came_closed version options fed answers waiting taken v w k q closed = record {
+came_closed : (fixed : Fixed) (fed : Heard) (answers : List Answer) (waiting : Option UnresolvedFuture) (taken : List (List ℕ)) (v w : View) → CameBy fixed fed answers waiting taken v → Quiet v.machine w.machine → w.machine.phase ≡ Closed → CameBy fixed fed answers waiting taken w
+came_closed fixed fed answers waiting taken v w k q closed = record {
   journal = k.journal;
   answered = k.answered;
   written = k.written;
@@ -170,8 +169,8 @@ kept_running G v w live is alive =
     in
     (ap is_running phase ∙ live.phase, (ap (λ (x : Machine). x.version) is ∙ same.0, ap (λ (x : Machine). x.options) is ∙ same.1))
 
-came_fed : (version : Version) (options : VMOptions) (fed : Heard) (answers : List Answer) (waiting : Option UnresolvedFuture) (taken : List (List ℕ)) (v : View) (f : Fed) → CameBy version options fed answers waiting taken v → IsLive v.machine → CameBy version options (and_piece fed f) answers waiting taken (after_input v f.piece)
-came_fed version options fed answers waiting taken v f k live =
+came_fed : (fixed : Fixed) (fed : Heard) (answers : List Answer) (waiting : Option UnresolvedFuture) (taken : List (List ℕ)) (v : View) (f : Fed) → CameBy fixed fed answers waiting taken v → IsLive v.machine → CameBy fixed (and_piece fed f) answers waiting taken (after_input v f.piece)
+came_fed fixed fed answers waiting taken v f k live =
     let w = after_input v f.piece in
     let G = (frames_of (v.undecoded ++ f.piece)).0 in
     let frames : frames_fed (and_piece fed f) ≡ frames_fed fed ++ G = ap (λ p. p.0) (fed_frames fed f v (k.tail live)) in
@@ -195,8 +194,8 @@ came_fed version options fed answers waiting taken v f k live =
       tail = λ alive. (took alive.failure).1;
     }
 
-came_takes : (version : Version) (options : VMOptions) (fed : Heard) (answers : List Answer) (waiting : Option UnresolvedFuture) (taken : List (List ℕ)) (v : View) → WholeFrames v.machine.output → CameBy version options fed answers waiting taken v → CameBy version options fed answers waiting (taken ++ concat v.machine.output ∷ []) (emptied v)
-came_takes version options fed answers waiting taken v f k = record {
+came_takes : (fixed : Fixed) (fed : Heard) (answers : List Answer) (waiting : Option UnresolvedFuture) (taken : List (List ℕ)) (v : View) → WholeFrames v.machine.output → CameBy fixed fed answers waiting taken v → CameBy fixed fed answers waiting (taken ++ concat v.machine.output ∷ []) (emptied v)
+came_takes fixed fed answers waiting taken v f k = record {
   journal = k.journal;
   answered = k.answered;
   written = k.written;
@@ -209,8 +208,8 @@ came_takes version options fed answers waiting taken v f k = record {
   tail = λ live. k.tail (record { failure = live.failure; phase = live.phase });
 }
 
-came_closes : (version : Version) (options : VMOptions) (fed : Heard) (answers : List Answer) (waiting : Option UnresolvedFuture) (taken : List (List ℕ)) (v : View) → CameBy version options fed answers waiting taken v → CameBy version options fed answers waiting taken (record v { machine = record v.machine { input_closed = true } })
-came_closes version options fed answers waiting taken v k = record {
+came_closes : (fixed : Fixed) (fed : Heard) (answers : List Answer) (waiting : Option UnresolvedFuture) (taken : List (List ℕ)) (v : View) → CameBy fixed fed answers waiting taken v → CameBy fixed fed answers waiting taken (record v { machine = record v.machine { input_closed = true } })
+came_closes fixed fed answers waiting taken v k = record {
   journal = k.journal;
   answered = k.answered;
   written = k.written;
@@ -224,12 +223,12 @@ came_closes version options fed answers waiting taken v k = record {
 }
 
 -- what came and was written lasts
-pub came_last : (version : Version) (options : VMOptions) → Lasts (CameBy version options)
-came_last version options = record {
-  dead = came_dead version options;
-  closed = came_closed version options;
-  more = came_fed version options;
-  takes = came_takes version options;
-  closes = came_closes version options;
+pub came_last : (fixed : Fixed) → Lasts (CameBy fixed)
+came_last fixed = record {
+  dead = came_dead fixed;
+  closed = came_closed fixed;
+  more = came_fed fixed;
+  takes = came_takes fixed;
+  closes = came_closes fixed;
   phase = λ fed answers waiting taken v k. k.phase;
 }

@@ -8,10 +8,8 @@ use Rattle.journal_errors.specs.declared.error.Error.{Error}
 use Rattle.journal_errors.specs.declared.faults.NamedFault.{NamedFault}
 use Rattle.journal_errors.specs.declared.faults.NamedFault.TheVariants as fault
 use Rattle.journal_messages.specs.declared.message.RawMessage.{RawMessage}
-use Rattle.journal_errors.specs.declared.version.Version.{Version}
 use Rattle.journal_errors.specs.Errors.{named_error, no_memory}
 use Rattle.journal_errors.specs.Types.{type_number}
-use Rattle.vm_types.specs.declared.options.VMOptions.{VMOptions}
 use Rattle.vm_types.specs.declared.steps.Answer.{Answer}
 use Rattle.vm_types.specs.declared.steps.Answer.TheVariants as answer
 use Rattle.vm_machine.specs.declared.machine.Machine.{Machine}
@@ -21,7 +19,6 @@ use Rattle.vm_machine.specs.Outcomes.{IsStarved, ruled_by}
 use Rattle.vm_machine.specs.Phases.{is_running}
 use Rattle.invocation_vm.specs.Frames.{Tail, Rest, Garbage, frames_of}
 use Rattle.invocation_vm.specs.Views.{StarvesAmong, View, after_closing, after_input, all_received, brought, consumed, left_over}
-use Rattle.vm_model.specs.Calls.{Meaning}
 use Rattle.vm_steps.specs.Heard.{Heard, and_piece, with_pieces}
 use Rattle.vm_steps.specs.declared.progress.Fed.{Fed}
 use Rattle.vm_steps.specs.declared.progress.Progress.{Progress}
@@ -39,6 +36,7 @@ use Rattle.vm_attempt.proofs.Erring.{Errs, step_blames, step_errs}
 use Rattle.vm_attempt.proofs.Kept.{closed_all, piece_dropped}
 use Rattle.vm_attempt.proofs.Pieces.{fed_frames}
 use Rattle.vm_attempt.proofs.Sending.{IsLeft, step_leaves}
+use Rattle.vm_attempt.specs.Fixed.{Fixed}
 
 -- ---- a frame that comes behind the end
 
@@ -60,8 +58,8 @@ began_more F G b = record { first = b.first; others = b.others ++ G; is = ap (λ
     more : (n k l known : ℕ) → l ≡ n + k → known ≤ n → known ≤ l
     more n k l known e h = omega (arith, e, h)
 
-late_frame : (fed : Heard) (to : List Fed) (G : List RawMessage) → frames_fed (with_pieces to fed) ≡ frames_fed fed ++ G → (v m : Machine) (e : Error) → v.phase ≡ Closed → Began (frames_fed fed) (λ n known. known ≤ n) → FailsAt G v m → m.failure ≡ Some e → BadFrame v.version v.options (with_pieces to fed) e
-late_frame fed to G frames v m e closed b f is = record {
+late_frame : (fixed : Fixed) (fed : Heard) (to : List Fed) (G : List RawMessage) → frames_fed (with_pieces to fed) ≡ frames_fed fed ++ G → (v m : Machine) (e : Error) → (v.version ≡ fixed.version) × (v.options ≡ fixed.options) → v.phase ≡ Closed → Began (frames_fed fed) (λ n known. known ≤ n) → FailsAt G v m → m.failure ≡ Some e → BadFrame fixed (with_pieces to fed) e
+late_frame fixed fed to G frames v m e made closed b f is = record {
   before = frames_fed fed ++ f.before;
   raw = f.raw;
   behind = f.behind;
@@ -72,12 +70,12 @@ late_frame fed to G frames v m e closed b f is = record {
   late = inr refl;
   why = f.why;
   reason = closed_fault (all_received f.before v).proposals _ f.raw (type_number f.raw.ty == 1) (is_command f.raw) (is_notification f.raw) (is_acknowledgement f.raw) f.why (subst (λ ph. fault_among (all_received f.before v).proposals ph f.raw ≡ Some f.why) (closed_all f.before v closed) f.reason);
-  error = same_Some e _ (sym is ∙ f.failure);
+  error = same_Some e _ (sym is ∙ f.failure) ∙ λ i. ruled_by (made.0 i) (made.1 i) (named_error f.why None);
 }
 
 -- ---- a piece that comes behind the end
 
-module _ (m : Meaning) (version : Version) (options : VMOptions) (all : Heard) (said : Said) (answers : List Answer) (vm : View) (f : Fed) (k : BehindEnd m version options all said answers vm) (live : vm.machine.failure ≡ None) where
+module _ (fixed : Fixed) (all : Heard) (said : Said) (answers : List Answer) (vm : View) (f : Fed) (k : BehindEnd fixed all said answers vm) (live : vm.machine.failure ≡ None) where
   abbrev came : List RawMessage × Tail
   came = frames_of (vm.undecoded ++ f.piece)
 
@@ -88,7 +86,7 @@ module _ (m : Meaning) (version : Version) (options : VMOptions) (all : Heard) (
   frames = fed_frames all f vm (k.tail live)
 
   -- the VM takes the frames in
-  taken_in : (w : Machine) → w.failure ≡ None → w.phase ≡ Closed → w.version ≡ version → w.options ≡ options → (t : Tail) → (frames_of (bytes_fed more)).1 ≡ t → BehindEnd m version options more said answers (left_over t w)
+  taken_in : (w : Machine) → w.failure ≡ None → w.phase ≡ Closed → w.version ≡ fixed.version → w.options ≡ fixed.options → (t : Tail) → (frames_of (bytes_fed more)).1 ≡ t → BehindEnd fixed more said answers (left_over t w)
   taken_in w alive at ver opt (Rest bytes) is = record {
     phase = λ _. at;
     place = λ _. subst (λ l. Began l (λ n known. known ≤ n)) (sym (ap (λ p. p.0) frames)) (began_more (frames_fed all) came.0 (k.place live));
@@ -106,7 +104,7 @@ module _ (m : Meaning) (version : Version) (options : VMOptions) (all : Heard) (
         blame = λ e some. NoFrame is (same_Some e _ (sym some ∙ said) ∙ λ i. ruled_by (ver i) (opt i) (named_error fault.BadMessage None));
       }
 
-  refuses : (w : View) → FailsAt came.0 vm.machine w.machine → BehindEnd m version options more said answers w
+  refuses : (w : View) → FailsAt came.0 vm.machine w.machine → BehindEnd fixed more said answers w
   refuses w x =
       let made = k.made_for live in
       record {
@@ -114,17 +112,17 @@ module _ (m : Meaning) (version : Version) (options : VMOptions) (all : Heard) (
         place = λ none. none_some _ (sym none ∙ x.failure);
         made_for = λ none. none_some _ (sym none ∙ x.failure);
         tail = λ none. none_some _ (sym none ∙ x.failure);
-        blame = λ e some. Frame (subst (λ (z : Version × VMOptions). BadFrame z.0 z.1 more e) (λ i. (made.0 i, made.1 i)) (late_frame all (all.pieces ++ f ∷ []) came.0 (ap (λ p. p.0) frames) vm.machine w.machine e (k.phase live) (k.place live) x some));
+        blame = λ e some. Frame (late_frame fixed all (all.pieces ++ f ∷ []) came.0 (ap (λ p. p.0) frames) vm.machine w.machine e made (k.phase live) (k.place live) x some);
       }
 
-  refuses_by : (w : Machine) → FailsAt came.0 vm.machine w → (t : Tail) → BehindEnd m version options more said answers (left_over t w)
+  refuses_by : (w : Machine) → FailsAt came.0 vm.machine w → (t : Tail) → BehindEnd fixed more said answers (left_over t w)
   refuses_by w x (Rest bytes) = refuses (left_over (Rest bytes) w) x
   refuses_by w x Garbage = refuses (left_over Garbage w) (subst (FailsAt came.0 vm.machine) (sym (spoils_not w _ x.failure)) x)
 
-  pub late_piece : BehindEnd m version options more said answers (after_input vm f.piece)
+  pub late_piece : BehindEnd fixed more said answers (after_input vm f.piece)
   late_piece =
       let w = all_received came.0 vm.machine in
-      subst (BehindEnd m version options more said answers) (sym (ap (λ (o : Option Error). if is_some o then vm else consumed came vm.machine) live))
+      subst (BehindEnd fixed more said answers) (sym (ap (λ (o : Option Error). if is_some o then vm else consumed came vm.machine) live))
       (⊎_elim
       (λ (x : (w.failure ≡ None) × ((w.version ≡ vm.machine.version) × (w.options ≡ vm.machine.options))).
       let made = k.made_for live in
@@ -134,8 +132,8 @@ module _ (m : Meaning) (version : Version) (options : VMOptions) (all : Heard) (
 
 -- ---- feeding
 
-starved_behind : (m : Meaning) (version : Version) (options : VMOptions) (all : Heard) (said : Said) (answers : List Answer) (v : Machine) (w : View) → v.failure ≡ None → IsStarved v no_memory w.machine → BehindEnd m version options all said answers w
-starved_behind m version options all said answers v w live s =
+starved_behind : (fixed : Fixed) (all : Heard) (said : Said) (answers : List Answer) (v : Machine) (w : View) → v.failure ≡ None → IsStarved v no_memory w.machine → BehindEnd fixed all said answers w
+starved_behind fixed all said answers v w live s =
     let is : w.machine.failure ≡ Some no_memory = s.failure ∙ ap (λ (f : Option Error). Some (unwrap_or f no_memory)) live in
     record {
       phase = λ none. none_some _ (sym none ∙ is);
@@ -163,31 +161,31 @@ kept_late None Processing piece r open_yet none = none
 kept_late None Closed piece r open_yet none = absurd (open_yet refl refl)
 
 -- a VM that hasn't failed is fed, behind the end
-late_at : (m : Meaning) (version : Version) (options : VMOptions) (r : Record) (piece : List ℕ) → BehindEnd m version options (all_heard version r) (all_said r) r.answers r.vm → (o : Option Error) → r.vm.machine.failure ≡ o → (ph : Phase) → r.vm.machine.phase ≡ ph → (let k = kept_at o ph piece r in BehindEnd m version options (all_heard version k) (all_said k) k.answers (after_input r.vm piece))
-late_at m version options r piece k (Some e) is ph at = subst (BehindEnd m version options (all_heard version r) (all_said r) r.answers) (sym (piece_dropped r.vm piece e is)) k
-late_at m version options r piece k None is WaitingStart at = absurd (let z : WaitingStart ≡ Closed = sym at ∙ k.phase is in cc)
-late_at m version options r piece k None is WaitingReplayEntries at = absurd (let z : WaitingReplayEntries ≡ Closed = sym at ∙ k.phase is in cc)
-late_at m version options r piece k None is Replaying at = absurd (let z : Replaying ≡ Closed = sym at ∙ k.phase is in cc)
-late_at m version options r piece k None is Processing at = absurd (let z : Processing ≡ Closed = sym at ∙ k.phase is in cc)
-late_at m version options r piece k None is Closed at =
-    subst (λ l. BehindEnd m version options (with_pieces l (heard version r)) (all_said r) r.answers (after_input r.vm piece)) (append_assoc r.fed r.late (fed_now piece r ∷ [])) (late_piece m version options (all_heard version r) (all_said r) r.answers r.vm (fed_now piece r) k is)
+late_at : (fixed : Fixed) (r : Record) (piece : List ℕ) → BehindEnd fixed (all_heard fixed.version r) (all_said r) r.answers r.vm → (o : Option Error) → r.vm.machine.failure ≡ o → (ph : Phase) → r.vm.machine.phase ≡ ph → (let k = kept_at o ph piece r in BehindEnd fixed (all_heard fixed.version k) (all_said k) k.answers (after_input r.vm piece))
+late_at fixed r piece k (Some e) is ph at = subst (BehindEnd fixed (all_heard fixed.version r) (all_said r) r.answers) (sym (piece_dropped r.vm piece e is)) k
+late_at fixed r piece k None is WaitingStart at = absurd (let z : WaitingStart ≡ Closed = sym at ∙ k.phase is in cc)
+late_at fixed r piece k None is WaitingReplayEntries at = absurd (let z : WaitingReplayEntries ≡ Closed = sym at ∙ k.phase is in cc)
+late_at fixed r piece k None is Replaying at = absurd (let z : Replaying ≡ Closed = sym at ∙ k.phase is in cc)
+late_at fixed r piece k None is Processing at = absurd (let z : Processing ≡ Closed = sym at ∙ k.phase is in cc)
+late_at fixed r piece k None is Closed at =
+    subst (λ l. BehindEnd fixed (with_pieces l (heard fixed.version r)) (all_said r) r.answers (after_input r.vm piece)) (append_assoc r.fed r.late (fed_now piece r ∷ [])) (late_piece fixed (all_heard fixed.version r) (all_said r) r.answers r.vm (fed_now piece r) k is)
 
 -- the same where no memory was found
-late_starved : (m : Meaning) (version : Version) (options : VMOptions) (r : Record) (piece : List ℕ) (w : View) → StarvesAmong (brought r.vm piece) r.vm.machine w.machine → (let k = kept piece r in BehindEnd m version options (all_heard version k) (all_said k) k.answers w)
-late_starved m version options r piece w s = starved_behind m version options _ _ _ s.reached w s.live s.starved
+late_starved : (fixed : Fixed) (r : Record) (piece : List ℕ) (w : View) → StarvesAmong (brought r.vm piece) r.vm.machine w.machine → (let k = kept piece r in BehindEnd fixed (all_heard fixed.version k) (all_said k) k.answers w)
+late_starved fixed r piece w s = starved_behind fixed _ _ _ s.reached w s.live s.starved
 
-feeds_late : (m : Meaning) (version : Version) (options : VMOptions) (piece : List ℕ) (old : Record) (result : Result Unit AllocError) (new : Record) → IsBlamed m version options old → (over : Option Progress) → old.over ≡ over → LateBy over m version options old → Feeds piece old result new → LateBy over m version options new
-feeds_late m version options piece old (Ok t) new b None going k does = subst (LateBy None m version options) (sym does) (kept_late old.vm.machine.failure old.vm.machine.phase piece old (b.open_yet going) k)
-feeds_late m version options piece old (Err e) new b None going k does =
+feeds_late : (fixed : Fixed) (piece : List ℕ) (old : Record) (result : Result Unit AllocError) (new : Record) → IsBlamed fixed old → (over : Option Progress) → old.over ≡ over → LateBy over fixed old → Feeds piece old result new → LateBy over fixed new
+feeds_late fixed piece old (Ok t) new b None going k does = subst (LateBy None fixed) (sym does) (kept_late old.vm.machine.failure old.vm.machine.phase piece old (b.open_yet going) k)
+feeds_late fixed piece old (Err e) new b None going k does =
     ⊎_elim
-    (λ (x : new ≡ record old { starved = true }). subst (LateBy None m version options) (sym x) k)
-    (λ (x : (w : View) × StarvesAmong (brought old.vm piece) old.vm.machine w.machine × (new ≡ with_vm w (kept piece old))). subst (LateBy None m version options) (sym x.2) (kept_late old.vm.machine.failure old.vm.machine.phase piece old (b.open_yet going) k))
+    (λ (x : new ≡ record old { starved = true }). subst (LateBy None fixed) (sym x) k)
+    (λ (x : (w : View) × StarvesAmong (brought old.vm piece) old.vm.machine w.machine × (new ≡ with_vm w (kept piece old))). subst (LateBy None fixed) (sym x.2) (kept_late old.vm.machine.failure old.vm.machine.phase piece old (b.open_yet going) k))
     does
-feeds_late m version options piece old (Ok t) new b (Some p) over k does = subst (LateBy (Some p) m version options) (sym does) (late_at m version options old piece k old.vm.machine.failure refl old.vm.machine.phase refl)
-feeds_late m version options piece old (Err e) new b (Some p) over k does =
+feeds_late fixed piece old (Ok t) new b (Some p) over k does = subst (LateBy (Some p) fixed) (sym does) (late_at fixed old piece k old.vm.machine.failure refl old.vm.machine.phase refl)
+feeds_late fixed piece old (Err e) new b (Some p) over k does =
     ⊎_elim
-    (λ (x : new ≡ record old { starved = true }). subst (LateBy (Some p) m version options) (sym x) k)
-    (λ (x : (w : View) × StarvesAmong (brought old.vm piece) old.vm.machine w.machine × (new ≡ with_vm w (kept piece old))). subst (LateBy (Some p) m version options) (sym x.2) (late_starved m version options old piece x.0 x.1))
+    (λ (x : new ≡ record old { starved = true }). subst (LateBy (Some p) fixed) (sym x) k)
+    (λ (x : (w : View) × StarvesAmong (brought old.vm piece) old.vm.machine w.machine × (new ≡ with_vm w (kept piece old))). subst (LateBy (Some p) fixed) (sym x.2) (late_starved fixed old piece x.0 x.1))
     does
 
 pub feeds_over : (piece : List ℕ) (old : Record) (result : Result Unit AllocError) (new : Record) → Feeds piece old result new → new.over ≡ old.over
@@ -198,59 +196,59 @@ feeds_over piece old (Err e) new does =
     (λ (x : (w : View) × StarvesAmong (brought old.vm piece) old.vm.machine w.machine × (new ≡ with_vm w (kept piece old))). ap (λ (r : Record). r.over) x.2 ∙ kept_over old.vm.machine.failure old.vm.machine.phase piece old)
     does
 
-pub feed_late : (m : Meaning) (version : Version) (options : VMOptions) (piece : List ℕ) (old : Record) (result : Result Unit AllocError) (new : Record) → IsBlamed m version options old → IsLate m version options old → FeedDoes old.starved piece old result new → IsLate m version options new
-feed_late m version options piece old result new b k does = by_test old.starved does
+pub feed_late : (fixed : Fixed) (piece : List ℕ) (old : Record) (result : Result Unit AllocError) (new : Record) → IsBlamed fixed old → IsLate fixed old → FeedDoes old.starved piece old result new → IsLate fixed new
+feed_late fixed piece old result new b k does = by_test old.starved does
   where
-    by_test : (t : Bool) → FeedDoes t piece old result new → IsLate m version options new
-    by_test true d = subst (IsLate m version options) (sym d.1) k
-    by_test false d = subst (λ o. LateBy o m version options new) (sym (feeds_over piece old result new d)) (feeds_late m version options piece old result new b old.over refl k d)
+    by_test : (t : Bool) → FeedDoes t piece old result new → IsLate fixed new
+    by_test true d = subst (IsLate fixed) (sym d.1) k
+    by_test false d = subst (λ o. LateBy o fixed new) (sym (feeds_over piece old result new d)) (feeds_late fixed piece old result new b old.over refl k d)
 
 -- ---- closing
 
-closes_behind : (m : Meaning) (version : Version) (options : VMOptions) (r : Record) → BehindEnd m version options (all_heard version r) (all_said r) r.answers r.vm → (o : Option Error) → r.vm.machine.failure ≡ o → BehindEnd m version options (all_heard version r) (closed_now (all_said r)) r.answers (after_closing r.vm)
-closes_behind m version options r k (Some e) is =
-    subst (λ w. BehindEnd m version options (all_heard version r) (closed_now (all_said r)) r.answers (record r.vm { machine = w })) (closing_not r.vm e is)
-    (record { phase = k.phase; place = k.place; made_for = k.made_for; tail = k.tail; blame = λ d some. closed_blame m version options (all_heard version r) (all_said r) r.answers d (k.blame d some) })
-closes_behind m version options r k None is =
-    subst (λ w. BehindEnd m version options (all_heard version r) (closed_now (all_said r)) r.answers (record r.vm { machine = w })) (closing_at r.vm is Closed (k.phase is))
+closes_behind : (fixed : Fixed) (r : Record) → BehindEnd fixed (all_heard fixed.version r) (all_said r) r.answers r.vm → (o : Option Error) → r.vm.machine.failure ≡ o → BehindEnd fixed (all_heard fixed.version r) (closed_now (all_said r)) r.answers (after_closing r.vm)
+closes_behind fixed r k (Some e) is =
+    subst (λ w. BehindEnd fixed (all_heard fixed.version r) (closed_now (all_said r)) r.answers (record r.vm { machine = w })) (closing_not r.vm e is)
+    (record { phase = k.phase; place = k.place; made_for = k.made_for; tail = k.tail; blame = λ d some. closed_blame fixed (all_heard fixed.version r) (all_said r) r.answers d (k.blame d some) })
+closes_behind fixed r k None is =
+    subst (λ w. BehindEnd fixed (all_heard fixed.version r) (closed_now (all_said r)) r.answers (record r.vm { machine = w })) (closing_at r.vm is Closed (k.phase is))
     (record { phase = λ _. k.phase is; place = λ _. k.place is; made_for = λ _. k.made_for is; tail = λ _. k.tail is; blame = λ d some. none_some d (sym is ∙ some) })
 
-closes_late : (m : Meaning) (version : Version) (options : VMOptions) (old : Record) (result : Result Unit AllocError) (new : Record) → (over : Option Progress) → LateBy over m version options old → Closes old result new → LateBy over m version options new
-closes_late m version options old (Ok t) new None k does = subst (LateBy None m version options) (sym does) k
-closes_late m version options old (Err e) new None k does = subst (LateBy None m version options) (sym does.2) k
-closes_late m version options old (Ok t) new (Some p) k does = subst (LateBy (Some p) m version options) (sym does) (closes_behind m version options old k old.vm.machine.failure refl)
-closes_late m version options old (Err e) new (Some p) k does = subst (LateBy (Some p) m version options) (sym does.2) (starved_behind m version options _ _ _ does.1.reached does.0 does.1.live does.1.starved)
+closes_late : (fixed : Fixed) (old : Record) (result : Result Unit AllocError) (new : Record) → (over : Option Progress) → LateBy over fixed old → Closes old result new → LateBy over fixed new
+closes_late fixed old (Ok t) new None k does = subst (LateBy None fixed) (sym does) k
+closes_late fixed old (Err e) new None k does = subst (LateBy None fixed) (sym does.2) k
+closes_late fixed old (Ok t) new (Some p) k does = subst (LateBy (Some p) fixed) (sym does) (closes_behind fixed old k old.vm.machine.failure refl)
+closes_late fixed old (Err e) new (Some p) k does = subst (LateBy (Some p) fixed) (sym does.2) (starved_behind fixed _ _ _ does.1.reached does.0 does.1.live does.1.starved)
 
 pub closes_over : (old : Record) (result : Result Unit AllocError) (new : Record) → Closes old result new → new.over ≡ old.over
 closes_over old (Ok t) new does = ap (λ (r : Record). r.over) does
 closes_over old (Err e) new does = ap (λ (r : Record). r.over) does.2
 
-pub close_late : (m : Meaning) (version : Version) (options : VMOptions) (old : Record) (result : Result Unit AllocError) (new : Record) → IsLate m version options old → CloseDoes old.starved old result new → IsLate m version options new
-close_late m version options old result new k does = by_test old.starved does
+pub close_late : (fixed : Fixed) (old : Record) (result : Result Unit AllocError) (new : Record) → IsLate fixed old → CloseDoes old.starved old result new → IsLate fixed new
+close_late fixed old result new k does = by_test old.starved does
   where
-    by_test : (t : Bool) → CloseDoes t old result new → IsLate m version options new
-    by_test true d = subst (IsLate m version options) (sym d.1) k
-    by_test false d = subst (λ o. LateBy o m version options new) (sym (closes_over old result new d)) (closes_late m version options old result new old.over k d)
+    by_test : (t : Bool) → CloseDoes t old result new → IsLate fixed new
+    by_test true d = subst (IsLate fixed) (sym d.1) k
+    by_test false d = subst (λ o. LateBy o fixed new) (sym (closes_over old result new d)) (closes_late fixed old result new old.over k d)
 
 -- ---- the output
 
-takes_late : (m : Meaning) (version : Version) (options : VMOptions) (r : Record) → (over : Option Progress) → LateBy over m version options r → LateBy over m version options (taken_from r)
-takes_late m version options r None k = k
-takes_late m version options r (Some p) k = record { phase = k.phase; place = k.place; made_for = k.made_for; tail = k.tail; blame = k.blame }
+takes_late : (fixed : Fixed) (r : Record) → (over : Option Progress) → LateBy over fixed r → LateBy over fixed (taken_from r)
+takes_late fixed r None k = k
+takes_late fixed r (Some p) k = record { phase = k.phase; place = k.place; made_for = k.made_for; tail = k.tail; blame = k.blame }
 
-pub take_late : (m : Meaning) (version : Version) (options : VMOptions) (old : Record) (result : Result (List ℕ) AllocError) (new : Record) → IsLate m version options old → Takes old result new → IsLate m version options new
-take_late m version options old (Ok bytes) new k does = subst (IsLate m version options) (sym does.1) (takes_late m version options old old.over k)
-take_late m version options old (Err e) new k does = subst (IsLate m version options) (sym does) k
+pub take_late : (fixed : Fixed) (old : Record) (result : Result (List ℕ) AllocError) (new : Record) → IsLate fixed old → Takes old result new → IsLate fixed new
+take_late fixed old (Ok bytes) new k does = subst (IsLate fixed) (sym does.1) (takes_late fixed old old.over k)
+take_late fixed old (Err e) new k does = subst (IsLate fixed) (sym does) k
 
 -- ---- a step
 
 -- by this call the attempt is over
-ends_behind : (m : Meaning) (version : Version) (options : VMOptions) (r : Record) (w : View) → Came version options (heard version r) r.answers r.taken r.vm → IsLive r.vm.machine → r.late ≡ [] → w.undecoded ≡ r.vm.undecoded → w.machine.failure ≡ r.vm.machine.failure → w.machine.phase ≡ Closed → w.machine.version ≡ r.vm.machine.version → w.machine.options ≡ r.vm.machine.options → BehindEnd m version options (all_heard version r) (all_said r) r.answers w
-ends_behind m version options r w c live none und failure at ver opt =
+ends_behind : (fixed : Fixed) (r : Record) (w : View) → Came fixed (heard fixed.version r) r.answers r.taken r.vm → IsLive r.vm.machine → r.late ≡ [] → w.undecoded ≡ r.vm.undecoded → w.machine.failure ≡ r.vm.machine.failure → w.machine.phase ≡ Closed → w.machine.version ≡ r.vm.machine.version → w.machine.options ≡ r.vm.machine.options → BehindEnd fixed (all_heard fixed.version r) (all_said r) r.answers w
+ends_behind fixed r w c live none und failure at ver opt =
     let j = c.journal in
     let made = c.made_for live in
-    let all : heard version r ≡ all_heard version r = ap (λ l. with_pieces l (heard version r)) (sym (append-nil r.fed) ∙ ap (λ l. r.fed ++ l) (sym none)) in
-    subst (λ l. BehindEnd m version options l (all_said r) r.answers w) all
+    let all : heard fixed.version r ≡ all_heard fixed.version r = ap (λ l. with_pieces l (heard fixed.version r)) (sym (append-nil r.fed) ∙ ap (λ l. r.fed ++ l) (sym none)) in
+    subst (λ l. BehindEnd fixed l (all_said r) r.answers w) all
     (record {
       phase = λ _. at;
       place = λ _. record { first = j.first_frame; others = j.entries ++ j.others; is = j.frames; start = j.start; reads = j.reads_start; counts = enough (length j.entries) (length j.others) (length (j.entries ++ j.others)) j.start.known_entries j.count (length-append j.entries j.others) };
@@ -262,88 +260,88 @@ ends_behind m version options r w c live none und failure at ver opt =
     enough : (a c n known : ℕ) → a ≡ known → n ≡ a + c → known ≤ n
     enough a c n known e f = omega (arith, e, f)
 
-asks_late : (m : Meaning) (version : Version) (options : VMOptions) (old : Record) (result : Result Progress Error) (new : Record) → Came version options (heard version old) old.answers old.taken old.vm → IsLive old.vm.machine → old.over ≡ None → old.late ≡ [] → Asks m old result new → IsLate m version options new
-asks_late m version options old result new c live going none (x, w, does, is, made) = subst (IsLate m version options) (sym is) (by_reply x (step_leaves (step_asked m old) old.vm.machine live x w.machine does.0.0))
+asks_late : (fixed : Fixed) (old : Record) (result : Result Progress Error) (new : Record) → Came fixed (heard fixed.version old) old.answers old.taken old.vm → IsLive old.vm.machine → old.over ≡ None → old.late ≡ [] → Asks fixed.handler old result new → IsLate fixed new
+asks_late fixed old result new c live going none (x, w, does, is, made) = subst (IsLate fixed) (sym is) (by_reply x (step_leaves (step_asked fixed.handler old) old.vm.machine live x w.machine does.0.0))
   where
-    on : (r : Record) → r.over ≡ old.over → r.late ≡ old.late → IsLate m version options r
-    on r over late = subst (λ o. LateBy o m version options r) (sym (over ∙ going)) (late ∙ none)
+    on : (r : Record) → r.over ≡ old.over → r.late ≡ old.late → IsLate fixed r
+    on r over late = subst (λ o. LateBy o fixed r) (sym (over ∙ going)) (late ∙ none)
 
-    by_reply : (x : Result Reply Error) → IsLeft old.vm.machine x w.machine → IsLate m version options (replied old (future_in (step_asked m old)) x w)
-    by_reply (Ok (reply.Answer a)) h = on (replied old (future_in (step_asked m old)) (Ok (reply.Answer a)) w) refl refl
-    by_reply (Ok (reply.Waiting input run)) h = on (replied old (future_in (step_asked m old)) (Ok (reply.Waiting input run)) w) refl refl
-    by_reply (Ok (reply.Execute run)) h = on (replied old (future_in (step_asked m old)) (Ok (reply.Execute run)) w) refl refl
-    by_reply (Ok reply.Suspended) h = ends_behind m version options old w c live none does.0.1 h.failure h.left h.sends.version h.sends.options
-    by_reply (Ok reply.Ended) h = ends_behind m version options old w c live none does.0.1 h.failure h.left h.sends.version h.sends.options
-    by_reply (Err e) h = on (replied old (future_in (step_asked m old)) (Err e) w) refl refl
+    by_reply : (x : Result Reply Error) → IsLeft old.vm.machine x w.machine → IsLate fixed (replied old (future_in (step_asked fixed.handler old)) x w)
+    by_reply (Ok (reply.Answer a)) h = on (replied old (future_in (step_asked fixed.handler old)) (Ok (reply.Answer a)) w) refl refl
+    by_reply (Ok (reply.Waiting input run)) h = on (replied old (future_in (step_asked fixed.handler old)) (Ok (reply.Waiting input run)) w) refl refl
+    by_reply (Ok (reply.Execute run)) h = on (replied old (future_in (step_asked fixed.handler old)) (Ok (reply.Execute run)) w) refl refl
+    by_reply (Ok reply.Suspended) h = ends_behind fixed old w c live none does.0.1 h.failure h.left h.sends.version h.sends.options
+    by_reply (Ok reply.Ended) h = ends_behind fixed old w c live none does.0.1 h.failure h.left h.sends.version h.sends.options
+    by_reply (Err e) h = on (replied old (future_in (step_asked fixed.handler old)) (Err e) w) refl refl
 
-reads_late : (m : Meaning) (version : Version) (options : VMOptions) (old : Record) (result : Result Progress Error) (new : Record) → old.over ≡ None → old.late ≡ [] → Reads old result new → IsLate m version options new
-reads_late m version options old (Ok made) new going none does = subst (IsLate m version options) (sym does.1.3) (subst (λ o. LateBy o m version options (record old { answers = answer.Input does.1.0 ∷ []; vm = does.1.1 })) (sym going) none)
-reads_late m version options old (Err e) new going none does = subst (IsLate m version options) (sym does.2) (subst (λ o. LateBy o m version options (record old { vm = does.0 })) (sym going) none)
+reads_late : (fixed : Fixed) (old : Record) (result : Result Progress Error) (new : Record) → old.over ≡ None → old.late ≡ [] → Reads old result new → IsLate fixed new
+reads_late fixed old (Ok made) new going none does = subst (IsLate fixed) (sym does.1.3) (subst (λ o. LateBy o fixed (record old { answers = answer.Input does.1.0 ∷ []; vm = does.1.1 })) (sym going) none)
+reads_late fixed old (Err e) new going none does = subst (IsLate fixed) (sym does.2) (subst (λ o. LateBy o fixed (record old { vm = does.0 })) (sym going) none)
 
-advances_late : (m : Meaning) (version : Version) (options : VMOptions) (old : Record) (result : Result Progress Error) (new : Record) → HasCome version options old → IsLive old.vm.machine → old.over ≡ None → IsLate m version options old → old.late ≡ [] → Advances m old result new → IsLate m version options new
-advances_late m version options old result new k live going l none =
+advances_late : (fixed : Fixed) (old : Record) (result : Result Progress Error) (new : Record) → HasCome fixed old → IsLive old.vm.machine → old.over ≡ None → IsLate fixed old → old.late ≡ [] → Advances fixed.handler old result new → IsLate fixed new
+advances_late fixed old result new k live going l none =
     ⊎_elim
-    (λ (x : LacksMemory old result new). subst (IsLate m version options) (sym x.1) (subst (λ o. LateBy o m version options (record old { starved = true })) (sym going) none))
-    (λ (o : ((old.answers ≡ []) × Reads old result new) ⊎ ((old.answers ≢ []) × Asks m old result new)).
+    (λ (x : LacksMemory old result new). subst (IsLate fixed) (sym x.1) (subst (λ o. LateBy o fixed (record old { starved = true })) (sym going) none))
+    (λ (o : ((old.answers ≡ []) × Reads old result new) ⊎ ((old.answers ≢ []) × Asks fixed.handler old result new)).
     ⊎_elim
-    (λ (x : (old.answers ≡ []) × Reads old result new). reads_late m version options old result new going none x.1)
-    (λ (x : (old.answers ≢ []) × Asks m old result new).
+    (λ (x : (old.answers ≡ []) × Reads old result new). reads_late fixed old result new going none x.1)
+    (λ (x : (old.answers ≢ []) × Asks fixed.handler old result new).
     ⊎_elim
-    (λ (y : BeforeInput version options (heard version old) old.answers old.waiting old.taken old.vm). absurd (x.0 y.answers))
-    (λ (y : Came version options (heard version old) old.answers old.taken old.vm). asks_late m version options old result new y live going none x.1)
+    (λ (y : BeforeInput fixed (heard fixed.version old) old.answers old.waiting old.taken old.vm). absurd (x.0 y.answers))
+    (λ (y : Came fixed (heard fixed.version old) old.answers old.taken old.vm). asks_late fixed old result new y live going none x.1)
     k)
     o)
 
-late_by_phase : (m : Meaning) (version : Version) (options : VMOptions) (old : Record) (result : Result Progress Error) (new : Record) → HasCome version options old → IsLate m version options old → old.over ≡ None → old.late ≡ [] → old.vm.machine.failure ≡ None → (ph : Phase) → old.vm.machine.phase ≡ ph → StepAt ph m old result new → IsLate m version options new
-late_by_phase m version options old result new k l going none live WaitingStart at d = subst (IsLate m version options) (sym d.1) l
-late_by_phase m version options old result new k l going none live WaitingReplayEntries at d = subst (IsLate m version options) (sym d.1) l
-late_by_phase m version options old result new k l going none live Closed at d = subst (IsLate m version options) (sym d.1) l
-late_by_phase m version options old result new k l going none live Replaying at d = advances_late m version options old result new k (record { failure = live; phase = ap is_running at }) going l none d
-late_by_phase m version options old result new k l going none live Processing at d = advances_late m version options old result new k (record { failure = live; phase = ap is_running at }) going l none d
+late_by_phase : (fixed : Fixed) (old : Record) (result : Result Progress Error) (new : Record) → HasCome fixed old → IsLate fixed old → old.over ≡ None → old.late ≡ [] → old.vm.machine.failure ≡ None → (ph : Phase) → old.vm.machine.phase ≡ ph → StepAt ph fixed.handler old result new → IsLate fixed new
+late_by_phase fixed old result new k l going none live WaitingStart at d = subst (IsLate fixed) (sym d.1) l
+late_by_phase fixed old result new k l going none live WaitingReplayEntries at d = subst (IsLate fixed) (sym d.1) l
+late_by_phase fixed old result new k l going none live Closed at d = subst (IsLate fixed) (sym d.1) l
+late_by_phase fixed old result new k l going none live Replaying at d = advances_late fixed old result new k (record { failure = live; phase = ap is_running at }) going l none d
+late_by_phase fixed old result new k l going none live Processing at d = advances_late fixed old result new k (record { failure = live; phase = ap is_running at }) going l none d
 
-late_unless : (m : Meaning) (version : Version) (options : VMOptions) (old : Record) (result : Result Progress Error) (new : Record) → HasCome version options old → IsLate m version options old → (f : Option Error) → old.vm.machine.failure ≡ f → (over : Option Progress) → old.over ≡ over → LateBy over m version options old → StepUnless f over m old result new → IsLate m version options new
-late_unless m version options old result new k l (Some e) is over at by d = subst (IsLate m version options) (sym d.1) l
-late_unless m version options old result new k l None is (Some made) at by d = subst (IsLate m version options) (sym d.1) l
-late_unless m version options old result new k l None is None at by d = late_by_phase m version options old result new k l at by is old.vm.machine.phase refl d
+late_unless : (fixed : Fixed) (old : Record) (result : Result Progress Error) (new : Record) → HasCome fixed old → IsLate fixed old → (f : Option Error) → old.vm.machine.failure ≡ f → (over : Option Progress) → old.over ≡ over → LateBy over fixed old → StepUnless f over fixed.handler old result new → IsLate fixed new
+late_unless fixed old result new k l (Some e) is over at by d = subst (IsLate fixed) (sym d.1) l
+late_unless fixed old result new k l None is (Some made) at by d = subst (IsLate fixed) (sym d.1) l
+late_unless fixed old result new k l None is None at by d = late_by_phase fixed old result new k l at by is old.vm.machine.phase refl d
 
-pub step_late : (m : Meaning) (version : Version) (options : VMOptions) (old : Record) (result : Result Progress Error) (new : Record) → HasCome version options old → IsLate m version options old → StepDoes m old result new → IsLate m version options new
-step_late m version options old result new k l does = by_test old.starved does
+pub step_late : (fixed : Fixed) (old : Record) (result : Result Progress Error) (new : Record) → HasCome fixed old → IsLate fixed old → StepDoes fixed.handler old result new → IsLate fixed new
+step_late fixed old result new k l does = by_test old.starved does
   where
-    by_test : (t : Bool) → StepFrom t m old result new → IsLate m version options new
-    by_test true d = subst (IsLate m version options) (sym d.1) l
-    by_test false d = late_unless m version options old result new k l old.vm.machine.failure refl old.over refl l d
+    by_test : (t : Bool) → StepFrom t fixed.handler old result new → IsLate fixed new
+    by_test true d = subst (IsLate fixed) (sym d.1) l
+    by_test false d = late_unless fixed old result new k l old.vm.machine.failure refl old.over refl l d
 
 -- ---- the error of a step
 
 -- an error while the attempt isn't over
-open_blame : (m : Meaning) (version : Version) (options : VMOptions) (old : Record) (result : Result Progress Error) (new : Record) → old.over ≡ None → IsBlamed m version options new → IsLate m version options new → Errs old result new → IfError result (λ e. Blame m version options (all_heard version new) (all_said new) new.answers e)
-open_blame m version options old (Ok made) new going b l h = tt
-open_blame m version options old (Err e) new going b l h =
+open_blame : (fixed : Fixed) (old : Record) (result : Result Progress Error) (new : Record) → old.over ≡ None → IsBlamed fixed new → IsLate fixed new → Errs old result new → IfError result (λ e. Blame fixed (all_heard fixed.version new) (all_said new) new.answers e)
+open_blame fixed old (Ok made) new going b l h = tt
+open_blame fixed old (Err e) new going b l h =
     ⊎_elim
     (λ (x : e ≡ no_memory). Memory x)
     (λ (x : (new.vm.machine.failure ≡ Some e) × (new.over ≡ old.over)).
     let over : new.over ≡ None = x.1 ∙ going in
-    let none : new.late ≡ [] = subst (λ o. LateBy o m version options new) over l in
-    subst (λ fed. Blame m version options fed (all_said new) new.answers e) (ap (λ l. with_pieces l (heard version new)) (sym (append-nil new.fed) ∙ ap (λ l. new.fed ++ l) (sym none))) (b.blame over e x.0))
+    let none : new.late ≡ [] = subst (λ o. LateBy o fixed new) over l in
+    subst (λ fed. Blame fixed fed (all_said new) new.answers e) (ap (λ l. with_pieces l (heard fixed.version new)) (sym (append-nil new.fed) ∙ ap (λ l. new.fed ++ l) (sym none))) (b.blame over e x.0))
     h
 
 -- an error once the attempt is over
-over_blame : (m : Meaning) (version : Version) (options : VMOptions) (made : Progress) (old : Record) (result : Result Progress Error) (new : Record) → LateBy (Some made) m version options old → (f : Option Error) → old.vm.machine.failure ≡ f → StepUnless f (Some made) m old result new → IfError result (λ e. Blame m version options (all_heard version new) (all_said new) new.answers e)
-over_blame m version options made old result new l (Some e) is d =
+over_blame : (fixed : Fixed) (made : Progress) (old : Record) (result : Result Progress Error) (new : Record) → LateBy (Some made) fixed old → (f : Option Error) → old.vm.machine.failure ≡ f → StepUnless f (Some made) fixed.handler old result new → IfError result (λ e. Blame fixed (all_heard fixed.version new) (all_said new) new.answers e)
+over_blame fixed made old result new l (Some e) is d =
     ⊎_elim
-    (λ (x : result ≡ Err e). subst (λ z. IfError z (λ e. Blame m version options (all_heard version new) (all_said new) new.answers e)) (sym x) (subst (λ (r : Record). Blame m version options (all_heard version r) (all_said r) r.answers e) (sym d.1) (l.blame e is)))
-    (λ (x : result ≡ Err no_memory). subst (λ z. IfError z (λ e. Blame m version options (all_heard version new) (all_said new) new.answers e)) (sym x) (Memory refl))
+    (λ (x : result ≡ Err e). subst (λ z. IfError z (λ e. Blame fixed (all_heard fixed.version new) (all_said new) new.answers e)) (sym x) (subst (λ (r : Record). Blame fixed (all_heard fixed.version r) (all_said r) r.answers e) (sym d.1) (l.blame e is)))
+    (λ (x : result ≡ Err no_memory). subst (λ z. IfError z (λ e. Blame fixed (all_heard fixed.version new) (all_said new) new.answers e)) (sym x) (Memory refl))
     d.0
-over_blame m version options made old result new l None is d = subst (λ z. IfError z (λ e. Blame m version options (all_heard version new) (all_said new) new.answers e)) (sym d.0) tt
+over_blame fixed made old result new l None is d = subst (λ z. IfError z (λ e. Blame fixed (all_heard fixed.version new) (all_said new) new.answers e)) (sym d.0) tt
 
 -- an error of a step has a reason
-pub step_blame : (m : Meaning) (version : Version) (options : VMOptions) (old : Record) (result : Result Progress Error) (new : Record) → HasCome version options old → IsKeptUnder m version options old → IsBlamed m version options old → IsLate m version options old → StepDoes m old result new → IfError result (λ e. Blame m version options (all_heard version new) (all_said new) new.answers e)
-step_blame m version options old result new k u b l does = by_over old.over refl l
+pub step_blame : (fixed : Fixed) (old : Record) (result : Result Progress Error) (new : Record) → HasCome fixed old → IsKeptUnder fixed old → IsBlamed fixed old → IsLate fixed old → StepDoes fixed.handler old result new → IfError result (λ e. Blame fixed (all_heard fixed.version new) (all_said new) new.answers e)
+step_blame fixed old result new k u b l does = by_over old.over refl l
   where
-    by_test : (made : Progress) → LateBy (Some made) m version options old → (t : Bool) → StepFrom t m old result new → old.over ≡ Some made → IfError result (λ e. Blame m version options (all_heard version new) (all_said new) new.answers e)
-    by_test made l true d over = subst (λ z. IfError z (λ e. Blame m version options (all_heard version new) (all_said new) new.answers e)) (sym d.0) (Memory refl)
-    by_test made l false d over = over_blame m version options made old result new l old.vm.machine.failure refl (subst (λ o. StepUnless old.vm.machine.failure o m old result new) over d)
+    by_test : (made : Progress) → LateBy (Some made) fixed old → (t : Bool) → StepFrom t fixed.handler old result new → old.over ≡ Some made → IfError result (λ e. Blame fixed (all_heard fixed.version new) (all_said new) new.answers e)
+    by_test made l true d over = subst (λ z. IfError z (λ e. Blame fixed (all_heard fixed.version new) (all_said new) new.answers e)) (sym d.0) (Memory refl)
+    by_test made l false d over = over_blame fixed made old result new l old.vm.machine.failure refl (subst (λ o. StepUnless old.vm.machine.failure o fixed.handler old result new) over d)
 
-    by_over : (over : Option Progress) → old.over ≡ over → LateBy over m version options old → IfError result (λ e. Blame m version options (all_heard version new) (all_said new) new.answers e)
-    by_over None going l' = open_blame m version options old result new going (step_blames m version options old result new k u b does) (step_late m version options old result new k l does) (step_errs m version options old result new b going does)
+    by_over : (over : Option Progress) → old.over ≡ over → LateBy over fixed old → IfError result (λ e. Blame fixed (all_heard fixed.version new) (all_said new) new.answers e)
+    by_over None going l' = open_blame fixed old result new going (step_blames fixed old result new k u b does) (step_late fixed old result new k l does) (step_errs fixed old result new b going does)
     by_over (Some made) over l' = by_test made l' old.starved does over

@@ -4,9 +4,7 @@ use Rattle.std.specs.Prelude.{if◌then◌else◌, is_some, IsSome}
 use Rattle.journal_errors.specs.declared.error.Error.{Error}
 use Rattle.journal_messages.specs.declared.message.RawMessage.{RawMessage}
 use Rattle.journal_values.specs.declared.notification.Notification.{Notification}
-use Rattle.journal_errors.specs.declared.version.Version.{Version}
 use Rattle.vm_parts.specs.declared.context.StateMap.{StateMap}
-use Rattle.vm_types.specs.declared.options.VMOptions.{VMOptions}
 use Rattle.vm_types.specs.declared.steps.Answer.{Answer}
 use Rattle.await_trees.specs.declared.tree.UnresolvedFuture.{UnresolvedFuture}
 use Rattle.vm_machine.specs.declared.machine.Machine.{Machine}
@@ -34,6 +32,7 @@ use Rattle.vm_attempt.proofs.Proposed.{all_keep, arriving_append, found_append, 
 use Rattle.vm_attempt.proofs.Entries.{commands_behind, entries_come, journals_come, more_come, notifications_behind}
 use Rattle.vm_attempt.proofs.Quiet.{input_quiet, wrote_quiet}
 use Rattle.vm_attempt.proofs.Requesting.{runs_at}
+use Rattle.vm_attempt.specs.Fixed.{Fixed}
 
 -- ---- frames
 
@@ -132,9 +131,9 @@ pub record Took (fed : Heard) (f : Fed) (v w : View) (G : List RawMessage) : Typ
   pub alive : w.machine.failure ≡ None
 
 -- a Start came, and then other frames
-started_as : (version : Version) (options : VMOptions) (alloc : Global) (fed : Heard) (v : Machine) (first : RawMessage) (raws : List RawMessage) → frames_fed fed ≡ first ∷ raws → v.failure ≡ None → v ≡ all_received (first ∷ raws) (fresh alloc version options)
-    → StartedWith alloc version options first raws (all_received (first ∷ raws) (fresh alloc version options)) → Begun version options fed v
-started_as version options alloc fed v first raws frames alive is x =
+started_as : (fixed : Fixed) (alloc : Global) (fed : Heard) (v : Machine) (first : RawMessage) (raws : List RawMessage) → frames_fed fed ≡ first ∷ raws → v.failure ≡ None → v ≡ all_received (first ∷ raws) (fresh alloc fixed.version fixed.options)
+    → StartedWith alloc fixed.version fixed.options first raws (all_received (first ∷ raws) (fresh alloc fixed.version fixed.options)) → Begun fixed fed v
+started_as fixed alloc fed v first raws frames alive is x =
     record {
       first_frame = first;
       others = raws;
@@ -143,26 +142,26 @@ started_as version options alloc fed v first raws frames alive is x =
       reads_start = x.reads;
       state = x.entries;
       reads_state = x.keys;
-      aside = aside_for alloc version options x.start;
+      aside = aside_for alloc fixed.version fixed.options x.start;
       of_start = refl;
-      waits = ⊎_elim (λ (o : IsSome (all_received (first ∷ raws) (fresh alloc version options)).failure). not_failed v (ap (λ m. is_some m.failure) is ∙ o) alive) (λ (o : Waits (all_received (first ∷ raws) (fresh alloc version options))). subst Waits (sym is) o) x.fed;
+      waits = ⊎_elim (λ (o : IsSome (all_received (first ∷ raws) (fresh alloc fixed.version fixed.options)).failure). not_failed v (ap (λ m. is_some m.failure) is ∙ o) alive) (λ (o : Waits (all_received (first ∷ raws) (fresh alloc fixed.version fixed.options))). subst Waits (sym is) o) x.fed;
     }
   where
     Waits : Machine → Type 0
-    Waits m = StillWaits (setup_for version options x.start) (record { entries = x.entries; coverage = coverage_of x.start.partial }) (aside_for alloc version options x.start) x.start.known_entries [] [] raws m
-        ⊎ HasAll (setup_for version options x.start) (record { entries = x.entries; coverage = coverage_of x.start.partial }) (aside_for alloc version options x.start) x.start.known_entries [] [] raws m
+    Waits m = StillWaits (setup_for fixed x.start) (record { entries = x.entries; coverage = coverage_of x.start.partial }) (aside_for alloc fixed.version fixed.options x.start) x.start.known_entries [] [] raws m
+        ⊎ HasAll (setup_for fixed x.start) (record { entries = x.entries; coverage = coverage_of x.start.partial }) (aside_for alloc fixed.version fixed.options x.start) x.start.known_entries [] [] raws m
 
-first_comes : (version : Version) (options : VMOptions) (alloc : Global) (fed : Heard) (v : Machine) (raws : List RawMessage) → frames_fed fed ≡ raws → v.failure ≡ None → v ≡ all_received raws (fresh alloc version options) → Comes version options fed v
-first_comes version options alloc fed v [] frames alive is = inl (frames, (alloc, is))
-first_comes version options alloc fed v (first ∷ raws) frames alive is =
+first_comes : (fixed : Fixed) (alloc : Global) (fed : Heard) (v : Machine) (raws : List RawMessage) → frames_fed fed ≡ raws → v.failure ≡ None → v ≡ all_received raws (fresh alloc fixed.version fixed.options) → Comes fixed fed v
+first_comes fixed alloc fed v [] frames alive is = inl (frames, (alloc, is))
+first_comes fixed alloc fed v (first ∷ raws) frames alive is =
     ⊎_elim
-    (λ (x : IsSome (all_received (first ∷ raws) (fresh alloc version options)).failure). not_failed v (ap (λ m. is_some m.failure) is ∙ x) alive)
-    (λ (x : StartedWith alloc version options first raws (all_received (first ∷ raws) (fresh alloc version options))). inr (started_as version options alloc fed v first raws frames alive is x))
-    (journals_come alloc version options first raws)
+    (λ (x : IsSome (all_received (first ∷ raws) (fresh alloc fixed.version fixed.options)).failure). not_failed v (ap (λ m. is_some m.failure) is ∙ x) alive)
+    (λ (x : StartedWith alloc fixed.version fixed.options first raws (all_received (first ∷ raws) (fresh alloc fixed.version fixed.options))). inr (started_as fixed alloc fed v first raws frames alive is x))
+    (journals_come alloc fixed.version fixed.options first raws)
 
 -- further frames come to a machine that has begun
-begun_more : (version : Version) (options : VMOptions) (fed : Heard) (f : Fed) (v w : View) (G : List RawMessage) → Took fed f v w G → (b : Begun version options fed v.machine) → Begun version options (and_piece fed f) w.machine
-begun_more version options fed f v w G t b =
+begun_more : (fixed : Fixed) (fed : Heard) (f : Fed) (v w : View) (G : List RawMessage) → Took fed f v w G → (b : Begun fixed fed v.machine) → Begun fixed (and_piece fed f) w.machine
+begun_more fixed fed f v w G t b =
     record {
       first_frame = b.first_frame;
       others = b.others ++ G;
@@ -180,7 +179,7 @@ begun_more version options fed f v w G t b =
     }
   where
     s : Setup
-    s = setup_for version options b.start
+    s = setup_for fixed b.start
 
     given : StateMap
     given = record { entries = b.state; coverage = coverage_of b.start.partial }
@@ -197,12 +196,12 @@ begun_more version options fed f v w G t b =
         subst (λ m. StillWaits s given b.aside b.start.known_entries [] [] (b.others ++ G) m ⊎ HasAll s given b.aside b.start.known_entries [] [] (b.others ++ G) m) (sym t.machine) x)
         o
 
-comes_more : (version : Version) (options : VMOptions) (fed : Heard) (f : Fed) (v w : View) (G : List RawMessage) → Took fed f v w G → Comes version options fed v.machine → Comes version options (and_piece fed f) w.machine
-comes_more version options fed f v w G t =
+comes_more : (fixed : Fixed) (fed : Heard) (f : Fed) (v w : View) (G : List RawMessage) → Took fed f v w G → Comes fixed fed v.machine → Comes fixed (and_piece fed f) w.machine
+comes_more fixed fed f v w G t =
     ⊎_elim
-    (λ (x : (frames_fed fed ≡ []) × ((alloc : Global) × (v.machine ≡ fresh alloc version options))).
-    first_comes version options x.1.0 (and_piece fed f) w.machine G (t.frames ∙ ap (λ l. l ++ G) x.0) t.alive (t.machine ∙ ap (all_received G) x.1.1))
-    (λ (x : Begun version options fed v.machine). inr (begun_more version options fed f v w G t x))
+    (λ (x : (frames_fed fed ≡ []) × ((alloc : Global) × (v.machine ≡ fresh alloc fixed.version fixed.options))).
+    first_comes fixed x.1.0 (and_piece fed f) w.machine G (t.frames ∙ ap (λ l. l ++ G) x.0) t.alive (t.machine ∙ ap (all_received G) x.1.1))
+    (λ (x : Begun fixed fed v.machine). inr (begun_more fixed fed f v w G t x))
 
 -- what a piece makes of a VM
 pub took_in : (fed : Heard) (f : Fed) (v : View) → v.machine.failure ≡ None → (frames_of (bytes_fed fed)).1 ≡ Rest v.undecoded → (after_input v f.piece).machine.failure ≡ None
@@ -217,15 +216,15 @@ took_in fed f v live tail alive =
     (takes_in v f.piece live)
 
 -- before the input
-pub before_fed : (version : Version) (options : VMOptions) (fed : Heard) (answers : List Answer) (waiting : Option UnresolvedFuture) (taken : List (List ℕ)) (v : View) (f : Fed) → BeforeInput version options fed answers waiting taken v → v.machine.failure ≡ None → BeforeInput version options (and_piece fed f) answers waiting taken (after_input v f.piece)
-before_fed version options fed answers waiting taken v f b live =
+pub before_fed : (fixed : Fixed) (fed : Heard) (answers : List Answer) (waiting : Option UnresolvedFuture) (taken : List (List ℕ)) (v : View) (f : Fed) → BeforeInput fixed fed answers waiting taken v → v.machine.failure ≡ None → BeforeInput fixed (and_piece fed f) answers waiting taken (after_input v f.piece)
+before_fed fixed fed answers waiting taken v f b live =
     let w = after_input v f.piece in
     record {
       answers = b.answers;
       none_proposed = b.none_proposed;
       waits_not = b.waits_not;
       wrote = wrote_quiet taken v.machine w.machine [] (input_quiet v f.piece) b.wrote;
-      comes = λ alive. comes_more version options fed f v w (frames_of (v.undecoded ++ f.piece)).0 (took_in fed f v live (b.tail live) alive).0 (b.comes live);
+      comes = λ alive. comes_more fixed fed f v w (frames_of (v.undecoded ++ f.piece)).0 (took_in fed f v live (b.tail live) alive).0 (b.comes live);
       tail = λ alive. (took_in fed f v live (b.tail live) alive).1;
     }
 
@@ -282,13 +281,13 @@ keeps_more fed to G frames j v w live is alive (kept, found) =
       subst (AllFound fed.proposed) split (found_append fed.proposed (j.entries ++ j.others) G found (subst (λ l. AllFound l G) kept more.1)),
     )
 
-pub running_fed : (m : Meaning) (version : Version) (options : VMOptions) (fed : Heard) (answers : List Answer) (waiting : Option UnresolvedFuture) (taken : List (List ℕ)) (v : View) (f : Fed) → Runs m version options fed answers waiting taken v → IsLive v.machine → Runs m version options (and_piece fed f) answers waiting taken (after_input v f.piece)
-running_fed m version options fed answers waiting taken v f k live =
+pub running_fed : (fixed : Fixed) (fed : Heard) (answers : List Answer) (waiting : Option UnresolvedFuture) (taken : List (List ℕ)) (v : View) (f : Fed) → Runs fixed fed answers waiting taken v → IsLive v.machine → Runs fixed (and_piece fed f) answers waiting taken (after_input v f.piece)
+running_fed fixed fed answers waiting taken v f k live =
     let w = after_input v f.piece in
     let to = fed.pieces ++ f ∷ [] in
     let G = (frames_of (v.undecoded ++ f.piece)).0 in
     let N = more_arrivals k.journal G in
-    let s = setup_for version options k.journal.start in
+    let s = setup_for fixed k.journal.start in
     let given = handed_out k.journal in
     let frames : frames_fed (and_piece fed f) ≡ frames_fed fed ++ G = ap (λ p. p.0) (fed_frames fed f v (k.tail live)) in
     let took = took_in fed f v live.failure (k.tail live) in
@@ -306,9 +305,9 @@ running_fed m version options fed answers waiting taken v f k live =
       wrote = wrote_quiet taken v.machine w.machine k.written (input_quiet v f.piece) k.wrote;
       at = later N k.at;
       moves = k.moves;
-      run = run_to s m (Handed given) fed k.journal G k.moves k.written k.at k.run;
+      run = run_to s fixed.handler (Handed given) fed k.journal G k.moves k.written k.at k.run;
       answers = k.answers;
-      awaits = still_awaits m k.at N waiting k.awaits;
+      awaits = still_awaits fixed.handler k.at N waiting k.awaits;
       agrees = λ alive. agrees alive.failure;
       rests = λ _. k.rests live;
       keeps = λ alive. keeps_more fed to G frames k.journal v.machine w.machine live (took alive.failure).0.machine alive.failure (k.keeps live);

@@ -25,7 +25,7 @@ use Rattle.vm_machine.specs.declared.phase.Phase.{Phase}
 use Rattle.vm_machine.specs.declared.phase.Phase.TheVariants.{WaitingStart, WaitingReplayEntries, Replaying, Processing, Closed}
 use Rattle.vm_machine.specs.Inputs.{counted_entry, coverage_of, entries_in, info_of, queued, started, started_with, acknowledged, acknowledged_by}
 use Rattle.vm_machine.specs.Making.{fresh}
-use Rattle.vm_machine.specs.Outcomes.{Done, refused, ruled, settled}
+use Rattle.vm_machine.specs.Outcomes.{Done, refused, ruled, ruled_by, settled}
 use Rattle.vm_machine.specs.Phases.{is_running}
 use Rattle.invocation_vm.specs.Views.{all_received, left_by, received}
 use Rattle.vm_steps.specs.Heard.{Heard, with_pieces}
@@ -41,6 +41,7 @@ use Rattle.vm_attempt.proofs.Blaming.{one_comes}
 use Rattle.vm_attempt.proofs.Entries.{message_by, receives_by}
 use Rattle.vm_attempt.proofs.Proposed.{all_keep, all_none, kept_append}
 use Rattle.vm_attempt.proofs.Staying.{all_stay}
+use Rattle.vm_attempt.specs.Fixed.{Fixed}
 
 one_longer : (others : List RawMessage) (raw : RawMessage) → length (others ++ raw ∷ []) ≡ length others + 1
 one_longer others raw = length-append others (raw ∷ [])
@@ -162,8 +163,8 @@ abbrev pub KeepsOn : Heard → Machine → Type 0
 KeepsOn fed v = (before : List RawMessage) → (all_received before v).failure ≡ None → ((all_received before v).proposals ≡ kept_after fed.proposed (behind (frames_fed fed ++ before))) × ProposesLate fed (all_received before v).phase
 
 -- a frame that is refused, among all that were fed
-pub bad_frame : (fed : Heard) (to : List Fed) (G : List RawMessage) → frames_fed (with_pieces to fed) ≡ frames_fed fed ++ G → (v m : Machine) (e : Error) → v.failure ≡ None → Place v.phase v.entries_missing (frames_fed fed) → KeepsOn fed v → FailsAt G v m → m.failure ≡ Some e → BadFrame v.version v.options (with_pieces to fed) e
-bad_frame fed to G frames v m e live p keeps f is =
+pub bad_frame : (fixed : Fixed) (fed : Heard) (to : List Fed) (G : List RawMessage) → frames_fed (with_pieces to fed) ≡ frames_fed fed ++ G → (v m : Machine) (e : Error) → (v.version ≡ fixed.version) × (v.options ≡ fixed.options) → v.failure ≡ None → Place v.phase v.entries_missing (frames_fed fed) → KeepsOn fed v → FailsAt G v m → m.failure ≡ Some e → BadFrame fixed (with_pieces to fed) e
+bad_frame fixed fed to G frames v m e made live p keeps f is =
     let F = frames_fed fed in
     let kept = keeps f.before f.live in
     record {
@@ -177,7 +178,7 @@ bad_frame fed to G frames v m e live p keeps f is =
       late = kept.1;
       why = f.why;
       reason = ap (λ ps. fault_among ps (all_received f.before v).phase f.raw) (sym kept.0) ∙ f.reason;
-      error = same_Some e _ (sym is ∙ f.failure);
+      error = same_Some e _ (sym is ∙ f.failure) ∙ λ i. ruled_by (made.0 i) (made.1 i) (named_error f.why None);
     }
 
 -- ---- where the VM of an attempt stands
@@ -186,23 +187,23 @@ bad_frame fed to G frames v m e live p keeps f is =
 abbrev pub StandsIn : Version → VMOptions → List RawMessage → Machine → Type 0
 StandsIn version options F v = Place v.phase v.entries_missing F × ((v.version ≡ version) × (v.options ≡ options))
 
-begun_stands : (version : Version) (options : VMOptions) (fed : Heard) (v : Machine) → Begun version options fed v → StandsIn version options (frames_fed fed) v
-begun_stands version options fed v b =
+begun_stands : (fixed : Fixed) (fed : Heard) (v : Machine) → Begun fixed fed v → StandsIn fixed.version fixed.options (frames_fed fed) v
+begun_stands fixed fed v b =
     ⊎_elim
-    (λ (x : StillWaits (setup_for version options b.start) (record { entries = b.state; coverage = coverage_of b.start.partial }) b.aside b.start.known_entries [] [] b.others v).
-    subst (StandsIn version options (frames_fed fed)) (sym x.machine) (record { first = b.first_frame; others = b.others; is = b.frames; start = b.start; reads = b.reads_start; counts = (sym x.count, omega arith) }, (refl, refl)))
-    (λ (x : HasAll (setup_for version options b.start) (record { entries = b.state; coverage = coverage_of b.start.partial }) b.aside b.start.known_entries [] [] b.others v).
-    subst (StandsIn version options (frames_fed fed)) (sym x.machine) (record { first = b.first_frame; others = b.others; is = b.frames; start = b.start; reads = b.reads_start; counts = enough (length x.entries) (length x.others) (length b.others) b.start.known_entries x.count (ap length x.split ∙ length-append x.entries x.others) }, (refl, refl)))
+    (λ (x : StillWaits (setup_for fixed b.start) (record { entries = b.state; coverage = coverage_of b.start.partial }) b.aside b.start.known_entries [] [] b.others v).
+    subst (StandsIn fixed.version fixed.options (frames_fed fed)) (sym x.machine) (record { first = b.first_frame; others = b.others; is = b.frames; start = b.start; reads = b.reads_start; counts = (sym x.count, omega arith) }, (refl, refl)))
+    (λ (x : HasAll (setup_for fixed b.start) (record { entries = b.state; coverage = coverage_of b.start.partial }) b.aside b.start.known_entries [] [] b.others v).
+    subst (StandsIn fixed.version fixed.options (frames_fed fed)) (sym x.machine) (record { first = b.first_frame; others = b.others; is = b.frames; start = b.start; reads = b.reads_start; counts = enough (length x.entries) (length x.others) (length b.others) b.start.known_entries x.count (ap length x.split ∙ length-append x.entries x.others) }, (refl, refl)))
     b.waits
   where
     enough : (a c n known : ℕ) → a ≡ known → n ≡ a + c → known ≤ n
     enough a c n known e f = omega (arith, e, f)
 
-comes_stands : (version : Version) (options : VMOptions) (fed : Heard) (v : Machine) → Comes version options fed v → StandsIn version options (frames_fed fed) v
-comes_stands version options fed v =
+comes_stands : (fixed : Fixed) (fed : Heard) (v : Machine) → Comes fixed fed v → StandsIn fixed.version fixed.options (frames_fed fed) v
+comes_stands fixed fed v =
     ⊎_elim
-    (λ (x : (frames_fed fed ≡ []) × ((alloc : Global) × (v ≡ fresh alloc version options))). subst (StandsIn version options (frames_fed fed)) (sym x.1.1) (x.0, (refl, refl)))
-    (λ (b : Begun version options fed v). begun_stands version options fed v b)
+    (λ (x : (frames_fed fed ≡ []) × ((alloc : Global) × (v ≡ fresh alloc fixed.version fixed.options))). subst (StandsIn fixed.version fixed.options (frames_fed fed)) (sym x.1.1) (x.0, (refl, refl)))
+    (λ (b : Begun fixed fed v). begun_stands fixed fed v b)
 
 running_place : (ph : Phase) (k : ℕ) (F : List RawMessage) → is_running ph ≡ true → Began F (λ n known. known ≤ n) → Place ph k F
 running_place WaitingStart k F runs b = absurd (cc)
@@ -212,14 +213,14 @@ running_place Processing k F runs b = b
 running_place Closed k F runs b = absurd (cc)
 
 -- where the VM of an attempt stands, as long as it is alive and open
-pub come_stands : (version : Version) (options : VMOptions) (r : Record) → HasCome version options r → r.vm.machine.failure ≡ None → r.vm.machine.phase ≢ Closed → StandsIn version options (frames_fed (heard version r)) r.vm.machine
-come_stands version options r k live open_yet =
+pub come_stands : (fixed : Fixed) (r : Record) → HasCome fixed r → r.vm.machine.failure ≡ None → r.vm.machine.phase ≢ Closed → StandsIn fixed.version fixed.options (frames_fed (heard fixed.version r)) r.vm.machine
+come_stands fixed r k live open_yet =
     ⊎_elim
-    (λ (b : BeforeInput version options (heard version r) r.answers r.waiting r.taken r.vm). comes_stands version options (heard version r) r.vm.machine (b.comes live))
-    (λ (b : Came version options (heard version r) r.answers r.taken r.vm).
+    (λ (b : BeforeInput fixed (heard fixed.version r) r.answers r.waiting r.taken r.vm). comes_stands fixed (heard fixed.version r) r.vm.machine (b.comes live))
+    (λ (b : Came fixed (heard fixed.version r) r.answers r.taken r.vm).
     let runs : is_running r.vm.machine.phase ≡ true = ⊎_elim (λ (x : is_running r.vm.machine.phase ≡ true). x) (λ (x : r.vm.machine.phase ≡ Closed). absurd (open_yet x)) (b.phase live) in
     let j = b.journal in
-    (running_place r.vm.machine.phase r.vm.machine.entries_missing (frames_fed (heard version r)) runs (record { first = j.first_frame; others = j.entries ++ j.others; is = j.frames; start = j.start; reads = j.reads_start; counts = enough (length j.entries) (length j.others) (length (j.entries ++ j.others)) j.start.known_entries j.count (length-append j.entries j.others) }), b.made_for (record { failure = live; phase = runs })))
+    (running_place r.vm.machine.phase r.vm.machine.entries_missing (frames_fed (heard fixed.version r)) runs (record { first = j.first_frame; others = j.entries ++ j.others; is = j.frames; start = j.start; reads = j.reads_start; counts = enough (length j.entries) (length j.others) (length (j.entries ++ j.others)) j.start.known_entries j.count (length-append j.entries j.others) }), b.made_for (record { failure = live; phase = runs })))
     k
   where
     enough : (a c n known : ℕ) → a ≡ known → n ≡ a + c → known ≤ n
@@ -227,27 +228,27 @@ come_stands version options r k live open_yet =
 
 -- ---- what it keeps
 
-comes_none : (version : Version) (options : VMOptions) (fed : Heard) (v : Machine) → Comes version options fed v → v.proposals ≡ []
-comes_none version options fed v =
+comes_none : (fixed : Fixed) (fed : Heard) (v : Machine) → Comes fixed fed v → v.proposals ≡ []
+comes_none fixed fed v =
     ⊎_elim
-    (λ (x : (frames_fed fed ≡ []) × ((alloc : Global) × (v ≡ fresh alloc version options))). ap (λ (w : Machine). w.proposals) x.1.1)
-    (λ (b : Begun version options fed v).
+    (λ (x : (frames_fed fed ≡ []) × ((alloc : Global) × (v ≡ fresh alloc fixed.version fixed.options))). ap (λ (w : Machine). w.proposals) x.1.1)
+    (λ (b : Begun fixed fed v).
     ⊎_elim
-    (λ (x : StillWaits (setup_for version options b.start) (record { entries = b.state; coverage = coverage_of b.start.partial }) b.aside b.start.known_entries [] [] b.others v). ap (λ (w : Machine). w.proposals) x.machine)
-    (λ (x : HasAll (setup_for version options b.start) (record { entries = b.state; coverage = coverage_of b.start.partial }) b.aside b.start.known_entries [] [] b.others v). ap (λ (w : Machine). w.proposals) x.machine)
+    (λ (x : StillWaits (setup_for fixed b.start) (record { entries = b.state; coverage = coverage_of b.start.partial }) b.aside b.start.known_entries [] [] b.others v). ap (λ (w : Machine). w.proposals) x.machine)
+    (λ (x : HasAll (setup_for fixed b.start) (record { entries = b.state; coverage = coverage_of b.start.partial }) b.aside b.start.known_entries [] [] b.others v). ap (λ (w : Machine). w.proposals) x.machine)
     b.waits)
 
 -- what the VM of an attempt keeps, as long as it is alive and open
-pub come_keeps : (version : Version) (options : VMOptions) (r : Record) → HasCome version options r → r.vm.machine.failure ≡ None → r.vm.machine.phase ≢ Closed → KeepsOn (heard version r) r.vm.machine
-come_keeps version options r k live open_yet before alive =
+pub come_keeps : (fixed : Fixed) (r : Record) → HasCome fixed r → r.vm.machine.failure ≡ None → r.vm.machine.phase ≢ Closed → KeepsOn (heard fixed.version r) r.vm.machine
+come_keeps fixed r k live open_yet before alive =
     ⊎_elim
-    (λ (b : BeforeInput version options (heard version r) r.answers r.waiting r.taken r.vm).
-    let frames = behind (frames_fed (heard version r) ++ before) in
-    (all_none before r.vm.machine (comes_none version options (heard version r) r.vm.machine (b.comes live)) ∙ sym (ap (λ ps. kept_after ps frames) b.none_proposed ∙ kept_none frames), inl b.none_proposed))
-    (λ (c : Came version options (heard version r) r.answers r.taken r.vm).
+    (λ (b : BeforeInput fixed (heard fixed.version r) r.answers r.waiting r.taken r.vm).
+    let frames = behind (frames_fed (heard fixed.version r) ++ before) in
+    (all_none before r.vm.machine (comes_none fixed (heard fixed.version r) r.vm.machine (b.comes live)) ∙ sym (ap (λ ps. kept_after ps frames) b.none_proposed ∙ kept_none frames), inl b.none_proposed))
+    (λ (c : Came fixed (heard fixed.version r) r.answers r.taken r.vm).
     let runs : is_running r.vm.machine.phase ≡ true = ⊎_elim (λ (x : is_running r.vm.machine.phase ≡ true). x) (λ (x : r.vm.machine.phase ≡ Closed). absurd (open_yet x)) (c.phase live) in
     let is_live : IsLive r.vm.machine = record { failure = live; phase = runs } in
-    let fed = heard version r in
+    let fed = heard fixed.version r in
     let frames = c.journal.entries ++ c.journal.others in (
       (all_keep before r.vm.machine live runs alive).0 ∙ ap (λ ps. kept_after ps before) (c.keeps is_live).0 ∙ sym (kept_append fed.proposed frames before) ∙ ap (λ l. kept_after fed.proposed (behind (l ++ before))) (sym c.journal.frames),
       ⊎_elim

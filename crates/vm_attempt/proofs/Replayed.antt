@@ -7,10 +7,8 @@ use Rattle.journal_errors.specs.declared.faults.NamedFault.{NamedFault}
 use Rattle.journal_errors.specs.Errors.{no_memory}
 use Rattle.journal_messages.specs.declared.message.RawMessage.{RawMessage}
 use Rattle.journal_values.specs.declared.notification.Notification.{Notification}
-use Rattle.journal_errors.specs.declared.version.Version.{Version}
 use Rattle.journal_messages.specs.Reading.{notification_in}
 use Rattle.vm_types.specs.declared.options.JournalReplay.TheVariants.{Enabled, Disabled}
-use Rattle.vm_types.specs.declared.options.VMOptions.{VMOptions}
 use Rattle.vm_types.specs.declared.steps.Answer.{Answer}
 use Rattle.vm_machine.specs.declared.machine.Machine.{Machine}
 use Rattle.vm_model.specs.Calls.{Setup, Meaning}
@@ -46,6 +44,7 @@ use Rattle.vm_attempt.specs.Journals.{is_acknowledgement}
 use Rattle.vm_attempt.proofs.Arriving.{kept_none}
 use Rattle.vm_attempt.proofs.Blaming.{none_kept}
 use Rattle.vm_attempt.proofs.Proposed.{arriving_append, arriving_notified, kept_all}
+use Rattle.vm_attempt.specs.Fixed.{Fixed}
 
 recorded_commands : (b : Bool) (raw : RawMessage) (es : List Entry) (cs : List RawMessage) → commands_in es ≡ cs → commands_in (recorded_by b raw es) ≡ cond b (raw ∷ cs) cs
 recorded_commands true raw es cs is = ap (λ l. raw ∷ l) is
@@ -90,10 +89,10 @@ pub tail_same : (a b : RawMessage) (xs ys : List RawMessage) → a ∷ xs ≡ b 
 tail_same a b xs ys e = cc
 
 -- on a history no call is refused while recorded commands are left
-pub history_refuses : (m : Meaning) (version : Version) (options : VMOptions) (fed : Heard) (j : Journal fed) (base : StateMap) (moves : ℕ) (written : List RawMessage) (at : Point) → Made (setup_for version options j.start) m (Handed (handed_out j)) moves (start (setup_for version options j.start) j.input (arrivals j) j.rest) written at
-    → (c : RawMessage) (further : List RawMessage) → at.left ≡ c ∷ further → (why : NamedFault) → IsRefusedFor (move_at (setup_for version options j.start) m at) at.left at.queue why → History (setup_for version options j.start) m base (as_entries j.entries) → ⊥
-history_refuses m version options fed j base moves written at run c further left why reason h =
-    let s = setup_for version options j.start in
+pub history_refuses : (fixed : Fixed) (fed : Heard) (j : Journal fed) (base : StateMap) (moves : ℕ) (written : List RawMessage) (at : Point) → Made (setup_for fixed j.start) fixed.handler (Handed (handed_out j)) moves (start (setup_for fixed j.start) j.input (arrivals j) j.rest) written at
+    → (c : RawMessage) (further : List RawMessage) → at.left ≡ c ∷ further → (why : NamedFault) → IsRefusedFor (move_at (setup_for fixed j.start) fixed.handler at) at.left at.queue why → History (setup_for fixed j.start) fixed.handler base (as_entries j.entries) → ⊥
+history_refuses fixed fed j base moves written at run c further left why reason h =
+    let s = setup_for fixed j.start in
     let begins : h.first ∷ h.rest ≡ j.first ∷ j.rest = sym h.begins ∙ commands_same j.entries ∙ j.commands in
     let first : h.first ≡ j.first = head_same h.first j.first h.rest j.rest begins in
     let rest : h.rest ≡ j.rest = tail_same h.first j.first h.rest j.rest begins in
@@ -103,11 +102,11 @@ history_refuses m version options fed j base moves written at run c further left
     (λ i. (notes_same j.entries ∙ sym (arriving_notified fed.proposed j.entries j.none_acknowledge)) i ++ arriving (sym (kept_all fed.proposed j.entries j.none_acknowledge) i) j.others)
     ∙ sym (arriving_append fed.proposed j.entries j.others)
     in
-    let made : Made s m (Handed (handed_out j)) moves (start s h.input (notifications_in (as_entries j.entries) ++ later) h.rest) written at = subst (λ p. Made s m (Handed (handed_out j)) moves p written at) (λ i. start s (sym input i) (sym notes i) (sym rest i)) run in
-    none_refused s m base (handed_out j) base (as_entries j.entries) later moves written further c at h made left (refused_stuck s m base at why reason)
+    let made : Made s fixed.handler (Handed (handed_out j)) moves (start s h.input (notifications_in (as_entries j.entries) ++ later) h.rest) written at = subst (λ p. Made s fixed.handler (Handed (handed_out j)) moves p written at) (λ i. start s (sym input i) (sym notes i) (sym rest i)) run in
+    none_refused s fixed.handler base (handed_out j) base (as_entries j.entries) later moves written further c at h made left (refused_stuck s fixed.handler base at why reason)
 
-pub history_replayed : (m : Meaning) (version : Version) (options : VMOptions) (fed : Heard) (answers : List Answer) (e : Error) (old new : Machine) (x : RefusesReplay m version options fed answers e old new) (c : RawMessage) (further : List RawMessage) → x.at.left ≡ c ∷ further → (base : StateMap) → History (setup_for version options x.journal.start) m base (as_entries x.journal.entries) → ⊥
-history_replayed m version options fed answers e old new x c further left base h = history_refuses m version options fed x.journal base x.moves x.written x.at x.made c further left x.why x.reason h
+pub history_replayed : (fixed : Fixed) (fed : Heard) (answers : List Answer) (e : Error) (old new : Machine) (x : RefusesReplay fixed fed answers e old new) (c : RawMessage) (further : List RawMessage) → x.at.left ≡ c ∷ further → (base : StateMap) → History (setup_for fixed x.journal.start) fixed.handler base (as_entries x.journal.entries) → ⊥
+history_replayed fixed fed answers e old new x c further left base h = history_refuses fixed fed x.journal base x.moves x.written x.at x.made c further left x.why x.reason h
 
 -- ---- honest attempts
 
@@ -117,14 +116,14 @@ no_input s m base entries h none =
     absurd (cc)
 
 -- where no recorded command is left a call is refused for a reason of its own
-own_refusal : (m : Meaning) (version : Version) (options : VMOptions) (fed : Heard) (answers : List Answer) (e : Error) (x : RefusedCall m version options fed answers e) → x.at.left ≡ [] → move_at (setup_for version options x.journal.start) m x.at ≡ Refuses x.why
-own_refusal m version options fed answers e x is =
-    let move = move_at (setup_for version options x.journal.start) m x.at in
+own_refusal : (fixed : Fixed) (fed : Heard) (answers : List Answer) (e : Error) (x : RefusedCall fixed fed answers e) → x.at.left ≡ [] → move_at (setup_for fixed x.journal.start) fixed.handler x.at ≡ Refuses x.why
+own_refusal fixed fed answers e x is =
+    let move = move_at (setup_for fixed x.journal.start) fixed.handler x.at in
     own_reason move x.at.queue x.why (subst (λ l. IsRefusedFor move l x.at.queue x.why) is x.reason)
 
 -- a call of an honest attempt that was refused
-honest_refused : (m : Meaning) (version : Version) (options : VMOptions) (fed : Heard) (said : Said) (answers : List Answer) (e : Error) → IsHonest m version options fed → (x : RefusedCall m version options fed answers e) → (left : List RawMessage) → x.at.left ≡ left → IsOwnError m version options fed said answers e
-honest_refused m version options fed said answers e honest x [] is = inr (inr (inl (record {
+honest_refused : (fixed : Fixed) (fed : Heard) (said : Said) (answers : List Answer) (e : Error) → IsHonest fixed fed → (x : RefusedCall fixed fed answers e) → (left : List RawMessage) → x.at.left ≡ left → IsOwnError fixed fed said answers e
+honest_refused fixed fed said answers e honest x [] is = inr (inr (inl (record {
   journal = x.journal;
   written = x.written;
   at = x.at;
@@ -133,14 +132,14 @@ honest_refused m version options fed said answers e honest x [] is = inr (inr (i
   answers = x.answers;
   none_recorded = is;
   why = x.why;
-  reason = own_refusal m version options fed answers e x is;
+  reason = own_refusal fixed fed answers e x is;
   expected = λ same.
-      let told = (attempt_is_told (setup_for version options x.journal.start) m (handed_out x.journal) x.journal.input x.moves (arrivals x.journal) x.journal.rest x.written x.at x.made).0 in
-      none_unexpected (setup_for version options x.journal.start) m told.0 x.journal.input (arrivals x.journal) (x.journal.rest ++ x.written) x.at told.1 (honest.kinds x.journal x.moves x.written x.at x.made) (own_refusal m version options fed answers e x is ∙ ap Refuses same);
+      let told = (attempt_is_told (setup_for fixed x.journal.start) fixed.handler (handed_out x.journal) x.journal.input x.moves (arrivals x.journal) x.journal.rest x.written x.at x.made).0 in
+      none_unexpected (setup_for fixed x.journal.start) fixed.handler told.0 x.journal.input (arrivals x.journal) (x.journal.rest ++ x.written) x.at told.1 (honest.kinds x.journal x.moves x.written x.at x.made) (own_refusal fixed fed answers e x is ∙ ap Refuses same);
   related = x.related;
   error = x.error;
 })))
-honest_refused m version options fed said answers e honest x (c ∷ further) is = absurd (let h = honest.history x.journal.first_frame x.journal.entries x.journal.others x.journal.start x.journal.frames x.journal.reads_start x.journal.count in history_refuses m version options fed x.journal h.0 x.moves x.written x.at x.made c further is x.why x.reason h.1)
+honest_refused fixed fed said answers e honest x (c ∷ further) is = absurd (let h = honest.history x.journal.first_frame x.journal.entries x.journal.others x.journal.start x.journal.frames x.journal.reads_start x.journal.count in history_refuses fixed fed x.journal h.0 x.moves x.written x.at x.made c further is x.why x.reason h.1)
 
 -- an acknowledgement is refused in Processing where its proposal isn't kept
 acknowledged_by_kept : (kept : List KeptProposal) (raw : RawMessage) → is_acknowledgement raw ≡ true → fault_among kept Processing raw ≡ read_fault kept (acknowledgement_in raw.body)
@@ -152,10 +151,10 @@ none_kept_fault None h = let z : Some fault.BadMessage ≡ None = h in cc
 none_kept_fault (Some ack) h = let z : Some fault.BadProposeRunCompletionAck ≡ None = h in cc
 
 -- no frame of an honest attempt is refused
-honest_frame : (m : Meaning) (version : Version) (options : VMOptions) (fed : Heard) (e : Error) → IsHonest m version options fed → (x : BadFrame version options fed e) → (b : Bool) → is_acknowledgement x.raw ≡ b → ⊥
-honest_frame m version options fed e honest x false is =
+honest_frame : (fixed : Fixed) (fed : Heard) (e : Error) → IsHonest fixed fed → (x : BadFrame fixed fed e) → (b : Bool) → is_acknowledgement x.raw ≡ b → ⊥
+honest_frame fixed fed e honest x false is =
     let z : None ≡ Some x.why = sym (honest.frames x.before x.raw x.behind x.phase x.missing x.split x.place is) ∙ none_kept (kept_after fed.proposed (behind x.before)) x.phase x.raw x.why x.reason in cc
-honest_frame m version options fed e honest x true is =
+honest_frame fixed fed e honest x true is =
     let kept = kept_after fed.proposed (behind x.before) in
     let taken : read_fault kept (acknowledgement_in x.raw.body) ≡ None = honest.acknowledgements x.before x.raw x.behind x.split is in
     ⊎_elim
@@ -165,20 +164,20 @@ honest_frame m version options fed e honest x true is =
     x.late
 
 -- an honest attempt fails for nothing but a reason of its own
-pub honest_fails : (m : Meaning) (version : Version) (options : VMOptions) (fed : Heard) (said : Said) (answers : List Answer) (e : Error) → IsHonest m version options fed → Blame m version options fed said answers e → IsOwnError m version options fed said answers e
-honest_fails m version options fed said answers e honest (Memory x) = inl x
-honest_fails m version options fed said answers e honest (Frame x) = absurd (honest_frame m version options fed e honest x (is_acknowledgement x.raw) refl)
-honest_fails m version options fed said answers e honest (NoFrame x y) = absurd (honest.whole x)
-honest_fails m version options fed said answers e honest (ClosedEarly x y z) = inr (inl (x, y, z))
-honest_fails m version options fed said answers e honest (NoInput x) = absurd (let h = honest.history x.first x.entries x.others x.start x.is x.reads x.count in no_input (setup_for version options x.start) m h.0 x.entries h.1 x.none)
-honest_fails m version options fed said answers e honest (NoSkip x) = absurd (let z : Enabled ≡ Disabled = sym honest.premises.replays ∙ x.skips in cc)
-honest_fails m version options fed said answers e honest (Call refuses) = ⊎_elim
+pub honest_fails : (fixed : Fixed) (fed : Heard) (said : Said) (answers : List Answer) (e : Error) → IsHonest fixed fed → Blame fixed fed said answers e → IsOwnError fixed fed said answers e
+honest_fails fixed fed said answers e honest (Memory x) = inl x
+honest_fails fixed fed said answers e honest (Frame x) = absurd (honest_frame fixed fed e honest x (is_acknowledgement x.raw) refl)
+honest_fails fixed fed said answers e honest (NoFrame x y) = absurd (honest.whole x)
+honest_fails fixed fed said answers e honest (ClosedEarly x y z) = inr (inl (x, y, z))
+honest_fails fixed fed said answers e honest (NoInput x) = absurd (let h = honest.history x.first x.entries x.others x.start x.is x.reads x.count in no_input (setup_for fixed x.start) fixed.handler h.0 x.entries h.1 x.none)
+honest_fails fixed fed said answers e honest (NoSkip x) = absurd (let z : Enabled ≡ Disabled = sym honest.premises.replays ∙ x.skips in cc)
+honest_fails fixed fed said answers e honest (Call refuses) = ⊎_elim
     (λ (y : e ≡ no_memory). inl y)
-    (λ (y : RefusedCall m version options fed answers e). honest_refused m version options fed said answers e honest y y.at.left refl)
+    (λ (y : RefusedCall fixed fed answers e). honest_refused fixed fed said answers e honest y y.at.left refl)
     (refuses honest.premises)
-honest_fails m version options fed said answers e honest (RunResult x) = inr (inr (inr x))
+honest_fails fixed fed said answers e honest (RunResult x) = inr (inr (inr x))
 
 -- the error of a step of an honest attempt
-pub honest_errs : (m : Meaning) (version : Version) (options : VMOptions) (all : Heard) (said : Said) (answers : List Answer) (result : Result Progress Error) → IsHonest m version options all → IfError result (λ e. Blame m version options all said answers e) → IfError result (λ e. IsOwnError m version options all said answers e)
-honest_errs m version options all said answers (Ok progress) honest b = tt
-honest_errs m version options all said answers (Err e) honest b = honest_fails m version options all said answers e honest b
+pub honest_errs : (fixed : Fixed) (all : Heard) (said : Said) (answers : List Answer) (result : Result Progress Error) → IsHonest fixed all → IfError result (λ e. Blame fixed all said answers e) → IfError result (λ e. IsOwnError fixed all said answers e)
+honest_errs fixed all said answers (Ok progress) honest b = tt
+honest_errs fixed all said answers (Err e) honest b = honest_fails fixed all said answers e honest b

@@ -39,7 +39,8 @@ use Rattle.vm_attempt.specs.Blames.{IsHonest}
 use Rattle.vm_attempt.proofs.Honest.{honestly_fed}
 use Rattle.vm_steps.specs.Heard.{Heard}
 use Rattle.vm_attempt.specs.Honest.{FeedsHonestly, frame_bytes, honest_frames}
-use Rattle.vm_attempt.specs.Journals.{setup_for}
+use Rattle.vm_attempt.specs.Journals.{setup_with}
+use Rattle.vm_attempt.specs.Fixed.{fixed_by}
 
 abbrev first : Start
 first = record { id = codes "abc"; debug_id = codes "abc"; key = []; known_entries = 3; state = []; partial = false; retry_count = 0; duration = 0; random_seed = 0; scope = None; limit_key = None; idempotency_key = None }
@@ -78,7 +79,7 @@ abbrev journal : List Entry
 journal = Recorded (stored_form (message.Input input)) ∷ Recorded (stored_form slept) ∷ Notified void ∷ []
 
 abbrev setup : Setup
-setup = setup_for V7 default_options first
+setup = setup_with V7 default_options first
 
 abbrev begin : Point
 begin = began setup input (void ∷ []) (stored_form slept ∷ [])
@@ -171,7 +172,7 @@ abbrev in_one : Heard
 in_one = record { pieces = record { piece = stream; answers = 0; output = 0 } ∷ []; proposed = [] }
 
 -- an attempt that is fed all of it in one piece is an honest one
-feeds : FeedsHonestly sleeper V7 default_options in_one
+feeds : FeedsHonestly (fixed_by sleeper V7 default_options) in_one
 feeds = record {
   start = first;
   journal = journal;
@@ -193,5 +194,5 @@ feeds = record {
   kinds = rightly_kinded is_history;
 }
 
-is_honest : IsHonest sleeper V7 default_options in_one
-is_honest = honestly_fed sleeper V7 default_options in_one feeds
+is_honest : IsHonest (fixed_by sleeper V7 default_options) in_one
+is_honest = honestly_fed (fixed_by sleeper V7 default_options) in_one feeds

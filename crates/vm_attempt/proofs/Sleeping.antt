@@ -4,9 +4,7 @@ use Rattle.std.specs.Prelude.{◌⊎◌}
 use Rattle.std.proofs.lemmas.Option.{same_Some}
 use Rattle.std.specs.declared.alloc.AllocError.{AllocError}
 use Rattle.journal_errors.specs.declared.error.Error.{Error}
-use Rattle.journal_errors.specs.declared.version.Version.{Version}
 use Rattle.journal_errors.specs.Errors.{no_memory}
-use Rattle.vm_types.specs.declared.options.VMOptions.{VMOptions}
 use Rattle.vm_types.specs.declared.steps.Answer.{Answer}
 use Rattle.vm_parts.specs.Outboxes.{WholeFrames}
 use Rattle.vm_machine.specs.declared.phase.Phase.{Phase}
@@ -27,6 +25,7 @@ use Rattle.invocation_vm.proofs.Feeds.{among_output}
 use Rattle.vm_attempt.proofs.Quiet.{closing_quiet, input_quiet, quiet_same, wrote_quiet}
 use Rattle.vm_attempt.proofs.Under.{step_fed}
 use Rattle.vm_attempt.proofs.Written.{takes_wrote}
+use Rattle.vm_attempt.specs.Fixed.{Fixed}
 
 -- ---- what is said of a step that waits
 
@@ -40,30 +39,30 @@ waits_map P Q f (Ok progress.Ended) h = tt
 waits_map P Q f (Err e) h = tt
 
 -- what an attempt is asleep by, with another view of its VM that has written no command more
-sleeps_quiet : (m : Meaning) (version : Version) (options : VMOptions) (fed : Heard) (answers : List Answer) (taken : List (List ℕ)) (v w : View) → Quiet v.machine w.machine → Sleeps m version options fed answers taken v → Sleeps m version options fed answers taken w
-sleeps_quiet m version options fed answers taken v w q (written, wrote, asleep) = (written, wrote_quiet taken v.machine w.machine written q wrote, asleep)
+sleeps_quiet : (fixed : Fixed) (fed : Heard) (answers : List Answer) (taken : List (List ℕ)) (v w : View) → Quiet v.machine w.machine → Sleeps fixed fed answers taken v → Sleeps fixed fed answers taken w
+sleeps_quiet fixed fed answers taken v w q (written, wrote, asleep) = (written, wrote_quiet taken v.machine w.machine written q wrote, asleep)
 
-pub still_quiet : (m : Meaning) (version : Version) (options : VMOptions) (r : Record) (w : View) → Quiet r.vm.machine w.machine → StillSleeps m version options r → StillSleeps m version options (with_vm w r)
-still_quiet m version options r w q s p made over = waits_map _ _ (sleeps_quiet m version options (heard version r) r.answers r.taken r.vm w q) (Ok made) (s p made over)
+pub still_quiet : (fixed : Fixed) (r : Record) (w : View) → Quiet r.vm.machine w.machine → StillSleeps fixed r → StillSleeps fixed (with_vm w r)
+still_quiet fixed r w q s p made over = waits_map _ _ (sleeps_quiet fixed (heard fixed.version r) r.answers r.taken r.vm w q) (Ok made) (s p made over)
 
 -- before the end nothing is said
-still_open : (m : Meaning) (version : Version) (options : VMOptions) (r : Record) → r.over ≡ None → StillSleeps m version options r
-still_open m version options r going p made over = absurd (let z : None ≡ Some made = sym going ∙ over in cc)
+still_open : (fixed : Fixed) (r : Record) → r.over ≡ None → StillSleeps fixed r
+still_open fixed r going p made over = absurd (let z : None ≡ Some made = sym going ∙ over in cc)
 
 -- ---- feeding
 
 -- a piece that comes to a closed VM, or to one that failed
-kept_sleeps : (m : Meaning) (version : Version) (options : VMOptions) (r : Record) (piece : List ℕ) → IsLate m version options r → StillSleeps m version options r → (over : Option Progress) → r.over ≡ over → (o : Option Error) → r.vm.machine.failure ≡ o → (ph : Phase) → r.vm.machine.phase ≡ ph → StillSleeps m version options (kept_at o ph piece r)
-kept_sleeps m version options r piece l s over at (Some e) is ph by = s
-kept_sleeps m version options r piece l s over at None is Closed by = s
-kept_sleeps m version options r piece l s None at None is WaitingStart by = still_open m version options (kept_at None WaitingStart piece r) at
-kept_sleeps m version options r piece l s None at None is WaitingReplayEntries by = still_open m version options (kept_at None WaitingReplayEntries piece r) at
-kept_sleeps m version options r piece l s None at None is Replaying by = still_open m version options (kept_at None Replaying piece r) at
-kept_sleeps m version options r piece l s None at None is Processing by = still_open m version options (kept_at None Processing piece r) at
-kept_sleeps m version options r piece l s (Some p) at None is WaitingStart by = absurd (let z : WaitingStart ≡ Closed = sym by ∙ (subst (λ o. LateBy o m version options r) at l).phase is in cc)
-kept_sleeps m version options r piece l s (Some p) at None is WaitingReplayEntries by = absurd (let z : WaitingReplayEntries ≡ Closed = sym by ∙ (subst (λ o. LateBy o m version options r) at l).phase is in cc)
-kept_sleeps m version options r piece l s (Some p) at None is Replaying by = absurd (let z : Replaying ≡ Closed = sym by ∙ (subst (λ o. LateBy o m version options r) at l).phase is in cc)
-kept_sleeps m version options r piece l s (Some p) at None is Processing by = absurd (let z : Processing ≡ Closed = sym by ∙ (subst (λ o. LateBy o m version options r) at l).phase is in cc)
+kept_sleeps : (fixed : Fixed) (r : Record) (piece : List ℕ) → IsLate fixed r → StillSleeps fixed r → (over : Option Progress) → r.over ≡ over → (o : Option Error) → r.vm.machine.failure ≡ o → (ph : Phase) → r.vm.machine.phase ≡ ph → StillSleeps fixed (kept_at o ph piece r)
+kept_sleeps fixed r piece l s over at (Some e) is ph by = s
+kept_sleeps fixed r piece l s over at None is Closed by = s
+kept_sleeps fixed r piece l s None at None is WaitingStart by = still_open fixed (kept_at None WaitingStart piece r) at
+kept_sleeps fixed r piece l s None at None is WaitingReplayEntries by = still_open fixed (kept_at None WaitingReplayEntries piece r) at
+kept_sleeps fixed r piece l s None at None is Replaying by = still_open fixed (kept_at None Replaying piece r) at
+kept_sleeps fixed r piece l s None at None is Processing by = still_open fixed (kept_at None Processing piece r) at
+kept_sleeps fixed r piece l s (Some p) at None is WaitingStart by = absurd (let z : WaitingStart ≡ Closed = sym by ∙ (subst (λ o. LateBy o fixed r) at l).phase is in cc)
+kept_sleeps fixed r piece l s (Some p) at None is WaitingReplayEntries by = absurd (let z : WaitingReplayEntries ≡ Closed = sym by ∙ (subst (λ o. LateBy o fixed r) at l).phase is in cc)
+kept_sleeps fixed r piece l s (Some p) at None is Replaying by = absurd (let z : Replaying ≡ Closed = sym by ∙ (subst (λ o. LateBy o fixed r) at l).phase is in cc)
+kept_sleeps fixed r piece l s (Some p) at None is Processing by = absurd (let z : Processing ≡ Closed = sym by ∙ (subst (λ o. LateBy o fixed r) at l).phase is in cc)
 
 -- keeping a piece leaves the VM as it is
 kept_vm : (o : Option Error) (ph : Phase) (piece : List ℕ) (r : Record) → (kept_at o ph piece r).vm ≡ r.vm
@@ -74,46 +73,46 @@ kept_vm None Replaying piece r = refl
 kept_vm None Processing piece r = refl
 kept_vm None Closed piece r = refl
 
-feeds_sleeps : (m : Meaning) (version : Version) (options : VMOptions) (piece : List ℕ) (old : Record) (result : Result Unit AllocError) (new : Record) → IsLate m version options old → StillSleeps m version options old → Feeds piece old result new → StillSleeps m version options new
-feeds_sleeps m version options piece old (Ok t) new l s does =
-    let held = kept_sleeps m version options old piece l s old.over refl old.vm.machine.failure refl old.vm.machine.phase refl in
+feeds_sleeps : (fixed : Fixed) (piece : List ℕ) (old : Record) (result : Result Unit AllocError) (new : Record) → IsLate fixed old → StillSleeps fixed old → Feeds piece old result new → StillSleeps fixed new
+feeds_sleeps fixed piece old (Ok t) new l s does =
+    let held = kept_sleeps fixed old piece l s old.over refl old.vm.machine.failure refl old.vm.machine.phase refl in
     let same = kept_vm old.vm.machine.failure old.vm.machine.phase piece old in
-    subst (StillSleeps m version options) (sym does) (still_quiet m version options (kept piece old) (after_input old.vm piece) (subst (λ (v : View). Quiet v.machine (after_input old.vm piece).machine) (sym same) (input_quiet old.vm piece)) held)
-feeds_sleeps m version options piece old (Err e) new l s does =
+    subst (StillSleeps fixed) (sym does) (still_quiet fixed (kept piece old) (after_input old.vm piece) (subst (λ (v : View). Quiet v.machine (after_input old.vm piece).machine) (sym same) (input_quiet old.vm piece)) held)
+feeds_sleeps fixed piece old (Err e) new l s does =
     ⊎_elim
-    (λ (x : new ≡ record old { starved = true }). subst (StillSleeps m version options) (sym x) s)
+    (λ (x : new ≡ record old { starved = true }). subst (StillSleeps fixed) (sym x) s)
     (λ (x : (w : View) × StarvesAmong (brought old.vm piece) old.vm.machine w.machine × (new ≡ with_vm w (kept piece old))).
-    let held = kept_sleeps m version options old piece l s old.over refl old.vm.machine.failure refl old.vm.machine.phase refl in
+    let held = kept_sleeps fixed old piece l s old.over refl old.vm.machine.failure refl old.vm.machine.phase refl in
     let same = kept_vm old.vm.machine.failure old.vm.machine.phase piece old in
-    subst (StillSleeps m version options) (sym x.2) (still_quiet m version options (kept piece old) x.0 (subst (λ (v : View). Quiet v.machine x.0.machine) (sym same) (quiet_same old.vm.machine x.0.machine (among_output _ old.vm.machine x.0.machine x.1))) held))
+    subst (StillSleeps fixed) (sym x.2) (still_quiet fixed (kept piece old) x.0 (subst (λ (v : View). Quiet v.machine x.0.machine) (sym same) (quiet_same old.vm.machine x.0.machine (among_output _ old.vm.machine x.0.machine x.1))) held))
     does
 
-pub feed_sleeps : (m : Meaning) (version : Version) (options : VMOptions) (piece : List ℕ) (old : Record) (result : Result Unit AllocError) (new : Record) → IsLate m version options old → StillSleeps m version options old → FeedDoes old.starved piece old result new → StillSleeps m version options new
-feed_sleeps m version options piece old result new l s does = by_test old.starved does
+pub feed_sleeps : (fixed : Fixed) (piece : List ℕ) (old : Record) (result : Result Unit AllocError) (new : Record) → IsLate fixed old → StillSleeps fixed old → FeedDoes old.starved piece old result new → StillSleeps fixed new
+feed_sleeps fixed piece old result new l s does = by_test old.starved does
   where
-    by_test : (t : Bool) → FeedDoes t piece old result new → StillSleeps m version options new
-    by_test true d = subst (StillSleeps m version options) (sym d.1) s
-    by_test false d = feeds_sleeps m version options piece old result new l s d
+    by_test : (t : Bool) → FeedDoes t piece old result new → StillSleeps fixed new
+    by_test true d = subst (StillSleeps fixed) (sym d.1) s
+    by_test false d = feeds_sleeps fixed piece old result new l s d
 
 -- ---- closing, and the output
 
-closes_sleeps : (m : Meaning) (version : Version) (options : VMOptions) (old : Record) (result : Result Unit AllocError) (new : Record) → StillSleeps m version options old → Closes old result new → StillSleeps m version options new
-closes_sleeps m version options old (Ok t) new s does = subst (StillSleeps m version options) (sym does) (still_quiet m version options old (after_closing old.vm) (closing_quiet old.vm) s)
-closes_sleeps m version options old (Err e) new s does = subst (StillSleeps m version options) (sym does.2) (still_quiet m version options old does.0 (quiet_same old.vm.machine does.0.machine (among_output _ old.vm.machine does.0.machine does.1)) s)
+closes_sleeps : (fixed : Fixed) (old : Record) (result : Result Unit AllocError) (new : Record) → StillSleeps fixed old → Closes old result new → StillSleeps fixed new
+closes_sleeps fixed old (Ok t) new s does = subst (StillSleeps fixed) (sym does) (still_quiet fixed old (after_closing old.vm) (closing_quiet old.vm) s)
+closes_sleeps fixed old (Err e) new s does = subst (StillSleeps fixed) (sym does.2) (still_quiet fixed old does.0 (quiet_same old.vm.machine does.0.machine (among_output _ old.vm.machine does.0.machine does.1)) s)
 
-pub close_sleeps : (m : Meaning) (version : Version) (options : VMOptions) (old : Record) (result : Result Unit AllocError) (new : Record) → StillSleeps m version options old → CloseDoes old.starved old result new → StillSleeps m version options new
-close_sleeps m version options old result new s does = by_test old.starved does
+pub close_sleeps : (fixed : Fixed) (old : Record) (result : Result Unit AllocError) (new : Record) → StillSleeps fixed old → CloseDoes old.starved old result new → StillSleeps fixed new
+close_sleeps fixed old result new s does = by_test old.starved does
   where
-    by_test : (t : Bool) → CloseDoes t old result new → StillSleeps m version options new
-    by_test true d = subst (StillSleeps m version options) (sym d.1) s
-    by_test false d = closes_sleeps m version options old result new s d
+    by_test : (t : Bool) → CloseDoes t old result new → StillSleeps fixed new
+    by_test true d = subst (StillSleeps fixed) (sym d.1) s
+    by_test false d = closes_sleeps fixed old result new s d
 
-sleeps_taken : (m : Meaning) (version : Version) (options : VMOptions) (r : Record) → WholeFrames r.vm.machine.output → Sleeps m version options (heard version r) r.answers r.taken r.vm → (let n = taken_from r in Sleeps m version options (heard version n) n.answers n.taken n.vm)
-sleeps_taken m version options r f (written, wrote, asleep) = (written, takes_wrote r.taken r.vm.machine.output written f wrote, asleep)
+sleeps_taken : (fixed : Fixed) (r : Record) → WholeFrames r.vm.machine.output → Sleeps fixed (heard fixed.version r) r.answers r.taken r.vm → (let n = taken_from r in Sleeps fixed (heard fixed.version n) n.answers n.taken n.vm)
+sleeps_taken fixed r f (written, wrote, asleep) = (written, takes_wrote r.taken r.vm.machine.output written f wrote, asleep)
 
-pub take_sleeps : (m : Meaning) (version : Version) (options : VMOptions) (old : Record) (result : Result (List ℕ) AllocError) (new : Record) → StillSleeps m version options old → Takes old result new → StillSleeps m version options new
-take_sleeps m version options old (Ok bytes) new s does = subst (StillSleeps m version options) (sym does.1) (λ p made over. waits_map _ _ (sleeps_taken m version options old does.2) (Ok made) (s p made over))
-take_sleeps m version options old (Err e) new s does = subst (StillSleeps m version options) (sym does) s
+pub take_sleeps : (fixed : Fixed) (old : Record) (result : Result (List ℕ) AllocError) (new : Record) → StillSleeps fixed old → Takes old result new → StillSleeps fixed new
+take_sleeps fixed old (Ok bytes) new s does = subst (StillSleeps fixed) (sym does.1) (λ p made over. waits_map _ _ (sleeps_taken fixed old does.2) (Ok made) (s p made over))
+take_sleeps fixed old (Err e) new s does = subst (StillSleeps fixed) (sym does) s
 
 -- ---- a step
 
@@ -181,32 +180,32 @@ over_repeats m made old result new over does = by_test old.starved does
     by_test false d = repeats_unless m made old result new old.vm.machine.failure (subst (λ o. StepUnless old.vm.machine.failure o m old result new) over d)
 
 -- where a step waits, the attempt sleeps
-step_asleep : (m : Meaning) (version : Version) (options : VMOptions) (old : Record) (result : Result Progress Error) (new : Record) → IsKeptUnder m version options old → StillSleeps m version options old → StepDoes m old result new → Premises m version options (heard version old) → IfWaits result (Sleeps m version options (heard version new) new.answers new.taken new.vm)
-step_asleep m version options old result new u s does p = by_over old.over refl
+step_asleep : (fixed : Fixed) (old : Record) (result : Result Progress Error) (new : Record) → IsKeptUnder fixed old → StillSleeps fixed old → StepDoes fixed.handler old result new → Premises fixed (heard fixed.version old) → IfWaits result (Sleeps fixed (heard fixed.version new) new.answers new.taken new.vm)
+step_asleep fixed old result new u s does p = by_over old.over refl
   where
-    by_over : (over : Option Progress) → old.over ≡ over → IfWaits result (Sleeps m version options (heard version new) new.answers new.taken new.vm)
-    by_over None going = step_waits m version options old result new p (u p) going does
+    by_over : (over : Option Progress) → old.over ≡ over → IfWaits result (Sleeps fixed (heard fixed.version new) new.answers new.taken new.vm)
+    by_over None going = step_waits fixed old result new p (u p) going does
     by_over (Some made) over =
-        let r = over_repeats m made old result new over does in
+        let r = over_repeats fixed.handler made old result new over does in
         ⊎_elim
-        (λ (x : result ≡ Ok made). subst (λ z. IfWaits z (Sleeps m version options (heard version new) new.answers new.taken new.vm)) (sym x) (subst (λ (n : Record). IfWaits (Ok made) (Sleeps m version options (heard version n) n.answers n.taken n.vm)) (sym r.0) (s p made over)))
-        (λ (x : (e : Error) × (result ≡ Err e)). subst (λ z. IfWaits z (Sleeps m version options (heard version new) new.answers new.taken new.vm)) (sym x.1) tt)
+        (λ (x : result ≡ Ok made). subst (λ z. IfWaits z (Sleeps fixed (heard fixed.version new) new.answers new.taken new.vm)) (sym x) (subst (λ (n : Record). IfWaits (Ok made) (Sleeps fixed (heard fixed.version n) n.answers n.taken n.vm)) (sym r.0) (s p made over)))
+        (λ (x : (e : Error) × (result ≡ Err e)). subst (λ z. IfWaits z (Sleeps fixed (heard fixed.version new) new.answers new.taken new.vm)) (sym x.1) tt)
         r.1
 
-pub step_sleeps : (m : Meaning) (version : Version) (options : VMOptions) (old : Record) (result : Result Progress Error) (new : Record) → IsKeptUnder m version options old → StillSleeps m version options old → StepDoes m old result new → StillSleeps m version options new
-step_sleeps m version options old result new u s does = by_over old.over refl
+pub step_sleeps : (fixed : Fixed) (old : Record) (result : Result Progress Error) (new : Record) → IsKeptUnder fixed old → StillSleeps fixed old → StepDoes fixed.handler old result new → StillSleeps fixed new
+step_sleeps fixed old result new u s does = by_over old.over refl
   where
-    by_over : (over : Option Progress) → old.over ≡ over → StillSleeps m version options new
+    by_over : (over : Option Progress) → old.over ≡ over → StillSleeps fixed new
     by_over None going = λ p made over.
         ⊎_elim
         (λ (x : new.over ≡ old.over). absurd (let z : None ≡ Some made = sym going ∙ sym x ∙ over in cc))
         (λ (x : (q : Progress) × (result ≡ Ok q) × (new.over ≡ Some q)).
         let same : x.0 ≡ made = same_Some x.0 made (sym x.2 ∙ over) in
-        subst (λ z. IfWaits z (Sleeps m version options (heard version new) new.answers new.taken new.vm)) (x.1 ∙ ap (λ q. Ok q) same)
-        (step_asleep m version options old result new u s does (subst (λ fed. Premises m version options fed) (step_fed version m old result new does) p)))
-        (open_ends m old result new going does)
-    by_over (Some made) over = subst (StillSleeps m version options) (sym (over_repeats m made old result new over does).0) s
+        subst (λ z. IfWaits z (Sleeps fixed (heard fixed.version new) new.answers new.taken new.vm)) (x.1 ∙ ap (λ q. Ok q) same)
+        (step_asleep fixed old result new u s does (subst (λ fed. Premises fixed fed) (step_fed fixed.version fixed.handler old result new does) p)))
+        (open_ends fixed.handler old result new going does)
+    by_over (Some made) over = subst (StillSleeps fixed) (sym (over_repeats fixed.handler made old result new over does).0) s
 
 -- a step waits only where nothing wakes
-pub waits_rightly : (m : Meaning) (version : Version) (options : VMOptions) (old : Record) (result : Result Progress Error) (new : Record) → IsKeptUnder m version options old → StillSleeps m version options old → StepDoes m old result new → WholeFrames new.vm.machine.output → Premises m version options (heard version old) → IfWaits result (NothingWakes m version options new)
-waits_rightly m version options old result new u s does f p = asleep_waits m version options new result f (step_asleep m version options old result new u s does p)
+pub waits_rightly : (fixed : Fixed) (old : Record) (result : Result Progress Error) (new : Record) → IsKeptUnder fixed old → StillSleeps fixed old → StepDoes fixed.handler old result new → WholeFrames new.vm.machine.output → Premises fixed (heard fixed.version old) → IfWaits result (NothingWakes fixed new)
+waits_rightly fixed old result new u s does f p = asleep_waits fixed new result f (step_asleep fixed old result new u s does p)

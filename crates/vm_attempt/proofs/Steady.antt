@@ -36,6 +36,7 @@ use Rattle.vm_attempt.proofs.Advanced.{done_of, failed_quiet, input_silent}
 use Rattle.vm_attempt.proofs.Quiet.{Silent, closing_quiet, input_quiet}
 use Rattle.vm_attempt.proofs.Sending.{IsLeft, Sends, step_leaves}
 use Rattle.vm_attempt.proofs.Written.{frames_propose, proposes_more}
+use Rattle.vm_attempt.specs.Fixed.{Fixed}
 
 -- ---- what is written
 
@@ -156,11 +157,11 @@ step_writes m old result new does = by_test old.starved does
 abbrev pub all_proposed : Record → List KeptProposal
 all_proposed r = proposals_in (bytes_written r)
 
-pub wrote_of : (version : Version) (options : VMOptions) (r : Record) → HasCome version options r → (written : List RawMessage) × Wrote r.taken r.vm.machine.output written
-wrote_of version options r =
+pub wrote_of : (fixed : Fixed) (r : Record) → HasCome fixed r → (written : List RawMessage) × Wrote r.taken r.vm.machine.output written
+wrote_of fixed r =
     ⊎_elim
-    (λ (b : BeforeInput version options (heard version r) r.answers r.waiting r.taken r.vm). ([], b.wrote))
-    (λ (c : Came version options (heard version r) r.answers r.taken r.vm). (c.written, c.wrote))
+    (λ (b : BeforeInput fixed (heard fixed.version r) r.answers r.waiting r.taken r.vm). ([], b.wrote))
+    (λ (c : Came fixed (heard fixed.version r) r.answers r.taken r.vm). (c.written, c.wrote))
 
 steady : (old new : Record) (written : List RawMessage) → Wrote old.taken old.vm.machine.output written → WholeFrames old.vm.machine.output → WholeFrames new.vm.machine.output → Writes old new → all_proposed new ≡ all_proposed old
 steady old new written w f g x =
@@ -174,9 +175,9 @@ steady old new written w f g x =
 abbrev pub with_proposed : List KeptProposal → Record → Record
 with_proposed ps r = record r { proposed = ps }
 
-both_steady : (version : Version) (options : VMOptions) (old new : Record) → HasCome version options (with_proposed (all_proposed old) old) → WholeFrames old.vm.machine.output → WholeFrames new.vm.machine.output → Writes old new → all_proposed new ≡ all_proposed old
-both_steady version options old new came f g x =
-    let w = wrote_of version options (with_proposed (all_proposed old) old) came in
+both_steady : (fixed : Fixed) (old new : Record) → HasCome fixed (with_proposed (all_proposed old) old) → WholeFrames old.vm.machine.output → WholeFrames new.vm.machine.output → Writes old new → all_proposed new ≡ all_proposed old
+both_steady fixed old new came f g x =
+    let w = wrote_of fixed (with_proposed (all_proposed old) old) came in
     steady old new w.0 w.1 f g x
 
 kept_with : (ps : List KeptProposal) (o : Option Error) (ph : Phase) (piece : List ℕ) (r : Record) → with_proposed ps (kept_at o ph piece r) ≡ kept_at o ph piece (with_proposed ps r)
@@ -196,10 +197,10 @@ feeds_with ps piece old (Err e) new does =
     inr (x.0, x.1, ap (with_proposed ps) x.2 ∙ ap (with_vm x.0) (kept_with ps old.vm.machine.failure old.vm.machine.phase piece old)))
     does
 
-pub feed_told : (version : Version) (options : VMOptions) (piece : List ℕ) (old : Record) (result : Result Unit AllocError) (new : Record) → HasCome version options (with_proposed (all_proposed old) old) → WholeFrames old.vm.machine.output → WholeFrames new.vm.machine.output
+pub feed_told : (fixed : Fixed) (piece : List ℕ) (old : Record) (result : Result Unit AllocError) (new : Record) → HasCome fixed (with_proposed (all_proposed old) old) → WholeFrames old.vm.machine.output → WholeFrames new.vm.machine.output
     → FeedDoes old.starved piece old result new → FeedDoes old.starved piece (with_proposed (all_proposed old) old) result (with_proposed (all_proposed new) new)
-feed_told version options piece old result new came f g does =
-    subst (λ ps. FeedDoes old.starved piece (with_proposed (all_proposed old) old) result (with_proposed ps new)) (sym (both_steady version options old new came f g (feed_writes piece old result new does))) (by_test old.starved does)
+feed_told fixed piece old result new came f g does =
+    subst (λ ps. FeedDoes old.starved piece (with_proposed (all_proposed old) old) result (with_proposed ps new)) (sym (both_steady fixed old new came f g (feed_writes piece old result new does))) (by_test old.starved does)
   where
     by_test : (b : Bool) → FeedDoes b piece old result new → FeedDoes b piece (with_proposed (all_proposed old) old) result (with_proposed (all_proposed old) new)
     by_test true d = (d.0, ap (with_proposed (all_proposed old)) d.1)
@@ -209,10 +210,10 @@ closes_with : (ps : List KeptProposal) (old : Record) (result : Result Unit Allo
 closes_with ps old (Ok t) new does = ap (with_proposed ps) does
 closes_with ps old (Err e) new (w, starves, is) = (w, starves, ap (with_proposed ps) is)
 
-pub close_told : (version : Version) (options : VMOptions) (old : Record) (result : Result Unit AllocError) (new : Record) → HasCome version options (with_proposed (all_proposed old) old) → WholeFrames old.vm.machine.output → WholeFrames new.vm.machine.output
+pub close_told : (fixed : Fixed) (old : Record) (result : Result Unit AllocError) (new : Record) → HasCome fixed (with_proposed (all_proposed old) old) → WholeFrames old.vm.machine.output → WholeFrames new.vm.machine.output
     → CloseDoes old.starved old result new → CloseDoes old.starved (with_proposed (all_proposed old) old) result (with_proposed (all_proposed new) new)
-close_told version options old result new came f g does =
-    subst (λ ps. CloseDoes old.starved (with_proposed (all_proposed old) old) result (with_proposed ps new)) (sym (both_steady version options old new came f g (close_writes old result new does))) (by_test old.starved does)
+close_told fixed old result new came f g does =
+    subst (λ ps. CloseDoes old.starved (with_proposed (all_proposed old) old) result (with_proposed ps new)) (sym (both_steady fixed old new came f g (close_writes old result new does))) (by_test old.starved does)
   where
     by_test : (b : Bool) → CloseDoes b old result new → CloseDoes b (with_proposed (all_proposed old) old) result (with_proposed (all_proposed old) new)
     by_test true d = (d.0, ap (with_proposed (all_proposed old)) d.1)
@@ -264,14 +265,14 @@ step_unless_with ps (Some e) over m old result new d = (d.0, ap (with_proposed p
 step_unless_with ps None (Some made) m old result new d = (d.0, ap (with_proposed ps) d.1)
 step_unless_with ps None None m old result new d = step_at_with ps old.vm.machine.phase m old result new d
 
-pub step_told : (version : Version) (options : VMOptions) (m : Meaning) (old : Record) (result : Result Progress Error) (new : Record) → HasCome version options (with_proposed (all_proposed old) old) → WholeFrames old.vm.machine.output → WholeFrames new.vm.machine.output
-    → StepDoes m old result new → StepDoes m (with_proposed (all_proposed old) old) result (with_proposed (all_proposed new) new)
-step_told version options m old result new came f g does =
-    subst (λ ps. StepDoes m (with_proposed (all_proposed old) old) result (with_proposed ps new)) (sym (both_steady version options old new came f g (step_writes m old result new does))) (by_test old.starved does)
+pub step_told : (fixed : Fixed) (old : Record) (result : Result Progress Error) (new : Record) → HasCome fixed (with_proposed (all_proposed old) old) → WholeFrames old.vm.machine.output → WholeFrames new.vm.machine.output
+    → StepDoes fixed.handler old result new → StepDoes fixed.handler (with_proposed (all_proposed old) old) result (with_proposed (all_proposed new) new)
+step_told fixed old result new came f g does =
+    subst (λ ps. StepDoes fixed.handler (with_proposed (all_proposed old) old) result (with_proposed ps new)) (sym (both_steady fixed old new came f g (step_writes fixed.handler old result new does))) (by_test old.starved does)
   where
-    by_test : (b : Bool) → StepFrom b m old result new → StepFrom b m (with_proposed (all_proposed old) old) result (with_proposed (all_proposed old) new)
+    by_test : (b : Bool) → StepFrom b fixed.handler old result new → StepFrom b fixed.handler (with_proposed (all_proposed old) old) result (with_proposed (all_proposed old) new)
     by_test true d = (d.0, ap (with_proposed (all_proposed old)) d.1)
-    by_test false d = step_unless_with (all_proposed old) old.vm.machine.failure old.over m old result new d
+    by_test false d = step_unless_with (all_proposed old) old.vm.machine.failure old.over fixed.handler old result new d
 
 -- ---- making
 

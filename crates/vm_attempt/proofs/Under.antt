@@ -8,7 +8,6 @@ use Rattle.arrivals.proofs.Awaited.{results-append}
 use Rattle.journal_values.specs.declared.notification.NotificationId.TheVariants.{CompletionId}
 use Rattle.journal_values.specs.declared.notification.NotificationResult.{NotificationResult}
 use Rattle.journal_errors.specs.declared.version.Version.{Version}
-use Rattle.vm_types.specs.declared.options.VMOptions.{VMOptions}
 use Rattle.vm_machine.specs.declared.phase.Phase.{Phase}
 use Rattle.vm_machine.specs.declared.phase.Phase.TheVariants.{WaitingStart, WaitingReplayEntries, Replaying, Processing, Closed}
 use Rattle.invocation_vm.specs.Frames.{frames_of}
@@ -32,6 +31,7 @@ use Rattle.vm_attempt.proofs.Advanced.{step_keeps}
 use Rattle.vm_attempt.proofs.Kept.{close_keeps, feed_keeps, take_keeps}
 use Rattle.vm_attempt.proofs.Lasting.{runs_last}
 use Rattle.vm_attempt.proofs.Pieces.{bytes_behind, journal_to, more_arrivals, more_frames, run_to}
+use Rattle.vm_attempt.specs.Fixed.{Fixed}
 
 -- ---- a beginning of what was fed
 
@@ -43,8 +43,8 @@ fewer_waiting p ns two i =
     omega (arith, long, all)
 
 -- the premises hold before a piece comes where they hold with it
-pub premises_before : (m : Meaning) (version : Version) (options : VMOptions) (fed : Heard) (f : Fed) → Premises m version options (and_piece fed f) → Premises m version options fed
-premises_before m version options fed f p =
+pub premises_before : (fixed : Fixed) (fed : Heard) (f : Fed) → Premises fixed (and_piece fed f) → Premises fixed fed
+premises_before fixed fed f p =
     let G = more_frames (frames_of (bytes_fed fed)) f.piece in
     let frames : frames_fed (and_piece fed f) ≡ frames_fed fed ++ G.0 = ap (λ l. (frames_of l).0) (bytes_behind fed f) ∙ ap (λ p. p.0) (frames_of-append (bytes_fed fed) f.piece) ∙ G.1 in
     record {
@@ -52,7 +52,7 @@ premises_before m version options fed f p =
       queues = p.queues;
       once = λ j n made q run.
           fewer_waiting q (more_arrivals j G.0)
-          (p.once (journal_to fed (fed.pieces ++ f ∷ []) G.0 frames j) n made (later (more_arrivals j G.0) q) (run_to (setup_for version options j.start) m (Handed (handed_out j)) fed j G.0 n made q run));
+          (p.once (journal_to fed (fed.pieces ++ f ∷ []) G.0 frames j) n made (later (more_arrivals j G.0) q) (run_to (setup_for fixed j.start) fixed.handler (Handed (handed_out j)) fed j G.0 n made q run));
     }
 
 -- ---- what was fed
@@ -61,11 +61,11 @@ premises_before m version options fed f p =
 abbrev pub Grows : Heard → Heard → Type 0
 Grows old new = (new ≡ old) ⊎ ((f : Fed) × (new ≡ and_piece old f))
 
-pub premises_of : (m : Meaning) (version : Version) (options : VMOptions) (old new : Heard) → Grows old new → Premises m version options new → Premises m version options old
-premises_of m version options old new g p =
+pub premises_of : (fixed : Fixed) (old new : Heard) → Grows old new → Premises fixed new → Premises fixed old
+premises_of fixed old new g p =
     ⊎_elim
-    (λ (x : new ≡ old). subst (Premises m version options) x p)
-    (λ (x : (f : Fed) × (new ≡ and_piece old f)). premises_before m version options old x.0 (subst (Premises m version options) x.1 p))
+    (λ (x : new ≡ old). subst (Premises fixed) x p)
+    (λ (x : (f : Fed) × (new ≡ and_piece old f)). premises_before fixed old x.0 (subst (Premises fixed) x.1 p))
     g
 
 module _ (version : Version) where
@@ -150,16 +150,16 @@ module _ (version : Version) where
 
 -- ---- each call
 
-pub feed_under : (m : Meaning) (version : Version) (options : VMOptions) (piece : List ℕ) (old : Record) (result : Result Unit AllocError) (new : Record) → IsKeptUnder m version options old → FeedDoes old.starved piece old result new → IsKeptUnder m version options new
-feed_under m version options piece old result new u does p = feed_keeps (Runs m version options) (runs_last m version options) version options piece old result new (u (premises_of m version options (heard version old) (heard version new) (feed_grows version piece old result new does) p)) does
+pub feed_under : (fixed : Fixed) (piece : List ℕ) (old : Record) (result : Result Unit AllocError) (new : Record) → IsKeptUnder fixed old → FeedDoes old.starved piece old result new → IsKeptUnder fixed new
+feed_under fixed piece old result new u does p = feed_keeps (Runs fixed) (runs_last fixed) fixed piece old result new (u (premises_of fixed (heard fixed.version old) (heard fixed.version new) (feed_grows fixed.version piece old result new does) p)) does
 
-pub close_under : (m : Meaning) (version : Version) (options : VMOptions) (old : Record) (result : Result Unit AllocError) (new : Record) → IsKeptUnder m version options old → CloseDoes old.starved old result new → IsKeptUnder m version options new
-close_under m version options old result new u does p = close_keeps (Runs m version options) (runs_last m version options) version options old result new (u (premises_of m version options (heard version old) (heard version new) (inl (close_fed version old result new does)) p)) does
+pub close_under : (fixed : Fixed) (old : Record) (result : Result Unit AllocError) (new : Record) → IsKeptUnder fixed old → CloseDoes old.starved old result new → IsKeptUnder fixed new
+close_under fixed old result new u does p = close_keeps (Runs fixed) (runs_last fixed) fixed old result new (u (premises_of fixed (heard fixed.version old) (heard fixed.version new) (inl (close_fed fixed.version old result new does)) p)) does
 
-pub take_under : (m : Meaning) (version : Version) (options : VMOptions) (old : Record) (result : Result (List ℕ) AllocError) (new : Record) → IsKeptUnder m version options old → Takes old result new → IsKeptUnder m version options new
-take_under m version options old result new u does p = take_keeps (Runs m version options) (runs_last m version options) version options old result new (u (premises_of m version options (heard version old) (heard version new) (inl (take_fed version old result new does)) p)) does
+pub take_under : (fixed : Fixed) (old : Record) (result : Result (List ℕ) AllocError) (new : Record) → IsKeptUnder fixed old → Takes old result new → IsKeptUnder fixed new
+take_under fixed old result new u does p = take_keeps (Runs fixed) (runs_last fixed) fixed old result new (u (premises_of fixed (heard fixed.version old) (heard fixed.version new) (inl (take_fed fixed.version old result new does)) p)) does
 
-pub step_under : (m : Meaning) (version : Version) (options : VMOptions) (old : Record) (result : Result Progress Error) (new : Record) → IsKeptUnder m version options old → StepDoes m old result new → IsKeptUnder m version options new
-step_under m version options old result new u does p =
-    let before = premises_of m version options (heard version old) (heard version new) (inl (step_fed version m old result new does)) p in
-    step_keeps m version options old result new before (u before) does
+pub step_under : (fixed : Fixed) (old : Record) (result : Result Progress Error) (new : Record) → IsKeptUnder fixed old → StepDoes fixed.handler old result new → IsKeptUnder fixed new
+step_under fixed old result new u does p =
+    let before = premises_of fixed (heard fixed.version old) (heard fixed.version new) (inl (step_fed fixed.version fixed.handler old result new does)) p in
+    step_keeps fixed old result new before (u before) does

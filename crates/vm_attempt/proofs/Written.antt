@@ -7,13 +7,11 @@ use Rattle.wire.specs.Format.{bytes, u16s, u64s}
 use Rattle.journal_messages.specs.declared.message.Message.{Message}
 use Rattle.journal_messages.specs.declared.message.RawMessage.{RawMessage}
 use Rattle.journal_errors.specs.declared.types.MessageType.{MessageType}
-use Rattle.journal_errors.specs.declared.version.Version.{Version}
 use Rattle.journal_streams.specs.Frames.{NextFrame, Whole, next_of}
 use Rattle.journal_messages.specs.Message.{body, encoding, frame, type_of}
 use Rattle.journal_messages.specs.Message.{IsWhole}
 use Rattle.journal_errors.specs.Types.{type_number}
 use Rattle.journal_streams.proofs.Cuts.{whole_spelled}
-use Rattle.vm_types.specs.declared.options.VMOptions.{VMOptions}
 use Rattle.vm_parts.specs.Outboxes.{WholeFrames, WholeStream}
 use Rattle.vm_parts.proofs.Outboxes.{all_whole, bytes_of}
 use Rattle.invocation_vm.specs.Frames.{Rest, frames_from, frames_of}
@@ -30,6 +28,7 @@ use Rattle.journal_messages.specs.Reading.{body_as}
 use Rattle.wire.proofs.Read.{all_read}
 use Rattle.vm_steps.specs.Heard.{proposal_in, proposals_among, proposals_in, proposed_by}
 use Rattle.vm_attempt.proofs.Quiet.{commands_append, forms_append, map_append, proposals_append}
+use Rattle.vm_attempt.specs.Fixed.{Fixed}
 
 -- ---- frames of bytes
 
@@ -203,17 +202,17 @@ taken_first taken waits written w = (
 
 -- ---- an attempt
 
-pub writes_whole : (version : Version) (options : VMOptions) (r : Record) → HasCome version options r → WholeFrames r.vm.machine.output → WholeStream (bytes_written r)
-writes_whole version options r k f =
+pub writes_whole : (fixed : Fixed) (r : Record) → HasCome fixed r → WholeFrames r.vm.machine.output → WholeStream (bytes_written r)
+writes_whole fixed r k f =
     ⊎_elim
-    (λ (b : BeforeInput version options (heard version r) r.answers r.waiting r.taken r.vm). stream_of r.taken r.vm.machine.output [] b.wrote f)
-    (λ (c : Came version options (heard version r) r.answers r.taken r.vm). stream_of r.taken r.vm.machine.output c.written c.wrote f)
+    (λ (b : BeforeInput fixed (heard fixed.version r) r.answers r.waiting r.taken r.vm). stream_of r.taken r.vm.machine.output [] b.wrote f)
+    (λ (c : Came fixed (heard fixed.version r) r.answers r.taken r.vm). stream_of r.taken r.vm.machine.output c.written c.wrote f)
     k
 
 -- before the input no command is written
-pub none_before_input : (version : Version) (options : VMOptions) (r : Record) → HasCome version options r → WholeFrames r.vm.machine.output → r.answers ≡ [] → written_by r ≡ []
-none_before_input version options r k f none =
+pub none_before_input : (fixed : Fixed) (r : Record) → HasCome fixed r → WholeFrames r.vm.machine.output → r.answers ≡ [] → written_by r ≡ []
+none_before_input fixed r k f none =
     ⊎_elim
-    (λ (b : BeforeInput version options (heard version r) r.answers r.waiting r.taken r.vm). sym (written_is r.taken r.vm.machine.output [] b.wrote f))
-    (λ (c : Came version options (heard version r) r.answers r.taken r.vm). absurd (c.answered none))
+    (λ (b : BeforeInput fixed (heard fixed.version r) r.answers r.waiting r.taken r.vm). sym (written_is r.taken r.vm.machine.output [] b.wrote f))
+    (λ (c : Came fixed (heard fixed.version r) r.answers r.taken r.vm). absurd (c.answered none))
     k

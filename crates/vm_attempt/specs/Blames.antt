@@ -12,7 +12,6 @@ use Rattle.journal_state.specs.declared.state.VoidOrValue.{VoidOrValue}
 use Rattle.journal_values.specs.declared.notification.Notification.{Notification}
 use Rattle.journal_attempt.specs.declared.start.Start.{Start}
 use Rattle.journal_errors.specs.declared.types.MessageType.TheVariants as type
-use Rattle.journal_errors.specs.declared.version.Version.{Version}
 use Rattle.journal_errors.specs.Errors.{named_error, no_memory}
 use Rattle.journal_attempt.specs.declared.runs.ProposeRunCompletionAck.{ProposeRunCompletionAck}
 use Rattle.journal_messages.specs.Reading.{acknowledgement_in, notification_in, start_in}
@@ -23,7 +22,6 @@ use Rattle.await_trees.specs.declared.handle.NotificationHandle.{NotificationHan
 use Rattle.vm_parts.specs.declared.run_state.KeptProposal.{KeptProposal}
 use Rattle.std.specs.List.{find}
 use Rattle.journal_errors.specs.Types.{type_number}
-use Rattle.vm_types.specs.declared.options.VMOptions.{VMOptions}
 use Rattle.vm_parts.specs.declared.context.StateMap.{StateMap}
 use Rattle.vm_parts.specs.Counting.{fresh_counters}
 use Rattle.vm_asks.specs.Carried.{past_all}
@@ -39,18 +37,22 @@ use Rattle.vm_machine.specs.Outcomes.{Failed, ruled, ruled_by}
 use Rattle.vm_machine.specs.Proposals.{Proposes}
 use Rattle.invocation_vm.specs.Frames.{Garbage, Rest, frames_of}
 use Rattle.invocation_vm.specs.Views.{View, all_received}
-use Rattle.vm_model.specs.Calls.{Meaning}
 use Rattle.vm_model.specs.Calls.Move.{Refuses}
-use Rattle.vm_model.specs.Histories.{Handed, History, Made, behind as behind_first}
+use Rattle.vm_model.specs.Histories.{History, behind as behind_first}
 use Rattle.vm_model.specs.Journal.{input_read_from}
-use Rattle.vm_model.specs.Moves.{Point, move_at}
+use Rattle.vm_model.specs.Moves.{Point}
 use Rattle.vm_model.specs.Refusals.{IsRefusedFor}
 use Rattle.vm_attempt.specs.Arrivals.{kept_after}
 use Rattle.vm_steps.specs.Heard.{Heard}
 use Rattle.vm_steps.specs.declared.progress.Progress.{Progress}
 use Rattle.vm_attempt.specs.Journals.{as_entries, commands_among, is_acknowledgement, is_command, is_ephemeral, is_notification, setup_for}
 use Rattle.vm_steps.specs.Record.{Record, Said, all_heard, all_said, heard}
-use Rattle.vm_attempt.specs.Told.{AreRightlyKinded, ProposesLate, handed_out, Journal, Premises, begun, bytes_fed, frames_fed}
+use Rattle.vm_attempt.specs.Told.{AreRightlyKinded, ProposesLate, Journal, Premises, bytes_fed, frames_fed, MovesTo, next_move}
+use Rattle.vm_attempt.specs.Fixed.{Fixed}
+
+-- an error as the error rule says it in a VM that was made for this
+abbrev pub ruled_for : Fixed → Error → Error
+ruled_for fixed e = ruled_by fixed.version fixed.options e
 
 -- ---- frames
 
@@ -161,7 +163,7 @@ Place Processing k frames = Began frames (λ n known. known ≤ n)
 Place Closed k frames = ⊥
 
 -- One of the frames that were fed is refused in its place, where these proposals are kept that weren't acknowledged before it.
-pub record BadFrame (version : Version) (options : VMOptions) (fed : Heard) (e : Error) : Type 0 where
+pub record BadFrame (fixed : Fixed) (fed : Heard) (e : Error) : Type 0 where
   pub before : List RawMessage
   pub raw : RawMessage
   pub behind : List RawMessage
@@ -172,7 +174,7 @@ pub record BadFrame (version : Version) (options : VMOptions) (fed : Heard) (e :
   pub late : ProposesLate fed phase
   pub why : NamedFault
   pub reason : fault_among (kept_after fed.proposed (behind_first before)) phase raw ≡ Some why
-  pub error : e ≡ ruled_by version options (named_error why None)
+  pub error : e ≡ ruled_for fixed (named_error why None)
 
 -- known entries are missing
 abbrev pub IsShort : List RawMessage → Type 0
@@ -195,7 +197,7 @@ no_input_fault [] = fault.UnavailableEntry
 no_input_fault (c ∷ cs) = if type_number c.ty == type_number type.InputCommand then fault.BadMessage else fault.CommandTypeMismatch
 
 -- the known entries have come, and the first command among them is no input
-pub record LacksInput (version : Version) (options : VMOptions) (frames : List RawMessage) (e : Error) : Type 0 where
+pub record LacksInput (fixed : Fixed) (frames : List RawMessage) (e : Error) : Type 0 where
   pub first : RawMessage
   pub entries : List RawMessage
   pub others : List RawMessage
@@ -204,7 +206,7 @@ pub record LacksInput (version : Version) (options : VMOptions) (frames : List R
   pub reads : start_in first.body ≡ Some start
   pub count : length entries ≡ start.known_entries
   pub none : first_input (commands_among entries) ≡ None
-  pub error : e ≡ ruled_by version options (named_error (no_input_fault (commands_among entries)) (Some the_input))
+  pub error : e ≡ ruled_for fixed (named_error (no_input_fault (commands_among entries)) (Some the_input))
 
 -- why so many commands behind the input can't be skipped, by the completion id that is next past all that they carry, if they can be read
 abbrev pub skip_fault : ℕ → Option ℕ → Option NamedFault
@@ -212,8 +214,8 @@ skip_fault dropped None = Some fault.BadMessage
 skip_fault dropped (Some id) = result_err (counters_past dropped id fresh_counters)
 
 -- Recorded commands are skipped, and one of those behind the input can't be read, or a kind of number runs out past them.
-pub record CannotSkip (version : Version) (options : VMOptions) (frames : List RawMessage) (e : Error) : Type 0 where
-  pub skips : options.journal_replay ≡ Disabled
+pub record CannotSkip (fixed : Fixed) (frames : List RawMessage) (e : Error) : Type 0 where
+  pub skips : fixed.options.journal_replay ≡ Disabled
   pub first : RawMessage
   pub entries : List RawMessage
   pub others : List RawMessage
@@ -223,27 +225,27 @@ pub record CannotSkip (version : Version) (options : VMOptions) (frames : List R
   pub count : length entries ≡ start.known_entries
   pub why : NamedFault
   pub reason : skip_fault (length (drop 1 (commands_among entries))) (past_all 1 (drop 1 (commands_among entries))) ≡ Some why
-  pub error : e ≡ ruled_by version options (named_error why (Some the_input))
+  pub error : e ≡ ruled_for fixed (named_error why (Some the_input))
 
 -- The handler's call was refused for this reason, at the point with these answers to which the attempt's own run leads: it made what was
 -- written.
-pub record RefusedCall (m : Meaning) (version : Version) (options : VMOptions) (fed : Heard) (answers_so_far : List Answer) (e : Error) : Type 0 where
+pub record RefusedCall (fixed : Fixed) (fed : Heard) (answers_so_far : List Answer) (e : Error) : Type 0 where
   pub journal : Journal fed
   pub written : List RawMessage
   pub at : Point
   pub moves : ℕ
-  pub made : Made (setup_for version options journal.start) m (Handed (handed_out journal)) moves (begun version options journal) written at
+  pub made : MovesTo fixed journal moves written at
   pub answers : at.answers ≡ answers_so_far
   pub why : NamedFault
-  pub reason : IsRefusedFor (move_at (setup_for version options journal.start) m at) at.left at.queue why
+  pub reason : IsRefusedFor (next_move fixed journal at) at.left at.queue why
   pub related : Option RelatedCommand
-  pub error : e ≡ ruled_by version options (named_error why related)
+  pub error : e ≡ ruled_for fixed (named_error why related)
 
 -- ---- results of runs
 
 -- What executing a run came to was refused, or fails the attempt, so that it is tried again or paused. It is the run whose result failed
 -- the VM.
-pub record RefusedResult (version : Version) (options : VMOptions) (failed_by : Option NotificationHandle) (e : Error) : Type 0 where
+pub record RefusedResult (fixed : Fixed) (failed_by : Option NotificationHandle) (e : Error) : Type 0 where
   pub handle : NotificationHandle
   pub is_told : failed_by ≡ Some handle
   pub exit : RunExitResult
@@ -252,49 +254,49 @@ pub record RefusedResult (version : Version) (options : VMOptions) (failed_by : 
   pub left : Machine
   pub why : Error
   pub proposes : Proposes handle exit policy machine (Failed why left)
-  pub version_is : machine.version ≡ version
-  pub error : e ≡ ruled_by version options why
+  pub version_is : machine.version ≡ fixed.version
+  pub error : e ≡ ruled_for fixed why
 
 -- ---- why an attempt failed
 
 -- Memory was lacking; a frame was refused, or bytes were no frame; the input was closed while known entries were missing; the
 -- journal has no input, or its commands can't be skipped; the handler's call was refused, or an await found no memory for one of its
 -- commands; or a run's result failed the VM.
-pub data Blame (m : Meaning) (version : Version) (options : VMOptions) (fed : Heard) (said : Said) (answers : List Answer) (e : Error) : Type 0 where
-  Memory : e ≡ no_memory → Blame m version options fed said answers e
-  Frame : BadFrame version options fed e → Blame m version options fed said answers e
-  NoFrame : (frames_of (bytes_fed fed)).1 ≡ Garbage → e ≡ ruled_by version options (named_error fault.BadMessage None) → Blame m version options fed said answers e
-  ClosedEarly : said.closed ≡ true → IsShort (frames_fed fed) → e ≡ ruled_by version options (named_error fault.InputClosedWhileWaitingEntries None) → Blame m version options fed said answers e
-  NoInput : LacksInput version options (frames_fed fed) e → Blame m version options fed said answers e
-  NoSkip : CannotSkip version options (frames_fed fed) e → Blame m version options fed said answers e
-  Call : (Premises m version options fed → (e ≡ no_memory) ⊎ RefusedCall m version options fed answers e) → Blame m version options fed said answers e
-  RunResult : RefusedResult version options said.failed_by e → Blame m version options fed said answers e
+pub data Blame (fixed : Fixed) (fed : Heard) (said : Said) (answers : List Answer) (e : Error) : Type 0 where
+  Memory : e ≡ no_memory → Blame fixed fed said answers e
+  Frame : BadFrame fixed fed e → Blame fixed fed said answers e
+  NoFrame : (frames_of (bytes_fed fed)).1 ≡ Garbage → e ≡ ruled_for fixed (named_error fault.BadMessage None) → Blame fixed fed said answers e
+  ClosedEarly : said.closed ≡ true → IsShort (frames_fed fed) → e ≡ ruled_for fixed (named_error fault.InputClosedWhileWaitingEntries None) → Blame fixed fed said answers e
+  NoInput : LacksInput fixed (frames_fed fed) e → Blame fixed fed said answers e
+  NoSkip : CannotSkip fixed (frames_fed fed) e → Blame fixed fed said answers e
+  Call : (Premises fixed fed → (e ≡ no_memory) ⊎ RefusedCall fixed fed answers e) → Blame fixed fed said answers e
+  RunResult : RefusedResult fixed said.failed_by e → Blame fixed fed said answers e
 
 -- As long as an attempt is not over, its VM isn't closed, and has failed only for such a reason.
-pub record BlamedAt (m : Meaning) (version : Version) (options : VMOptions) (over : Option Progress) (fed : Heard) (said : Said) (answers : List Answer) (v : Machine) : Type 0 where
+pub record BlamedAt (fixed : Fixed) (over : Option Progress) (fed : Heard) (said : Said) (answers : List Answer) (v : Machine) : Type 0 where
   pub open_yet : over ≡ None → v.failure ≡ None → v.phase ≢ Closed
-  pub blame : over ≡ None → (e : Error) → v.failure ≡ Some e → Blame m version options fed said answers e
+  pub blame : over ≡ None → (e : Error) → v.failure ≡ Some e → Blame fixed fed said answers e
 
 -- the same of a record
-abbrev pub IsBlamed : Meaning → Version → VMOptions → Record → Type 0
-IsBlamed m version options r = BlamedAt m version options r.over (heard version r) (all_said r) r.answers r.vm.machine
+abbrev pub IsBlamed : Fixed → Record → Type 0
+IsBlamed fixed r = BlamedAt fixed r.over (heard fixed.version r) (all_said r) r.answers r.vm.machine
 
 -- Once the attempt is over its VM is closed, behind the known entries, or has failed for such a reason.
-pub record BehindEnd (m : Meaning) (version : Version) (options : VMOptions) (all : Heard) (said : Said) (answers : List Answer) (vm : View) : Type 0 where
+pub record BehindEnd (fixed : Fixed) (all : Heard) (said : Said) (answers : List Answer) (vm : View) : Type 0 where
   pub phase : vm.machine.failure ≡ None → vm.machine.phase ≡ Closed
   pub place : vm.machine.failure ≡ None → Began (frames_fed all) (λ n known. known ≤ n)
-  pub made_for : vm.machine.failure ≡ None → (vm.machine.version ≡ version) × (vm.machine.options ≡ options)
+  pub made_for : vm.machine.failure ≡ None → (vm.machine.version ≡ fixed.version) × (vm.machine.options ≡ fixed.options)
   pub tail : vm.machine.failure ≡ None → (frames_of (bytes_fed all)).1 ≡ Rest vm.undecoded
-  pub blame : (e : Error) → vm.machine.failure ≡ Some e → Blame m version options all said answers e
+  pub blame : (e : Error) → vm.machine.failure ≡ Some e → Blame fixed all said answers e
 
 -- no piece comes behind the end before it is there
-abbrev pub LateBy : Option Progress → Meaning → Version → VMOptions → Record → Type 0
-LateBy None m version options r = r.late ≡ []
-LateBy (Some made) m version options r = BehindEnd m version options (all_heard version r) (all_said r) r.answers r.vm
+abbrev pub LateBy : Option Progress → Fixed → Record → Type 0
+LateBy None fixed r = r.late ≡ []
+LateBy (Some made) fixed r = BehindEnd fixed (all_heard fixed.version r) (all_said r) r.answers r.vm
 
 -- the same of a record
-abbrev pub IsLate : Meaning → Version → VMOptions → Record → Type 0
-IsLate m version options r = LateBy r.over m version options r
+abbrev pub IsLate : Fixed → Record → Type 0
+IsLate fixed r = LateBy r.over fixed r
 
 -- where a step answers an error
 abbrev pub IfError : Result Progress Error → (Error → Type 0) → Type 0
@@ -305,33 +307,33 @@ IfError (Err e) P = P e
 
 -- Each frame has its place and is whole there, or acknowledges a result that the attempt has proposed, each once; no bytes are garbage,
 -- the known entries are a history of the handler, the premises hold, and each result of an invocation's id is one.
-pub record IsHonest (m : Meaning) (version : Version) (options : VMOptions) (fed : Heard) : Type 0 where
-  pub premises : Premises m version options fed
-  pub kinds : AreRightlyKinded m version options fed
+pub record IsHonest (fixed : Fixed) (fed : Heard) : Type 0 where
+  pub premises : Premises fixed fed
+  pub kinds : AreRightlyKinded fixed fed
   pub frames : (before : List RawMessage) (raw : RawMessage) (behind : List RawMessage) (phase : Phase) (k : ℕ) → frames_fed fed ≡ before ++ raw ∷ behind → Place phase k before → is_acknowledgement raw ≡ false → frame_fault phase raw ≡ None
   pub acknowledgements : (before : List RawMessage) (raw : RawMessage) (behind : List RawMessage) → frames_fed fed ≡ before ++ raw ∷ behind → is_acknowledgement raw ≡ true → read_fault (kept_after fed.proposed (behind_first before)) (acknowledgement_in raw.body) ≡ None
   pub whole : (frames_of (bytes_fed fed)).1 ≢ Garbage
-  pub history : (first : RawMessage) (entries others : List RawMessage) (st : Start) → frames_fed fed ≡ first ∷ (entries ++ others) → start_in first.body ≡ Some st → length entries ≡ st.known_entries → (base : StateMap) × History (setup_for version options st) m base (as_entries entries)
+  pub history : (first : RawMessage) (entries others : List RawMessage) (st : Start) → frames_fed fed ≡ first ∷ (entries ++ others) → start_in first.body ≡ Some st → length entries ≡ st.known_entries → (base : StateMap) × History (setup_for fixed st) fixed.handler base (as_entries entries)
 
 -- The call was refused for a reason of its own at the point to which the attempt's own run leads: an argument or version check, numbers that
 -- ran out, a state key that is no text. It isn't that the result of an invocation's id is none.
-pub record RefusedItself (m : Meaning) (version : Version) (options : VMOptions) (fed : Heard) (answers_so_far : List Answer) (e : Error) : Type 0 where
+pub record RefusedItself (fixed : Fixed) (fed : Heard) (answers_so_far : List Answer) (e : Error) : Type 0 where
   pub journal : Journal fed
   pub written : List RawMessage
   pub at : Point
   pub moves : ℕ
-  pub made : Made (setup_for version options journal.start) m (Handed (handed_out journal)) moves (begun version options journal) written at
+  pub made : MovesTo fixed journal moves written at
   pub answers : at.answers ≡ answers_so_far
   pub none_recorded : at.left ≡ []
   pub why : NamedFault
-  pub reason : move_at (setup_for version options journal.start) m at ≡ Refuses why
+  pub reason : next_move fixed journal at ≡ Refuses why
   pub expected : why ≢ fault.UnexpectedInvocationIdResult
   pub related : Option RelatedCommand
-  pub error : e ≡ ruled_by version options (named_error why related)
+  pub error : e ≡ ruled_for fixed (named_error why related)
 
 -- what an error of an honest attempt is
-abbrev pub IsOwnError : Meaning → Version → VMOptions → Heard → Said → List Answer → Error → Type 0
-IsOwnError m version options fed said answers e =
+abbrev pub IsOwnError : Fixed → Heard → Said → List Answer → Error → Type 0
+IsOwnError fixed fed said answers e =
     (e ≡ no_memory)
-    ⊎ (((said.closed ≡ true) × IsShort (frames_fed fed) × (e ≡ ruled_by version options (named_error fault.InputClosedWhileWaitingEntries None)))
-    ⊎ (RefusedItself m version options fed answers e ⊎ RefusedResult version options said.failed_by e))
+    ⊎ (((said.closed ≡ true) × IsShort (frames_fed fed) × (e ≡ ruled_for fixed (named_error fault.InputClosedWhileWaitingEntries None)))
+    ⊎ (RefusedItself fixed fed answers e ⊎ RefusedResult fixed said.failed_by e))

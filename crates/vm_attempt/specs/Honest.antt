@@ -5,15 +5,12 @@ use Rattle.journal_messages.specs.declared.message.Message.TheVariants as messag
 use Rattle.journal_messages.specs.declared.message.RawMessage.{RawMessage}
 use Rattle.journal_values.specs.declared.notification.Notification.{Notification}
 use Rattle.journal_attempt.specs.declared.start.Start.{Start}
-use Rattle.journal_errors.specs.declared.version.Version.{Version}
 use Rattle.journal_messages.specs.Message.{frame}
 use Rattle.journal_messages.specs.Message.{IsWhole}
 use Rattle.vm_parts.specs.declared.context.StateMap.{StateMap}
-use Rattle.vm_types.specs.declared.options.VMOptions.{VMOptions}
 use Rattle.vm_types.specs.declared.options.JournalReplay.TheVariants.{Enabled}
 use Rattle.vm_types.specs.declared.options.SignalDelivery.TheVariants.{Queued}
 use Rattle.vm_machine.specs.Inputs.{coverage_of, entries_in}
-use Rattle.vm_model.specs.Calls.{Meaning}
 use Rattle.vm_model.specs.Carried.{AreOfTheirKind}
 use Rattle.vm_model.specs.Deliveries.{HasNoTwo}
 use Rattle.vm_model.specs.Histories.{Handed, History, Made}
@@ -25,6 +22,7 @@ use Rattle.vm_attempt.specs.Arrivals.{AllFound, arriving}
 use Rattle.vm_steps.specs.Heard.{Heard}
 use Rattle.vm_attempt.specs.Journals.{is_command, setup_for}
 use Rattle.vm_attempt.specs.Told.{bytes_fed}
+use Rattle.vm_attempt.specs.Fixed.{Fixed}
 
 -- an entry that can be fed: the frame of a command, or a whole notification
 abbrev pub IsEntry : Entry → Type 0
@@ -66,7 +64,7 @@ honest_frames start journal more = stored_form (message.Start start) ∷ (map en
 -- handler; and of notifications and acknowledgements that come behind it, each of a result that the attempt has proposed, and once. Each
 -- of these can be fed. Recorded commands are replayed, signals queue, and with all these arrivals no completion has two results at a
 -- point that the handler's run comes to, and each result of an invocation's id is one.
-pub record FeedsHonestly (m : Meaning) (version : Version) (options : VMOptions) (fed : Heard) : Type 0 where
+pub record FeedsHonestly (fixed : Fixed) (fed : Heard) : Type 0 where
   pub start : Start
   pub journal : List Entry
   pub more : List Further
@@ -80,8 +78,8 @@ pub record FeedsHonestly (m : Meaning) (version : Version) (options : VMOptions)
   pub more_is_whole : AllByRecursion (λ f. IsWhole (further_message f)) more
   pub found : AllFound fed.proposed (map further_frame more)
   pub base : StateMap
-  pub history : History (setup_for version options start) m base journal
-  pub replays : options.journal_replay ≡ Enabled
-  pub queues : options.signal_delivery ≡ Queued
-  pub once : (n : ℕ) (made : List RawMessage) (p : Point) → Made (setup_for version options start) m (Handed (record { entries = state; coverage = coverage_of start.partial })) n (first_point (setup_for version options start) history.input (notifications_in journal ++ arriving fed.proposed (map further_frame more)) history.rest) made p → HasNoTwo p
-  pub kinds : (n : ℕ) (made : List RawMessage) (p : Point) → Made (setup_for version options start) m (Handed (record { entries = state; coverage = coverage_of start.partial })) n (first_point (setup_for version options start) history.input (notifications_in journal ++ arriving fed.proposed (map further_frame more)) history.rest) made p → AreOfTheirKind (notifications_in journal ++ arriving fed.proposed (map further_frame more)) (history.rest ++ made)
+  pub history : History (setup_for fixed start) fixed.handler base journal
+  pub replays : fixed.options.journal_replay ≡ Enabled
+  pub queues : fixed.options.signal_delivery ≡ Queued
+  pub once : (n : ℕ) (made : List RawMessage) (p : Point) → Made (setup_for fixed start) fixed.handler (Handed (record { entries = state; coverage = coverage_of start.partial })) n (first_point (setup_for fixed start) history.input (notifications_in journal ++ arriving fed.proposed (map further_frame more)) history.rest) made p → HasNoTwo p
+  pub kinds : (n : ℕ) (made : List RawMessage) (p : Point) → Made (setup_for fixed start) fixed.handler (Handed (record { entries = state; coverage = coverage_of start.partial })) n (first_point (setup_for fixed start) history.input (notifications_in journal ++ arriving fed.proposed (map further_frame more)) history.rest) made p → AreOfTheirKind (notifications_in journal ++ arriving fed.proposed (map further_frame more)) (history.rest ++ made)

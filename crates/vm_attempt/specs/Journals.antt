@@ -25,6 +25,7 @@ use Rattle.vm_model.specs.Calls.{Setup, identity_of}
 use Rattle.vm_model.specs.Journal.{Entry, Recorded, Notified}
 use Rattle.vm_model.specs.Moves.{start, told_input}
 use Rattle.vm_attempt.specs.Agreement.{Agrees, Aside}
+use Rattle.vm_attempt.specs.Fixed.{Fixed}
 
 -- the frame is one of a command
 abbrev pub is_command : RawMessage → Bool
@@ -147,9 +148,13 @@ TakenIn s given aside k cs ns raws m = IsSome m.failure ⊎ (StillWaits s given 
 
 -- ---- from Start on
 
+-- the setup of an attempt of this version, with these options and this Start
+abbrev pub setup_with : Version → VMOptions → Start → Setup
+setup_with version options st = record { version = version; options = options; identity = identity_of (info_of version options.fallback_random_seed st) }
+
 -- the setup of an attempt with this Start
-abbrev pub setup_for : Version → VMOptions → Start → Setup
-setup_for version options st = record { version = version; options = options; identity = identity_of (info_of version options.fallback_random_seed st) }
+abbrev pub setup_for : Fixed → Start → Setup
+setup_for fixed st = setup_with fixed.version fixed.options st
 
 -- what stands aside in an attempt with this Start
 abbrev pub aside_for : Global → Version → VMOptions → Start → Aside
@@ -161,7 +166,7 @@ pub record HasStarted (alloc : Global) (version : Version) (options : VMOptions)
   pub entries : List (List ℕ × Option (List ℕ))
   pub reads : start_in raw.body ≡ Some start
   pub keys : entries_in start.state ≡ Some entries
-  pub machine : m ≡ waiting (setup_for version options start) (record { entries = entries; coverage = coverage_of start.partial }) (aside_for alloc version options start) start.known_entries [] []
+  pub machine : m ≡ waiting (setup_with version options start) (record { entries = entries; coverage = coverage_of start.partial }) (aside_for alloc version options start) start.known_entries [] []
 
 -- the first frame came
 abbrev pub StartCame : Global → Version → VMOptions → RawMessage → Machine → Type 0
@@ -173,7 +178,7 @@ pub record StartedWith (alloc : Global) (version : Version) (options : VMOptions
   pub entries : List (List ℕ × Option (List ℕ))
   pub reads : start_in first.body ≡ Some start
   pub keys : entries_in start.state ≡ Some entries
-  pub fed : TakenIn (setup_for version options start) (record { entries = entries; coverage = coverage_of start.partial }) (aside_for alloc version options start) start.known_entries [] [] raws m
+  pub fed : TakenIn (setup_with version options start) (record { entries = entries; coverage = coverage_of start.partial }) (aside_for alloc version options start) start.known_entries [] [] raws m
 
 -- what frames make of a new machine
 abbrev pub Started : Global → Version → VMOptions → RawMessage → List RawMessage → Machine → Type 0

@@ -1,8 +1,10 @@
+pub mod Fixed
 pub mod Agreement
 pub mod Arrivals
 pub mod Journals
 pub mod Told
 pub mod Blames
+pub mod Invariant
 pub mod Courses
 pub mod Honest
 pub mod Attempts

@@ -10,7 +10,6 @@ use Rattle.journal_messages.specs.declared.message.Message.TheVariants as messag
 use Rattle.journal_messages.specs.declared.message.RawMessage.{RawMessage}
 use Rattle.journal_values.specs.declared.notification.Notification.{Notification}
 use Rattle.journal_attempt.specs.declared.start.Start.{Start}
-use Rattle.journal_errors.specs.declared.version.Version.{Version}
 use Rattle.journal_errors.specs.Errors.{error_message, named_error, no_memory}
 use Rattle.journal_messages.specs.Message.{encoding}
 use Rattle.journal_messages.specs.Reading.{start_in}
@@ -19,7 +18,6 @@ use Rattle.vm_parts.specs.declared.context.StateMap.{StateMap}
 use Rattle.vm_types.specs.declared.options.JournalReplay.TheVariants.{Enabled, Disabled}
 use Rattle.vm_asks.specs.Carried.{AreBelow, AreFrom, AreGreater, all_carried}
 use Rattle.vm_types.specs.declared.options.SignalDelivery.TheVariants.{Queued}
-use Rattle.vm_types.specs.declared.options.VMOptions.{VMOptions}
 use Rattle.vm_types.specs.declared.steps.Step.TheVariants as step
 use Rattle.await_trees.specs.declared.tree.UnresolvedFuture.{UnresolvedFuture}
 use Rattle.vm_machine.specs.declared.machine.Machine.{Machine}
@@ -30,7 +28,7 @@ use Rattle.vm_machine.specs.Inputs.{coverage_of, entries_in, info_of}
 use Rattle.vm_machine.specs.Making.{fresh}
 use Rattle.vm_machine.specs.Phases.{is_running}
 use Rattle.invocation_vm.specs.Frames.{Rest, frames_of}
-use Rattle.vm_model.specs.Calls.{Meaning}
+use Rattle.vm_model.specs.Calls.{Meaning, Move}
 use Rattle.vm_model.specs.Calls.Move.{Awaits}
 use Rattle.vm_model.specs.Carried.{AreOfTheirKind}
 use Rattle.vm_model.specs.Deliveries.{HasNoTwo}
@@ -51,6 +49,7 @@ use Rattle.vm_attempt.specs.Arrivals.{AllFound, arriving, kept_after}
 use Rattle.vm_steps.specs.Heard.{Heard, proposals_among}
 use Rattle.vm_steps.specs.Record.{Record, bytes_written, heard}
 use Rattle.vm_steps.specs.Stepping.{IfWaits}
+use Rattle.vm_attempt.specs.Fixed.{Fixed}
 
 -- ---- what is read from the record
 
@@ -125,8 +124,16 @@ abbrev pub handed_out : {fed : Heard} → Journal fed → StateMap
 handed_out j = record { entries = j.state; coverage = coverage_of j.start.partial }
 
 -- What an attempt begins with: the point after the input, with all arrivals, and the recorded commands behind the input.
-abbrev pub begun : {fed : Heard} → Version → VMOptions → Journal fed → Point
-begun version options j = start (setup_for version options j.start) j.input (arrivals j) j.rest
+abbrev pub begun : {fed : Heard} → Fixed → Journal fed → Point
+begun fixed j = start (setup_for fixed j.start) j.input (arrivals j) j.rest
+
+-- So many moves of the handler's run lead from there to this point, and made these commands.
+abbrev pub MovesTo : {fed : Heard} → Fixed → Journal fed → ℕ → List RawMessage → Point → Type 0
+MovesTo fixed j moves made p = Made (setup_for fixed j.start) fixed.handler (Handed (handed_out j)) moves (begun fixed j) made p
+
+-- the move that the handler's run makes at a point
+abbrev pub next_move : {fed : Heard} → Fixed → Journal fed → Point → Move
+next_move fixed j p = move_at (setup_for fixed j.start) fixed.handler p
 
 -- ---- new numbers
 
@@ -137,96 +144,96 @@ pub record HasFreshIds (fed : Heard) (written : List RawMessage) : Type 0 where
 
 -- Where the recorded commands are skipped, no command was written, or each completion id that one carries is greater than each that a
 -- recorded command carries.
-abbrev pub NumbersFreshly : Version → VMOptions → Record → Type 0
-NumbersFreshly version options r = options.journal_replay ≡ Disabled → (written_by r ≡ []) ⊎ HasFreshIds (heard version r) (written_by r)
+abbrev pub NumbersFreshly : Fixed → Record → Type 0
+NumbersFreshly fixed r = fixed.options.journal_replay ≡ Disabled → (written_by r ≡ []) ⊎ HasFreshIds (heard fixed.version r) (written_by r)
 
 -- ---- what is asked of the options and of the runtime
 
 -- No completion has two results at a point that the handler's run comes to, by what was fed, where each further command is its own.
-abbrev pub NoneHasTwo : Meaning → Version → VMOptions → Heard → Type 0
-NoneHasTwo m version options fed =
-    (j : Journal fed) (n : ℕ) (made : List RawMessage) (p : Point) → Made (setup_for version options j.start) m (Handed (handed_out j)) n (begun version options j) made p → HasNoTwo p
+abbrev pub NoneHasTwo : Fixed → Heard → Type 0
+NoneHasTwo fixed fed =
+    (j : Journal fed) (n : ℕ) (made : List RawMessage) (p : Point) → MovesTo fixed j n made p → HasNoTwo p
 
 -- Recorded commands are replayed, signals queue, and no completion has two results.
-pub record Premises (m : Meaning) (version : Version) (options : VMOptions) (fed : Heard) : Type 0 where
-  pub replays : options.journal_replay ≡ Enabled
-  pub queues : options.signal_delivery ≡ Queued
-  pub once : NoneHasTwo m version options fed
+pub record Premises (fixed : Fixed) (fed : Heard) : Type 0 where
+  pub replays : fixed.options.journal_replay ≡ Enabled
+  pub queues : fixed.options.signal_delivery ≡ Queued
+  pub once : NoneHasTwo fixed fed
 
 -- No completion has two results at a point where recorded commands are left, by what was fed.
-abbrev pub NoneHasTwoInReplay : Meaning → Version → VMOptions → Heard → Type 0
-NoneHasTwoInReplay m version options fed =
-    (j : Journal fed) (n : ℕ) (made : List RawMessage) (p : Point) → Made (setup_for version options j.start) m (Handed (handed_out j)) n (begun version options j) made p → p.left ≢ [] → HasNoTwo p
+abbrev pub NoneHasTwoInReplay : Fixed → Heard → Type 0
+NoneHasTwoInReplay fixed fed =
+    (j : Journal fed) (n : ℕ) (made : List RawMessage) (p : Point) → MovesTo fixed j n made p → p.left ≢ [] → HasNoTwo p
 
 -- What is asked for replay alone: recorded commands are replayed, signals queue, and no completion has two results as long as recorded
 -- commands are left. A journal that doesn't fit the handler can have it too.
-pub record ReplayPremises (m : Meaning) (version : Version) (options : VMOptions) (fed : Heard) : Type 0 where
-  pub replays : options.journal_replay ≡ Enabled
-  pub queues : options.signal_delivery ≡ Queued
-  pub once : NoneHasTwoInReplay m version options fed
+pub record ReplayPremises (fixed : Fixed) (fed : Heard) : Type 0 where
+  pub replays : fixed.options.journal_replay ≡ Enabled
+  pub queues : fixed.options.signal_delivery ≡ Queued
+  pub once : NoneHasTwoInReplay fixed fed
 
 -- Each result of an invocation's id is one: of the ids that the commands carry for it which are recorded and which the handler's run makes,
 -- by what was fed.
-abbrev pub AreRightlyKinded : Meaning → Version → VMOptions → Heard → Type 0
-AreRightlyKinded m version options fed =
-    (j : Journal fed) (n : ℕ) (made : List RawMessage) (p : Point) → Made (setup_for version options j.start) m (Handed (handed_out j)) n (begun version options j) made p → AreOfTheirKind (arrivals j) (j.rest ++ made)
+abbrev pub AreRightlyKinded : Fixed → Heard → Type 0
+AreRightlyKinded fixed fed =
+    (j : Journal fed) (n : ℕ) (made : List RawMessage) (p : Point) → MovesTo fixed j n made p → AreOfTheirKind (arrivals j) (j.rest ++ made)
 
 -- ---- the answers
 
 -- A point is told by an attempt's journal followed by what it wrote, with the arrivals that it was fed.
-abbrev pub Tells : {fed : Heard} → Meaning → Version → VMOptions → Journal fed → List RawMessage → Point → Type 0
-Tells m version options j written p = Told (setup_for version options j.start) m j.input (arrivals j) (j.rest ++ written) p
+abbrev pub Tells : {fed : Heard} → Fixed → Journal fed → List RawMessage → Point → Type 0
+Tells fixed j written p = Told (setup_for fixed j.start) fixed.handler j.input (arrivals j) (j.rest ++ written) p
 
 -- The answers of an attempt are those of a point that is told; what it wrote are just the commands that the calls up to there
 -- define, where none is recorded; and while recorded commands are left, it has written none.
-pub record ToldBy (m : Meaning) (version : Version) (options : VMOptions) (fed : Heard) (answers_so_far : List Answer) (written : List RawMessage) : Type 0 where
+pub record ToldBy (fixed : Fixed) (fed : Heard) (answers_so_far : List Answer) (written : List RawMessage) : Type 0 where
   pub journal : Journal fed
   pub at : Point
-  pub told : Tells m version options journal written at
+  pub told : Tells fixed journal written at
   pub answers : at.answers ≡ answers_so_far
   pub moves : ℕ
-  pub made : Made (setup_for version options journal.start) m (Handed (handed_out journal)) moves (begun version options journal) written at
+  pub made : MovesTo fixed journal moves written at
   pub in_order : (written ≡ []) ⊎ (at.left ≡ [])
 
 -- the same of a record
-abbrev pub AnswersAreTold : Meaning → Version → VMOptions → Record → Type 0
-AnswersAreTold m version options r = ToldBy m version options (heard version r) r.answers (written_by r)
+abbrev pub AnswersAreTold : Fixed → Record → Type 0
+AnswersAreTold fixed r = ToldBy fixed (heard fixed.version r) r.answers (written_by r)
 
 -- An await waits rightly: with all arrivals that were fed the journal tells no point with more answers; and where all its commands and
 -- all arrivals are used, the run needs one more arrival.
-pub record IsAsleep (m : Meaning) (version : Version) (options : VMOptions) (fed : Heard) (answers_so_far : List Answer) (written : List RawMessage) : Type 0 where
+pub record IsAsleep (fixed : Fixed) (fed : Heard) (answers_so_far : List Answer) (written : List RawMessage) : Type 0 where
   pub journal : Journal fed
   pub future : UnresolvedFuture
-  pub awaits : m answers_so_far ≡ step.Await future
-  pub asleep : (p : Point) → Tells m version options journal written p → IsPrefix p.answers answers_so_far
+  pub awaits : fixed.handler answers_so_far ≡ step.Await future
+  pub asleep : (p : Point) → Tells fixed journal written p → IsPrefix p.answers answers_so_far
   pub at : Point
-  pub told : Tells m version options journal written at
+  pub told : Tells fixed journal written at
   pub answers : at.answers ≡ answers_so_far
   pub no_arrival : at.queue ≡ []
   pub no_command : at.left ≡ []
-  pub asks : move_at (setup_for version options journal.start) m at ≡ Awaits
+  pub asks : next_move fixed journal at ≡ Awaits
 
 -- the same of a record
-abbrev pub NothingWakes : Meaning → Version → VMOptions → Record → Type 0
-NothingWakes m version options r = IsAsleep m version options (heard version r) r.answers (written_by r)
+abbrev pub NothingWakes : Fixed → Record → Type 0
+NothingWakes fixed r = IsAsleep fixed (heard fixed.version r) r.answers (written_by r)
 
 -- an await waits rightly, by what was written
-abbrev pub Sleeps : Meaning → Version → VMOptions → Heard → List Answer → List (List ℕ) → View → Type 0
-Sleeps m version options fed answers taken vm = (written : List RawMessage) × Wrote taken vm.machine.output written × IsAsleep m version options fed answers written
+abbrev pub Sleeps : Fixed → Heard → List Answer → List (List ℕ) → View → Type 0
+Sleeps fixed fed answers taken vm = (written : List RawMessage) × Wrote taken vm.machine.output written × IsAsleep fixed fed answers written
 
 -- A call is refused that began while recorded commands were left: the run comes to a point with these answers from which no move leads
 -- on, for this reason; one Error is written, which says so by the error rule, and the VM fails by it. A cancelled await may have made
 -- commands before it, but none while recorded ones were left.
-pub record RefusesReplay (m : Meaning) (version : Version) (options : VMOptions) (fed : Heard) (answers_so_far : List Answer) (e : Error) (old new : Machine) : Type 0 where
+pub record RefusesReplay (fixed : Fixed) (fed : Heard) (answers_so_far : List Answer) (e : Error) (old new : Machine) : Type 0 where
   pub journal : Journal fed
   pub at : Point
   pub moves : ℕ
   pub written : List RawMessage
   pub none_before : (written ≡ []) ⊎ (at.left ≡ [])
-  pub made : Made (setup_for version options journal.start) m (Handed (handed_out journal)) moves (begun version options journal) written at
+  pub made : MovesTo fixed journal moves written at
   pub answers : at.answers ≡ answers_so_far
   pub why : NamedFault
-  pub reason : IsRefusedFor (move_at (setup_for version options journal.start) m at) at.left at.queue why
+  pub reason : IsRefusedFor (next_move fixed journal at) at.left at.queue why
   pub related : Option RelatedCommand
   pub error : e ≡ ruled old (named_error why related)
   pub output : new.output ≡ old.output ++ (command_frames written ++ encoding (message.Error (error_message e)) ∷ [])
@@ -234,33 +241,33 @@ pub record RefusesReplay (m : Meaning) (version : Version) (options : VMOptions)
 
 -- A call that may make more than one command, and began while recorded ones were left, found no memory for one of them. It may have made
 -- others before, each whole, but none while recorded ones were left.
-pub record StarvesReplay (m : Meaning) (version : Version) (options : VMOptions) (fed : Heard) (answers_so_far : List Answer) (e : Error) (old new : Machine) : Type 0 where
+pub record StarvesReplay (fixed : Fixed) (fed : Heard) (answers_so_far : List Answer) (e : Error) (old new : Machine) : Type 0 where
   pub journal : Journal fed
   pub at : Point
   pub moves : ℕ
   pub written : List RawMessage
   pub none_before : (written ≡ []) ⊎ (at.left ≡ [])
-  pub made : Made (setup_for version options journal.start) m (Handed (handed_out journal)) moves (begun version options journal) written at
+  pub made : MovesTo fixed journal moves written at
   pub answers : at.answers ≡ answers_so_far
-  pub many : MakesMany (ask_of version (m at.answers))
+  pub many : MakesMany (ask_of fixed.version (fixed.handler at.answers))
   pub error : e ≡ no_memory
   pub output : new.output ≡ old.output ++ command_frames written
   pub failure : new.failure ≡ Some e
 
 -- While recorded commands are left, the handler's call is answered, and nothing is written, or no recorded command is left any more; or it
 -- is refused; or memory is lacking.
-abbrev pub Replays : Meaning → Version → VMOptions → Record → Result Progress Error → Record → Type 0
-Replays m version options old (Ok progress.Stepped) new = (new.vm.machine.output ≡ old.vm.machine.output) ⊎ (new.vm.machine.phase ≡ Processing)
-Replays m version options old (Ok progress.NotReady) new = ⊥
-Replays m version options old (Ok (progress.Waiting input run)) new = ⊥
-Replays m version options old (Ok (progress.ExecuteRun run)) new = ⊥
-Replays m version options old (Ok progress.Suspended) new = ⊥
-Replays m version options old (Ok progress.Ended) new = ⊥
-Replays m version options old (Err e) new =
+abbrev pub Replays : Fixed → Record → Result Progress Error → Record → Type 0
+Replays fixed old (Ok progress.Stepped) new = (new.vm.machine.output ≡ old.vm.machine.output) ⊎ (new.vm.machine.phase ≡ Processing)
+Replays fixed old (Ok progress.NotReady) new = ⊥
+Replays fixed old (Ok (progress.Waiting input run)) new = ⊥
+Replays fixed old (Ok (progress.ExecuteRun run)) new = ⊥
+Replays fixed old (Ok progress.Suspended) new = ⊥
+Replays fixed old (Ok progress.Ended) new = ⊥
+Replays fixed old (Err e) new =
     (new.starved ≡ true)
     ⊎ (IsStarved old.vm.machine e new.vm.machine
-    ⊎ (StarvesReplay m version options (heard version old) old.answers e old.vm.machine new.vm.machine
-    ⊎ RefusesReplay m version options (heard version old) old.answers e old.vm.machine new.vm.machine))
+    ⊎ (StarvesReplay fixed (heard fixed.version old) old.answers e old.vm.machine new.vm.machine
+    ⊎ RefusesReplay fixed (heard fixed.version old) old.answers e old.vm.machine new.vm.machine))
 
 -- the VM can make calls: it has neither failed nor ended, nor is the invocation suspended
 pub record IsLive (v : Machine) : Type 0 where
@@ -282,16 +289,16 @@ StillAwaits m p (Some future) = m p.answers ≡ step.Await future
 
 -- The handler runs: so many moves lead from the point after the input to one with the attempt's answers, and made what was
 -- written; and as long as the VM can make calls it agrees with that point.
-pub record Runs (m : Meaning) (version : Version) (options : VMOptions) (fed : Heard) (answers_so_far : List Answer) (waiting : Option UnresolvedFuture) (taken : List (List ℕ)) (vm : View) : Type 0 where
+pub record Runs (fixed : Fixed) (fed : Heard) (answers_so_far : List Answer) (waiting : Option UnresolvedFuture) (taken : List (List ℕ)) (vm : View) : Type 0 where
   pub journal : Journal fed
   pub written : List RawMessage
   pub wrote : Wrote taken vm.machine.output written
   pub at : Point
   pub moves : ℕ
-  pub run : Made (setup_for version options journal.start) m (Handed (handed_out journal)) moves (begun version options journal) written at
+  pub run : MovesTo fixed journal moves written at
   pub answers : at.answers ≡ answers_so_far
-  pub awaits : StillAwaits m at waiting
-  pub agrees : IsLive vm.machine → Agrees (setup_for version options journal.start) (handed_out journal) written vm.machine at
+  pub awaits : StillAwaits fixed.handler at waiting
+  pub agrees : IsLive vm.machine → Agrees (setup_for fixed journal.start) (handed_out journal) written vm.machine at
   pub rests : IsLive vm.machine → at.derived.parts ≡ 0
   pub keeps : IsLive vm.machine → KeepsProposals journal vm.machine
   pub phase : vm.machine.failure ≡ None → (is_running vm.machine.phase ≡ true) ⊎ (vm.machine.phase ≡ Closed)
@@ -307,20 +314,20 @@ pub record NumbersOn (recorded written : List RawMessage) (v : Machine) : Type 0
 
 -- The handler has read its input, which the journal begins with. What was written are the frames of messages. The VM was made for
 -- this version and these options; it runs, or it is closed or has failed.
-pub record Came (version : Version) (options : VMOptions) (fed : Heard) (answers_so_far : List Answer) (taken : List (List ℕ)) (vm : View) : Type 0 where
+pub record Came (fixed : Fixed) (fed : Heard) (answers_so_far : List Answer) (taken : List (List ℕ)) (vm : View) : Type 0 where
   pub journal : Journal fed
   pub answered : answers_so_far ≢ []
   pub written : List RawMessage
   pub wrote : Wrote taken vm.machine.output written
-  pub made_for : IsLive vm.machine → (vm.machine.version ≡ version) × (vm.machine.options ≡ options)
+  pub made_for : IsLive vm.machine → (vm.machine.version ≡ fixed.version) × (vm.machine.options ≡ fixed.options)
   pub keeps : IsLive vm.machine → KeepsProposals journal vm.machine
   pub early : IsLive vm.machine → ProposesLate fed vm.machine.phase
-  pub fresh : options.journal_replay ≡ Disabled → NumbersOn (journal.first ∷ journal.rest) written vm.machine
+  pub fresh : fixed.options.journal_replay ≡ Disabled → NumbersOn (journal.first ∷ journal.rest) written vm.machine
   pub phase : vm.machine.failure ≡ None → (is_running vm.machine.phase ≡ true) ⊎ (vm.machine.phase ≡ Closed)
   pub tail : IsLive vm.machine → (frames_of (bytes_fed fed)).1 ≡ Rest vm.undecoded
 
 -- The first frame was a Start: the VM waits for known entries, or has them all.
-pub record Begun (version : Version) (options : VMOptions) (fed : Heard) (machine : Machine) : Type 0 where
+pub record Begun (fixed : Fixed) (fed : Heard) (machine : Machine) : Type 0 where
   pub first_frame : RawMessage
   pub others : List RawMessage
   pub frames : frames_fed fed ≡ first_frame ∷ others
@@ -329,45 +336,45 @@ pub record Begun (version : Version) (options : VMOptions) (fed : Heard) (machin
   pub state : List (List ℕ × Option (List ℕ))
   pub reads_state : entries_in start.state ≡ Some state
   pub aside : Aside
-  pub of_start : aside.start ≡ info_of version options.fallback_random_seed start
-  pub waits : StillWaits (setup_for version options start) (record { entries = state; coverage = coverage_of start.partial }) aside start.known_entries [] [] others machine
-      ⊎ HasAll (setup_for version options start) (record { entries = state; coverage = coverage_of start.partial }) aside start.known_entries [] [] others machine
+  pub of_start : aside.start ≡ info_of fixed.version fixed.options.fallback_random_seed start
+  pub waits : StillWaits (setup_for fixed start) (record { entries = state; coverage = coverage_of start.partial }) aside start.known_entries [] [] others machine
+      ⊎ HasAll (setup_for fixed start) (record { entries = state; coverage = coverage_of start.partial }) aside start.known_entries [] [] others machine
 
 -- no frame came, or the first was a Start
-abbrev pub Comes : Version → VMOptions → Heard → Machine → Type 0
-Comes version options fed machine = ((frames_fed fed ≡ []) × ((alloc : Global) × (machine ≡ fresh alloc version options))) ⊎ Begun version options fed machine
+abbrev pub Comes : Fixed → Heard → Machine → Type 0
+Comes fixed fed machine = ((frames_fed fed ≡ []) × ((alloc : Global) × (machine ≡ fresh alloc fixed.version fixed.options))) ⊎ Begun fixed fed machine
 
 -- The handler hasn't read its input: nothing was answered, and no command and no proposal was written.
-pub record BeforeInput (version : Version) (options : VMOptions) (fed : Heard) (answers_so_far : List Answer) (waiting : Option UnresolvedFuture) (taken : List (List ℕ)) (vm : View) : Type 0 where
+pub record BeforeInput (fixed : Fixed) (fed : Heard) (answers_so_far : List Answer) (waiting : Option UnresolvedFuture) (taken : List (List ℕ)) (vm : View) : Type 0 where
   pub answers : answers_so_far ≡ []
   pub none_proposed : fed.proposed ≡ []
   pub waits_not : waiting ≡ None
   pub wrote : Wrote taken vm.machine.output []
-  pub comes : vm.machine.failure ≡ None → Comes version options fed vm.machine
+  pub comes : vm.machine.failure ≡ None → Comes fixed fed vm.machine
   pub tail : vm.machine.failure ≡ None → (frames_of (bytes_fed fed)).1 ≡ Rest vm.undecoded
 
 -- what came and what was written, whatever the options are and whatever comes
-abbrev pub HasCome : Version → VMOptions → Record → Type 0
-HasCome version options r = BeforeInput version options (heard version r) r.answers r.waiting r.taken r.vm ⊎ Came version options (heard version r) r.answers r.taken r.vm
+abbrev pub HasCome : Fixed → Record → Type 0
+HasCome fixed r = BeforeInput fixed (heard fixed.version r) r.answers r.waiting r.taken r.vm ⊎ Came fixed (heard fixed.version r) r.answers r.taken r.vm
 
 -- what each call of an attempt keeps of its handler's run
-abbrev pub IsKept : Meaning → Version → VMOptions → Record → Type 0
-IsKept m version options r = BeforeInput version options (heard version r) r.answers r.waiting r.taken r.vm ⊎ Runs m version options (heard version r) r.answers r.waiting r.taken r.vm
+abbrev pub IsKept : Fixed → Record → Type 0
+IsKept fixed r = BeforeInput fixed (heard fixed.version r) r.answers r.waiting r.taken r.vm ⊎ Runs fixed (heard fixed.version r) r.answers r.waiting r.taken r.vm
 
 -- the same, under the premises
-abbrev pub IsKeptUnder : Meaning → Version → VMOptions → Record → Type 0
-IsKeptUnder m version options r = Premises m version options (heard version r) → IsKept m version options r
+abbrev pub IsKeptUnder : Fixed → Record → Type 0
+IsKeptUnder fixed r = Premises fixed (heard fixed.version r) → IsKept fixed r
 
 -- The handler has read its input, and as long as recorded commands are left it runs.
-pub record InReplay (m : Meaning) (version : Version) (options : VMOptions) (fed : Heard) (answers_so_far : List Answer) (waiting : Option UnresolvedFuture) (taken : List (List ℕ)) (vm : View) : Type 0 where
-  pub came : Came version options fed answers_so_far taken vm
-  pub run : vm.machine.failure ≡ None → vm.machine.phase ≡ Replaying → Runs m version options fed answers_so_far waiting taken vm
+pub record InReplay (fixed : Fixed) (fed : Heard) (answers_so_far : List Answer) (waiting : Option UnresolvedFuture) (taken : List (List ℕ)) (vm : View) : Type 0 where
+  pub came : Came fixed fed answers_so_far taken vm
+  pub run : vm.machine.failure ≡ None → vm.machine.phase ≡ Replaying → Runs fixed fed answers_so_far waiting taken vm
 
 -- what each call of an attempt keeps in replay, under the premises of replay
-abbrev pub IsKeptInReplay : Meaning → Version → VMOptions → Record → Type 0
-IsKeptInReplay m version options r =
-    ReplayPremises m version options (heard version r) → BeforeInput version options (heard version r) r.answers r.waiting r.taken r.vm ⊎ InReplay m version options (heard version r) r.answers r.waiting r.taken r.vm
+abbrev pub IsKeptInReplay : Fixed → Record → Type 0
+IsKeptInReplay fixed r =
+    ReplayPremises fixed (heard fixed.version r) → BeforeInput fixed (heard fixed.version r) r.answers r.waiting r.taken r.vm ⊎ InReplay fixed (heard fixed.version r) r.answers r.waiting r.taken r.vm
 
 -- once the handler's await was suspended it waits rightly, under the premises
-abbrev pub StillSleeps : Meaning → Version → VMOptions → Record → Type 0
-StillSleeps m version options r = Premises m version options (heard version r) → (made : Progress) → r.over ≡ Some made → IfWaits (Ok made) (Sleeps m version options (heard version r) r.answers r.taken r.vm)
+abbrev pub StillSleeps : Fixed → Record → Type 0
+StillSleeps fixed r = Premises fixed (heard fixed.version r) → (made : Progress) → r.over ≡ Some made → IfWaits (Ok made) (Sleeps fixed (heard fixed.version r) r.answers r.taken r.vm)

@@ -34,9 +34,8 @@ impl<H: Handler + Drop> Drop for Attempt<H> {
 impl<H: Handler> Model for Attempt<H> {
     ghost use Rattle.vm_steps.specs.Record.{AttemptView};
     ghost use Rattle.vm_steps.specs.Inside.{the_record};
-    ghost use Rattle.vm_attempt.specs.Blames.{IsBlamed, IsLate};
-    ghost use Rattle.vm_attempt.specs.Told.{HasCome, IsKeptInReplay, IsKeptUnder, StillSleeps};
-    ghost use Rattle.vm_parts.specs.Outboxes.{WholeFrames};
+    ghost use Rattle.vm_attempt.specs.Fixed.{fixed_by};
+    ghost use Rattle.vm_attempt.specs.Invariant.{AlwaysHolds};
     ghost use Rattle.await_trees.specs.contracts.tree.UnresolvedFuture as future;
     ghost use Rattle.std.specs.Coded.{codes};
 
@@ -46,7 +45,7 @@ impl<H: Handler> Model for Attempt<H> {
 
     ghost view = { λ a. record { handler = a.inner.handler; version = a.version; options = a.options; record_of = the_record a.inner } };
 
-    ghost invariant = { λ a. HasCome a.version a.options (the_record a.inner) × IsBlamed (H.meaning a.inner.handler) a.version a.options (the_record a.inner) × IsKeptUnder (H.meaning a.inner.handler) a.version a.options (the_record a.inner) × IsLate (H.meaning a.inner.handler) a.version a.options (the_record a.inner) × StillSleeps (H.meaning a.inner.handler) a.version a.options (the_record a.inner) × WholeFrames (the_record a.inner).vm.machine.output × IsKeptInReplay (H.meaning a.inner.handler) a.version a.options (the_record a.inner) };
+    ghost invariant = { λ a. AlwaysHolds (fixed_by (H.meaning a.inner.handler) a.version a.options) (the_record a.inner) };
 }
 
 impl<H: Handler> Attempt<H> {
@@ -54,7 +53,8 @@ impl<H: Handler> Attempt<H> {
     ghost use Rattle.invocation_vm.specs.Making.{version_in};
     ghost use Rattle.vm_parts.specs.Outboxes.{WholeStream};
     ghost use Rattle.vm_steps.specs.Stepping.{MakesAttempt, StepDoes, FeedDoes, FinishDoes, CloseDoes, IfWaits, IsReplaying, Takes, output_len};
-    ghost use Rattle.vm_attempt.specs.Attempts.{AnswersAsTold, CarriesNewIds, HasCause, IsHonestlyFed, IsItsOwn, IsWellFed, IsWellFedInReplay, StepReplays, WaitsRightly, fixed_of};
+    ghost use Rattle.vm_attempt.specs.Attempts.{AnswersAsTold, CarriesNewIds, HasCause, IsHonestlyFed, IsItsOwn, IsWellFed, IsWellFedInReplay, StepReplays, WaitsRightly};
+    ghost use Rattle.vm_attempt.specs.Fixed.{fixed_of};
     ghost use Rattle.vm_attempt.specs.Blames.{IfError};
     ghost use Rattle.vm_steps.specs.Heard.{proposals_in};
     ghost use Rattle.vm_steps.specs.Record.{bytes_written};
@@ -193,7 +193,8 @@ impl<H: Handler> Attempt<H> {
     pub fn answers(&self) -> &[Answer]
         ensures answers { result.now ≡ self.now.record_of.answers }
         // Before the input nothing is answered.
-        ensures came { HasCome self.now.version self.now.options self.now.record_of }
+        ensures came { HasCome
+            (fixed_of (H.meaning self.now.handler) self.now) self.now.record_of }
         ensures begins { self.now.record_of.answers ≡ [] → written_by self.now.record_of ≡ [] }
         // Under the premises the journal, which is what was fed, followed by the commands that were written, tells them; no command is
         // written while recorded ones are left.

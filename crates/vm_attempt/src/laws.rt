@@ -23,6 +23,7 @@ ghost use Rattle.vm_parts.specs.declared.context.StateMap.{StateMap};
 ghost use Rattle.vm_parts.specs.Outboxes.{WholeFrames};
 ghost use Rattle.vm_attempt.specs.Agreement.{Agrees, Aside, Follows};
 ghost use Rattle.vm_attempt.specs.Courses.{Leads};
+ghost use Rattle.vm_attempt.specs.Fixed.{Fixed};
 ghost use Rattle.vm_attempt.specs.Blames.{Blame, FailsAt, IsHonest, IsOwnError};
 ghost use Rattle.vm_attempt.specs.Honest.{FeedsHonestly};
 ghost use Rattle.vm_attempt.specs.Arrivals.{arriving, kept_after};
@@ -80,53 +81,53 @@ pub fn journals_come()
 /// What each call of an attempt keeps, whatever the options are and whatever comes: before the input nothing was answered and no
 /// command written; then each command that was written can be read back.
 pub fn attempts_write()
-    ensures made { (alloc : Global) (version : Version) (options : VMOptions) → HasCome version options (fresh_record (made alloc options version)) }
-    ensures fed { (version : Version) (options : VMOptions) (piece : List ℕ) (old : Record) (result : Result Unit AllocError) (new : Record) → HasCome version options old → FeedDoes old.starved piece old result new → HasCome version options new }
-    ensures closed { (version : Version) (options : VMOptions) (old : Record) (result : Result Unit AllocError) (new : Record) → HasCome version options old → CloseDoes old.starved old result new → HasCome version options new }
-    ensures taken { (version : Version) (options : VMOptions) (old : Record) (result : Result (List ℕ) AllocError) (new : Record) → HasCome version options old → Takes old result new → HasCome version options new }
-    ensures stepped { (m : Meaning) (version : Version) (options : VMOptions) (old : Record) (result : Result Progress Error) (new : Record) → HasCome version options old → StepDoes m old result new → HasCome version options new }
-    ensures told { (version : Version) (options : VMOptions) (handle : NotificationHandle) (exit : RunExitResult) (policy : RetryPolicy) (old : Record) (result : Result Unit Error) (new : Record) → HasCome version options old → FinishDoes old.starved handle exit policy old result new → HasCome version options new }
+    ensures made { (alloc : Global) (fixed : Fixed) → HasCome fixed (fresh_record (made alloc fixed.options fixed.version)) }
+    ensures fed { (fixed : Fixed) (piece : List ℕ) (old : Record) (result : Result Unit AllocError) (new : Record) → HasCome fixed old → FeedDoes old.starved piece old result new → HasCome fixed new }
+    ensures closed { (fixed : Fixed) (old : Record) (result : Result Unit AllocError) (new : Record) → HasCome fixed old → CloseDoes old.starved old result new → HasCome fixed new }
+    ensures taken { (fixed : Fixed) (old : Record) (result : Result (List ℕ) AllocError) (new : Record) → HasCome fixed old → Takes old result new → HasCome fixed new }
+    ensures stepped { (fixed : Fixed) (old : Record) (result : Result Progress Error) (new : Record) → HasCome fixed old → StepDoes fixed.handler old result new → HasCome fixed new }
+    ensures told { (fixed : Fixed) (handle : NotificationHandle) (exit : RunExitResult) (policy : RetryPolicy) (old : Record) (result : Result Unit Error) (new : Record) → HasCome fixed old → FinishDoes old.starved handle exit policy old result new → HasCome fixed new }
 {}
 
 /// What each call of an attempt keeps under the premises: recorded commands are replayed, signals queue, and no completion has two
 /// results. So many moves of the handler's run lead to its answers and made what was written, and the machine
 /// agrees with that point as long as it can make calls.
 pub fn attempts_keep()
-    ensures made { (m : Meaning) (alloc : Global) (version : Version) (options : VMOptions) → IsKeptUnder m version options (fresh_record (made alloc options version)) }
-    ensures fed { (m : Meaning) (version : Version) (options : VMOptions) (piece : List ℕ) (old : Record) (result : Result Unit AllocError) (new : Record) → IsKeptUnder m version options old → FeedDoes old.starved piece old result new → IsKeptUnder m version options new }
-    ensures closed { (m : Meaning) (version : Version) (options : VMOptions) (old : Record) (result : Result Unit AllocError) (new : Record) → IsKeptUnder m version options old → CloseDoes old.starved old result new → IsKeptUnder m version options new }
-    ensures taken { (m : Meaning) (version : Version) (options : VMOptions) (old : Record) (result : Result (List ℕ) AllocError) (new : Record) → IsKeptUnder m version options old → Takes old result new → IsKeptUnder m version options new }
-    ensures stepped { (m : Meaning) (version : Version) (options : VMOptions) (old : Record) (result : Result Progress Error) (new : Record) → IsKeptUnder m version options old → StepDoes m old result new → IsKeptUnder m version options new }
-    ensures told { (m : Meaning) (version : Version) (options : VMOptions) (handle : NotificationHandle) (exit : RunExitResult) (policy : RetryPolicy) (old : Record) (result : Result Unit Error) (new : Record) → HasCome version options old → IsKeptUnder m version options old → FinishDoes old.starved handle exit policy old result new → IsKeptUnder m version options new }
+    ensures made { (fixed : Fixed) (alloc : Global) → IsKeptUnder fixed (fresh_record (made alloc fixed.options fixed.version)) }
+    ensures fed { (fixed : Fixed) (piece : List ℕ) (old : Record) (result : Result Unit AllocError) (new : Record) → IsKeptUnder fixed old → FeedDoes old.starved piece old result new → IsKeptUnder fixed new }
+    ensures closed { (fixed : Fixed) (old : Record) (result : Result Unit AllocError) (new : Record) → IsKeptUnder fixed old → CloseDoes old.starved old result new → IsKeptUnder fixed new }
+    ensures taken { (fixed : Fixed) (old : Record) (result : Result (List ℕ) AllocError) (new : Record) → IsKeptUnder fixed old → Takes old result new → IsKeptUnder fixed new }
+    ensures stepped { (fixed : Fixed) (old : Record) (result : Result Progress Error) (new : Record) → IsKeptUnder fixed old → StepDoes fixed.handler old result new → IsKeptUnder fixed new }
+    ensures told { (fixed : Fixed) (handle : NotificationHandle) (exit : RunExitResult) (policy : RetryPolicy) (old : Record) (result : Result Unit Error) (new : Record) → HasCome fixed old → IsKeptUnder fixed old → FinishDoes old.starved handle exit policy old result new → IsKeptUnder fixed new }
 {}
 
 /// Where the known entries are a history of the handler, no call is refused while recorded commands are left: no mismatch, no
 /// pending await, no end before its time.
 pub fn histories_are_replayed()
-    ensures { (m : Meaning) (version : Version) (options : VMOptions) (fed : Heard) (answers : List Answer) (e : Error) (old new : Machine) (refusal : RefusesReplay m version options fed answers e old new) (recorded : RawMessage) (further : List RawMessage) → refusal.at.left ≡ recorded ∷ further → (base : StateMap) → History (setup_for version options refusal.journal.start) m base (as_entries refusal.journal.entries) → ⊥ }
+    ensures { (fixed : Fixed) (fed : Heard) (answers : List Answer) (e : Error) (old new : Machine) (refusal : RefusesReplay fixed fed answers e old new) (recorded : RawMessage) (further : List RawMessage) → refusal.at.left ≡ recorded ∷ further → (base : StateMap) → History (setup_for fixed refusal.journal.start) fixed.handler base (as_entries refusal.journal.entries) → ⊥ }
 {}
 
 /// Under the premises the answers of an attempt are those of a point that its journal tells, followed by what it wrote, with the arrivals that it
 /// was fed; while recorded commands are left, it has written none.
 pub fn answers_are_told()
-    ensures { (m : Meaning) (version : Version) (options : VMOptions) (r : Record) → IsKeptUnder m version options r → WholeFrames r.vm.machine.output → Premises m version options (heard version r) → (r.answers ≡ []) ⊎ AnswersAreTold m version options r }
+    ensures { (fixed : Fixed) (r : Record) → IsKeptUnder fixed r → WholeFrames r.vm.machine.output → Premises fixed (heard fixed.version r) → (r.answers ≡ []) ⊎ AnswersAreTold fixed r }
 {}
 
 /// Where the known entries are a history of the handler and each frame has its place, an error is only: want of memory; input that
 /// was closed while known entries were missing; or, where no recorded command is left, a call's own refusal, for an argument or
 /// version check, a kind of number that ran out, or a state key that is no text; or that of a run's result that failed the VM.
 pub fn honest_attempts_fail_by_themselves()
-    ensures { (m : Meaning) (version : Version) (options : VMOptions) (fed : Heard) (said : Said) (answers : List Answer) (e : Error) → IsHonest m version options fed → Blame m version options fed said answers e → IsOwnError m version options fed said answers e }
+    ensures { (fixed : Fixed) (fed : Heard) (said : Said) (answers : List Answer) (e : Error) → IsHonest fixed fed → Blame fixed fed said answers e → IsOwnError fixed fed said answers e }
 {}
 
 /// Bytes that are a beginning of Start, of the whole journal, which is a history of the handler, and of notifications behind it are
 /// an honest attempt's: each of its frames has its place.
 pub fn honest_bytes_are_honest()
-    ensures { (m : Meaning) (version : Version) (options : VMOptions) (fed : Heard) → FeedsHonestly m version options fed → IsHonest m version options fed }
+    ensures { (fixed : Fixed) (fed : Heard) → FeedsHonestly fixed fed → IsHonest fixed fed }
 {}
 
 /// A run is handed out to be executed once at most: whatever calls are made of an attempt, from its first on, and whatever they answer, no
 /// two of its steps answer `ExecuteRun` with the same handle.
 pub fn runs_are_executed_once()
-    ensures { (m : Meaning) (alloc : Global) (version : Version) (options : VMOptions) (handle : NotificationHandle) (before between : ℕ) (a b c d : Record) → Leads m before (fresh_record (made alloc options version)) a → StepDoes m a (Ok (ExecuteRun handle)) b → Leads m between b c → StepDoes m c (Ok (ExecuteRun handle)) d → ⊥ }
+    ensures { (fixed : Fixed) (alloc : Global) (handle : NotificationHandle) (before between : ℕ) (a b c d : Record) → Leads fixed.handler before (fresh_record (made alloc fixed.options fixed.version)) a → StepDoes fixed.handler a (Ok (ExecuteRun handle)) b → Leads fixed.handler between b c → StepDoes fixed.handler c (Ok (ExecuteRun handle)) d → ⊥ }
 {}

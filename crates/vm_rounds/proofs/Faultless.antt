@@ -48,7 +48,7 @@ use Rattle.vm_store.specs.Arrivals.{arrival_fault, is_completed}
 use Rattle.vm_store.specs.Entries.{entries_of, frames_in, notes_in}
 use Rattle.vm_store.specs.States.{base_of}
 use Rattle.vm_store.specs.Storing.{FirstFault, Stores, written_among}
-use Rattle.vm_store.specs.Worlds.{IsJournal, setup_of, start_for}
+use Rattle.vm_store.specs.Worlds.{IsJournal, fixed_in, setup_of, start_for}
 use Rattle.vm_store.proofs.Framing.{AreFrames, frames_append, front_grows, in_front, notes_append, notes_are}
 use Rattle.vm_store.proofs.Scanned.{written_append}
 use Rattle.vm_rounds.specs.Courses.{delivered, given_by}
@@ -95,7 +95,7 @@ some_left x xs e = absurd (cc)
 
 -- ---- an attempt over a journal that is a history
 
-module _ (m : Meaning) (w : Setting) (begin_bytes : List ℕ) (raw : RawMessage) (st : Start) (old : List (List ℕ)) (j : IsJournal old) (framed : AreFrames begin_bytes (raw ∷ [])) (found : start_in raw.body ≡ Some st) (known : st.known_entries ≡ length old) (s : Setup) (same_setup : setup_for w.version w.options st ≡ s) (base : StateMap) (past : History s m base (entries_of old)) (r : Replays w.options) where
+module _ (m : Meaning) (w : Setting) (begin_bytes : List ℕ) (raw : RawMessage) (st : Start) (old : List (List ℕ)) (j : IsJournal old) (framed : AreFrames begin_bytes (raw ∷ [])) (found : start_in raw.body ≡ Some st) (known : st.known_entries ≡ length old) (s : Setup) (same_setup : setup_for (fixed_in m w) st ≡ s) (base : StateMap) (past : History s m base (entries_of old)) (r : Replays w.options) where
   -- the journal's notifications when the round began
   abbrev ns : List Notification
   ns = notes_in old
@@ -105,13 +105,13 @@ module _ (m : Meaning) (w : Setting) (begin_bytes : List ℕ) (raw : RawMessage)
   came now = notifications_in (entries_of old) ++ delivered w.version old now.attempt
 
   abbrev Kept : Now → Type 0
-  Kept now = IsKept m w.version w.options now.attempt
+  Kept now = IsKept (fixed_in m w) now.attempt
 
   abbrev RunsNow : Now → Type 0
-  RunsNow now = Runs m w.version w.options (heard w.version now.attempt) now.attempt.answers now.attempt.waiting now.attempt.taken now.attempt.vm
+  RunsNow now = Runs (fixed_in m w) (heard w.version now.attempt) now.attempt.answers now.attempt.waiting now.attempt.taken now.attempt.vm
 
   abbrev BeforeNow : Now → Type 0
-  BeforeNow now = BeforeInput w.version w.options (heard w.version now.attempt) now.attempt.answers now.attempt.waiting now.attempt.taken now.attempt.vm
+  BeforeNow now = BeforeInput (fixed_in m w) (heard w.version now.attempt) now.attempt.answers now.attempt.waiting now.attempt.taken now.attempt.vm
 
   -- ---- what is known of a machine that runs
 
@@ -140,7 +140,7 @@ module _ (m : Meaning) (w : Setting) (begin_bytes : List ℕ) (raw : RawMessage)
         let a = b.agrees live in
         let v = now.attempt.vm.machine in
         let next : next_of v ≡ at.derived.counters.completion = ap (λ (x : Machine). x.counters.completion) a.machine in
-        let options : (setup_for w.version w.options b.journal.start).options ≡ s.options = ap (λ (x : Setup). x.options) same_setup in
+        let options : (setup_for (fixed_in m w) b.journal.start).options ≡ s.options = ap (λ (x : Setup). x.options) same_setup in
         record {
           recorded = λ raw rest is. run_left raw rest (sym (ap (λ (x : Machine). x.commands) a.machine) ∙ is);
           free = λ unknown.
@@ -286,7 +286,7 @@ module _ (m : Meaning) (w : Setting) (begin_bytes : List ℕ) (raw : RawMessage)
   record IsWell (now : Now) : Type 0 where
     going : Going w.version begin_bytes old now
     kept : Kept now
-    came_so : HasCome w.version w.options now.attempt
+    came_so : HasCome (fixed_in m w) now.attempt
     proposes : Proposes ns past.rest now.attempt
     stored : Stored now
 
@@ -367,7 +367,7 @@ module _ (m : Meaning) (w : Setting) (begin_bytes : List ℕ) (raw : RawMessage)
       h
 
   -- a round begins with nothing written
-  begins_well : (now : Now) → Going w.version begin_bytes old now → Kept now → HasCome w.version w.options now.attempt → now.journal ≡ old → now.output ≡ [] → now.unstored ≡ [] → now.attempt.taken ≡ [] → now.attempt.vm.machine.output ≡ [] → now.attempt.vm.machine.runs ≡ [] → IsWell now
+  begins_well : (now : Now) → Going w.version begin_bytes old now → Kept now → HasCome (fixed_in m w) now.attempt → now.journal ≡ old → now.output ≡ [] → now.unstored ≡ [] → now.attempt.taken ≡ [] → now.attempt.vm.machine.output ≡ [] → now.attempt.vm.machine.runs ≡ [] → IsWell now
   begins_well now g kept came_so journal output unstored taken nothing runs = record {
     going = g;
     kept = kept;
@@ -393,7 +393,7 @@ module _ (m : Meaning) (w : Setting) (begin_bytes : List ℕ) (raw : RawMessage)
     };
   }
 
-  round_blames : (es : List Event) (now : Now) (f : RoundFault) → Going w.version begin_bytes old now → Kept now → HasCome w.version w.options now.attempt → now.journal ≡ old → now.output ≡ [] → now.unstored ≡ [] → now.attempt.taken ≡ [] → now.attempt.vm.machine.output ≡ [] → now.attempt.vm.machine.runs ≡ [] → HappenFaults m es now f → Blames es f
+  round_blames : (es : List Event) (now : Now) (f : RoundFault) → Going w.version begin_bytes old now → Kept now → HasCome (fixed_in m w) now.attempt → now.journal ≡ old → now.output ≡ [] → now.unstored ≡ [] → now.attempt.taken ≡ [] → now.attempt.vm.machine.output ≡ [] → now.attempt.vm.machine.runs ≡ [] → HappenFaults m es now f → Blames es f
   round_blames es now f g kept came_so journal output unstored taken nothing runs h = events_blame es now f (begins_well now g kept came_so journal output unstored taken nothing runs) h
 
 -- ---- rounds
@@ -408,7 +408,7 @@ attempt_blames m w round old f j h d =
     let bytes = encoding (message.Start st) in
     let r = fresh_record (made d.alloc w.options w.version) in
     round_blames m w bytes (stored_form (message.Start st)) st old j (start_framed st d.start) (start_reads st d.start) refl (setup_of w) refl (base_of w) h.history.history h.replays round.events (begin d.alloc w round old) f
-    (begun w.version bytes old r j refl refl refl) (inl (made_new d.alloc w.version w.options)) (made_comes d.alloc w.version w.options) refl refl refl refl refl refl d.faults
+    (begun w.version bytes old r j refl refl refl) (inl (made_new d.alloc (fixed_in m w))) (made_comes d.alloc (fixed_in m w)) refl refl refl refl refl refl d.faults
 
 arrivals_blame : (old : List (List ℕ)) (es : List Event) (journal : List (List ℕ)) (f : RoundFault) → IsPrefix old journal → ArrivalsFault es journal f → RoundBlames old es f
 arrivals_blame old [] journal f front h = absurd h

@@ -17,7 +17,7 @@ use Rattle.vm_store.specs.declared.types.Setting.{Setting}
 use Rattle.vm_rounds.specs.Courses.{delivered, given_by}
 use Rattle.vm_store.specs.Entries.{entries_of}
 use Rattle.vm_rounds.specs.Rounds.{EndsTold, Now, Replays}
-use Rattle.vm_store.specs.Worlds.{IsJournal}
+use Rattle.vm_store.specs.Worlds.{IsJournal, fixed_in}
 use Rattle.vm_rounds.proofs.Coursing.{Along, behind_commands, behind_first, delivered_arrived, stored_among}
 use Rattle.vm_store.proofs.Framing.{AreFrames, entries_append}
 use Rattle.vm_rounds.proofs.Keeping.{Going}
@@ -35,7 +35,7 @@ pub record IsHonest (s : Setup) (m : Meaning) (before : List Entry) (a : Attempt
   pub told : IsToldOn s m before a
   pub honest : HonestRound before a.course after
 
-module _ (m : Meaning) (w : Setting) (begin_bytes : List ℕ) (raw : RawMessage) (st : Start) (old : List (List ℕ)) (j : IsJournal old) (framed : AreFrames begin_bytes (raw ∷ [])) (found : start_in raw.body ≡ Some st) (known : st.known_entries ≡ length old) (s : Setup) (same_setup : setup_for w.version w.options st ≡ s) (base : StateMap) (past : History s m base (entries_of old)) (r : Replays w.options) (now : Now) (course : List Entry) (a : Along m w.version begin_bytes raw old j framed course now) (kept : IsKept m w.version w.options now.attempt) where
+module _ (m : Meaning) (w : Setting) (begin_bytes : List ℕ) (raw : RawMessage) (st : Start) (old : List (List ℕ)) (j : IsJournal old) (framed : AreFrames begin_bytes (raw ∷ [])) (found : start_in raw.body ≡ Some st) (known : st.known_entries ≡ length old) (s : Setup) (same_setup : setup_for (fixed_in m w) st ≡ s) (base : StateMap) (past : History s m base (entries_of old)) (r : Replays w.options) (now : Now) (course : List Entry) (a : Along m w.version begin_bytes raw old j framed course now) (kept : IsKept (fixed_in m w) now.attempt) where
   abbrev E : List Entry
   E = entries_of old
 
@@ -85,9 +85,9 @@ module _ (m : Meaning) (w : Setting) (begin_bytes : List ℕ) (raw : RawMessage)
         honest = honest;
       }
 
-  pub is_honest : EndsTold m w.version w.options now.attempt → IsHonest s m E attempted (entries_of now.journal)
+  pub is_honest : EndsTold (fixed_in m w) now.attempt → IsHonest s m E attempted (entries_of now.journal)
   is_honest end =
       ⊎_elim
       (λ (none : now.attempt.answers ≡ []). told_by_moves 0 (from (delivered w.version old now.attempt)) (end.begins none, refl) (inl none))
-      (λ (k : AnswersAreTold m w.version w.options now.attempt). told_by_moves k.moves k.at (there m w begin_bytes raw st old j framed found known s same_setup base past r now g k.journal k.moves (written_by now.attempt) k.at k.made) (inr (sym k.answers)))
+      (λ (k : AnswersAreTold (fixed_in m w) now.attempt). told_by_moves k.moves k.at (there m w begin_bytes raw st old j framed found known s same_setup base past r now g k.journal k.moves (written_by now.attempt) k.at k.made) (inr (sym k.answers)))
       (end.told (record { replays = r.replays; queues = r.queues; once = none_two m w begin_bytes raw st old j framed found known s same_setup base past r now g kept }))

@@ -40,7 +40,7 @@ use Rattle.vm_store.specs.Entries.{entries_of, frames_in, notes_in}
 use Rattle.vm_rounds.specs.Rounds.{AreWhole, AttemptDoes, IsShort, RefusedDoes, Replays, ReportView, RoundDoes, RoundFaults, RoundsDo, RoundsFault, begin, new_now}
 use Rattle.vm_rounds.specs.Sound.{IsSoundFor}
 use Rattle.vm_store.specs.States.{base_of, state_of}
-use Rattle.vm_store.specs.Worlds.{IsJournal, setup_of, start_for, start_message}
+use Rattle.vm_store.specs.Worlds.{IsJournal, fixed_in, setup_of, start_for, start_message}
 use Rattle.vm_rounds.proofs.Coursing.{Along, events_go_along}
 use Rattle.vm_store.proofs.Framing.{AreFrames, entries_append, one_framed, said_are, none_framed}
 use Rattle.vm_rounds.proofs.Handing.{base_in_order, round_all, round_true}
@@ -135,7 +135,7 @@ attempt_honest m w round old report new r j past d =
     let found = start_reads st d.start in
     let first = begin d.alloc w round old in
     let course = course_of m old round.events first d.ran.now d.ran.happen in
-    let kept = events_run m w bytes raw st old j framed found refl (setup_of w) refl (base_of w) past r round.events first d.ran.now d.ran.happen (begun w.version bytes old (fresh_record (made d.alloc w.options w.version)) j refl refl refl) (inl (made_new d.alloc w.version w.options), made_comes d.alloc w.version w.options) in
+    let kept = events_run m w bytes raw st old j framed found refl (setup_of w) refl (base_of w) past r round.events first d.ran.now d.ran.happen (begun w.version bytes old (fresh_record (made d.alloc w.options w.version)) j refl refl refl) (inl (made_new d.alloc (fixed_in m w)), made_comes d.alloc (fixed_in m w)) in
     let honest = is_honest m w bytes raw st old j framed found refl (setup_of w) refl (base_of w) past r d.ran.now course (attempt_along m w round old report new j d) kept.0 d.ran.ends in
     subst (λ (x : List Answer × List (List ℕ)). IsHonest (setup_of w) m (entries_of old) (record { given = given_by st; course = course; answers = x.0 }) (entries_of x.1)) (λ i. (sym (ap (λ (v : ReportView). v.answers) d.ran.told) i, sym d.ran.left i)) honest
 

@@ -43,7 +43,7 @@ use Rattle.vm_store.specs.declared.types.Setting.{Setting}
 use Rattle.vm_rounds.specs.Courses.{delivered, given_by}
 use Rattle.vm_store.specs.Entries.{entries_of, frames_in, notes_in}
 use Rattle.vm_rounds.specs.Rounds.{Happen, Happens, Now, Pieces, Replays}
-use Rattle.vm_store.specs.Worlds.{IsJournal}
+use Rattle.vm_store.specs.Worlds.{IsJournal, fixed_in}
 use Rattle.vm_rounds.proofs.Completing.{carried_behind}
 use Rattle.vm_rounds.proofs.Coursing.{delivered_arrived, fed_frames, new_behind}
 use Rattle.vm_store.proofs.Framing.{AreFrames, frames_append, journal_acknowledges, journal_length, notes_append, notes_are, same_front}
@@ -68,7 +68,7 @@ carried_front xs ys cs h id none = front_nothing (results_of (CompletionId id) x
 
 -- ---- an attempt over a journal that is a history
 
-module _ (m : Meaning) (w : Setting) (begin_bytes : List ℕ) (raw : RawMessage) (st : Start) (old : List (List ℕ)) (j : IsJournal old) (framed : AreFrames begin_bytes (raw ∷ [])) (found : start_in raw.body ≡ Some st) (known : st.known_entries ≡ length old) (s : Setup) (same_setup : setup_for w.version w.options st ≡ s) (base : StateMap) (past : History s m base (entries_of old)) (r : Replays w.options) where
+module _ (m : Meaning) (w : Setting) (begin_bytes : List ℕ) (raw : RawMessage) (st : Start) (old : List (List ℕ)) (j : IsJournal old) (framed : AreFrames begin_bytes (raw ∷ [])) (found : start_in raw.body ≡ Some st) (known : st.known_entries ≡ length old) (s : Setup) (same_setup : setup_for (fixed_in m w) st ≡ s) (base : StateMap) (past : History s m base (entries_of old)) (r : Replays w.options) where
   abbrev E : List Entry
   E = entries_of old
 
@@ -119,12 +119,12 @@ module _ (m : Meaning) (w : Setting) (begin_bytes : List ℕ) (raw : RawMessage)
       }
 
   -- a run over what was fed is one from the first point
-  pub there : (now : Now) (g : Going w.version begin_bytes old now) (J : Journal (heard w.version now.attempt)) (n : ℕ) (made : List RawMessage) (p : Point) → Made (setup_for w.version w.options J.start) m (Handed (handed_out J)) n (begun w.version w.options J) made p → Made s m (Handed given) n (from now) made p
+  pub there : (now : Now) (g : Going w.version begin_bytes old now) (J : Journal (heard w.version now.attempt)) (n : ℕ) (made : List RawMessage) (p : Point) → Made (setup_for (fixed_in m w) J.start) m (Handed (handed_out J)) n (begun (fixed_in m w) J) made p → Made s m (Handed given) n (from now) made p
   there now g J n made p run =
       let x = is_worlds now g J in
       subst (λ (z : Setup). Made z m (Handed given) n (first_point z past.input (came now) past.rest) made p) same_setup
       (subst
-      (λ (z : Start × List (List ℕ × Option (List ℕ)) × InputCommand × List Notification × List RawMessage). Made (setup_for w.version w.options z.0) m (Handed (record { entries = z.1; coverage = coverage_of z.0.partial })) n (first_point (setup_for w.version w.options z.0) z.2 z.3 z.4) made p)
+      (λ (z : Start × List (List ℕ × Option (List ℕ)) × InputCommand × List Notification × List RawMessage). Made (setup_for (fixed_in m w) z.0) m (Handed (record { entries = z.1; coverage = coverage_of z.0.partial })) n (first_point (setup_for (fixed_in m w) z.0) z.2 z.3 z.4) made p)
       (λ i. (x.start i, x.state i, x.input i, x.notes i, x.rest i)) run)
 
   -- ---- each completion came once, for an id that a command carries
@@ -170,7 +170,7 @@ module _ (m : Meaning) (w : Setting) (begin_bytes : List ℕ) (raw : RawMessage)
   -- ---- at no point has a completion two results
 
   abbrev Kept : Now → Type 0
-  Kept now = IsKept m w.version w.options now.attempt
+  Kept now = IsKept (fixed_in m w) now.attempt
 
   at_each : (now : Now) (g : Going w.version begin_bytes old now) (k : ℕ) (written : List RawMessage) (at : Point) → Made s m (Handed given) k (from now) written at → Wrote now.attempt.taken now.attempt.vm.machine.output written → (n : ℕ) (made : List RawMessage) (p : Point) → Made s m (Handed given) n (from now) made p → HasNoTwo p
   at_each now g k written at ran wrote =
@@ -178,45 +178,45 @@ module _ (m : Meaning) (w : Setting) (begin_bytes : List ℕ) (raw : RawMessage)
       let told = after_later s m D past.told.0 (first_point s past.input (notifications_in E) past.rest) past.at past.told.1 in
       run_once s m given past.input (came now) past.rest past.told.0 (later D past.at) told past.uses_all (came_once now g) k written at ran (written_carry now g written wrote)
 
-  pub none_two : (now : Now) (g : Going w.version begin_bytes old now) → Kept now → NoneHasTwo m w.version w.options (heard w.version now.attempt)
+  pub none_two : (now : Now) (g : Going w.version begin_bytes old now) → Kept now → NoneHasTwo (fixed_in m w) (heard w.version now.attempt)
   none_two now g kept J n made p run =
       let here = there now g J n made p run in
       ⊎_elim
-      (λ (b : BeforeInput w.version w.options (heard w.version now.attempt) now.attempt.answers now.attempt.waiting now.attempt.taken now.attempt.vm). at_each now g 0 [] (from now) (refl, refl) b.wrote n made p here)
-      (λ (b : Runs m w.version w.options (heard w.version now.attempt) now.attempt.answers now.attempt.waiting now.attempt.taken now.attempt.vm). at_each now g b.moves b.written b.at (there now g b.journal b.moves b.written b.at b.run) b.wrote n made p here)
+      (λ (b : BeforeInput (fixed_in m w) (heard w.version now.attempt) now.attempt.answers now.attempt.waiting now.attempt.taken now.attempt.vm). at_each now g 0 [] (from now) (refl, refl) b.wrote n made p here)
+      (λ (b : Runs (fixed_in m w) (heard w.version now.attempt) now.attempt.answers now.attempt.waiting now.attempt.taken now.attempt.vm). at_each now g b.moves b.written b.at (there now g b.journal b.moves b.written b.at b.run) b.wrote n made p here)
       kept
 
   -- ---- events
 
   -- the handler's run goes on, and what came is so
   abbrev Goes : Now → Type 0
-  Goes now = Kept now × HasCome w.version w.options now.attempt
+  Goes now = Kept now × HasCome (fixed_in m w) now.attempt
 
   pieces_run : (closed : Bool) (n : ℕ) (now mid : Now) → Pieces closed n now mid → Goes now → Goes mid
   pieces_run true n now mid d goes = subst Goes (sym d) goes
   pieces_run false n now mid (result, a, d, is) (kept, came) = subst Goes (sym is) (
-    feed_keeps (Runs m w.version w.options) (runs_last m w.version w.options) w.version w.options (take n now.waiting) now.attempt result a kept d,
-    feed_comes w.version w.options (take n now.waiting) now.attempt result a came d,
+    feed_keeps (Runs (fixed_in m w)) (runs_last (fixed_in m w)) (fixed_in m w) (take n now.waiting) now.attempt result a kept d,
+    feed_comes (fixed_in m w) (take n now.waiting) now.attempt result a came d,
   )
 
   pub event_runs : (e : Event) (now mid : Now) → Happens m e now mid → Going w.version begin_bytes old now → Goes now → Goes mid
   event_runs (event.Piece n) now mid d g goes = pieces_run now.closed n now mid d goes
   event_runs event.Close now mid (result, a, d, is) g (kept, came) = subst Goes (sym is) (
-    close_keeps (Runs m w.version w.options) (runs_last m w.version w.options) w.version w.options now.attempt result a kept d,
-    close_comes w.version w.options now.attempt result a came d,
+    close_keeps (Runs (fixed_in m w)) (runs_last (fixed_in m w)) (fixed_in m w) now.attempt result a kept d,
+    close_comes (fixed_in m w) now.attempt result a came d,
   )
   event_runs event.Step now mid (result, a, d, is) g (kept, came) = subst Goes (sym is) (
-    step_keeps m w.version w.options now.attempt result a (record { replays = r.replays; queues = r.queues; once = none_two now g kept }) kept d,
-    step_comes m w.version w.options now.attempt result a came d,
+    step_keeps (fixed_in m w) now.attempt result a (record { replays = r.replays; queues = r.queues; once = none_two now g kept }) kept d,
+    step_comes (fixed_in m w) now.attempt result a came d,
   )
   event_runs (event.RunResult handle exit policy) now mid (result, a, d, is) g (kept, came) = subst Goes (sym is) (
-    finish_keeps w.version w.options handle exit policy now.attempt result a came d m kept,
-    finish_comes w.version w.options handle exit policy now.attempt result a came d,
+    finish_keeps (fixed_in m w) handle exit policy now.attempt result a came d kept,
+    finish_comes (fixed_in m w) handle exit policy now.attempt result a came d,
   )
   event_runs (event.Arrive x) now mid (none, is) g goes = subst Goes (sym is) goes
   event_runs (event.Store n) now mid (journal, waiting, unstored, stores, is, whole, proposed) g (kept, came) = subst Goes (sym is) (
-    take_keeps (Runs m w.version w.options) (runs_last m w.version w.options) w.version w.options now.attempt (Ok (concat now.attempt.vm.machine.output)) _ kept (refl, refl, whole),
-    take_comes w.version w.options now.attempt (Ok (concat now.attempt.vm.machine.output)) _ came (refl, refl, whole),
+    take_keeps (Runs (fixed_in m w)) (runs_last (fixed_in m w)) (fixed_in m w) now.attempt (Ok (concat now.attempt.vm.machine.output)) _ kept (refl, refl, whole),
+    take_comes (fixed_in m w) now.attempt (Ok (concat now.attempt.vm.machine.output)) _ came (refl, refl, whole),
   )
 
   pub events_run : (es : List Event) (now end : Now) → Happen m es now end → Going w.version begin_bytes old now → Goes now → Goes end

@@ -35,7 +35,8 @@ use Rattle.vm_store.specs.declared.types.Setting.{Setting}
 use Rattle.vm_store.specs.Arrivals.{arrival_fault, most}
 use Rattle.vm_store.specs.Entries.{entries_of}
 use Rattle.vm_store.specs.Storing.{FirstFault, Stores, written_from}
-use Rattle.vm_store.specs.Worlds.{start_message}
+use Rattle.vm_store.specs.Worlds.{fixed_in, start_message}
+use Rattle.vm_attempt.specs.Fixed.{Fixed}
 
 -- ---- a round on its way
 
@@ -165,10 +166,10 @@ refused_report e journal = record { answers = []; output = []; error = Some e; e
 
 -- What an attempt's own contract tells of it at the end of its round: before its input it has written no command; and under the
 -- premises its journal, with what it wrote, tells its answers; and where recorded commands are skipped, its commands carry new ids.
-pub record EndsTold (m : Meaning) (version : Version) (options : VMOptions) (r : Record) : Type 0 where
+pub record EndsTold (fixed : Fixed) (r : Record) : Type 0 where
   pub begins : r.answers ≡ [] → written_by r ≡ []
-  pub told : Premises m version options (heard version r) → (r.answers ≡ []) ⊎ AnswersAreTold m version options r
-  pub fresh : NumbersFreshly version options r
+  pub told : Premises fixed (heard fixed.version r) → (r.answers ≡ []) ⊎ AnswersAreTold fixed r
+  pub fresh : NumbersFreshly fixed r
 
 -- a round begins with this attempt, and these bytes wait
 abbrev pub new_now : Version → List (List ℕ) → List ℕ → Record → Now
@@ -183,10 +184,10 @@ abbrev pub IsShort : Meaning → List Event → Now → Type 0
 IsShort m events now = (end : Now) → Happen m events now end → length end.journal ≤ most
 
 -- Events that come to an end leave this journal, and tell this report.
-pub record Ran (m : Meaning) (version : Version) (options : VMOptions) (events : List Event) (begun : Now) (report : ReportView) (new : List (List ℕ)) : Type 0 where
+pub record Ran (fixed : Fixed) (events : List Event) (begun : Now) (report : ReportView) (new : List (List ℕ)) : Type 0 where
   pub now : Now
-  pub happen : Happen m events begun now
-  pub ends : EndsTold m version options now.attempt
+  pub happen : Happen fixed.handler events begun now
+  pub ends : EndsTold fixed now.attempt
   pub told : report ≡ report_of now
   pub left : new ≡ now.journal
 
@@ -199,7 +200,7 @@ pub record AttemptDoes (m : Meaning) (w : Setting) (round : Round) (old : List (
   pub alloc : Global
   pub speaks : IsSupported w.version
   pub start : IsWhole (start_message w round old)
-  pub ran : Ran m w.version w.options round.events (begin alloc w round old) report new
+  pub ran : Ran (fixed_in m w) round.events (begin alloc w round old) report new
 
 -- A round whose attempt was refused leaves this journal and tells this report.
 pub record RefusedDoes (w : Setting) (round : Round) (old : List (List ℕ)) (report : ReportView) (new : List (List ℕ)) : Type 0 where
@@ -266,7 +267,8 @@ pub record ArrivalHas (rounds : List Round) (old : List (List ℕ)) (f : RoundFa
 
 -- want of memory, a full journal, or the fault of an arrival
 abbrev pub ComesFromOutside : List Round → List (List ℕ) → RoundFault → Type 0
-ComesFromOutside rounds old f = (f ≡ round_fault.Memory) ⊎ ((f ≡ round_fault.JournalFull) ⊎ ArrivalHas rounds old f)
+ComesFromOutside rounds old f =
+    (f ≡ round_fault.Memory) ⊎ ((f ≡ round_fault.JournalFull) ⊎ ArrivalHas rounds old f)
 
 -- ---- what is asked for histories
 

@@ -7,6 +7,7 @@ ghost use Rattle.invocation_vm.specs.Making.{made, supported};
 ghost use Rattle.vm_steps.specs.Stepping.{fresh_record};
 ghost use Rattle.vm_store.specs.Arrivals.{most};
 ghost use Rattle.vm_rounds.specs.Inside.{the_now, report_view};
+ghost use Rattle.vm_attempt.specs.Fixed.{fixed_of};
 ghost use Rattle.vm_rounds.specs.Rounds.{new_now, report_of, ArrivalsDo, ArrivalsFault, EndsTold, Happen, HappenFaults, IsRefusal, IsShort, IsSupported, Ran, RefusedDoes, RefusedFaults, RoundDoes, RoundFaults};
 ghost use Rattle.vm_store.specs.Worlds.{IsJournal, start_message};
 ghost use Rattle.vm_store.specs.declared.types.RoundFault.TheVariants as round_fault;
@@ -99,7 +100,7 @@ fn report<H: Handler>(
     requires { length desk.journal.items ≤ most }
     ensures report { IfOk result (λ r. report_view r.1 ≡ report_of (the_now desk attempt.old.record_of)) }
     ensures journal { IfOk result (λ r. r.0.items ≡ desk.journal.items) }
-    ensures ends { EndsTold (H.meaning attempt.old.handler.now) attempt.old.version attempt.old.options attempt.old.record_of }
+    ensures ends { EndsTold (fixed_of (H.meaning attempt.old.handler.now) attempt.old) attempt.old.record_of }
 {
     let answers = copy_answers(alloc, attempt.answers())?;
     let bytes = attempt.take_output()?;
@@ -175,7 +176,7 @@ fn made_round<H: Handler>(
     events: &[Event],
 ) -> Result<(Vec<Bytes>, Report), RoundFault>
     requires short { IsShort (H.meaning attempt.old.handler.now) events.now (new_now version journal.items waiting.items attempt.old.record_of) }
-    ensures ok { IfOk result (λ r. Ran (H.meaning attempt.old.handler.now) attempt.old.version attempt.old.options events.now (new_now version journal.items waiting.items attempt.old.record_of) (report_view r.1) r.0.items) }
+    ensures ok { IfOk result (λ r. Ran (fixed_of (H.meaning attempt.old.handler.now) attempt.old) events.now (new_now version journal.items waiting.items attempt.old.record_of) (report_view r.1) r.0.items) }
     ensures err { IfErr result (λ f. (f ≡ round_fault.Memory) ⊎ HappenFaults (H.meaning attempt.old.handler.now) events.now (new_now version journal.items waiting.items attempt.old.record_of) f) }
 {
     let mut desk = Desk {

@@ -5,9 +5,10 @@ use Rattle.std.specs.declared.string.String.{String}
 use Rattle.journal_messages.specs.declared.message.Message.{Message}
 use Rattle.journal_messages.specs.declared.message.Message.TheVariants as message
 use Rattle.journal_attempt.specs.declared.start.Start.{Start}
-use Rattle.vm_model.specs.Calls.{Setup}
+use Rattle.vm_model.specs.Calls.{Meaning, Setup}
 use Rattle.vm_model.specs.Carried.{AreCarried}
-use Rattle.vm_attempt.specs.Journals.{commands_among, setup_for}
+use Rattle.vm_attempt.specs.Fixed.{Fixed, fixed_by}
+use Rattle.vm_attempt.specs.Journals.{commands_among, setup_with}
 use Rattle.vm_store.specs.Completions.{CompleteOnce}
 use Rattle.vm_store.specs.declared.types.Identity.{Identity}
 use Rattle.vm_store.specs.declared.types.Round.{Round}
@@ -58,6 +59,10 @@ start_for w round journal = start_of w.identity (pairs_for w round journal) roun
 abbrev pub start_message : Setting → Round → List (List ℕ) → Message
 start_message w round journal = message.Start (start_for w round journal)
 
+-- what is fixed for a handler's attempts in a world
+abbrev pub fixed_in : Meaning → Setting → Fixed
+fixed_in handler w = fixed_by handler w.version w.options
+
 -- what all attempts of a world are made with, as a run is told it
 abbrev pub setup_of : Setting → Setup
-setup_of w = setup_for w.version w.options (start_of w.identity [] (record { partial = false; keys = []; retry_count = 0; duration = 0; events = [] }) 0)
+setup_of w = setup_with w.version w.options (start_of w.identity [] (record { partial = false; keys = []; retry_count = 0; duration = 0; events = [] }) 0)

@@ -4,7 +4,7 @@ use Rattle.vm_attempt.proofs.Finishing.{finish_under}
 use Rattle.vm_attempt.proofs.laws.attempts_keep.Goals as goal
 
 pub returns-clause-made : goal.returns-clause-made
-returns-clause-made c = λ m alloc version options p. made_kept m alloc version options
+returns-clause-made c = λ fixed alloc p. made_kept fixed alloc
 
 pub returns-clause-fed : goal.returns-clause-fed
 returns-clause-fed c = feed_under
@@ -19,4 +19,4 @@ pub returns-clause-stepped : goal.returns-clause-stepped
 returns-clause-stepped c = step_under
 
 pub returns-clause-told : goal.returns-clause-told
-returns-clause-told c = λ m version options handle exit policy old result new came u does. finish_under version options handle exit policy old result new came does m u
+returns-clause-told c = λ fixed handle exit policy old result new came u does. finish_under fixed handle exit policy old result new came does u

@@ -6,6 +6,7 @@ use Rattle.vm_store.specs.Worlds.{IsJournal}
 use Rattle.vm_rounds.proofs.Beginning.{if_err_then, if_ok_then, round_does, round_faults, round_short}
 use Rattle.vm_rounds.proofs.Rounding.{round_grows}
 use Rattle.vm_rounds.proofs.round.run_round.Goals as goal
+use Rattle.vm_attempt.specs.Fixed.{fixed_of}
 
 pub made_round-requires : goal.made_round-requires
 made_round-requires g c = record {
@@ -20,12 +21,12 @@ returns-in-Err-clause-entries g c =
 
 pub returns-in-Ok-waiting_bytes-clause-ok : goal.returns-in-Ok-waiting_bytes-clause-ok
 returns-in-Ok-waiting_bytes-clause-ok g c =
-    if_ok_then c.made_round.result (λ a. Ran (g.H.Handler.meaning c.in-Ok.attempt.handler.now) c.in-Ok.attempt.version c.in-Ok.attempt.options c.as_slice-in-Ok.result.now (new_now c.args.setting.now.version c.args.journal.items c.in-Ok-waiting_bytes.waiting.items c.in-Ok.attempt.record_of) (report_view a.1) a.0.items)
+    if_ok_then c.made_round.result (λ a. Ran (fixed_of (g.H.Handler.meaning c.in-Ok.attempt.handler.now) c.in-Ok.attempt) c.as_slice-in-Ok.result.now (new_now c.args.setting.now.version c.args.journal.items c.in-Ok-waiting_bytes.waiting.items c.in-Ok.attempt.record_of) (report_view a.1) a.0.items)
     (λ a. RoundDoes (g.H.Handler.meaning c.args.handler.now) c.args.setting.now c.args.round.now c.args.journal.items (report_view a.1) a.0.items)
     (λ a ran. subst (λ h. RoundDoes (g.H.Handler.meaning h) c.args.setting.now c.args.round.now c.args.journal.items (report_view a.1) a.0.items) c.in-Ok.ensures.handler
     (round_does (g.H.Handler.meaning c.in-Ok.attempt.handler.now) c.args.setting.now c.args.round.now c.args.journal.items c.args.alloc c.in-Ok-waiting_bytes.waiting.items c.in-Ok.attempt.record_of c.in-Ok.attempt.version c.in-Ok.attempt.options (report_view a.1) a.0.items
     c.in-Ok.ensures.supported (rw c.as_slice.ensures.value at c.in-Ok-waiting_bytes.ensures.whole) (rw c.as_slice.ensures.value at c.in-Ok-waiting_bytes.ensures.bytes) c.in-Ok.ensures.record c.in-Ok.ensures.made_for.0 c.in-Ok.ensures.made_for.1
-    (subst (λ es. Ran (g.H.Handler.meaning c.in-Ok.attempt.handler.now) c.in-Ok.attempt.version c.in-Ok.attempt.options es (new_now c.args.setting.now.version c.args.journal.items c.in-Ok-waiting_bytes.waiting.items c.in-Ok.attempt.record_of) (report_view a.1) a.0.items) c.as_slice-in-Ok.ensures ran)))
+    (subst (λ es. Ran (fixed_of (g.H.Handler.meaning c.in-Ok.attempt.handler.now) c.in-Ok.attempt) es (new_now c.args.setting.now.version c.args.journal.items c.in-Ok-waiting_bytes.waiting.items c.in-Ok.attempt.record_of) (report_view a.1) a.0.items) c.as_slice-in-Ok.ensures ran)))
     c.made_round.ensures.ok
 
 pub returns-in-Ok-waiting_bytes-clause-entries : goal.returns-in-Ok-waiting_bytes-clause-entries

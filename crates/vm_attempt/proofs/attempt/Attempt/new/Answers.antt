@@ -1,21 +1,20 @@
 use Rattle.std.proofs.Common.{◌≡◌, None, Some, inl, refl, subst, sym}
 use Rattle.invocation_vm.specs.Seen.{seen}
-use Rattle.vm_parts.specs.Outboxes.{WholeFrames}
-use Rattle.vm_attempt.specs.Blames.{IsBlamed, IsLate}
 use Rattle.vm_steps.specs.Inside.{the_fields}
-use Rattle.vm_steps.specs.Record.{Record}
-use Rattle.vm_attempt.specs.Told.{HasCome, IsKeptInReplay, IsKeptUnder, StillSleeps}
+use Rattle.vm_attempt.specs.Invariant.{AlwaysHolds}
 use Rattle.vm_attempt.proofs.Advanced.{new_is_new, new_whole}
 use Rattle.vm_attempt.proofs.Blamed.{new_blamed}
 use Rattle.vm_attempt.proofs.Steady.{made_told, new_told}
 use Rattle.vm_attempt.proofs.attempt.Attempt.new.Goals as goal
+use Rattle.vm_attempt.specs.Fixed.{fixed_by}
 
 pub invariant_of-result : goal.invariant_of-result
 invariant_of-result g c =
     let m = g.H.Handler.meaning c.new-in-Ok.result.handler in
-    let fresh = new_is_new _ c.args.options _ seen c.in-Ok.vm c.in-Ok.ensures in
+    let fixed = fixed_by m (seen c.in-Ok.vm).machine.version c.args.options in
+    let fresh = new_is_new m _ c.args.options _ seen c.in-Ok.vm c.in-Ok.ensures in
     rw c.version.ensures
-    (subst (λ (r : Record). HasCome (seen c.in-Ok.vm).machine.version c.args.options r × IsBlamed m (seen c.in-Ok.vm).machine.version c.args.options r × IsKeptUnder m (seen c.in-Ok.vm).machine.version c.args.options r × IsLate m (seen c.in-Ok.vm).machine.version c.args.options r × StillSleeps m (seen c.in-Ok.vm).machine.version c.args.options r × WholeFrames r.vm.machine.output × IsKeptInReplay m (seen c.in-Ok.vm).machine.version c.args.options r) (sym (new_told _ c.args.options _ seen c.in-Ok.vm (the_fields c.new-in-Ok.result) c.in-Ok.ensures c.new-in-Ok.ensures.record)) (
+    (subst (AlwaysHolds fixed) (sym (new_told _ c.args.options _ seen c.in-Ok.vm (the_fields c.new-in-Ok.result) c.in-Ok.ensures c.new-in-Ok.ensures.record)) (
       inl fresh,
       new_blamed m _ c.args.options _ seen c.in-Ok.vm c.in-Ok.ensures,
       λ p. inl fresh,

@@ -10,54 +10,61 @@ use Rattle.vm_attempt.proofs.Sleeping.{step_sleeps, waits_rightly}
 use Rattle.vm_attempt.proofs.Steady.{step_told}
 use Rattle.vm_attempt.proofs.Under.{step_under}
 use Rattle.vm_attempt.proofs.attempt.Attempt.step.Goals as goal
+use Rattle.vm_attempt.specs.Fixed.{fixed_by}
 
 pub invariant_of-self : goal.invariant_of-self
 invariant_of-self g c =
     let a = c.self.inside in
-    let m = g.H.Handler.meaning a.inner.handler in
-    let does = step_told a.version a.options (g.H.Handler.meaning a.inner.handler) (the_fields a.inner) c.step-progress.result (the_fields c.step-progress.new.self) c.self.invariant.0 c.self.invariant.5 c.output_len.ensures.whole c.step-progress.ensures.does in
+    let fixed = fixed_by (g.H.Handler.meaning a.inner.handler) a.version a.options in
+    let does = step_told fixed (the_fields a.inner) c.step-progress.result (the_fields c.step-progress.new.self) c.self.invariant.0 c.self.invariant.5 c.output_len.ensures.whole c.step-progress.ensures.does in
     rw c.step-progress.ensures.handler (
-      step_comes m a.version a.options (the_record a.inner) c.step-progress.result (the_record c.step-progress.new.self) c.self.invariant.0 does,
-      step_blames m a.version a.options (the_record a.inner) c.step-progress.result (the_record c.step-progress.new.self) c.self.invariant.0 c.self.invariant.2 c.self.invariant.1 does,
-      step_under m a.version a.options (the_record a.inner) c.step-progress.result (the_record c.step-progress.new.self) c.self.invariant.2 does,
-      step_late m a.version a.options (the_record a.inner) c.step-progress.result (the_record c.step-progress.new.self) c.self.invariant.0 c.self.invariant.3 does,
-      step_sleeps m a.version a.options (the_record a.inner) c.step-progress.result (the_record c.step-progress.new.self) c.self.invariant.2 c.self.invariant.4 does,
+      step_comes fixed (the_record a.inner) c.step-progress.result (the_record c.step-progress.new.self) c.self.invariant.0 does,
+      step_blames fixed (the_record a.inner) c.step-progress.result (the_record c.step-progress.new.self) c.self.invariant.0 c.self.invariant.2 c.self.invariant.1 does,
+      step_under fixed (the_record a.inner) c.step-progress.result (the_record c.step-progress.new.self) c.self.invariant.2 does,
+      step_late fixed (the_record a.inner) c.step-progress.result (the_record c.step-progress.new.self) c.self.invariant.0 c.self.invariant.3 does,
+      step_sleeps fixed (the_record a.inner) c.step-progress.result (the_record c.step-progress.new.self) c.self.invariant.2 c.self.invariant.4 does,
       c.output_len.ensures.whole,
-      step_in_replay m a.version a.options (the_record a.inner) c.step-progress.result (the_record c.step-progress.new.self) c.self.invariant.6 does,
+      step_in_replay fixed (the_record a.inner) c.step-progress.result (the_record c.step-progress.new.self) c.self.invariant.6 does,
     )
 
 pub returns-clause-does : goal.returns-clause-does
 returns-clause-does g c =
     let a = c.self.inside in
-    rw (← c.self.view_is) (step_told a.version a.options (g.H.Handler.meaning a.inner.handler) (the_fields a.inner) c.step-progress.result (the_fields c.step-progress.new.self) c.self.invariant.0 c.self.invariant.5 c.output_len.ensures.whole c.step-progress.ensures.does)
+    let fixed = fixed_by (g.H.Handler.meaning a.inner.handler) a.version a.options in
+    rw (← c.self.view_is) (step_told fixed (the_fields a.inner) c.step-progress.result (the_fields c.step-progress.new.self) c.self.invariant.0 c.self.invariant.5 c.output_len.ensures.whole c.step-progress.ensures.does)
 
 pub returns-clause-waits : goal.returns-clause-waits
 returns-clause-waits g c =
     let a = c.self.inside in
-    let does = step_told a.version a.options (g.H.Handler.meaning a.inner.handler) (the_fields a.inner) c.step-progress.result (the_fields c.step-progress.new.self) c.self.invariant.0 c.self.invariant.5 c.output_len.ensures.whole c.step-progress.ensures.does in
-    rw (← c.self.view_is) (waits_rightly (g.H.Handler.meaning a.inner.handler) a.version a.options (the_record a.inner) c.step-progress.result (the_record c.step-progress.new.self) c.self.invariant.2 c.self.invariant.4 does c.output_len.ensures.whole)
+    let fixed = fixed_by (g.H.Handler.meaning a.inner.handler) a.version a.options in
+    let does = step_told fixed (the_fields a.inner) c.step-progress.result (the_fields c.step-progress.new.self) c.self.invariant.0 c.self.invariant.5 c.output_len.ensures.whole c.step-progress.ensures.does in
+    rw (← c.self.view_is) (waits_rightly fixed (the_record a.inner) c.step-progress.result (the_record c.step-progress.new.self) c.self.invariant.2 c.self.invariant.4 does c.output_len.ensures.whole)
 
 pub returns-clause-replays : goal.returns-clause-replays
 returns-clause-replays g c =
     let a = c.self.inside in
-    let does = step_told a.version a.options (g.H.Handler.meaning a.inner.handler) (the_fields a.inner) c.step-progress.result (the_fields c.step-progress.new.self) c.self.invariant.0 c.self.invariant.5 c.output_len.ensures.whole c.step-progress.ensures.does in
-    rw (← c.self.view_is) (λ is p. replays_in_replay (g.H.Handler.meaning a.inner.handler) a.version a.options (the_record a.inner) c.step-progress.result (the_record c.step-progress.new.self) c.self.invariant.6 is p does)
+    let fixed = fixed_by (g.H.Handler.meaning a.inner.handler) a.version a.options in
+    let does = step_told fixed (the_fields a.inner) c.step-progress.result (the_fields c.step-progress.new.self) c.self.invariant.0 c.self.invariant.5 c.output_len.ensures.whole c.step-progress.ensures.does in
+    rw (← c.self.view_is) (λ is p. replays_in_replay fixed (the_record a.inner) c.step-progress.result (the_record c.step-progress.new.self) c.self.invariant.6 is p does)
 
 pub returns-clause-blamed : goal.returns-clause-blamed
 returns-clause-blamed g c =
     let a = c.self.inside in
-    let does = step_told a.version a.options (g.H.Handler.meaning a.inner.handler) (the_fields a.inner) c.step-progress.result (the_fields c.step-progress.new.self) c.self.invariant.0 c.self.invariant.5 c.output_len.ensures.whole c.step-progress.ensures.does in
-    rw (← c.self.view_is) (step_blame (g.H.Handler.meaning a.inner.handler) a.version a.options (the_record a.inner) c.step-progress.result (the_record c.step-progress.new.self) c.self.invariant.0 c.self.invariant.2 c.self.invariant.1 c.self.invariant.3 does)
+    let fixed = fixed_by (g.H.Handler.meaning a.inner.handler) a.version a.options in
+    let does = step_told fixed (the_fields a.inner) c.step-progress.result (the_fields c.step-progress.new.self) c.self.invariant.0 c.self.invariant.5 c.output_len.ensures.whole c.step-progress.ensures.does in
+    rw (← c.self.view_is) (step_blame fixed (the_record a.inner) c.step-progress.result (the_record c.step-progress.new.self) c.self.invariant.0 c.self.invariant.2 c.self.invariant.1 c.self.invariant.3 does)
 
 pub returns-clause-honest : goal.returns-clause-honest
 returns-clause-honest g c =
     let a = c.self.inside in
-    let does = step_told a.version a.options (g.H.Handler.meaning a.inner.handler) (the_fields a.inner) c.step-progress.result (the_fields c.step-progress.new.self) c.self.invariant.0 c.self.invariant.5 c.output_len.ensures.whole c.step-progress.ensures.does in
+    let fixed = fixed_by (g.H.Handler.meaning a.inner.handler) a.version a.options in
+    let does = step_told fixed (the_fields a.inner) c.step-progress.result (the_fields c.step-progress.new.self) c.self.invariant.0 c.self.invariant.5 c.output_len.ensures.whole c.step-progress.ensures.does in
     let new = the_record c.step-progress.new.self in
-    rw (← c.self.view_is) (λ honest. honest_errs (g.H.Handler.meaning a.inner.handler) a.version a.options (all_heard a.version new) (all_said new) new.answers c.step-progress.result honest (step_blame (g.H.Handler.meaning a.inner.handler) a.version a.options (the_record a.inner) c.step-progress.result new c.self.invariant.0 c.self.invariant.2 c.self.invariant.1 c.self.invariant.3 does))
+    rw (← c.self.view_is) (λ honest. honest_errs fixed (all_heard a.version new) (all_said new) new.answers c.step-progress.result honest (step_blame fixed (the_record a.inner) c.step-progress.result new c.self.invariant.0 c.self.invariant.2 c.self.invariant.1 c.self.invariant.3 does))
 
 pub returns-clause-fresh : goal.returns-clause-fresh
 returns-clause-fresh g c =
     let a = c.self.inside in
-    let does = step_told a.version a.options (g.H.Handler.meaning a.inner.handler) (the_fields a.inner) c.step-progress.result (the_fields c.step-progress.new.self) c.self.invariant.0 c.self.invariant.5 c.output_len.ensures.whole c.step-progress.ensures.does in
-    rw (← c.self.view_is) (come_fresh a.version a.options (the_record c.step-progress.new.self) (step_comes (g.H.Handler.meaning a.inner.handler) a.version a.options (the_record a.inner) c.step-progress.result (the_record c.step-progress.new.self) c.self.invariant.0 does) c.output_len.ensures.whole)
+    let fixed = fixed_by (g.H.Handler.meaning a.inner.handler) a.version a.options in
+    let does = step_told fixed (the_fields a.inner) c.step-progress.result (the_fields c.step-progress.new.self) c.self.invariant.0 c.self.invariant.5 c.output_len.ensures.whole c.step-progress.ensures.does in
+    rw (← c.self.view_is) (come_fresh fixed (the_record c.step-progress.new.self) (step_comes fixed (the_record a.inner) c.step-progress.result (the_record c.step-progress.new.self) c.self.invariant.0 does) c.output_len.ensures.whole)

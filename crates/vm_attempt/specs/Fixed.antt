@@ -1,0 +1,19 @@
+-- What is fixed for an attempt, whatever comes.
+use Rattle.journal_errors.specs.declared.version.Version.{Version}
+use Rattle.vm_types.specs.declared.options.VMOptions.{VMOptions}
+use Rattle.vm_model.specs.Calls.{Meaning}
+use Rattle.vm_steps.specs.Record.{AttemptView}
+
+-- what the handler calls next after the answers that it saw, and what the attempt was made for
+pub record Fixed : Type 0 where
+  pub handler : Meaning
+  pub version : Version
+  pub options : VMOptions
+
+-- for an attempt of this handler, of this version and with these options
+abbrev pub fixed_by : Meaning → Version → VMOptions → Fixed
+fixed_by handler version options = record { handler = handler; version = version; options = options }
+
+-- for an attempt, by what its handler calls
+abbrev pub fixed_of : {H : Type 0} → Meaning → AttemptView H → Fixed
+fixed_of handler a = fixed_by handler a.version a.options
