@@ -18,3 +18,8 @@ pub mod First
 pub mod Given
 pub mod Lists
 pub mod Pieces
+pub mod Rising
+pub mod RightKinds
+pub mod Fed
+pub mod Honestly
+pub mod Owning
