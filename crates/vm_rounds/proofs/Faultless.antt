@@ -408,7 +408,7 @@ attempt_blames m w round old f j h d =
     let bytes = encoding (message.Start st) in
     let r = fresh_record (made d.alloc w.options w.version) in
     round_blames m w bytes (stored_form (message.Start st)) st old j (start_framed st d.start) (start_reads st d.start) refl (setup_of w) refl (base_of w) h.history.history h.replays round.events (begin d.alloc w round old) f
-    (begun w.version bytes old r j refl refl refl) (inl (made_new d.alloc (fixed_in m w))) (made_comes d.alloc (fixed_in m w)) refl refl refl refl refl refl d.faults
+    (begun w.version bytes old r j refl refl refl refl) (inl (made_new d.alloc (fixed_in m w))) (made_comes d.alloc (fixed_in m w)) refl refl refl refl refl refl d.faults
 
 arrivals_blame : (old : List (List ℕ)) (es : List Event) (journal : List (List ℕ)) (f : RoundFault) → IsPrefix old journal → ArrivalsFault es journal f → RoundBlames old es f
 arrivals_blame old [] journal f front h = absurd h

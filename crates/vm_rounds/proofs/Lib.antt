@@ -25,3 +25,7 @@ pub mod Proposing
 pub mod Rising
 pub mod Storable
 pub mod Faultless
+pub mod RightKinds
+pub mod Fed
+pub mod Honestly
+pub mod Owning

@@ -34,6 +34,7 @@ use Rattle.vm_store.specs.declared.types.RoundFault.TheVariants as round_fault
 use Rattle.vm_store.specs.declared.types.Setting.{Setting}
 use Rattle.vm_store.specs.Arrivals.{arrival_fault, most}
 use Rattle.vm_store.specs.Entries.{entries_of}
+use Rattle.vm_store.specs.States.{HaveTextKeys, pairs_for}
 use Rattle.vm_store.specs.Storing.{FirstFault, Stores, written_from}
 use Rattle.vm_store.specs.Worlds.{fixed_in, start_message}
 use Rattle.vm_attempt.specs.Fixed.{Fixed}
@@ -195,11 +196,13 @@ pub record Ran (fixed : Fixed) (events : List Event) (begun : Now) (report : Rep
 abbrev pub IsSupported : Version → Type 0
 IsSupported version = supported version ≡ Ok version
 
--- A round with its attempt, in a version that the VM supports, leaves this journal and tells this report.
+-- A round with its attempt, in a version that the VM supports, leaves this journal and tells this report. The keys of the state that its
+-- Start hands out are texts.
 pub record AttemptDoes (m : Meaning) (w : Setting) (round : Round) (old : List (List ℕ)) (report : ReportView) (new : List (List ℕ)) : Type 0 where
   pub alloc : Global
   pub speaks : IsSupported w.version
   pub start : IsWhole (start_message w round old)
+  pub texts : HaveTextKeys (pairs_for w round old)
   pub ran : Ran (fixed_in m w) round.events (begin alloc w round old) report new
 
 -- A round whose attempt was refused leaves this journal and tells this report.

@@ -2,7 +2,7 @@
 ghost use Rattle.std.specs.Prelude.{◌≡◌, ◌∷◌, [], ◌++◌, map, IfOk, IfErr, if◌then◌else◌};
 ghost use Rattle.vm_model.specs.Histories.{IsPrefix};
 ghost use Rattle.vm_rounds.specs.Fresh.{Skips};
-ghost use Rattle.vm_rounds.specs.Guarantees.{AttemptsAgree, CanBeReplayed, FaultsComeFromOutside, HasOneResultEach, IdsAreNew, IsExactlyOnce, IsReplayable, IsUninterrupted, Lasts, RoundsAreHonest, case_of, told};
+ghost use Rattle.vm_rounds.specs.Guarantees.{AttemptsAgree, CanBeReplayed, ErrorsAreTheirOwn, FaultsComeFromOutside, HasOneResultEach, HasRightKinds, IdsAreNew, IsExactlyOnce, IsReplayable, IsUninterrupted, Lasts, RoundsAreHonest, case_of, told};
 ghost use Rattle.vm_rounds.specs.Inside.{report_view};
 ghost use Rattle.vm_rounds.specs.Rounds.{AreWhole, Replays, RoundsDo, RoundsFault};
 
@@ -47,9 +47,16 @@ pub fn run_rounds<H: Handler>(
     ensures honest { IfOk result (λ r. CanBeReplayed (H.meaning handler.now) world
         → RoundsAreHonest (case_of (H.meaning handler.now) world) rounds.now
         world.journal (told r.1.items) r.0.journal) }
+    // each report's error is its own, and no mismatch is among them,
+    ensures errors { IfOk result (λ r. CanBeReplayed (H.meaning handler.now) world
+        → ErrorsAreTheirOwn (case_of (H.meaning handler.now) world) rounds.now
+        world.journal (told r.1.items) r.0.journal) }
     // no completion id has two results,
     ensures once { IfOk result (λ r. CanBeReplayed (H.meaning handler.now) world
         → HasOneResultEach (case_of (H.meaning handler.now) world) r.0.journal) }
+    // each result of an invocation's id is one,
+    ensures kinds { IfOk result (λ r. CanBeReplayed (H.meaning handler.now) world
+        → HasRightKinds r.0.journal) }
     // and the attempts agree.
     ensures agree { IfOk result (λ r. CanBeReplayed (H.meaning handler.now) world
         → AttemptsAgree (case_of (H.meaning handler.now) world) r.0.journal (told r.1.items)) }

@@ -8,7 +8,9 @@ use Rattle.vm_rounds.proofs.Agreeing.{sound_rounds_agree}
 use Rattle.vm_rounds.proofs.Completing.{completes_once}
 use Rattle.vm_rounds.proofs.Faultless.{faults_come_from_outside}
 use Rattle.vm_rounds.proofs.Freshness.{rounds_fresh}
+use Rattle.vm_rounds.proofs.RightKinds.{history_kinds}
 use Rattle.vm_rounds.proofs.Lists.{split_at, whole_at}
+use Rattle.vm_rounds.proofs.Owning.{rounds_own}
 use Rattle.vm_rounds.proofs.Rounding.{Grows, are_honest, rounds_fail, rounds_grow, rounds_then, stays_one_run, stays_sound, stays_undisturbed}
 use Rattle.vm_rounds.proofs.rounds.run_rounds.Given as given
 use Rattle.vm_rounds.proofs.rounds.run_rounds.Goals as goal
@@ -47,6 +49,9 @@ returns-clause-extends g c = ((grows g c).added, (grows g c).extends)
 pub returns-clause-honest : goal.returns-clause-honest
 returns-clause-honest g c h d = are_honest (g.H.Handler.meaning c.args.handler.now) c.args.world.setting c.args.rounds.now c.args.world.journal (map report_view c.loop-round.reports.items) c.loop-round.journal.items (before g c) d h
 
+pub returns-clause-errors : goal.returns-clause-errors
+returns-clause-errors g c h d = rounds_own (g.H.Handler.meaning c.args.handler.now) c.args.world.setting c.args.rounds.now c.args.world.journal (map report_view c.loop-round.reports.items) c.loop-round.journal.items (before g c) h d
+
 stays : (g : given.Over) (c : goal.After-loop-round g) → IsSoundFor (g.H.Handler.meaning c.args.handler.now) c.args.world.setting c.args.world.journal → IsSoundFor (g.H.Handler.meaning c.args.handler.now) c.args.world.setting c.loop-round.journal.items
 stays g c h = stays_sound (g.H.Handler.meaning c.args.handler.now) c.args.world.setting c.args.rounds.now c.args.world.journal (map report_view c.loop-round.reports.items) c.loop-round.journal.items (before g c) (all g c) h
 
@@ -55,6 +60,9 @@ returns-clause-history g c h = stays g c h
 
 pub returns-clause-once : goal.returns-clause-once
 returns-clause-once g c h = completes_once _ (g.H.Handler.meaning c.args.handler.now) _ c.loop-round.journal.items (grows g c).journal (stays g c h).history.history
+
+pub returns-clause-kinds : goal.returns-clause-kinds
+returns-clause-kinds g c h = history_kinds _ (g.H.Handler.meaning c.args.handler.now) _ c.loop-round.journal.items (grows g c).journal (stays g c h).history.history
 
 pub returns-clause-agree : goal.returns-clause-agree
 returns-clause-agree g c h = sound_rounds_agree (g.H.Handler.meaning c.args.handler.now) c.args.world.setting c.args.rounds.now c.args.world.journal (map report_view c.loop-round.reports.items) c.loop-round.journal.items h (before g c) (all g c)
