@@ -15,6 +15,7 @@ use Rattle.vm_store.specs.declared.types.RoundFault.{RoundFault}
 use Rattle.vm_store.specs.declared.types.RoundFault.TheVariants as round_fault
 use Rattle.vm_store.specs.declared.types.Setting.{Setting}
 use Rattle.vm_rounds.specs.Rounds.{HappenFaults, IsShort, IsSupported, Ran, ReportView, RoundDoes, RoundFaults, begin, new_now}
+use Rattle.vm_store.specs.States.{HaveTextKeys, pairs_for}
 use Rattle.vm_store.specs.Worlds.{IsJournal, fixed_in, start_message}
 use Rattle.vm_rounds.proofs.Rounding.{short_all}
 use Rattle.vm_attempt.specs.Fixed.{Fixed, fixed_by}
@@ -22,23 +23,24 @@ use Rattle.vm_attempt.specs.Fixed.{Fixed, fixed_by}
 begun_is : (w : Setting) (round : Round) (old : List (List ℕ)) (alloc : Global) (waiting : List ℕ) (r : Record) → waiting ≡ encoding (start_message w round old) ++ concat old → r ≡ fresh_record (made alloc w.options w.version) → new_now w.version old waiting r ≡ begin alloc w round old
 begun_is w round old alloc waiting r e f = λ i. new_now w.version old (e i) (f i)
 
-pub round_does : (m : Meaning) (w : Setting) (round : Round) (old : List (List ℕ)) (alloc : Global) (waiting : List ℕ) (r : Record) (version : Version) (options : VMOptions) (report : ReportView) (new : List (List ℕ)) → IsSupported w.version → IsWhole (start_message w round old) → waiting ≡ encoding (start_message w round old) ++ concat old → r ≡ fresh_record (made alloc w.options w.version) → version ≡ w.version → options ≡ w.options → Ran (fixed_by m version options) round.events (new_now w.version old waiting r) report new → RoundDoes m w round old report new
-round_does m w round old alloc waiting r version options report new speaks whole e f v o ran = inl (record {
+pub round_does : (m : Meaning) (w : Setting) (round : Round) (old : List (List ℕ)) (alloc : Global) (waiting : List ℕ) (r : Record) (version : Version) (options : VMOptions) (report : ReportView) (new : List (List ℕ)) → IsSupported w.version → IsWhole (start_message w round old) → HaveTextKeys (pairs_for w round old) → waiting ≡ encoding (start_message w round old) ++ concat old → r ≡ fresh_record (made alloc w.options w.version) → version ≡ w.version → options ≡ w.options → Ran (fixed_by m version options) round.events (new_now w.version old waiting r) report new → RoundDoes m w round old report new
+round_does m w round old alloc waiting r version options report new speaks whole texts e f v o ran = inl (record {
   alloc = alloc;
   speaks = speaks;
   start = whole;
+  texts = texts;
   ran = subst (λ x. Ran (fixed_in m w) round.events x report new) (begun_is w round old alloc waiting r e f) (subst (λ (x : Fixed). Ran x round.events (new_now w.version old waiting r) report new) (λ i. fixed_by m (v i) (o i)) ran);
 })
 
-pub round_faults : (m : Meaning) (w : Setting) (round : Round) (old : List (List ℕ)) (alloc : Global) (waiting : List ℕ) (r : Record) (x : RoundFault) → IsSupported w.version → waiting ≡ encoding (start_message w round old) ++ concat old → r ≡ fresh_record (made alloc w.options w.version) → (x ≡ round_fault.Memory) ⊎ HappenFaults m round.events (new_now w.version old waiting r) x → RoundFaults m w round old x
-round_faults m w round old alloc waiting r x speaks e f h =
+pub round_faults : (m : Meaning) (w : Setting) (round : Round) (old : List (List ℕ)) (alloc : Global) (waiting : List ℕ) (r : Record) (x : RoundFault) → IsSupported w.version → IsWhole (start_message w round old) → waiting ≡ encoding (start_message w round old) ++ concat old → r ≡ fresh_record (made alloc w.options w.version) → (x ≡ round_fault.Memory) ⊎ HappenFaults m round.events (new_now w.version old waiting r) x → RoundFaults m w round old x
+round_faults m w round old alloc waiting r x speaks start e f h =
     ⊎_elim
     (λ (z : x ≡ round_fault.Memory). inl z)
-    (λ (z : HappenFaults m round.events (new_now w.version old waiting r) x). inr (inl (record { alloc = alloc; speaks = speaks; faults = subst (λ n. HappenFaults m round.events n x) (begun_is w round old alloc waiting r e f) z })))
+    (λ (z : HappenFaults m round.events (new_now w.version old waiting r) x). inr (inl (record { alloc = alloc; speaks = speaks; start = start; faults = subst (λ n. HappenFaults m round.events n x) (begun_is w round old alloc waiting r e f) z })))
     h
 
 pub round_short : (m : Meaning) (w : Setting) (round : Round) (old : List (List ℕ)) (alloc : Global) (waiting : List ℕ) (r : Record) → IsJournal old → waiting ≡ encoding (start_message w round old) ++ concat old → r ≡ fresh_record (made alloc w.options w.version) → IsShort m round.events (new_now w.version old waiting r)
-round_short m w round old alloc waiting r j e f = subst (IsShort m round.events) (sym (begun_is w round old alloc waiting r e f)) (short_all m w.version round.events (encoding (start_message w round old)) old (fresh_record (made alloc w.options w.version)) j refl refl refl)
+round_short m w round old alloc waiting r j e f = subst (IsShort m round.events) (sym (begun_is w round old alloc waiting r e f)) (short_all m w.version round.events (encoding (start_message w round old)) old (fresh_record (made alloc w.options w.version)) j refl refl refl refl)
 
 -- what follows from what an answer ensures
 pub if_ok_then : {A E : Type 0} (r : Result A E) (P Q : A → Type 0) → ((a : A) → P a → Q a) → IfOk r P → IfOk r Q

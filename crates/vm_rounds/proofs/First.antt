@@ -1,5 +1,6 @@
 -- The journal of a new world.
-use Rattle.std.proofs.Common.{◌≡◌, ℕ, List, [], ◌∷◌, Option, Some, None, refl, sym, ap, subst, arith}
+use Rattle.std.proofs.Common.{◌≡◌, ℕ, List, [], ◌∷◌, Option, Some, None, refl, sym, ap, ◌∙◌, subst, arith}
+use Rattle.std.specs.List.{AllByRecursion}
 use Rattle.std.specs.Prelude.{option_map}
 use Rattle.arrivals.specs.Results.{results_of}
 use Rattle.journal_attempt.specs.declared.commands.InputCommand.{InputCommand}
@@ -11,13 +12,14 @@ use Rattle.journal_messages.specs.Message.{IsWhole}
 use Rattle.journal_streams.proofs.Alone.{read_back}
 use Rattle.journal_values.specs.declared.notification.NotificationId.TheVariants.{CompletionId}
 use Rattle.vm_model.specs.Calls.{Meaning, Setup}
+use Rattle.vm_model.specs.Carried.{AreOfTheirKind, IsInvocationId}
 use Rattle.vm_model.specs.Journal.{stored_form}
 use Rattle.vm_model.specs.Moves.{start}
 use Rattle.vm_model.specs.Histories.{Knowledge}
 use Rattle.vm_model.specs.HonestRounds.{IsOneRun}
-use Rattle.vm_attempt.specs.Journals.{as_entries, notified_by}
-use Rattle.vm_store.specs.Completions.{CompleteOnce}
-use Rattle.vm_store.specs.Entries.{entries_of, frame_in, framed_by, may_stand, note_of, read_from}
+use Rattle.vm_attempt.specs.Journals.{as_entries, commands_among, notified_by}
+use Rattle.vm_store.specs.Completions.{CompleteOnce, NoteIsOfItsKind}
+use Rattle.vm_store.specs.Entries.{entries_of, frame_in, framed_by, frames_in, may_stand, note_of, notes_in, read_from}
 use Rattle.vm_store.specs.Worlds.{IsJournal}
 use Rattle.vm_store.proofs.Framing.{frame_back}
 
@@ -30,6 +32,7 @@ first_is i whole = record {
   short = omega arith;
   once = subst (λ o. CompleteOnce (notified_by (read_from note_of o) [])) (sym (first_frame i whole)) tt;
   carried = λ id none. subst (λ o. results_of (CompletionId id) (notified_by (read_from note_of o) []) ≡ []) (sym (first_frame i whole)) refl;
+  kinds = (subst (λ o. NoteIsOfItsKind (read_from note_of o) []) (sym (first_frame i whole)) tt, tt);
 }
 
 input_by : (i : InputCommand) (o : Option InputCommand) → option_map message.Input o ≡ Some (message.Input i) → o ≡ Some i
@@ -59,3 +62,7 @@ first_ok journal i is whole = subst IsJournal (sym is) (first_is i whole)
 
 pub first_made : (s : Setup) (m : Meaning) (K : Knowledge) (journal : List (List ℕ)) (i : InputCommand) → journal ≡ encoding (message.Input i) ∷ [] → IsWhole (message.Input i) → IsOneRun s m K (entries_of journal)
 first_made s m K journal i is whole = subst (λ j. IsOneRun s m K (entries_of j)) (sym is) (first_run s m K i whole)
+
+-- it holds no result
+pub first_kinds : (journal : List (List ℕ)) (i : InputCommand) → journal ≡ encoding (message.Input i) ∷ [] → IsWhole (message.Input i) → AreOfTheirKind (notes_in journal) (commands_among (frames_in journal))
+first_kinds journal i is whole id named = subst (λ ns. AllByRecursion IsInvocationId (results_of (CompletionId id) ns)) (sym (ap notes_in is ∙ ap (λ o. notified_by (read_from note_of o) []) (first_frame i whole))) tt

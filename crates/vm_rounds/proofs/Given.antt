@@ -3,7 +3,6 @@ use Rattle.std.proofs.Common.{◌≡◌, ◌≢◌, ℕ, Bool, true, false, cond
 use Rattle.std.specs.Prelude.{◌||◌, ◌&&◌, ◌==◌, if◌then◌else◌, is_some, nat_le, nat_lt}
 use Rattle.std.proofs.lemmas.Bool.{eqb-true}
 use Rattle.std.specs.Option.{option_or}
-use Rattle.journal_attempt.specs.declared.commands.InputCommand.{InputCommand}
 use Rattle.journal_errors.specs.declared.types.MessageType.TheVariants as type
 use Rattle.journal_errors.specs.Types.{type_number}
 use Rattle.journal_messages.specs.declared.message.RawMessage.{RawMessage}
@@ -17,15 +16,16 @@ use Rattle.vm_attempt.specs.Journals.{commands_among, is_command, notifications_
 use Rattle.vm_attempt.proofs.Pieces.{commands_append}
 use Rattle.vm_model.proofs.Once.{still_carried}
 use Rattle.vm_store.specs.declared.completions.Completes.{Completes}
+use Rattle.vm_store.specs.declared.completions.Completes.TheVariants as completes
 use Rattle.vm_store.specs.declared.types.RoundFault.TheVariants as round_fault
 use Rattle.vm_store.specs.Arrivals.{completes_among, is_completed, most, room_fault}
-use Rattle.vm_store.specs.Completions.{CompleteOnce, HasNoOther}
+use Rattle.vm_store.specs.Completions.{CompleteOnce, HasNoOther, IsOfItsKind, IsOfKind, NoteIsOfItsKind}
 use Rattle.vm_store.specs.Entries.{frame_in, framed_by, frames_in, may_stand, note_in, note_of, notes_in, read_from, said_by, said_in}
 use Rattle.vm_store.specs.Given.{AreGiven, as_given, framed_fault, given_fault, given_note_fault, may_be_given, noted_fault, place_fault}
 use Rattle.vm_store.specs.Worlds.{IsJournal}
 use Rattle.vm_store.proofs.Framing.{command_no_note, entries_join, frames_append, notes_append, notes_are}
 use Rattle.vm_rounds.proofs.Keeping.{one_note}
-use Rattle.vm_rounds.proofs.Once.{absent, completed_carried, not_done, not_most, not_nothing}
+use Rattle.vm_rounds.proofs.Once.{absent, completed_carried, each_more, kind_of, not_done, not_most, not_nothing}
 use Rattle.vm_rounds.proofs.Settled.{note_keeps}
 
 -- ---- no fault
@@ -56,12 +56,26 @@ note_carried (CompletionId id) brings journal e i is =
 note_carried (SignalId id) brings journal e i is = absurd (cc)
 note_carried (SignalName name) brings journal e i is = absurd (cc)
 
+kind_given : (kind : Option Completes) (brings : NotificationResult) → IsOfKind (as_given kind) brings → IsOfKind kind brings
+kind_given None brings h = h
+kind_given (Some completes.InvocationId) brings h = h
+kind_given (Some completes.Proposal) brings h = tt
+kind_given (Some completes.AnyResult) brings h = tt
+
+note_kind : (id : NotificationId) (brings : NotificationResult) (journal : List (List ℕ)) → given_note_fault id brings journal ≡ None → IsOfItsKind id brings journal
+note_kind (CompletionId id) brings journal e =
+    let kind = completes_among id (said_in journal) None in
+    kind_given kind brings (kind_of (as_given kind) (is_completed id (notes_in journal)) brings (room_fault journal) e)
+note_kind (SignalId id) brings journal e = tt
+note_kind (SignalName name) brings journal e = tt
+
 -- ---- a command
 
 command_stands : (journal : List (List ℕ)) (x : List ℕ) (raw : RawMessage) → frame_in x ≡ Some raw → is_command raw ≡ true → length journal ≢ most → IsJournal journal → IsJournal (journal ++ x ∷ [])
 command_stands journal x raw is command room j =
     let one : commands_among (frames_in (x ∷ [])) ≡ raw ∷ [] = ap (λ o. commands_among (framed_by o [])) is ∙ ap (λ b. cond b (raw ∷ []) []) command in
     let none : notes_in (x ∷ []) ≡ [] = notes_are (x ∷ []) ∙ ap (λ o. notifications_among (framed_by o [])) is ∙ ap (λ b. cond b (notified_by (notification_in raw.body) []) []) (command_no_note raw command) in
+    let unread : note_in x ≡ None = ap (read_from note_of) is ∙ ap (λ b. cond b (notification_in raw.body) None) (command_no_note raw command) in
     let same_notes : notes_in (journal ++ x ∷ []) ≡ notes_in journal = notes_append journal (x ∷ []) ∙ ap (λ l. notes_in journal ++ l) none ∙ append-nil (notes_in journal) in
     let more : commands_among (frames_in (journal ++ x ∷ [])) ≡ commands_among (frames_in journal) ++ raw ∷ [] =
     ap commands_among (frames_append journal (x ∷ [])) ∙ commands_append (frames_in journal) (frames_in (x ∷ [])) ∙ ap (λ l. commands_among (frames_in journal) ++ l) one in
@@ -70,6 +84,7 @@ command_stands journal x raw is command room j =
       short = omega (arith, j.short, room, length-append journal (x ∷ []));
       once = subst CompleteOnce (sym same_notes) j.once;
       carried = subst (λ (y : List Notification × List RawMessage). AreCarried y.0 y.1) (λ i. (sym same_notes i, sym more i)) (still_carried (notes_in journal) (commands_among (frames_in journal)) (raw ∷ []) j.carried);
+      kinds = each_more [] journal x j.kinds (subst (λ o. NoteIsOfItsKind o journal) (sym unread) tt);
     }
 
 -- an input is a command
@@ -99,7 +114,7 @@ given_keeps journal x e j = by_frame (frame_in x) refl e
     by_note raw is room may (Some n) note h =
         let reads : note_in x ≡ Some n = ap (read_from note_of) is ∙ note in
         let one = one_note x n reads in
-        note_keeps journal x (record { note = n; reads = reads; no_other = note_new n.id n.result journal h; carried = note_carried n.id n.result journal h }) room one.stands one.none j
+        note_keeps journal x (record { note = n; reads = reads; no_other = note_new n.id n.result journal h; carried = note_carried n.id n.result journal h; kind = note_kind n.id n.result journal h }) room one.stands one.none j
     by_note raw is room may None note h = command_stands journal x raw is (given_command (length journal == 0) raw may note) room j
 
     by_frame : (o : Option RawMessage) → frame_in x ≡ o → framed_fault o journal ≡ None → IsJournal (journal ++ x ∷ [])
@@ -115,4 +130,4 @@ all_given journal [] j h = subst IsJournal (sym (append-nil journal)) j
 all_given journal (x ∷ xs) j h = subst IsJournal (append_assoc journal (x ∷ []) xs) (all_given (journal ++ x ∷ []) xs (given_keeps journal x h.0 j) h.1)
 
 pub given_is : (entries : List (List ℕ)) → AreGiven [] entries → IsJournal entries
-given_is entries h = all_given [] entries (record { entries = tt; short = omega arith; once = tt; carried = λ id none. refl }) h
+given_is entries h = all_given [] entries (record { entries = tt; short = omega arith; once = tt; carried = λ id none. refl; kinds = tt }) h

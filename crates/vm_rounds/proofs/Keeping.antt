@@ -1,7 +1,7 @@
 -- A round on its way, and the journal that it leaves.
-use Rattle.std.proofs.Common.{◌≡◌, ⊎_elim, ℕ, Bool, true, false, cond, List, [], ◌∷◌, ◌++◌, take, drop, map, Option, Some, None, refl, sym, ap, ◌∙◌, subst, append_assoc, append-nil}
+use Rattle.std.proofs.Common.{◌≡◌, inl, ⊎_elim, ℕ, Bool, true, false, cond, List, [], ◌∷◌, ◌++◌, take, drop, map, Option, Some, None, refl, sym, ap, ◌∙◌, subst, append_assoc, append-nil}
 use Rattle.std.specs.Prelude.{◌||◌, is_some}
-use Rattle.std.specs.List.{concat, flat_map}
+use Rattle.std.specs.List.{AllByRecursion, concat, flat_map}
 use Rattle.std.proofs.lemmas.List.{take-append-drop}
 use Rattle.std.proofs.lemmas.List.Folds.{concat-append}
 use Rattle.journal_errors.specs.declared.error.Error.{Error}
@@ -28,9 +28,9 @@ use Rattle.vm_rounds.specs.Rounds.{ArrivalsDo, Happen, Happens, Now, Pieces}
 use Rattle.vm_store.specs.Storing.{Stores, stored_as, waits_behind, written_among}
 use Rattle.vm_store.specs.Worlds.{IsJournal}
 use Rattle.vm_store.proofs.Framing.{AreFrames, entry_framed, frames_append, front_grows, in_front, join, note_no_command, notes_append}
-use Rattle.vm_rounds.proofs.Going.{IsOpen, Stepped, Takes, closes, fed, finishes, prefix_then, stepped}
+use Rattle.vm_rounds.proofs.Going.{Hears, IsOpen, Stepped, Takes, TakesAll, all_fed, closes, fed, finishes, keeps_all, prefix_then, stepped}
 use Rattle.vm_rounds.proofs.Once.{has_room, is_new}
-use Rattle.vm_rounds.proofs.Settled.{Brings, answers, are_items, brings_answers, brings_note, commands_are, completion, items_enter, items_keep, note_keeps, proposal_in_item, proposals_answered, proposals_are, waits_framed}
+use Rattle.vm_rounds.proofs.Settled.{Brings, IsTaken, answers, answers_taken, are_items, brings_answers, brings_note, commands_are, completion, items_enter, items_keep, note_keeps, proposal_in_item, proposals_answered, proposals_are, taken_append, waits_framed}
 
 -- ---- one entry more
 
@@ -94,6 +94,9 @@ pub record Going (version : Version) (start : List ℕ) (first : List (List ℕ)
   pub all : delivered ++ now.waiting ≡ start ++ (concat first ++ bytes)
   pub fed_front : IsPrefix (bytes_in now.attempt.fed) delivered
   pub fed_open : IsOpen now.attempt → bytes_in now.attempt.fed ≡ delivered
+  pub all_front : IsPrefix (all_fed now.attempt) delivered
+  pub all_open : Hears now.attempt → all_fed now.attempt ≡ delivered
+  pub none_late : IsOpen now.attempt → now.attempt.late ≡ []
   pub output_is : concat now.attempt.taken ≡ now.output
   pub scanned : List RawMessage
   pub output_frames : frames_of now.output ≡ in_front scanned (frames_of now.unstored)
@@ -102,6 +105,7 @@ pub record Going (version : Version) (start : List ℕ) (first : List (List ℕ)
   pub extends : now.journal ≡ first ++ added
   pub commands : commands_among (frames_in added) ≡ commands_among scanned
   pub brings : Brings version (proposals_among scanned) came (notes_in added)
+  pub taken : AllByRecursion IsTaken came
   pub journal : IsJournal now.journal
 
 module _ (m : Meaning) (version : Version) (start : List ℕ) (first : List (List ℕ)) where
@@ -116,6 +120,9 @@ module _ (m : Meaning) (version : Version) (start : List ℕ) (first : List (Lis
     all = g.all;
     fed_front = subst (λ f. IsPrefix (bytes_in f) g.delivered) (sym s.fed) g.fed_front;
     fed_open = λ o. ap bytes_in s.fed ∙ g.fed_open (s.opens o);
+    all_front = subst (λ b. IsPrefix b g.delivered) (λ i. bytes_in (sym s.fed i ++ sym s.late i)) g.all_front;
+    all_open = λ o. (λ i. bytes_in (s.fed i ++ s.late i)) ∙ g.all_open (s.hears o);
+    none_late = λ o. s.late ∙ g.none_late (s.opens o);
     output_is = ap concat s.taken ∙ g.output_is;
     scanned = g.scanned;
     output_frames = g.output_frames;
@@ -124,11 +131,12 @@ module _ (m : Meaning) (version : Version) (start : List ℕ) (first : List (Lis
     extends = g.extends;
     commands = g.commands;
     brings = g.brings;
+    taken = g.taken;
     journal = g.journal;
   }
 
-  takes : (now : Now) (piece rest : List ℕ) (r : Record) (error : Option Error) → now.waiting ≡ piece ++ rest → Takes piece now.attempt r → r.taken ≡ now.attempt.taken → r.proposed ≡ now.attempt.proposed → Going version start first now → Going version start first (record now { waiting = rest; attempt = r; error = error })
-  takes now piece rest r error is t same none g = record {
+  takes : (now : Now) (piece rest : List ℕ) (r : Record) (error : Option Error) → now.waiting ≡ piece ++ rest → Takes piece now.attempt r → TakesAll piece now.attempt r → (IsOpen r → r.late ≡ []) → r.taken ≡ now.attempt.taken → r.proposed ≡ now.attempt.proposed → Going version start first now → Going version start first (record now { waiting = rest; attempt = r; error = error })
+  takes now piece rest r error is t kept early same none g = record {
     made_for = g.made_for;
     bytes = g.bytes;
     came = g.came;
@@ -143,6 +151,15 @@ module _ (m : Meaning) (version : Version) (start : List ℕ) (first : List (Lis
         (λ (x : (bytes_in r.fed ≡ bytes_in now.attempt.fed) × (IsOpen r → ⊥)). λ o. absurd (x.1 o))
         (λ (x : IsOpen now.attempt × (bytes_in r.fed ≡ bytes_in now.attempt.fed ++ piece)). λ o. x.1 ∙ ap (λ l. l ++ piece) (g.fed_open x.0))
         t;
+    all_front = ⊎_elim
+        (λ (x : (all_fed r ≡ all_fed now.attempt) × (Hears r → ⊥)). longer x.0)
+        (λ (x : Hears now.attempt × (all_fed r ≡ all_fed now.attempt ++ piece)). ([], ap (λ l. l ++ piece) (sym (g.all_open x.0)) ∙ sym x.1 ∙ sym (append-nil (all_fed r))))
+        kept;
+    all_open = ⊎_elim
+        (λ (x : (all_fed r ≡ all_fed now.attempt) × (Hears r → ⊥)). λ o. absurd (x.1 o))
+        (λ (x : Hears now.attempt × (all_fed r ≡ all_fed now.attempt ++ piece)). λ o. x.1 ∙ ap (λ l. l ++ piece) (g.all_open x.0))
+        kept;
+    none_late = early;
     output_is = ap concat same ∙ g.output_is;
     scanned = g.scanned;
     output_frames = g.output_frames;
@@ -151,11 +168,15 @@ module _ (m : Meaning) (version : Version) (start : List ℕ) (first : List (Lis
     extends = g.extends;
     commands = g.commands;
     brings = g.brings;
+    taken = g.taken;
     journal = g.journal;
   }
     where
       front : bytes_in r.fed ≡ bytes_in now.attempt.fed → IsPrefix (bytes_in r.fed) (g.delivered ++ piece)
       front e = (g.fed_front.0 ++ piece, ap (λ l. l ++ piece) g.fed_front.1 ∙ append_assoc (bytes_in now.attempt.fed) g.fed_front.0 piece ∙ ap (λ l. l ++ (g.fed_front.0 ++ piece)) (sym e))
+
+      longer : all_fed r ≡ all_fed now.attempt → IsPrefix (all_fed r) (g.delivered ++ piece)
+      longer e = (g.all_front.0 ++ piece, ap (λ l. l ++ piece) g.all_front.1 ∙ append_assoc (all_fed now.attempt) g.all_front.0 piece ∙ ap (λ l. l ++ (g.all_front.0 ++ piece)) (sym e))
 
       whole : IsOpen now.attempt → bytes_in r.fed ≡ bytes_in now.attempt.fed ++ piece → IsPrefix (bytes_in r.fed) (g.delivered ++ piece)
       whole o e = ([], ap (λ l. l ++ piece) (sym (g.fed_open o)) ∙ sym e ∙ sym (append-nil (bytes_in r.fed)))
@@ -164,7 +185,8 @@ module _ (m : Meaning) (version : Version) (start : List ℕ) (first : List (Lis
   pieces true n now new d g = subst (Going version start first) (sym d) g
   pieces false n now new (result, r, d, is) g =
       let t = fed (take n now.waiting) now.attempt result r d in
-      subst (Going version start first) (sym is) (takes now (take n now.waiting) (drop n now.waiting) r _ (sym (take-append-drop n now.waiting)) t.0 t.1 t.2 g)
+      let k = keeps_all (take n now.waiting) now.attempt result r g.none_late d in
+      subst (Going version start first) (sym is) (takes now (take n now.waiting) (drop n now.waiting) r _ (sym (take-append-drop n now.waiting)) t.0 k.0 k.1 t.1 t.2 g)
 
   -- more bytes wait behind all that came
   more_waits : (now : Now) (x : List ℕ) (g : Going version start first now) → g.delivered ++ (now.waiting ++ x) ≡ start ++ (concat first ++ (g.bytes ++ x))
@@ -185,6 +207,9 @@ module _ (m : Meaning) (version : Version) (start : List ℕ) (first : List (Lis
         all = more_waits now x g;
         fed_front = g.fed_front;
         fed_open = g.fed_open;
+        all_front = g.all_front;
+        all_open = g.all_open;
+        none_late = g.none_late;
         output_is = g.output_is;
         scanned = g.scanned;
         output_frames = g.output_frames;
@@ -193,6 +218,7 @@ module _ (m : Meaning) (version : Version) (start : List ℕ) (first : List (Lis
         extends = ap (λ l. l ++ x ∷ []) g.extends ∙ append_assoc first g.added (x ∷ []);
         commands = ap commands_among (frames_append g.added (x ∷ [])) ∙ commands_append (frames_in g.added) (frames_in (x ∷ [])) ∙ ap (λ l. commands_among (frames_in g.added) ++ l) one.none ∙ append-nil (commands_among (frames_in g.added)) ∙ g.commands;
         brings = subst (Brings version (proposals_among g.scanned) (g.came ++ f.raw ∷ [])) (sym notes) (brings_note version (proposals_among g.scanned) g.came (notes_in g.added) f.raw new.note f.kind f.reads g.brings);
+        taken = taken_append g.came (f.raw ∷ []) g.taken (inl (f.kind, ap is_some f.reads), tt);
         journal = arrival_keeps now.journal x e g.journal;
       }
 
@@ -216,6 +242,9 @@ module _ (m : Meaning) (version : Version) (start : List ℕ) (first : List (Lis
         all = ap (λ l. g.delivered ++ l) s.waits ∙ more_waits now (flat_map (waits_behind version) W) g;
         fed_front = g.fed_front;
         fed_open = λ o. g.fed_open (record { starved = o.starved; failure = o.failure; phase = o.phase });
+        all_front = g.all_front;
+        all_open = λ o. g.all_open (record { starved = o.starved; failure = o.failure });
+        none_late = λ o. g.none_late (record { starved = o.starved; failure = o.failure; phase = o.phase });
         output_is = concat-append now.attempt.taken (more ∷ []) ∙ (λ i. g.output_is i ++ append-nil more i);
         scanned = g.scanned ++ s.seen;
         output_frames = frames;
@@ -224,6 +253,7 @@ module _ (m : Meaning) (version : Version) (start : List ℕ) (first : List (Lis
         extends = s.stored ∙ ap (λ l. l ++ map stored_as W) g.extends ∙ append_assoc first g.added (map stored_as W);
         commands = ap commands_among (frames_append g.added (map stored_as W)) ∙ commands_append (frames_in g.added) (frames_in (map stored_as W)) ∙ (λ i. g.commands i ++ (enter.0 ∙ commands_are s.seen) i) ∙ sym (commands_append g.scanned s.seen);
         brings = subst (λ (x : List KeptProposal × List Notification). Brings version x.0 (g.came ++ answers version ps) x.1) (λ i. (sym stored i, sym notes i)) (brings_answers version (proposals_among g.scanned) ps g.came (notes_in g.added) (proposals_answered version W s.readable) g.brings);
+        taken = taken_append g.came (answers version ps) g.taken (answers_taken version ps (proposals_answered version W s.readable));
         journal = subst IsJournal (sym s.stored) (items_keep version W now.journal items s.faultless g.journal);
       }
 

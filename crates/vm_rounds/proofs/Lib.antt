@@ -18,3 +18,14 @@ pub mod First
 pub mod Given
 pub mod Lists
 pub mod Pieces
+pub mod RunsCalled
+pub mod Pending
+pub mod Known
+pub mod Proposing
+pub mod Rising
+pub mod Storable
+pub mod Faultless
+pub mod RightKinds
+pub mod Fed
+pub mod Honestly
+pub mod Owning

@@ -1,5 +1,5 @@
 -- No completion comes to have two results, and each that comes is of an id that a command carries.
-use Rattle.std.proofs.Common.{◌≡◌, ◌≢◌, ◌≤◌, ℕ, Bool, true, false, cond, ◌||◌, List, [], ◌∷◌, ◌++◌, refl, sym, ap, ◌∙◌, subst, arith}
+use Rattle.std.proofs.Common.{◌≡◌, ◌≢◌, ◌≤◌, ℕ, Bool, true, false, cond, ◌||◌, List, [], ◌∷◌, ◌++◌, refl, sym, ap, ◌∙◌, subst, arith, append_assoc, append-nil}
 use Rattle.std.specs.Prelude.{◌==◌, Option, Some, None, length, if◌then◌else◌}
 use Rattle.std.proofs.lemmas.Bool.Decides.{nat_tests}
 use Rattle.arrivals.specs.Ids.{same_id}
@@ -17,7 +17,7 @@ use Rattle.vm_model.specs.Carried.{AreCarried, ComeOnce, is_among, is_carried, r
 use Rattle.vm_model.specs.Journal.{messages_in, read_before}
 use Rattle.vm_model.proofs.Results.{results_behind, same_is}
 use Rattle.vm_attempt.specs.Journals.{commands_among}
-use Rattle.vm_store.specs.Completions.{CompleteOnce, HasNoOther, IsAbsent}
+use Rattle.vm_store.specs.Completions.{CompleteOnce, EachOfItsKind, HasNoOther, IsAbsent, IsOfItsKind, IsOfKind, NoteIsOfItsKind}
 use Rattle.vm_store.specs.declared.completions.Completes.{Completes}
 use Rattle.vm_store.specs.declared.completions.Completes.TheVariants as completes
 use Rattle.vm_store.specs.declared.types.RoundFault.{RoundFault}
@@ -56,7 +56,7 @@ pub once_more : (ns : List Notification) (n : Notification) → CompleteOnce ns 
 once_more [] n once h = (none_other n.id, tt)
 once_more (m ∷ ns) n once h = (no_other_more m.id ns n once.0 (differs n.id m ns h), once_more ns n once.1 (no_other_behind n.id m ns h))
 
-none_true : (a b : Bool) → (a || b) ≡ false → (a ≡ false) × (b ≡ false)
+pub none_true : (a b : Bool) → (a || b) ≡ false → (a ≡ false) × (b ≡ false)
 none_true true b e = absurd (cc)
 none_true false b e = (refl, e)
 
@@ -78,7 +78,7 @@ by_two true b one other before e = absurd (cc)
 by_two false b one other before e = by_one b other before e
 
 -- a command that doesn't carry the id leaves what completes it
-completes_not : (id : ℕ) (m : Message) (before : Option Completes) → is_among id (carried m) ≡ false → completes_by id m before ≡ before
+pub completes_not : (id : ℕ) (m : Message) (before : Option Completes) → is_among id (carried m) ≡ false → completes_by id m before ≡ before
 completes_not id (message.Sleep c) before e = by_one (c.result_completion_id == id) completes.AnyResult before e
 completes_not id (message.GetLazyState c) before e = by_one (c.result_completion_id == id) completes.AnyResult before e
 completes_not id (message.GetLazyStateKeys c) before e = by_one (c.result_completion_id == id) completes.AnyResult before e
@@ -92,7 +92,7 @@ completes_not id (message.OneWayCall c) before e = by_one (c.request.invocation_
 completes_not id (message.Run c) before e = by_one (c.result_completion_id == id) completes.Proposal before e
 completes_not id m before e = refl
 
-completes_none : (id : ℕ) (cs : List RawMessage) (before : Option Completes) → is_carried id cs ≡ false → completes_among id (messages_in cs) before ≡ before
+pub completes_none : (id : ℕ) (cs : List RawMessage) (before : Option Completes) → is_carried id cs ≡ false → completes_among id (messages_in cs) before ≡ before
 completes_none id [] before e = refl
 completes_none id (c ∷ cs) before e = by_read (message_in c.ty c.body) e (completes_none id cs before)
   where
@@ -131,13 +131,36 @@ pub not_nothing : (kind : Option Completes) (done : Bool) (brings : Notification
 not_nothing None done brings room e is = absurd (cc)
 not_nothing (Some kind) done brings room e is = absurd (cc)
 
--- The notification of an arrival without a fault: there is no other of its completion among those of the journal, and a command
--- carries its id.
+-- a completion without a fault is of the kind of its id
+pub kind_of : (kind : Option Completes) (done : Bool) (brings : NotificationResult) (room : Option RoundFault) → completion_fault kind done brings room ≡ None → IsOfKind kind brings
+kind_of None done brings room e = absurd (cc)
+kind_of (Some kind) true brings room e = absurd (cc)
+kind_of (Some completes.InvocationId) false brings room e = by_test (is_invocation_id brings) e
+  where
+    by_test : (b : Bool) → (if b then room else Some round_fault.WrongKind) ≡ None → b ≡ true
+    by_test true h = refl
+    by_test false h = absurd (cc)
+kind_of (Some completes.Proposal) false brings room e = tt
+kind_of (Some completes.AnyResult) false brings room e = tt
+
+-- one entry more is of the kind of its id
+pub each_more : (before xs : List (List ℕ)) (x : List ℕ) → EachOfItsKind before xs → NoteIsOfItsKind (note_in x) (before ++ xs) → EachOfItsKind before (xs ++ x ∷ [])
+each_more before [] x all one = (subst (NoteIsOfItsKind (note_in x)) (append-nil before) one, tt)
+each_more before (y ∷ ys) x all one = (all.0, each_more (before ++ y ∷ []) ys x all.1 (subst (NoteIsOfItsKind (note_in x)) (sym (append_assoc before (y ∷ []) ys)) one))
+
+-- The notification of an arrival without a fault: there is no other of its completion among those of the journal, a command carries its
+-- id, and it is of its kind.
 pub record IsNew (bytes : List ℕ) (journal : List (List ℕ)) : Type 0 where
   pub note : Notification
   pub reads : note_in bytes ≡ Some note
   pub no_other : HasNoOther note.id (notes_in journal)
   pub carried : (id : ℕ) → note.id ≡ CompletionId id → is_carried id (commands_among (frames_in journal)) ≡ true
+  pub kind : IsOfItsKind note.id note.result journal
+
+note_kind : (id : NotificationId) (brings : NotificationResult) (journal : List (List ℕ)) → note_fault id brings journal ≡ None → IsOfItsKind id brings journal
+note_kind (CompletionId id) brings journal e = kind_of (completes_among id (said_in journal) None) (is_completed id (notes_in journal)) brings (room_fault journal) e
+note_kind (SignalId id) brings journal e = tt
+note_kind (SignalName name) brings journal e = tt
 
 note_new : (id : NotificationId) (brings : NotificationResult) (journal : List (List ℕ)) → note_fault id brings journal ≡ None → HasNoOther id (notes_in journal)
 note_new (CompletionId id) brings journal e = absent id (notes_in journal) (not_done (completes_among id (said_in journal) None) (is_completed id (notes_in journal)) brings (room_fault journal) e)
@@ -156,7 +179,7 @@ is_new bytes journal e = by_note (note_in bytes) refl e
   where
     by_note : (o : Option Notification) → note_in bytes ≡ o → read_fault o journal ≡ None → IsNew bytes journal
     by_note None is e = absurd (cc)
-    by_note (Some n) is e = record { note = n; reads = is; no_other = note_new n.id n.result journal e; carried = note_carried n.id n.result journal e }
+    by_note (Some n) is e = record { note = n; reads = is; no_other = note_new n.id n.result journal e; carried = note_carried n.id n.result journal e; kind = note_kind n.id n.result journal e }
 
 -- ---- one result at most
 

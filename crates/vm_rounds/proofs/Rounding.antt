@@ -53,8 +53,8 @@ use Rattle.vm_rounds.proofs.Settled.{brings_nothing}
 -- ---- one round
 
 -- a round begins with the whole journal
-begun : (version : Version) (start : List ℕ) (old : List (List ℕ)) (r : Record) → IsJournal old → r.fed ≡ [] → r.taken ≡ [] → r.proposed ≡ [] → Going version start old (new_now version old (start ++ concat old) r)
-begun version start old r j fed taken nothing = record {
+pub begun : (version : Version) (start : List ℕ) (old : List (List ℕ)) (r : Record) → IsJournal old → r.fed ≡ [] → r.late ≡ [] → r.taken ≡ [] → r.proposed ≡ [] → Going version start old (new_now version old (start ++ concat old) r)
+begun version start old r j fed late taken nothing = record {
   made_for = refl;
   bytes = [];
   came = [];
@@ -63,6 +63,9 @@ begun version start old r j fed taken nothing = record {
   all = ap (λ l. start ++ l) (sym (append-nil (concat old)));
   fed_front = ([], ap (λ l. bytes_in l ++ []) (sym fed));
   fed_open = λ o. ap bytes_in fed;
+  all_front = ([], (λ i. bytes_in (sym fed i ++ sym late i) ++ []));
+  all_open = λ o. (λ i. bytes_in (fed i ++ late i));
+  none_late = λ o. late;
   output_is = ap concat taken;
   scanned = [];
   output_frames = refl;
@@ -71,6 +74,7 @@ begun version start old r j fed taken nothing = record {
   extends = sym (append-nil old);
   commands = refl;
   brings = brings_nothing version;
+  taken = tt;
   journal = j;
 }
 
@@ -80,11 +84,11 @@ pub record Grows (old new : List (List ℕ)) : Type 0 where
   pub extends : new ≡ old ++ added
   pub journal : IsJournal new
 
-pub short_all : (m : Meaning) (version : Version) (events : List Event) (start : List ℕ) (old : List (List ℕ)) (r : Record) → IsJournal old → r.fed ≡ [] → r.taken ≡ [] → r.proposed ≡ [] → IsShort m events (new_now version old (start ++ concat old) r)
-short_all m version events start old r j fed taken nothing end h = (events_keep m version start old events (new_now version old (start ++ concat old) r) end h (begun version start old r j fed taken nothing)).journal.short
+pub short_all : (m : Meaning) (version : Version) (events : List Event) (start : List ℕ) (old : List (List ℕ)) (r : Record) → IsJournal old → r.fed ≡ [] → r.late ≡ [] → r.taken ≡ [] → r.proposed ≡ [] → IsShort m events (new_now version old (start ++ concat old) r)
+short_all m version events start old r j fed late taken nothing end h = (events_keep m version start old events (new_now version old (start ++ concat old) r) end h (begun version start old r j fed late taken nothing)).journal.short
 
 pub attempt_goes : (m : Meaning) (w : Setting) (round : Round) (old : List (List ℕ)) (report : ReportView) (new : List (List ℕ)) → IsJournal old → (d : AttemptDoes m w round old report new) → Going w.version (encoding (start_message w round old)) old d.ran.now
-attempt_goes m w round old report new j d = events_keep m w.version (encoding (start_message w round old)) old round.events (begin d.alloc w round old) d.ran.now d.ran.happen (begun w.version (encoding (start_message w round old)) old (fresh_record (made d.alloc w.options w.version)) j refl refl refl)
+attempt_goes m w round old report new j d = events_keep m w.version (encoding (start_message w round old)) old round.events (begin d.alloc w round old) d.ran.now d.ran.happen (begun w.version (encoding (start_message w round old)) old (fresh_record (made d.alloc w.options w.version)) j refl refl refl refl)
 
 pub round_grows : (m : Meaning) (w : Setting) (round : Round) (old : List (List ℕ)) (report : ReportView) (new : List (List ℕ)) → IsJournal old → RoundDoes m w round old report new → Grows old new
 round_grows m w round old report new j (inl d) =
@@ -114,7 +118,7 @@ attempt_along m w round old report new j d =
     let bytes = encoding (start_message w round old) in
     let framed = start_framed (start_for w round old) d.start in
     let first : Along m w.version bytes (stored_form (start_message w round old)) old j framed [] (begin d.alloc w round old) = record {
-      going = begun w.version bytes old (fresh_record (made d.alloc w.options w.version)) j refl refl refl;
+      going = begun w.version bytes old (fresh_record (made d.alloc w.options w.version)) j refl refl refl refl;
       written = sym (ap commands_among none);
       came = sym (drop_nil (length (notes_in old)) _ (ap (λ l. arriving (acknowledged_from w.version []) (behind l)) none));
       order = λ n h. absurd (omega (arith, h));
@@ -135,7 +139,7 @@ attempt_honest m w round old report new r j past d =
     let found = start_reads st d.start in
     let first = begin d.alloc w round old in
     let course = course_of m old round.events first d.ran.now d.ran.happen in
-    let kept = events_run m w bytes raw st old j framed found refl (setup_of w) refl (base_of w) past r round.events first d.ran.now d.ran.happen (begun w.version bytes old (fresh_record (made d.alloc w.options w.version)) j refl refl refl) (inl (made_new d.alloc (fixed_in m w)), made_comes d.alloc (fixed_in m w)) in
+    let kept = events_run m w bytes raw st old j framed found refl (setup_of w) refl (base_of w) past r round.events first d.ran.now d.ran.happen (begun w.version bytes old (fresh_record (made d.alloc w.options w.version)) j refl refl refl refl) (inl (made_new d.alloc (fixed_in m w)), made_comes d.alloc (fixed_in m w)) in
     let honest = is_honest m w bytes raw st old j framed found refl (setup_of w) refl (base_of w) past r d.ran.now course (attempt_along m w round old report new j d) kept.0 d.ran.ends in
     subst (λ (x : List Answer × List (List ℕ)). IsHonest (setup_of w) m (entries_of old) (record { given = given_by st; course = course; answers = x.0 }) (entries_of x.1)) (λ i. (sym (ap (λ (v : ReportView). v.answers) d.ran.told) i, sym d.ran.left i)) honest
 

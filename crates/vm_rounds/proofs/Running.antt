@@ -76,11 +76,11 @@ module _ (m : Meaning) (w : Setting) (begin_bytes : List ℕ) (raw : RawMessage)
   given = given_by st
 
   -- all that came to the attempt
-  abbrev came : Now → List Notification
+  abbrev pub came : Now → List Notification
   came now = notifications_in E ++ delivered w.version old now.attempt
 
   -- the first point of its run
-  abbrev from : Now → Point
+  abbrev pub from : Now → Point
   from now = first_point s past.input (came now) past.rest
 
   -- ---- what was fed is the world's journal
@@ -129,7 +129,7 @@ module _ (m : Meaning) (w : Setting) (begin_bytes : List ℕ) (raw : RawMessage)
 
   -- ---- each completion came once, for an id that a command carries
 
-  notes_split : (now : Now) (g : Going w.version begin_bytes old now) → (later : List Notification) × (notes_in now.journal ≡ came now ++ later)
+  pub notes_split : (now : Now) (g : Going w.version begin_bytes old now) → (later : List Notification) × (notes_in now.journal ≡ came now ++ later)
   notes_split now g =
       let d = delivered_arrived m w.version begin_bytes raw old j framed now g in
       let D = delivered w.version old now.attempt in (
@@ -154,7 +154,7 @@ module _ (m : Meaning) (w : Setting) (begin_bytes : List ℕ) (raw : RawMessage)
       (carried_front (came now) x.0 (past.first ∷ (past.rest ++ commands_among g.scanned)) (subst (λ (z : List Notification × List RawMessage). AreCarried z.0 z.1) (λ i. (x.1 i, all i)) g.journal.carried))
 
   -- what was stored was written
-  stored_written : (now : Now) (g : Going w.version begin_bytes old now) (written : List RawMessage) → Wrote now.attempt.taken now.attempt.vm.machine.output written → IsPrefix (commands_among g.scanned) written
+  pub stored_written : (now : Now) (g : Going w.version begin_bytes old now) (written : List RawMessage) → Wrote now.attempt.taken now.attempt.vm.machine.output written → IsPrefix (commands_among g.scanned) written
   stored_written now g written wrote =
       let t = taken_first now.attempt.taken now.attempt.vm.machine.output written wrote in
       let frames = (frames_of now.unstored).0 in
@@ -189,7 +189,7 @@ module _ (m : Meaning) (w : Setting) (begin_bytes : List ℕ) (raw : RawMessage)
   -- ---- events
 
   -- the handler's run goes on, and what came is so
-  abbrev Goes : Now → Type 0
+  abbrev pub Goes : Now → Type 0
   Goes now = Kept now × HasCome (fixed_in m w) now.attempt
 
   pieces_run : (closed : Bool) (n : ℕ) (now mid : Now) → Pieces closed n now mid → Goes now → Goes mid
@@ -199,7 +199,7 @@ module _ (m : Meaning) (w : Setting) (begin_bytes : List ℕ) (raw : RawMessage)
     feed_comes (fixed_in m w) (take n now.waiting) now.attempt result a came d,
   )
 
-  event_runs : (e : Event) (now mid : Now) → Happens m e now mid → Going w.version begin_bytes old now → Goes now → Goes mid
+  pub event_runs : (e : Event) (now mid : Now) → Happens m e now mid → Going w.version begin_bytes old now → Goes now → Goes mid
   event_runs (event.Piece n) now mid d g goes = pieces_run now.closed n now mid d goes
   event_runs event.Close now mid (result, a, d, is) g (kept, came) = subst Goes (sym is) (
     close_keeps (Runs (fixed_in m w)) (runs_last (fixed_in m w)) (fixed_in m w) now.attempt result a kept d,

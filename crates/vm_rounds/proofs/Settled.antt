@@ -1,6 +1,6 @@
 -- What was stored of what an attempt wrote: entries of commands and of completions, and the frames that answer proposals.
-use Rattle.std.proofs.Common.{◌≡◌, ◌≢◌, ◌<◌, ◌^◌, ◌||◌, ℕ, Bool, true, false, cond, List, [], ◌∷◌, ◌++◌, length, map, Option, Some, None, refl, sym, ap, ◌∙◌, subst, arith, append_assoc, append-nil, length-append}
-use Rattle.std.specs.Prelude.{◌==◌, ◌&&◌, if◌then◌else◌, is_some, nat_le, nat_lt}
+use Rattle.std.proofs.Common.{◌≡◌, ◌≢◌, ◌<◌, ◌^◌, ◌||◌, ℕ, Bool, true, false, cond, List, [], ◌∷◌, ◌++◌, length, map, Option, Some, None, inl, inr, refl, sym, ap, ◌∙◌, subst, arith, append_assoc, append-nil, length-append}
+use Rattle.std.specs.Prelude.{◌==◌, ◌&&◌, ◌⊎◌, if◌then◌else◌, is_some, nat_le, nat_lt, IsSome}
 use Rattle.std.specs.List.{AllByRecursion, find, flat_map}
 use Rattle.std.specs.Option.{option_map}
 use Rattle.std.proofs.lemmas.Bool.Decides.{nat_tests}
@@ -24,23 +24,25 @@ use Rattle.vm_model.specs.Journal.{stored_form}
 use Rattle.vm_model.proofs.Once.{still_carried}
 use Rattle.vm_attempt.specs.Arrivals.{AllFound, FindsProposal, IsFound, arriving, kept_after, stands_for, unacknowledged}
 use Rattle.vm_steps.specs.Heard.{acknowledged_from, is_proposal, proposal_in, proposals_among, proposed_by}
-use Rattle.vm_attempt.specs.Journals.{commands_among, is_command, is_notification, notifications_among, notified_by}
+use Rattle.vm_attempt.specs.Journals.{commands_among, is_acknowledgement, is_command, is_notification, notifications_among, notified_by}
 use Rattle.vm_attempt.proofs.Advanced.{nothing_acknowledged}
 use Rattle.vm_attempt.proofs.Arriving.{arriving_alone, kept_none}
 use Rattle.vm_attempt.proofs.Finishing.{acknowledged_more}
 use Rattle.vm_attempt.proofs.Pieces.{commands_append}
 use Rattle.vm_attempt.proofs.Proposed.{arriving_append, arriving_more, found_append, found_more, kept_append, kept_more}
+use Rattle.journal_values.specs.declared.notification.NotificationResult.{NotificationResult}
 use Rattle.vm_store.specs.declared.completions.Completes.{Completes}
+use Rattle.vm_store.specs.declared.completions.Completes.TheVariants as completes
 use Rattle.vm_store.specs.declared.storing.Written.{Written}
 use Rattle.vm_store.specs.declared.storing.Written.TheVariants.{Command, Proposal}
 use Rattle.vm_store.specs.declared.types.RoundFault.{RoundFault}
 use Rattle.vm_store.specs.Arrivals.{completes_among, is_completed, most, proposal_fault, proposed_fault, room_fault}
-use Rattle.vm_store.specs.Completions.{CompleteOnce}
+use Rattle.vm_store.specs.Completions.{CompleteOnce, IsOfKind, NoteIsOfItsKind}
 use Rattle.vm_store.specs.Entries.{AreEntries, frame_in, frame_of, framed_by, frames_in, may_stand, note_in, note_of, notes_in, read_from, said_in}
 use Rattle.vm_store.specs.Storing.{CanBeRead, NoneFaults, acknowledgement, answered_by, completed_by, kept_of, proposal_of, stored_as, storing_fault, waits_behind, written_among, written_before}
 use Rattle.vm_store.specs.Worlds.{IsJournal}
 use Rattle.vm_store.proofs.Framing.{AreFrames, command_no_note, entries_join, frame_back, frames_append, join, none_framed, note_acknowledges_nothing, notes_append, notes_are, one_framed}
-use Rattle.vm_rounds.proofs.Once.{IsNew, absent, carried_more, completed_carried, not_most, once_more}
+use Rattle.vm_rounds.proofs.Once.{IsNew, absent, carried_more, completed_carried, each_more, not_most, once_more}
 
 -- ---- the commands and proposals that were stored
 
@@ -134,6 +136,10 @@ command_entered raw is fits = record {
   notes = notes_are (frame_of raw ∷ []) ∙ ap (λ o. notifications_among (framed_by o [])) (frame_back raw fits) ∙ ap (λ b. cond b (notified_by (notification_in raw.body) []) []) (command_no_note raw is);
 }
 
+-- no notification is read from the entry of a command
+command_unread : (raw : RawMessage) → is_command raw ≡ true → length raw.body < 2 ^ 64 → note_in (frame_of raw) ≡ None
+command_unread raw is fits = ap (read_from note_of) (frame_back raw fits) ∙ ap (λ b. cond b (notification_in raw.body) None) (command_no_note raw is)
+
 -- the completion of a proposal can be read from its entry
 pub completion_read : (p : KeptProposal) → IsWhole (completed_by p) → note_in (encoding (completed_by p)) ≡ Some (completion p)
 completion_read p whole = ap (λ o. read_from note_of o) (frame_back (stored_form (completed_by p)) whole.1) ∙ notification_back (completion p) whole
@@ -166,7 +172,16 @@ kind_by (Some kind) done room e is = absurd (cc)
 room_of : (kind : Option Completes) (done : Bool) (room : Option RoundFault) → proposed_fault kind done room ≡ None → room ≡ None
 room_of None done room e = absurd (cc)
 room_of (Some kind) true room e = absurd (cc)
-room_of (Some kind) false room e = e
+room_of (Some completes.InvocationId) false room e = absurd (cc)
+room_of (Some completes.Proposal) false room e = e
+room_of (Some completes.AnyResult) false room e = e
+
+kind_by_proposal : (kind : Option Completes) (done : Bool) (room : Option RoundFault) (result : NotificationResult) → proposed_fault kind done room ≡ None → IsOfKind kind result
+kind_by_proposal None done room result e = absurd (cc)
+kind_by_proposal (Some kind) true room result e = absurd (cc)
+kind_by_proposal (Some completes.InvocationId) false room result e = absurd (cc)
+kind_by_proposal (Some completes.Proposal) false room result e = tt
+kind_by_proposal (Some completes.AnyResult) false room result e = tt
 
 -- a notification that is new, and for which there is room, makes of a journal one again
 pub note_keeps : (journal : List (List ℕ)) (x : List ℕ) → IsNew x journal → length journal ≢ most → AreEntries (x ∷ []) → commands_among (frames_in (x ∷ [])) ≡ [] → IsJournal journal → IsJournal (journal ++ x ∷ [])
@@ -178,6 +193,7 @@ note_keeps journal x new room stands none j =
       short = omega (arith, j.short, room, length-append journal (x ∷ []));
       once = rw (notes_append journal (x ∷ []), new.reads) (once_more (notes_in journal) new.note j.once new.no_other);
       carried = rw (notes_append journal (x ∷ []), new.reads, same) (carried_more (notes_in journal) new.note (commands_among (frames_in journal)) j.carried new.carried);
+      kinds = each_more [] journal x j.kinds (subst (λ o. NoteIsOfItsKind o journal) (sym new.reads) new.kind);
     }
 
 completion_new : (p : KeptProposal) (journal : List (List ℕ)) → IsWhole (completed_by p) → proposal_fault p.completion_id journal ≡ None → IsNew (encoding (completed_by p)) journal
@@ -190,6 +206,7 @@ completion_new p journal whole e =
       reads = completion_read p whole;
       no_other = absent id (notes_in journal) (done_by kind done (room_fault journal) e);
       carried = λ i is. let same : id ≡ i = cc in subst (λ k. is_carried k (commands_among (frames_in journal)) ≡ true) same (completed_carried id journal (kind_by kind done (room_fault journal) e));
+      kind = kind_by_proposal kind done (room_fault journal) (completion p).result e;
     }
 
 command_keeps : (raw : RawMessage) (journal : List (List ℕ)) → is_command raw ≡ true → length raw.body < 2 ^ 64 → room_fault journal ≡ None → IsJournal journal → IsJournal (journal ++ frame_of raw ∷ [])
@@ -203,6 +220,7 @@ command_keeps raw journal is fits room j =
       short = omega (arith, j.short, not_most (length journal) room, length-append journal (frame_of raw ∷ []));
       once = subst CompleteOnce (sym same_notes) j.once;
       carried = subst (λ (x : List Notification × List RawMessage). AreCarried x.0 x.1) (λ i. (sym same_notes i, sym more i)) (still_carried (notes_in journal) (commands_among (frames_in journal)) (raw ∷ []) j.carried);
+      kinds = each_more [] journal (frame_of raw) j.kinds (subst (λ o. NoteIsOfItsKind o journal) (sym (command_unread raw is fits)) tt);
     }
 
 item_keeps : (version : Version) (w : Written) (journal : List (List ℕ)) → IsItem version w → storing_fault w journal ≡ None → IsJournal journal → IsJournal (journal ++ stored_as w ∷ [])
@@ -268,6 +286,25 @@ answers_framed version (p ∷ ps) all = join (answered_by version p) (flat_map (
 
 pub waits_framed : (version : Version) (ws : List Written) → AllByRecursion (CanBeRead version) ws → AreFrames (flat_map (waits_behind version) ws) (answers version (flat_map proposal_in_item ws))
 waits_framed version ws all = subst (λ b. AreFrames b (answers version (flat_map proposal_in_item ws))) (sym (waits_answer version ws)) (answers_framed version (flat_map proposal_in_item ws) (proposals_answered version ws all))
+
+-- a frame that comes behind a journal: a notification or an acknowledgement, which can be read
+abbrev pub IsTaken : RawMessage → Type 0
+IsTaken raw = ((is_notification raw ≡ true) × IsSome (notification_in raw.body)) ⊎ ((is_acknowledgement raw ≡ true) × IsSome (acknowledgement_in raw.body))
+
+answer_taken : (version : Version) (p : KeptProposal) → IsAnswered version p → IsTaken (answer_frame version p)
+answer_taken version p h = by_test (is_from_v7 version) h.1
+  where
+    by_test : (b : Bool) → (b ≡ true → IsWhole (acknowledgement p.completion_id)) → IsTaken (if b then stored_form (acknowledgement p.completion_id) else stored_form (completed_by p))
+    by_test true whole = inr (refl, ap is_some (acknowledgement_back (record { id = p.completion_id }) (whole refl)))
+    by_test false whole = inl (refl, ap is_some (notification_back (completion p) h.0))
+
+pub answers_taken : (version : Version) (ps : List KeptProposal) → AllByRecursion (IsAnswered version) ps → AllByRecursion IsTaken (answers version ps)
+answers_taken version [] all = tt
+answers_taken version (p ∷ ps) all = (answer_taken version p all.0, answers_taken version ps all.1)
+
+pub taken_append : (xs ys : List RawMessage) → AllByRecursion IsTaken xs → AllByRecursion IsTaken ys → AllByRecursion IsTaken (xs ++ ys)
+taken_append [] ys a b = b
+taken_append (x ∷ xs) ys a b = (a.0, taken_append xs ys a.1 b)
 
 -- ---- arrivals
 

@@ -1,18 +1,22 @@
 -- What rounds guarantee of a handler and its world. Read this file first.
 use Rattle.std.specs.Prelude.{ℕ, List, map, length}
+use Rattle.vm_attempt.specs.Journals.{commands_among}
 use Rattle.vm_model.specs.Calls.{Meaning}
+use Rattle.vm_model.specs.Carried.{AreOfTheirKind}
 use Rattle.vm_model.specs.Histories.{Honest, Whole}
 use Rattle.vm_model.specs.HonestRounds.{IsOneRun}
-use Rattle.vm_store.specs.Entries.{entries_of}
+use Rattle.vm_store.specs.Entries.{entries_of, frames_in, notes_in}
 use Rattle.vm_store.specs.States.{base_of}
 use Rattle.vm_store.specs.Worlds.{WorldView, setup_of}
 use Rattle.vm_store.specs.declared.types.Report.{Report}
 use Rattle.vm_store.specs.declared.types.Round.{Round}
+use Rattle.vm_store.specs.declared.types.RoundFault.{RoundFault}
 use Rattle.vm_store.specs.declared.types.Setting.{Setting}
 use Rattle.vm_rounds.specs.Courses.{AreHonest}
 use Rattle.vm_rounds.specs.Fresh.{AreFresh}
 use Rattle.vm_rounds.specs.Inside.{report_view}
-use Rattle.vm_rounds.specs.Rounds.{Agree, CompletesOnce, ReportView, RoundsDo}
+use Rattle.vm_rounds.specs.Owning.{AreOwn}
+use Rattle.vm_rounds.specs.Rounds.{Agree, ComesFromOutside, CompletesOnce, ReportView, RoundsDo}
 use Rattle.vm_rounds.specs.Sound.{IsSoundFor}
 
 -- What is fixed over all rounds: what the handler calls next after the answers that it saw, and with what its attempts are made.
@@ -47,6 +51,10 @@ CanBeReplayed handler world = IsReplayable (case_of handler world) world.journal
 abbrev pub HasOneResultEach : Case → List (List ℕ) → Type 0
 HasOneResultEach c journal = CompletesOnce (setup_of c.setting) c.handler (entries_of journal)
 
+-- Each result of an id that a call or a one-way call carries for its invocation's is an invocation's id.
+abbrev pub HasRightKinds : List (List ℕ) → Type 0
+HasRightKinds journal = AreOfTheirKind (notes_in journal) (commands_among (frames_in journal))
+
 -- ---- of rounds
 
 -- what some reports tell
@@ -63,6 +71,18 @@ abbrev pub RoundsAreHonest : Case → List Round → List (List ℕ) → List Re
 RoundsAreHonest c rounds old reports new =
     (d : RoundsDo c.handler c.setting rounds old reports new)
     → AreHonest (Honest (base_of c.setting)) c.handler c.setting rounds old reports new d
+
+-- Each report's error, if it has one, is its attempt's own: want of memory, input that was closed too early, a call's own refusal behind the
+-- recorded commands, or that of a run's result; or, if no attempt was made, why. No mismatch is among them.
+abbrev pub ErrorsAreTheirOwn : Case → List Round → List (List ℕ) → List ReportView → List (List ℕ) → Type 0
+ErrorsAreTheirOwn c rounds old reports new =
+    (d : RoundsDo c.handler c.setting rounds old reports new)
+    → AreOwn c.handler c.setting rounds old reports new d
+
+-- A fault is want of memory, a full journal, or that of an arrival, on a journal that begins with the old one: what an attempt wrote can always
+-- be stored.
+abbrev pub FaultsComeFromOutside : List Round → List (List ℕ) → RoundFault → Type 0
+FaultsComeFromOutside rounds old f = ComesFromOutside rounds old f
 
 -- ---- what lasts
 

@@ -4,4 +4,5 @@ pub mod Inside
 pub mod ContentTypes
 pub mod Fresh
 pub mod Sound
+pub mod Owning
 pub mod Guarantees

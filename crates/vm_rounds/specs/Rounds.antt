@@ -1,5 +1,5 @@
 -- What rounds do, event by event.
-use Rattle.std.specs.Prelude.{◌≡◌, ◌⊎◌, ℕ, ◌+◌, ◌≤◌, Bool, true, false, List, [], ◌∷◌, ◌++◌, length, take, drop, Option, Some, None, Result, Ok, Err}
+use Rattle.std.specs.Prelude.{◌≡◌, ◌⊎◌, ℕ, ◌≤◌, Bool, true, false, List, [], ◌∷◌, ◌++◌, length, take, drop, Option, Some, None, Result, Ok, Err}
 use Rattle.std.proofs.Common.{Global}
 use Rattle.std.specs.List.{AllByRecursion, concat}
 use Rattle.std.specs.declared.alloc.AllocError.{AllocError}
@@ -15,7 +15,7 @@ use Rattle.vm_parts.specs.Outboxes.{WholeFrames}
 use Rattle.vm_types.specs.declared.steps.Answer.{Answer}
 use Rattle.invocation_vm.specs.Making.{made, supported}
 use Rattle.vm_model.specs.Calls.{Meaning, Setup}
-use Rattle.vm_model.specs.Histories.{OneBegins, Told}
+use Rattle.vm_model.specs.Histories.{IsPrefix, OneBegins, Told}
 use Rattle.vm_model.specs.Journal.{Entry, commands_in, input_read_from, notifications_in}
 use Rattle.vm_model.specs.Moves.{Point}
 use Rattle.vm_model.specs.Deliveries.{HasNoTwo}
@@ -34,6 +34,7 @@ use Rattle.vm_store.specs.declared.types.RoundFault.TheVariants as round_fault
 use Rattle.vm_store.specs.declared.types.Setting.{Setting}
 use Rattle.vm_store.specs.Arrivals.{arrival_fault, most}
 use Rattle.vm_store.specs.Entries.{entries_of}
+use Rattle.vm_store.specs.States.{HaveTextKeys, pairs_for}
 use Rattle.vm_store.specs.Storing.{FirstFault, Stores, written_from}
 use Rattle.vm_store.specs.Worlds.{fixed_in, start_message}
 use Rattle.vm_attempt.specs.Fixed.{Fixed}
@@ -97,14 +98,16 @@ Happens m (event.Store n) old new =
     × WholeFrames old.attempt.vm.machine.output
     × (old.attempt.proposed ≡ proposals_in (bytes_written old.attempt))
 
--- an event's fault, but for want of memory
+-- an event's fault, but for want of memory; of what is stored, where whole frames wait, that of the first item that has one
 abbrev pub Fault : Event → Now → RoundFault → Type 0
 Fault (event.Piece n) now f = ⊥
 Fault event.Close now f = ⊥
 Fault event.Step now f = ⊥
 Fault (event.RunResult handle exit policy) now f = ⊥
 Fault (event.Arrive x) now f = arrival_fault x now.journal ≡ Some f
-Fault (event.Store n) now f = FirstFault (take n (written_from (now.unstored ++ concat now.attempt.vm.machine.output))) now.journal f
+Fault (event.Store n) now f =
+    FirstFault now.version (take n (written_from (now.unstored ++ concat now.attempt.vm.machine.output))) now.journal f
+    × WholeFrames now.attempt.vm.machine.output
 
 -- an event's fault
 abbrev pub Faults : Event → Now → RoundFault → Type 0
@@ -193,11 +196,13 @@ pub record Ran (fixed : Fixed) (events : List Event) (begun : Now) (report : Rep
 abbrev pub IsSupported : Version → Type 0
 IsSupported version = supported version ≡ Ok version
 
--- A round with its attempt, in a version that the VM supports, leaves this journal and tells this report.
+-- A round with its attempt, in a version that the VM supports, leaves this journal and tells this report. The keys of the state that its
+-- Start hands out are texts.
 pub record AttemptDoes (m : Meaning) (w : Setting) (round : Round) (old : List (List ℕ)) (report : ReportView) (new : List (List ℕ)) : Type 0 where
   pub alloc : Global
   pub speaks : IsSupported w.version
   pub start : IsWhole (start_message w round old)
+  pub texts : HaveTextKeys (pairs_for w round old)
   pub ran : Ran (fixed_in m w) round.events (begin alloc w round old) report new
 
 -- A round whose attempt was refused leaves this journal and tells this report.
@@ -222,6 +227,7 @@ RoundsDo m w (r ∷ rs) old reports new =
 pub record AttemptFaults (m : Meaning) (w : Setting) (round : Round) (old : List (List ℕ)) (f : RoundFault) : Type 0 where
   pub alloc : Global
   pub speaks : IsSupported w.version
+  pub start : IsWhole (start_message w round old)
   pub faults : HappenFaults m round.events (begin alloc w round old) f
 
 -- the first arrival of a round whose attempt was refused that has a fault has this one
@@ -240,6 +246,32 @@ RoundsFault m w [] old f = f ≡ round_fault.Memory
 RoundsFault m w (r ∷ rs) old f =
     RoundFaults m w r old f
     ⊎ ((mid : List (List ℕ)) × (report : ReportView) × RoundDoes m w r old report mid × RoundsFault m w rs mid f)
+
+-- ---- faults that come from outside
+
+-- the entry arrives among these events
+abbrev pub ArrivesAmong : List ℕ → List Event → Type 0
+ArrivesAmong entry [] = ⊥
+ArrivesAmong entry (event.Arrive x ∷ es) = (x ≡ entry) ⊎ ArrivesAmong entry es
+ArrivesAmong entry (e ∷ es) = ArrivesAmong entry es
+
+-- the entry arrives in one of these rounds
+abbrev pub ArrivesIn : List ℕ → List Round → Type 0
+ArrivesIn entry [] = ⊥
+ArrivesIn entry (r ∷ rs) = ArrivesAmong entry r.events ⊎ ArrivesIn entry rs
+
+-- An arrival of these rounds has this fault, on a journal that begins with the one before them.
+pub record ArrivalHas (rounds : List Round) (old : List (List ℕ)) (f : RoundFault) : Type 0 where
+  pub entry : List ℕ
+  pub arrives : ArrivesIn entry rounds
+  pub journal : List (List ℕ)
+  pub extends : IsPrefix old journal
+  pub fault : arrival_fault entry journal ≡ Some f
+
+-- want of memory, a full journal, or the fault of an arrival
+abbrev pub ComesFromOutside : List Round → List (List ℕ) → RoundFault → Type 0
+ComesFromOutside rounds old f =
+    (f ≡ round_fault.Memory) ⊎ ((f ≡ round_fault.JournalFull) ⊎ ArrivalHas rounds old f)
 
 -- ---- what is asked for histories
 

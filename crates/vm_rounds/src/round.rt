@@ -9,6 +9,7 @@ ghost use Rattle.vm_store.specs.Arrivals.{most};
 ghost use Rattle.vm_rounds.specs.Inside.{the_now, report_view};
 ghost use Rattle.vm_attempt.specs.Fixed.{fixed_of};
 ghost use Rattle.vm_rounds.specs.Rounds.{new_now, report_of, ArrivalsDo, ArrivalsFault, EndsTold, Happen, HappenFaults, IsRefusal, IsShort, IsSupported, Ran, RefusedDoes, RefusedFaults, RoundDoes, RoundFaults};
+ghost use Rattle.vm_store.specs.States.{HaveTextKeys, pairs_for};
 ghost use Rattle.vm_store.specs.Worlds.{IsJournal, start_message};
 ghost use Rattle.vm_store.specs.declared.types.RoundFault.TheVariants as round_fault;
 
@@ -44,6 +45,7 @@ fn waiting_bytes(
     requires { length journal.now ≤ most }
     ensures bytes { IfOk result (λ b. b.items ≡ encoding (start_message setting.now round.now journal.now) ++ concat journal.now) }
     ensures whole { OnOk result (IsWhole (start_message setting.now round.now journal.now)) }
+    ensures texts { OnOk result (HaveTextKeys (pairs_for setting.now round.now journal.now)) }
 {
     let start = start_bytes(alloc, setting, round, journal)?;
     let mut waiting = BytesMut::new(alloc);

@@ -2,7 +2,7 @@
 ghost use Rattle.std.specs.Prelude.{◌≡◌, ◌∷◌, [], ◌++◌, map, IfOk, IfErr, if◌then◌else◌};
 ghost use Rattle.vm_model.specs.Histories.{IsPrefix};
 ghost use Rattle.vm_rounds.specs.Fresh.{Skips};
-ghost use Rattle.vm_rounds.specs.Guarantees.{AttemptsAgree, CanBeReplayed, HasOneResultEach, IdsAreNew, IsExactlyOnce, IsReplayable, IsUninterrupted, Lasts, RoundsAreHonest, case_of, told};
+ghost use Rattle.vm_rounds.specs.Guarantees.{AttemptsAgree, CanBeReplayed, ErrorsAreTheirOwn, FaultsComeFromOutside, HasOneResultEach, HasRightKinds, IdsAreNew, IsExactlyOnce, IsReplayable, IsUninterrupted, Lasts, RoundsAreHonest, case_of, told};
 ghost use Rattle.vm_rounds.specs.Inside.{report_view};
 ghost use Rattle.vm_rounds.specs.Rounds.{AreWhole, Replays, RoundsDo, RoundsFault};
 
@@ -34,6 +34,10 @@ pub fn run_rounds<H: Handler>(
     // memory.
     ensures err { IfErr result (λ f.
         RoundsFault (H.meaning handler.now) world.setting rounds.now world.journal f) }
+    // If the journal can be replayed, it is want of memory, a full journal, or the fault of an
+    // arrival: what an attempt wrote can always be stored.
+    ensures outside { IfErr result (λ f. CanBeReplayed (H.meaning handler.now) world
+        → FaultsComeFromOutside rounds.now world.journal f) }
     // The journal begins with the old one.
     ensures extends { IfOk result (λ r. IsPrefix world.journal r.0.journal) }
     // If the journal can be replayed, whoever made it, then so can the new one.
@@ -43,9 +47,16 @@ pub fn run_rounds<H: Handler>(
     ensures honest { IfOk result (λ r. CanBeReplayed (H.meaning handler.now) world
         → RoundsAreHonest (case_of (H.meaning handler.now) world) rounds.now
         world.journal (told r.1.items) r.0.journal) }
+    // each report's error is its own, and no mismatch is among them,
+    ensures errors { IfOk result (λ r. CanBeReplayed (H.meaning handler.now) world
+        → ErrorsAreTheirOwn (case_of (H.meaning handler.now) world) rounds.now
+        world.journal (told r.1.items) r.0.journal) }
     // no completion id has two results,
     ensures once { IfOk result (λ r. CanBeReplayed (H.meaning handler.now) world
         → HasOneResultEach (case_of (H.meaning handler.now) world) r.0.journal) }
+    // each result of an invocation's id is one,
+    ensures kinds { IfOk result (λ r. CanBeReplayed (H.meaning handler.now) world
+        → HasRightKinds r.0.journal) }
     // and the attempts agree.
     ensures agree { IfOk result (λ r. CanBeReplayed (H.meaning handler.now) world
         → AttemptsAgree (case_of (H.meaning handler.now) world) r.0.journal (told r.1.items)) }

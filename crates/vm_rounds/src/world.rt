@@ -83,6 +83,7 @@ fn base_pairs(
 impl World {
     ghost use Rattle.std.specs.Prelude.{◌≡◌, ◌≢◌, ◌⊎◌, [], ◌∷◌, IfOk, IfErr, OnOk};
     ghost use Rattle.vm_store.specs.Given.{AreGiven, GivenFaults};
+    ghost use Rattle.vm_rounds.specs.Guarantees.{CanBeReplayed, HasRightKinds};
     ghost use Rattle.vm_model.specs.Calls.{Meaning};
     ghost use Rattle.vm_model.specs.Histories.{Honest, Whole};
     ghost use Rattle.vm_model.specs.HonestRounds.{IsOneRun};
@@ -107,6 +108,8 @@ impl World {
         // For every handler one run made the journal, whatever its calls know of the state.
         ensures one_run { IfOk result (λ w. (m : Meaning) → IsOneRun (setup_of w.setting) m (Honest (base_of w.setting)) (entries_of w.journal)) }
         ensures undisturbed { IfOk result (λ w. (m : Meaning) → IsOneRun (setup_of w.setting) m (Whole (base_of w.setting)) (entries_of w.journal)) }
+        // Each result of an invocation's id that it holds is one: it holds none.
+        ensures kinds { IfOk result (λ w. HasRightKinds w.journal) }
     {
         let Ok(journal) = first_journal(alloc, input) else {
             return Err(RoundFault::Memory);
@@ -140,6 +143,9 @@ impl World {
         ensures setting { IfOk result (λ w. w.setting ≡ record { identity = identity; options = options; version = version; base = pairs_given state.items }) }
         ensures journal { IfOk result (λ w. w.journal ≡ entries.items) }
         ensures given { OnOk result ((entries.items ≢ []) × AreGiven [] entries.items) }
+        // If a handler can replay it, each result of an invocation's id that it holds is one.
+        ensures kinds { IfOk result (λ w. (m : Meaning)
+            → CanBeReplayed m w → HasRightKinds w.journal) }
         ensures err { IfErr result (λ f. (f ≡ round_fault.Memory) ⊎ GivenFaults entries.items f) }
     {
         match judge(alloc, entries.as_slice()) {

@@ -45,9 +45,9 @@ faultless_more [] w j h e = (ap (storing_fault w) (sym (append-nil j)) ∙ e, tt
 faultless_more (x ∷ xs) w j h e = (h.0, faultless_more xs w (j ++ stored_as x ∷ []) h.1 (ap (storing_fault w) (behind_one j x xs) ∙ e))
 
 -- the first fault is that of an item behind others that have none
-first_fault : (ws : List Written) (w : Written) (more : List Written) (j : List (List ℕ)) (f : RoundFault) → NoneFaults ws j → storing_fault w (j ++ map stored_as ws) ≡ Some f → FirstFault (ws ++ w ∷ more) j f
-first_fault [] w more j f h e = inl (ap (storing_fault w) (sym (append-nil j)) ∙ e)
-first_fault (x ∷ xs) w more j f h e = inr (h.0, first_fault xs w more (j ++ stored_as x ∷ []) f h.1 (ap (storing_fault w) (behind_one j x xs) ∙ e))
+first_fault : (version : Version) (ws : List Written) (w : Written) (more : List Written) (j : List (List ℕ)) (f : RoundFault) → NoneFaults ws j → AllByRecursion (CanBeRead version) ws → storing_fault w (j ++ map stored_as ws) ≡ Some f → FirstFault version (ws ++ w ∷ more) j f
+first_fault version [] w more j f h k e = inl (ap (storing_fault w) (sym (append-nil j)) ∙ e)
+first_fault version (x ∷ xs) w more j f h k e = inr (h.0, k.0, first_fault version xs w more (j ++ stored_as x ∷ []) f h.1 k.1 (ap (storing_fault w) (behind_one j x xs) ∙ e))
 
 -- ---- what was stored so far
 
@@ -160,14 +160,14 @@ module _ (version : Version) (n : ℕ) (u : List ℕ) (j : List (List ℕ)) (w :
   then_next o stored b j'' w'' u'' is is' h some = stands_next b j'' w'' u'' (subst (λ t. StoresOne version j' w' u' t j'' w'' u'') (is ∙ ap Some is') h) some
 
   -- what is stored of the next frame has a fault
-  pub stands_fault : (f : RoundFault) → NextFaults u' j' f → 0 < left → FirstFault (take n (written_from u)) j f
+  pub stands_fault : (f : RoundFault) → NextFaults u' j' f → 0 < left → FirstFault version (take n (written_from u)) j f
   stands_fault f h some =
       let W = written_among s.seen in
       let item = h.has.item in
       let next : written_from u' ≡ item ∷ written_from h.rest = ap (λ p. written_among p.0) (next_framed u' h.rest h.raw h.next) ∙ ap (λ o. written_before o (written_from h.rest)) h.has.is in
       let all : written_from u ≡ W ++ item ∷ written_from h.rest = whole_of version n u j w left j' w' u' s ∙ ap (λ l. W ++ l) next in
       let t = take_some n W item (written_from h.rest) (omega (arith, s.count, some)) in
-      subst (λ l. FirstFault l j f) (sym (ap (take n) all ∙ t.1)) (first_fault W item t.0 j f s.faultless (ap (storing_fault item) (sym s.stored) ∙ h.has.fault))
+      subst (λ l. FirstFault version l j f) (sym (ap (take n) all ∙ t.1)) (first_fault version W item t.0 j f s.faultless s.readable (ap (storing_fault item) (sym s.stored) ∙ h.has.fault))
 
 -- the bytes that weren't looked at are fewer
 pub then_shorter : (version : Version) (j : List (List ℕ)) (w u : List ℕ) (o : Option Bool) (b : Bool) (j' : List (List ℕ)) (w' u' : List ℕ) → o ≡ Some b → StoresOne version j w u o j' w' u' → length u' < length u

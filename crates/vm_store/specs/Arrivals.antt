@@ -95,13 +95,15 @@ arrival_fault bytes journal = read_fault (note_in bytes) journal
 
 -- ---- proposals
 
--- the fault of a proposal: by what completes its id, and whether it was completed
+-- the fault of a proposal: by what completes its id, and whether it was completed; a run's result is no invocation's id
 abbrev pub proposed_fault : Option Completes → Bool → Option RoundFault → Option RoundFault
 proposed_fault None done room = Some round_fault.NoSuchId
 proposed_fault (Some kind) true room = Some round_fault.SecondCompletion
-proposed_fault (Some kind) false room = room
+proposed_fault (Some completes.InvocationId) false room = Some round_fault.WrongKind
+proposed_fault (Some completes.Proposal) false room = room
+proposed_fault (Some completes.AnyResult) false room = room
 
 -- The first fault of a proposal for the run of this id, which is stored as a completion, but for want of memory: no stored command
--- carries its id, the id was completed, the journal is full.
+-- carries its id, the id was completed, an invocation's id is expected, the journal is full.
 abbrev pub proposal_fault : ℕ → List (List ℕ) → Option RoundFault
 proposal_fault id journal = proposed_fault (completes_among id (said_in journal) None) (is_completed id (notes_in journal)) (room_fault journal)

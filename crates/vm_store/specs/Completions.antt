@@ -1,8 +1,13 @@
--- That no completion has two results among notifications.
-use Rattle.std.specs.Prelude.{◌≢◌, List, [], ◌∷◌}
+-- That no completion has two results among notifications, and that each is of the kind of its id.
+use Rattle.std.specs.Prelude.{◌≡◌, ◌≢◌, ℕ, true, List, [], ◌∷◌, ◌++◌, Option, Some, None}
 use Rattle.journal_values.specs.declared.notification.Notification.{Notification}
 use Rattle.journal_values.specs.declared.notification.NotificationId.{NotificationId}
 use Rattle.journal_values.specs.declared.notification.NotificationId.TheVariants.{CompletionId, SignalId, SignalName}
+use Rattle.journal_values.specs.declared.notification.NotificationResult.{NotificationResult}
+use Rattle.vm_store.specs.declared.completions.Completes.{Completes}
+use Rattle.vm_store.specs.declared.completions.Completes.TheVariants as completes
+use Rattle.vm_store.specs.Arrivals.{completes_among, is_invocation_id}
+use Rattle.vm_store.specs.Entries.{note_in, said_in}
 
 -- no notification has this id
 abbrev pub IsAbsent : NotificationId → List Notification → Type 0
@@ -19,3 +24,28 @@ HasNoOther (SignalName name) ns = Unit {0}
 abbrev pub CompleteOnce : List Notification → Type 0
 CompleteOnce [] = Unit {0}
 CompleteOnce (n ∷ ns) = HasNoOther n.id ns × CompleteOnce ns
+
+-- ---- kinds
+
+-- a result that completes an id by this is an invocation's id, if that is expected
+abbrev pub IsOfKind : Option Completes → NotificationResult → Type 0
+IsOfKind None result = ⊥
+IsOfKind (Some completes.InvocationId) result = is_invocation_id result ≡ true
+IsOfKind (Some completes.Proposal) result = Unit {0}
+IsOfKind (Some completes.AnyResult) result = Unit {0}
+
+-- a completion behind these entries is of the kind of its id, by the last of their commands that carries it
+abbrev pub IsOfItsKind : NotificationId → NotificationResult → List (List ℕ) → Type 0
+IsOfItsKind (CompletionId id) result before = IsOfKind (completes_among id (said_in before) None) result
+IsOfItsKind (SignalId id) result before = Unit {0}
+IsOfItsKind (SignalName name) result before = Unit {0}
+
+-- the same of an entry's notification, if it is one
+abbrev pub NoteIsOfItsKind : Option Notification → List (List ℕ) → Type 0
+NoteIsOfItsKind None before = Unit {0}
+NoteIsOfItsKind (Some n) before = IsOfItsKind n.id n.result before
+
+-- each completion among some entries behind these was of the kind of its id where it was stored
+abbrev pub EachOfItsKind : List (List ℕ) → List (List ℕ) → Type 0
+EachOfItsKind before [] = Unit {0}
+EachOfItsKind before (x ∷ xs) = NoteIsOfItsKind (note_in x) before × EachOfItsKind (before ++ x ∷ []) xs

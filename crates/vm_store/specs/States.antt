@@ -1,7 +1,8 @@
 -- The state that a round hands out: the base, changed by the journal's commands, whole or for some keys.
-use Rattle.std.specs.Prelude.{ℕ, nat_eq, Bool, true, false, cond, List, [], ◌∷◌, Option, Some, None}
+use Rattle.std.specs.Prelude.{◌≡◌, ℕ, nat_eq, Bool, true, false, cond, List, [], ◌∷◌, Option, Some, None}
 use Rattle.std.specs.Cmp.Lexicographic.{pointwise}
-use Rattle.std.specs.List.{list_any}
+use Rattle.std.specs.List.{list_all, list_any}
+use Rattle.std.specs.Str.{is_utf8}
 use Rattle.vm_parts.specs.declared.context.StateCoverage.TheVariants.{Complete}
 use Rattle.vm_parts.specs.declared.context.StateMap.{StateMap}
 use Rattle.vm_parts.specs.Entries.{entries_of as state_entries}
@@ -32,6 +33,10 @@ abbrev pub pairs_in : (List ℕ → Bool) → List (List ℕ × Option (List ℕ
 pairs_in asked [] = []
 pairs_in asked ((key, None) ∷ es) = pairs_in asked es
 pairs_in asked ((key, Some value) ∷ es) = cond (asked key) ((key, value) ∷ pairs_in asked es) (pairs_in asked es)
+
+-- each key is a text
+abbrev pub HaveTextKeys : List (List ℕ × List ℕ) → Type 0
+HaveTextKeys pairs = list_all (λ p. is_utf8 p.0) pairs ≡ true
 
 -- what a round hands out
 abbrev pub pairs_for : Setting → Round → List (List ℕ) → List (List ℕ × List ℕ)

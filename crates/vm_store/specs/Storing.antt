@@ -82,15 +82,15 @@ abbrev pub NoneFaults : List Written → List (List ℕ) → Type 0
 NoneFaults [] journal = Unit {0}
 NoneFaults (w ∷ ws) journal = (storing_fault w journal ≡ None) × NoneFaults ws (journal ++ stored_as w ∷ [])
 
--- the first of these that has a fault has this one
-abbrev pub FirstFault : List Written → List (List ℕ) → RoundFault → Type 0
-FirstFault [] journal f = ⊥
-FirstFault (w ∷ ws) journal f = (storing_fault w journal ≡ Some f) ⊎ ((storing_fault w journal ≡ None) × FirstFault ws (journal ++ stored_as w ∷ []) f)
-
 -- it can be read back, and so can what answers it
 abbrev pub CanBeRead : Version → Written → Type 0
 CanBeRead version (Command raw) = length raw.body < 2 ^ 64
 CanBeRead version (Proposal p) = IsWhole (completed_by p) × (is_from_v7 version ≡ true → IsWhole (acknowledgement p.completion_id))
+
+-- the first of these that has a fault has this one, and those before it can be read back
+abbrev pub FirstFault : Version → List Written → List (List ℕ) → RoundFault → Type 0
+FirstFault version [] journal f = ⊥
+FirstFault version (w ∷ ws) journal f = (storing_fault w journal ≡ Some f) ⊎ ((storing_fault w journal ≡ None) × CanBeRead version w × FirstFault version ws (journal ++ stored_as w ∷ []) f)
 
 -- The next n commands and proposals among the frames of some bytes are stored, or all where there are fewer: some frames of them were
 -- looked at, the journal has grown by what is stored of them, and what answers the proposals waits.

@@ -9,7 +9,7 @@ use Rattle.vm_model.specs.Calls.{Meaning, Setup}
 use Rattle.vm_model.specs.Carried.{AreCarried}
 use Rattle.vm_attempt.specs.Fixed.{Fixed, fixed_by}
 use Rattle.vm_attempt.specs.Journals.{commands_among, setup_with}
-use Rattle.vm_store.specs.Completions.{CompleteOnce}
+use Rattle.vm_store.specs.Completions.{CompleteOnce, EachOfItsKind}
 use Rattle.vm_store.specs.declared.types.Identity.{Identity}
 use Rattle.vm_store.specs.declared.types.Round.{Round}
 use Rattle.vm_store.specs.declared.types.Setting.{Setting}
@@ -22,13 +22,14 @@ pub record WorldView : Type 0 where
   pub setting : Setting
   pub journal : List (List ℕ)
 
--- Each of the bytes is an entry, they are no more than may be, no completion has two results, and each is of an id that a command
--- carries.
+-- Each of the bytes is an entry, they are no more than may be, no completion has two results, each is of an id that a command carries,
+-- and was of the kind of its id where it was stored.
 pub record IsJournal (journal : List (List ℕ)) : Type 0 where
   pub entries : AreEntries journal
   pub short : length journal ≤ most
   pub once : CompleteOnce (notes_in journal)
   pub carried : AreCarried (notes_in journal) (commands_among (frames_in journal))
+  pub kinds : EachOfItsKind [] journal
 
 -- keys and values, the keys as their bytes
 abbrev pub pairs_given : List (String Global × List ℕ) → List (List ℕ × List ℕ)

@@ -88,7 +88,7 @@ pub fn arrival_fault(
     }
 }
 
-/// The fault of a proposal, by what completes its id and whether it was completed.
+/// The fault of a proposal, by what completes its id and whether it was completed; a run's result is no invocation's id.
 fn proposed_fault(
     kind: Option<Completes>,
     done: bool,
@@ -96,10 +96,14 @@ fn proposed_fault(
 ) -> Option<RoundFault>
     ensures { result ≡ proposed_fault kind done room }
 {
-    match (kind, done) {
-        (None, _) => Some(RoundFault::NoSuchId),
-        (Some(_), true) => Some(RoundFault::SecondCompletion),
-        (Some(_), false) => room,
+    let Some(kind) = kind else {
+        return Some(RoundFault::NoSuchId);
+    };
+    match (done, kind) {
+        (true, _) => Some(RoundFault::SecondCompletion),
+        (false, Completes::InvocationId) => Some(RoundFault::WrongKind),
+        (false, Completes::Proposal) => room,
+        (false, Completes::AnyResult) => room,
     }
 }
 

@@ -8,7 +8,7 @@ ghost use Rattle.vm_parts.specs.Entries.{entries_of as state_entries};
 ghost use Rattle.vm_model.specs.Moves.{changed_by};
 ghost use Rattle.vm_store.specs.Arrivals.{most};
 ghost use Rattle.vm_store.specs.Entries.{said_in};
-ghost use Rattle.vm_store.specs.States.{pairs_for, state_of};
+ghost use Rattle.vm_store.specs.States.{HaveTextKeys, pairs_for, state_of};
 ghost use Rattle.vm_store.specs.Worlds.{start_message, start_of};
 
 use crate::entry::said_at;
@@ -64,7 +64,8 @@ fn handed_pairs(
     round: &Round,
     journal: &[Bytes],
 ) -> Result<Items<(Bytes, Bytes)>, AllocError>
-    ensures { IfOk result (λ pairs. pairs ≡ pairs_for setting.now round.now journal.now) }
+    ensures pairs { IfOk result (λ pairs. pairs ≡ pairs_for setting.now round.now journal.now) }
+    ensures texts { OnOk result (HaveTextKeys (pairs_for setting.now round.now journal.now)) }
 {
     let values = values_after(alloc, setting, journal)?;
     values.pairs(alloc, round.partial, round.keys.as_slice())
@@ -119,6 +120,7 @@ pub fn start_bytes(
     requires { length journal.now ≤ most }
     ensures bytes { IfOk result (λ b. b ≡ encoding (start_message setting.now round.now journal.now)) }
     ensures whole { OnOk result (IsWhole (start_message setting.now round.now journal.now)) }
+    ensures texts { OnOk result (HaveTextKeys (pairs_for setting.now round.now journal.now)) }
 {
     let pairs = handed_pairs(alloc, setting, round, journal)?;
     let identity = copy_identity(&setting.identity)?;

@@ -259,7 +259,7 @@ pub fn store_from(
     n: usize,
 ) -> Result<(), RoundFault>
     ensures ok { OnOk result (Stores version n unstored.old journal.old.items waiting.old.items journal.new.items waiting.new.items unstored.new) }
-    ensures err { IfErr result (λ f. (f ≡ round_fault.Memory) ⊎ FirstFault (take n (written_from unstored.old)) journal.old.items f) }
+    ensures err { IfErr result (λ f. (f ≡ round_fault.Memory) ⊎ FirstFault version (take n (written_from unstored.old)) journal.old.items f) }
 {
     let mut left = n;
     while left > 0 {

@@ -1,9 +1,10 @@
 //! `Values`: a state of which all is known, key by key.
-ghost use Rattle.std.specs.Prelude.{◌≡◌, [], IfOk, OnOk};
+ghost use Rattle.std.specs.Prelude.{◌≡◌, [], true, IfOk, OnOk};
+ghost use Rattle.std.specs.Str.{is_utf8};
 ghost use Rattle.vm_parts.specs.declared.context.StateCoverage.TheVariants.{Complete};
 ghost use Rattle.vm_parts.specs.States.{state_set, state_cleared, all_cleared};
 ghost use Rattle.vm_asks.specs.Requests.{changed};
-ghost use Rattle.vm_store.specs.States.{is_asked, is_listed, pairs_in};
+ghost use Rattle.vm_store.specs.States.{HaveTextKeys, is_asked, is_listed, pairs_in};
 
 use bytes::Bytes;
 use journal_messages::Message;
@@ -44,6 +45,15 @@ fn is_asked(partial: bool, keys: &[Text], key: &Text) -> bool
     ensures { result ≡ is_asked partial keys.now key.now }
 {
     if partial { is_listed(keys, key) } else { true }
+}
+
+/// A key's bytes, which are a text.
+#[tactic(auto, using(crate::proofs::Texts::text_is))]
+fn key_bytes(alloc: Global, key: &Text) -> Result<Bytes, AllocError>
+    ensures bytes { IfOk result (λ bytes. bytes ≡ key.now) }
+    ensures text { OnOk result (is_utf8 key.now ≡ true) }
+{
+    Bytes::copy_from_slice(alloc, key.as_str().as_bytes())
 }
 
 impl Values {
@@ -93,20 +103,22 @@ impl Values {
         }
     }
 
-    /// The keys that a round asks for, with their values, in order.
+    /// The keys that a round asks for, with their values, in order. Each key is a text.
+    #[tactic(auto, using(crate::proofs::Texts::texts_more))]
     pub fn pairs(
         &self,
         alloc: Global,
         partial: bool,
         keys: &[Text],
     ) -> Result<Items<(Bytes, Bytes)>, AllocError>
-        ensures { IfOk result (λ pairs. pairs ≡ pairs_in (is_asked partial keys.now) self.now.entries) }
+        ensures pairs { IfOk result (λ pairs. pairs ≡ pairs_in (is_asked partial keys.now) self.now.entries) }
+        ensures texts { IfOk result (λ pairs. HaveTextKeys pairs) }
     {
         let mut pairs = Items::new(alloc);
         for (key, value) in self.map.iter() {
             if let Some(value) = value {
                 if is_asked(partial, keys, key) {
-                    let key = Bytes::copy_from_slice(alloc, key.as_str().as_bytes())?;
+                    let key = key_bytes(alloc, key)?;
                     pairs.push((key, value.clone()?))?;
                 }
             }

@@ -25,7 +25,7 @@ returns-in-Ok-waiting_bytes-clause-ok g c =
     (λ a. RoundDoes (g.H.Handler.meaning c.args.handler.now) c.args.setting.now c.args.round.now c.args.journal.items (report_view a.1) a.0.items)
     (λ a ran. subst (λ h. RoundDoes (g.H.Handler.meaning h) c.args.setting.now c.args.round.now c.args.journal.items (report_view a.1) a.0.items) c.in-Ok.ensures.handler
     (round_does (g.H.Handler.meaning c.in-Ok.attempt.handler.now) c.args.setting.now c.args.round.now c.args.journal.items c.args.alloc c.in-Ok-waiting_bytes.waiting.items c.in-Ok.attempt.record_of c.in-Ok.attempt.version c.in-Ok.attempt.options (report_view a.1) a.0.items
-    c.in-Ok.ensures.supported (rw c.as_slice.ensures.value at c.in-Ok-waiting_bytes.ensures.whole) (rw c.as_slice.ensures.value at c.in-Ok-waiting_bytes.ensures.bytes) c.in-Ok.ensures.record c.in-Ok.ensures.made_for.0 c.in-Ok.ensures.made_for.1
+    c.in-Ok.ensures.supported (rw c.as_slice.ensures.value at c.in-Ok-waiting_bytes.ensures.whole) (rw c.as_slice.ensures.value at c.in-Ok-waiting_bytes.ensures.texts) (rw c.as_slice.ensures.value at c.in-Ok-waiting_bytes.ensures.bytes) c.in-Ok.ensures.record c.in-Ok.ensures.made_for.0 c.in-Ok.ensures.made_for.1
     (subst (λ es. Ran (fixed_of (g.H.Handler.meaning c.in-Ok.attempt.handler.now) c.in-Ok.attempt) es (new_now c.args.setting.now.version c.args.journal.items c.in-Ok-waiting_bytes.waiting.items c.in-Ok.attempt.record_of) (report_view a.1) a.0.items) c.as_slice-in-Ok.ensures ran)))
     c.made_round.ensures.ok
 
@@ -41,6 +41,6 @@ returns-in-Ok-waiting_bytes-clause-err g c =
     (λ x. RoundFaults (g.H.Handler.meaning c.args.handler.now) c.args.setting.now c.args.round.now c.args.journal.items x)
     (λ x h. subst (λ k. RoundFaults (g.H.Handler.meaning k) c.args.setting.now c.args.round.now c.args.journal.items x) c.in-Ok.ensures.handler
     (round_faults (g.H.Handler.meaning c.in-Ok.attempt.handler.now) c.args.setting.now c.args.round.now c.args.journal.items c.args.alloc c.in-Ok-waiting_bytes.waiting.items c.in-Ok.attempt.record_of x c.in-Ok.ensures.supported
-    (rw c.as_slice.ensures.value at c.in-Ok-waiting_bytes.ensures.bytes) c.in-Ok.ensures.record
+    (rw c.as_slice.ensures.value at c.in-Ok-waiting_bytes.ensures.whole) (rw c.as_slice.ensures.value at c.in-Ok-waiting_bytes.ensures.bytes) c.in-Ok.ensures.record
     (subst (λ es. (x ≡ round_fault.Memory) ⊎ HappenFaults (g.H.Handler.meaning c.in-Ok.attempt.handler.now) es (new_now c.args.setting.now.version c.args.journal.items c.in-Ok-waiting_bytes.waiting.items c.in-Ok.attempt.record_of) x) c.as_slice-in-Ok.ensures h)))
     c.made_round.ensures.err

@@ -1,4 +1,4 @@
-use Rattle.std.proofs.Common.{◌+◌, arith, map, take, drop, ap, subst, sym, inl, refl}
+use Rattle.std.proofs.Common.{◌+◌, arith, map, take, drop, ap, subst, inl, refl}
 use Rattle.std.proofs.lemmas.List.{take_all}
 use Rattle.vm_rounds.specs.Rounds.{RoundDoes, RoundFaults, RoundsDo}
 use Rattle.vm_rounds.specs.Inside.{report_view}
@@ -6,8 +6,11 @@ use Rattle.vm_store.specs.Worlds.{IsJournal, WorldView}
 use Rattle.vm_rounds.specs.Sound.{IsSoundFor}
 use Rattle.vm_rounds.proofs.Agreeing.{sound_rounds_agree}
 use Rattle.vm_rounds.proofs.Completing.{completes_once}
+use Rattle.vm_rounds.proofs.Faultless.{faults_come_from_outside}
 use Rattle.vm_rounds.proofs.Freshness.{rounds_fresh}
+use Rattle.vm_rounds.proofs.RightKinds.{history_kinds}
 use Rattle.vm_rounds.proofs.Lists.{split_at, whole_at}
+use Rattle.vm_rounds.proofs.Owning.{rounds_own}
 use Rattle.vm_rounds.proofs.Rounding.{Grows, are_honest, rounds_fail, rounds_grow, rounds_then, stays_one_run, stays_sound, stays_undisturbed}
 use Rattle.vm_rounds.proofs.rounds.run_rounds.Given as given
 use Rattle.vm_rounds.proofs.rounds.run_rounds.Goals as goal
@@ -16,6 +19,10 @@ pub returns-in-Err-clause-err : goal.returns-in-Err-clause-err
 returns-in-Err-clause-err g c =
     rw (whole_at c.args.rounds.now c.loop-round.round-index c.round-item.result c.loop-round-test.true c.round-item.is)
     (rounds_fail (g.H.Handler.meaning c.args.handler.now) c.args.world.setting (take c.loop-round.round-index c.args.rounds.now) c.round-item.result (drop (c.loop-round.round-index + 1) c.args.rounds.now) c.args.world.journal (map report_view c.loop-round.reports.items) c.loop-round.journal.items c.in-Err.fault c.loop-round.invariant.so_far (subst (λ x. RoundFaults (g.H.Handler.meaning c.args.handler.now) x c.round-item.result c.loop-round.journal.items c.in-Err.fault) (ap (λ (w : WorldView). w.setting) c.world.view_is) c.in-Err.ensures.err))
+
+-- where the journal can be replayed, a fault comes from outside
+pub returns-in-Err-clause-outside : goal.returns-in-Err-clause-outside
+returns-in-Err-clause-outside g c h = faults_come_from_outside (g.H.Handler.meaning c.args.handler.now) c.args.world.setting c.args.rounds.now c.args.world.journal c.in-Err.fault (subst (λ (w : WorldView). IsJournal w.journal) c.world.view_is c.world.invariant) h (returns-in-Err-clause-err g c)
 
 pub loop-round-preserved : goal.loop-round-preserved
 loop-round-preserved g c = record {
@@ -42,6 +49,9 @@ returns-clause-extends g c = ((grows g c).added, (grows g c).extends)
 pub returns-clause-honest : goal.returns-clause-honest
 returns-clause-honest g c h d = are_honest (g.H.Handler.meaning c.args.handler.now) c.args.world.setting c.args.rounds.now c.args.world.journal (map report_view c.loop-round.reports.items) c.loop-round.journal.items (before g c) d h
 
+pub returns-clause-errors : goal.returns-clause-errors
+returns-clause-errors g c h d = rounds_own (g.H.Handler.meaning c.args.handler.now) c.args.world.setting c.args.rounds.now c.args.world.journal (map report_view c.loop-round.reports.items) c.loop-round.journal.items (before g c) h d
+
 stays : (g : given.Over) (c : goal.After-loop-round g) → IsSoundFor (g.H.Handler.meaning c.args.handler.now) c.args.world.setting c.args.world.journal → IsSoundFor (g.H.Handler.meaning c.args.handler.now) c.args.world.setting c.loop-round.journal.items
 stays g c h = stays_sound (g.H.Handler.meaning c.args.handler.now) c.args.world.setting c.args.rounds.now c.args.world.journal (map report_view c.loop-round.reports.items) c.loop-round.journal.items (before g c) (all g c) h
 
@@ -50,6 +60,9 @@ returns-clause-history g c h = stays g c h
 
 pub returns-clause-once : goal.returns-clause-once
 returns-clause-once g c h = completes_once _ (g.H.Handler.meaning c.args.handler.now) _ c.loop-round.journal.items (grows g c).journal (stays g c h).history.history
+
+pub returns-clause-kinds : goal.returns-clause-kinds
+returns-clause-kinds g c h = history_kinds _ (g.H.Handler.meaning c.args.handler.now) _ c.loop-round.journal.items (grows g c).journal (stays g c h).history.history
 
 pub returns-clause-agree : goal.returns-clause-agree
 returns-clause-agree g c h = sound_rounds_agree (g.H.Handler.meaning c.args.handler.now) c.args.world.setting c.args.rounds.now c.args.world.journal (map report_view c.loop-round.reports.items) c.loop-round.journal.items h (before g c) (all g c)
@@ -67,3 +80,6 @@ pub returns-then-not-keep_report-clause-err : goal.returns-then-not-keep_report-
 returns-then-not-keep_report-clause-err g c =
     rw (whole_at c.args.rounds.now c.loop-round.round-index c.round-item.result c.loop-round-test.true c.round-item.is)
     (rounds_fail (g.H.Handler.meaning c.args.handler.now) c.args.world.setting (take c.loop-round.round-index c.args.rounds.now) c.round-item.result (drop (c.loop-round.round-index + 1) c.args.rounds.now) c.args.world.journal (map report_view c.loop-round.reports.items) c.loop-round.journal.items _ c.loop-round.invariant.so_far (inl refl))
+
+pub returns-then-not-keep_report-clause-outside : goal.returns-then-not-keep_report-clause-outside
+returns-then-not-keep_report-clause-outside g c h = inl refl

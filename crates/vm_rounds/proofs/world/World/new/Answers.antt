@@ -1,4 +1,4 @@
-use Rattle.vm_rounds.proofs.First.{first_made, first_ok}
+use Rattle.vm_rounds.proofs.First.{first_kinds, first_made, first_ok}
 use Rattle.vm_rounds.proofs.world.World.new.Goals as goal
 
 pub invariant_of-result : goal.invariant_of-result
@@ -9,3 +9,6 @@ returns-clause-one_run c = λ m. first_made _ m _ c.in-Ok.journal.items _ c.in-O
 
 pub returns-clause-undisturbed : goal.returns-clause-undisturbed
 returns-clause-undisturbed c = λ m. first_made _ m _ c.in-Ok.journal.items _ c.in-Ok.ensures.bytes c.in-Ok.ensures.whole
+
+pub returns-clause-kinds : goal.returns-clause-kinds
+returns-clause-kinds c = first_kinds c.in-Ok.journal.items _ c.in-Ok.ensures.bytes c.in-Ok.ensures.whole
