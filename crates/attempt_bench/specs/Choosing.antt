@@ -1,4 +1,5 @@
--- A handler that completes an awakeable of another, waits for one of its own, and goes on by what it takes.
+-- A handler that completes an awakeable of another, waits for one of its own, and goes on by what
+-- it takes.
 use Rattle.std.specs.Prelude.{◌==◌, ℕ, false, if◌then◌else◌, List, [], length, slice_get, codes, Option, Some, None}
 use Rattle.vm_types.specs.declared.steps.Answer.{Answer}
 use Rattle.vm_types.specs.declared.steps.Answer.TheVariants as answer
@@ -52,7 +53,8 @@ later_step None = step.Await (Single second_handle)
 -- the step after so many answers
 abbrev pub choose_step : List Answer → Step
 choose_step answers =
-    if length answers == 1 then step.CompleteAwakeable (codes "prom_1") (Success (codes "v")) (record { unstable_serialization = false })
+    if length answers == 1 then step.CompleteAwakeable (codes "prom_1") (Success (codes "v"))
+    (record { unstable_serialization = false })
     else if length answers == 2 then step.Awakeable
     else if length answers == 3 then step.Await (Single first_handle)
     else if length answers == 4 then step.Take first_handle

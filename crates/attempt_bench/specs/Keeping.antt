@@ -10,7 +10,8 @@ use Rattle.attempt_bench.specs.Steps.{first_handle, sleep_step, output_step}
 abbrev pub keep_step : List Answer → Step
 keep_step answers =
     if length answers == 1 then step.StateClear (codes "a") None
-    else if length answers == 2 then step.StateSet (codes "b") (codes "x") None (record { unstable_serialization = false })
+    else if length answers == 2
+    then step.StateSet (codes "b") (codes "x") None (record { unstable_serialization = false })
     else if length answers == 3 then sleep_step
     else if length answers == 4 then step.Await (Single first_handle)
     else if length answers == 5 then step.Take first_handle

@@ -1,4 +1,5 @@
--- What an answer holds for the step that it answers. One of another kind holds nothing, and ends the handler.
+-- What an answer holds for the step that it answers. One of another kind holds nothing, and ends
+-- the handler.
 use Rattle.std.specs.Prelude.{Bool, List, [], ℕ, Option, Some, None}
 use Rattle.vm_types.specs.declared.steps.Answer.{Answer}
 use Rattle.vm_types.specs.declared.steps.Answer.TheVariants as answer

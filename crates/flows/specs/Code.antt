@@ -5,14 +5,16 @@ use Rattle.vm_types.specs.declared.steps.Step.{Step}
 use Rattle.vm_types.specs.declared.steps.Step.TheVariants as step
 use Rattle.flows.specs.declared.exit.Fault.{Fault}
 
--- the code of a part that gives an `A`: it gives a value, ends by a fault, is over, or makes a step and goes on by its answer
+-- the code of a part that gives an `A`: it gives a value, ends by a fault, is over, or makes a step
+-- and goes on by its answer
 pub data Code (A : Type 0) : Type 0 where
   Give : A → Code A
   Fail : Fault → Code A
   Over : Code A
   Ask : Step → (Answer → Code A) → Code A
 
--- what code does over a list of answers: it gives a value or ends by a fault, with answers left, or its next step has no answer
+-- what code does over a list of answers: it gives a value or ends by a fault, with answers left, or
+-- its next step has no answer
 pub data Outcome (A : Type 0) : Type 0 where
   Given : A → List Answer → Outcome A
   Failed : Fault → List Answer → Outcome A
@@ -54,7 +56,8 @@ aside (Failed fault answers) rescue = outcome (rescue fault) answers
 aside (Next step) rescue = Next step
 
 -- the second part begins at the answers that the first leaves
-pub goes_on : {A B : Type 0} (code : Code A) (next : A → Code B) (answers : List Answer) → outcome (code >>= next) answers ≡ onward (outcome code answers) next
+pub goes_on : {A B : Type 0} (code : Code A) (next : A → Code B) (answers : List Answer)
+    → outcome (code >>= next) answers ≡ onward (outcome code answers) next
 unfolding ◌>>=◌
 goes_on (Give value) next answers = refl
 goes_on (Fail fault) next answers = refl
@@ -63,7 +66,8 @@ goes_on (Ask step after) next [] = refl
 goes_on (Ask step after) next (answer ∷ answers) = goes_on (after answer) next answers
 
 -- so does the part that rescues
-pub is_rescued : {A : Type 0} (code : Code A) (rescue : Fault → Code A) (answers : List Answer) → outcome (rescued code rescue) answers ≡ aside (outcome code answers) rescue
+pub is_rescued : {A : Type 0} (code : Code A) (rescue : Fault → Code A) (answers : List Answer)
+    → outcome (rescued code rescue) answers ≡ aside (outcome code answers) rescue
 unfolding rescued
 is_rescued (Give value) rescue answers = refl
 is_rescued (Fail fault) rescue answers = refl

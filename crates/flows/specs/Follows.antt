@@ -5,7 +5,8 @@ use Rattle.flows.specs.declared.exit.Exit.{Exit}
 use Rattle.flows.specs.declared.exit.Exit.TheVariants as exit
 use Rattle.flows.specs.Code.{Code, Failed, Given, Next, outcome}
 
--- over the old answers the code comes to this result and leaves the new ones; out of memory says nothing
+-- over the old answers the code comes to this result and leaves the new ones; out of memory says
+-- nothing
 abbrev pub Follows : {A : Type 0} → Code A → List Answer → Result A Exit → List Answer → Type 0
 Follows code old (Ok value) new = outcome code old ≡ Given value new
 Follows code old (Err (exit.Next step)) new = outcome code old ≡ Next step

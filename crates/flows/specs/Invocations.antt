@@ -13,11 +13,13 @@ use Rattle.flows.specs.Steps.{stable, take, target_of, wait}
 -- calls a service's handler at a time since the Unix epoch, and waits for nothing
 unfoldable pub send_at : List ℕ → List ℕ → List ℕ → Duration → Code (Unit {0})
 send_at service handler input time =
-    Ask (step.Send (target_of service handler) input (Some time) None stable) (λ answer. given (unit_in answer))
+    Ask (step.Send (target_of service handler) input (Some time) None stable)
+    (λ answer. given (unit_in answer))
 
 -- begins to await the result of an invocation
 unfoldable pub start_attach : List ℕ → Code NotificationHandle
-start_attach id = Ask (step.AttachInvocation (target.InvocationId id)) (λ answer. given (handle_in answer))
+start_attach id =
+    Ask (step.AttachInvocation (target.InvocationId id)) (λ answer. given (handle_in answer))
 
 -- waits for the result of an invocation
 unfoldable pub attach : List ℕ → Code (List ℕ)
@@ -25,7 +27,8 @@ attach id = start_attach id >>= value
 
 -- begins to ask for the output of an invocation
 unfoldable pub start_output : List ℕ → Code NotificationHandle
-start_output id = Ask (step.GetInvocationOutput (target.InvocationId id)) (λ answer. given (handle_in answer))
+start_output id =
+    Ask (step.GetInvocationOutput (target.InvocationId id)) (λ answer. given (handle_in answer))
 
 -- the output of an invocation, if it has ended
 unfoldable pub output : List ℕ → Code (Option (List ℕ))

@@ -18,7 +18,8 @@ awakeable = Ask step.Awakeable (λ answer. given (awakeable_in answer))
 
 -- completes the awakeable of this id
 unfoldable pub complete_awakeable : List ℕ → NonEmptyValue → Code (Unit {0})
-complete_awakeable id value = Ask (step.CompleteAwakeable id value stable) (λ answer. given (unit_in answer))
+complete_awakeable id value =
+    Ask (step.CompleteAwakeable id value stable) (λ answer. given (unit_in answer))
 
 -- ---- signals: whoever knows the invocation sends them, by name
 
@@ -32,7 +33,8 @@ signal name = start_signal name >>= value
 
 -- sends a signal to an invocation
 unfoldable pub complete_signal : List ℕ → List ℕ → NonEmptyValue → Code (Unit {0})
-complete_signal invocation name value = Ask (step.CompleteSignal invocation name value) (λ answer. given (unit_in answer))
+complete_signal invocation name value =
+    Ask (step.CompleteSignal invocation name value) (λ answer. given (unit_in answer))
 
 -- ---- promises: those of a workflow share them, by key
 
@@ -50,11 +52,13 @@ start_peek key = Ask (step.PeekPromise key) (λ answer. given (handle_in answer)
 
 -- what a promise holds, if it is completed
 unfoldable pub peek_promise : List ℕ → Code (Option (List ℕ))
-peek_promise key = start_peek key >>= λ handle. wait (Single handle) >>= λ _. take handle >>= state_of
+peek_promise key =
+    start_peek key >>= λ handle. wait (Single handle) >>= λ _. take handle >>= state_of
 
 -- begins to complete a promise
 unfoldable pub start_complete : List ℕ → NonEmptyValue → Code NotificationHandle
-start_complete key value = Ask (step.CompletePromise key value stable) (λ answer. given (handle_in answer))
+start_complete key value =
+    Ask (step.CompletePromise key value stable) (λ answer. given (handle_in answer))
 
 -- completes a promise; one that is completed already is a fault
 unfoldable pub complete_promise : List ℕ → NonEmptyValue → Code (Unit {0})

@@ -18,7 +18,15 @@ stable = record { unstable_serialization = false }
 -- a service's handler, without a key
 abbrev pub target_of : List ℕ → List ℕ → Target
 target_of service handler =
-    record { service = service; handler = handler; key = None; idempotency_key = None; scope = None; limit_key = None; headers = [] }
+    record {
+      service = service;
+      handler = handler;
+      key = None;
+      idempotency_key = None;
+      scope = None;
+      limit_key = None;
+      headers = [];
+    }
 
 -- awaits a future
 unfoldable pub wait : UnresolvedFuture → Code (Unit {0})
@@ -39,7 +47,8 @@ start_sleep until = Ask (step.Sleep [] until None) (λ answer. given (handle_in 
 -- begins a call of a service's handler
 unfoldable pub start_call : List ℕ → List ℕ → List ℕ → Code NotificationHandle
 start_call service handler input =
-    Ask (step.Call (target_of service handler) input None stable) (λ answer. given (handle_in answer))
+    Ask (step.Call (target_of service handler) input None stable)
+    (λ answer. given (handle_in answer))
 
 -- has a run of this name executed outside
 unfoldable pub start_run : List ℕ → Code NotificationHandle
@@ -52,7 +61,8 @@ start_get key = Ask (step.StateGet key None stable) (λ answer. given (handle_in
 -- calls a service's handler, and waits for nothing
 unfoldable pub send : List ℕ → List ℕ → List ℕ → Code (Unit {0})
 send service handler input =
-    Ask (step.Send (target_of service handler) input None None stable) (λ answer. given (unit_in answer))
+    Ask (step.Send (target_of service handler) input None None stable)
+    (λ answer. given (unit_in answer))
 
 -- sets the state of a key
 unfoldable pub set : List ℕ → List ℕ → Code (Unit {0})

@@ -71,7 +71,8 @@ impl<'a> Context<'a> {
 
     /// The next answer.
     pub(crate) fn answered(&mut self) -> Option<&'a Answer>
-        ensures { MatchOption result ((self.old ≡ []) × (self.new ≡ [])) (λ answer. self.old ≡ answer.now ∷ self.new) }
+        ensures { MatchOption result ((self.old ≡ []) × (self.new ≡ [])) (λ answer. self.old
+            ≡ answer.now ∷ self.new) }
     {
         let (answer, rest) = self.answers.split_first()?;
         self.answers = rest;

@@ -90,7 +90,8 @@ is_completed (Some answer.Cancelled) = false
 is_completed (Some (answer.Taken taken)) = false
 is_completed None = false
 
--- the output that hands a value on: of a success or a failure the same, of any other an empty success
+-- the output that hands a value on: of a success or a failure the same, of any other an empty
+-- success
 abbrev pub output_of_value : Value → NonEmptyValue
 output_of_value (value.Success bytes) = non_empty.Success bytes
 output_of_value (value.Failure failure) = non_empty.Failure failure
@@ -131,4 +132,5 @@ is_cancelled None = false
 
 -- the output of a handler that was cancelled
 abbrev pub cancelled_output : Step
-cancelled_output = step.WriteOutput (non_empty.Failure (record { code = 409; message = codes "cancelled"; metadata = [] })) stable
+cancelled_output = step.WriteOutput
+    (non_empty.Failure (record { code = 409; message = codes "cancelled"; metadata = [] })) stable

@@ -12,7 +12,15 @@ use Rattle.handlers.specs.Answers.{stable}
 -- a service's handler, without a key
 abbrev pub target_of : List ℕ → List ℕ → Target
 target_of service handler =
-    record { service = service; handler = handler; key = None; idempotency_key = None; scope = None; limit_key = None; headers = [] }
+    record {
+      service = service;
+      handler = handler;
+      key = None;
+      idempotency_key = None;
+      scope = None;
+      limit_key = None;
+      headers = [];
+    }
 
 -- the call of a service's handler with an input
 abbrev pub call_of : List ℕ → List ℕ → List ℕ → Step
@@ -20,7 +28,8 @@ call_of service handler input = step.Call (target_of service handler) input None
 
 -- the same with a deadline, since the Unix epoch
 abbrev pub call_until : List ℕ → List ℕ → List ℕ → Duration → Step
-call_until service handler input time = step.CallWithDeadline (target_of service handler) input time None stable
+call_until service handler input time =
+    step.CallWithDeadline (target_of service handler) input time None stable
 
 -- two handles, to be awaited together
 abbrev pub both : NotificationHandle → NotificationHandle → List UnresolvedFuture

@@ -1,5 +1,5 @@
--- The handler `charge`: run "charge", await it, take it, write what was taken as the output, end. When it is cancelled it
--- writes a failure and ends.
+-- The handler `charge`: run "charge", await it, take it, write what was taken as the output, end.
+-- When it is cancelled it writes a failure and ends.
 use Rattle.std.specs.Prelude.{◌==◌, if◌then◌else◌, List, codes, length, slice_get}
 use Rattle.vm_types.specs.declared.steps.Answer.{Answer}
 use Rattle.vm_types.specs.declared.steps.Step.{Step}
@@ -13,7 +13,9 @@ charge_step answers =
     if length answers == 1 then step.Run (codes "charge")
     else if length answers == 2 then step.Await (Single (handle_of (slice_get answers 1)))
     else if length answers == 3 then
-    (if is_cancelled (slice_get answers 2) then cancelled_output else step.Take (handle_of (slice_get answers 1)))
+    (if is_cancelled (slice_get answers 2) then cancelled_output
+    else step.Take (handle_of (slice_get answers 1)))
     else if length answers == 4 then
-    (if is_cancelled (slice_get answers 2) then step.End else step.WriteOutput (output_of (slice_get answers 3)) stable)
+    (if is_cancelled (slice_get answers 2) then step.End
+    else step.WriteOutput (output_of (slice_get answers 3)) stable)
     else step.End

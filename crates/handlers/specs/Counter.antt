@@ -1,5 +1,5 @@
--- The handler `counter`: it reads the state "count", awaits and takes it, and writes the number that follows, to the state
--- and as its output. When it is cancelled it writes a failure and ends.
+-- The handler `counter`: it reads the state "count", awaits and takes it, and writes the number
+-- that follows, to the state and as its output. When it is cancelled it writes a failure and ends.
 use Rattle.std.specs.Prelude.{◌==◌, ◌+◌, ◌&&◌, ℕ, nat_le, nat_lt, if◌then◌else◌, List, length, slice_get, codes, Option, Some, None}
 use Rattle.std.specs.Fmt.{decimal}
 use Rattle.std.specs.Str.{all_ascii_digits}
@@ -17,7 +17,8 @@ use Rattle.handlers.specs.Answers.{handle_of, is_cancelled, cancelled_output, st
 -- the number of 1 to 18 decimal digits; 0 of all other bytes
 abbrev pub count_in : List ℕ → ℕ
 count_in bytes =
-    if nat_lt 0 (length bytes) && nat_le (length bytes) 18 && all_ascii_digits bytes then digits_value 10 bytes else 0
+    if nat_lt 0 (length bytes) && nat_le (length bytes) 18 && all_ascii_digits bytes
+    then digits_value 10 bytes else 0
 
 -- the count of a value: that of a success, else 0
 abbrev pub count_of_value : Value → ℕ
@@ -53,8 +54,11 @@ counter_step answers =
     if length answers == 1 then step.StateGet (codes "count") None stable
     else if length answers == 2 then step.Await (Single (handle_of (slice_get answers 1)))
     else if length answers == 3 then
-    (if is_cancelled (slice_get answers 2) then cancelled_output else step.Take (handle_of (slice_get answers 1)))
+    (if is_cancelled (slice_get answers 2) then cancelled_output
+    else step.Take (handle_of (slice_get answers 1)))
     else if length answers == 4 then
-    (if is_cancelled (slice_get answers 2) then step.End else step.StateSet (codes "count") (next_count answers) None stable)
-    else if length answers == 5 then step.WriteOutput (non_empty.Success (next_count answers)) stable
+    (if is_cancelled (slice_get answers 2) then step.End
+    else step.StateSet (codes "count") (next_count answers) None stable)
+    else if length answers == 5
+    then step.WriteOutput (non_empty.Success (next_count answers)) stable
     else step.End

@@ -1,6 +1,7 @@
--- The handler `deadline`: call "greet" of "Greeter" with the input and a deadline one second after the Unix epoch, await the first of the
--- result and the deadline, and ask whether the result is there. If so take it and write it as the output; else take the deadline and
--- write "timeout". Then end. When it is cancelled it writes a failure and ends.
+-- The handler `deadline`: call "greet" of "Greeter" with the input and a deadline one second after
+-- the Unix epoch, await the first of the result and the deadline, and ask whether the result is
+-- there. If so take it and write it as the output; else take the deadline and write "timeout". Then
+-- end. When it is cancelled it writes a failure and ends.
 use Rattle.std.specs.Prelude.{◌==◌, if◌then◌else◌, List, length, slice_get, codes}
 use Rattle.vm_types.specs.declared.steps.Answer.{Answer}
 use Rattle.vm_types.specs.declared.steps.Step.{Step}
@@ -15,21 +16,26 @@ use Rattle.handlers.specs.Calls.{both, call_until}
 -- the handle of the call, where its result is there, and else of the deadline
 abbrev pub earlier : List Answer → NotificationHandle
 earlier answers =
-    if is_completed (slice_get answers 3) then call_handle_of (slice_get answers 1) else deadline_handle_of (slice_get answers 1)
+    if is_completed (slice_get answers 3) then call_handle_of (slice_get answers 1)
+    else deadline_handle_of (slice_get answers 1)
 
 -- what the call gave, where its result was there, and else "timeout"
 abbrev pub deadline_output : List Answer → NonEmptyValue
 deadline_output answers =
-    if is_completed (slice_get answers 3) then output_of (slice_get answers 4) else Success (codes "timeout")
+    if is_completed (slice_get answers 3) then output_of (slice_get answers 4)
+    else Success (codes "timeout")
 
 -- the step after so many answers
 abbrev pub deadline_step : List Answer → Step
 deadline_step answers =
-    if length answers == 1 then call_until (codes "Greeter") (codes "greet") (input_of (slice_get answers 0)) (record { secs = 1; nanos = 0 })
+    if length answers == 1 then call_until (codes "Greeter") (codes "greet")
+    (input_of (slice_get answers 0)) (record { secs = 1; nanos = 0 })
     else if length answers == 2 then
-    step.Await (FirstCompleted (both (call_handle_of (slice_get answers 1)) (deadline_handle_of (slice_get answers 1))))
+    step.Await (FirstCompleted
+    (both (call_handle_of (slice_get answers 1)) (deadline_handle_of (slice_get answers 1))))
     else if length answers == 3 then
-    (if is_cancelled (slice_get answers 2) then cancelled_output else step.Completed (call_handle_of (slice_get answers 1)))
+    (if is_cancelled (slice_get answers 2) then cancelled_output
+    else step.Completed (call_handle_of (slice_get answers 1)))
     else if length answers == 4 then
     (if is_cancelled (slice_get answers 2) then step.End else step.Take (earlier answers))
     else if length answers == 5 then step.WriteOutput (deadline_output answers) stable

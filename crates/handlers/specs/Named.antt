@@ -33,4 +33,5 @@ step_named name =
 
 -- what the handler of this name does next in a round, which can execute a run
 abbrev pub step_in_rounds : List ℕ → Option (List Answer → Step)
-step_in_rounds name = if pointwise nat_eq name (codes "charge") then Some charge_step else step_named name
+step_in_rounds name =
+    if pointwise nat_eq name (codes "charge") then Some charge_step else step_named name

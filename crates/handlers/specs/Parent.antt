@@ -1,5 +1,6 @@
--- The handler `parent`: call "a" and "b" of "Child" with empty inputs, await both results, take the first and the second,
--- write the output "done", end. When it is cancelled it writes a failure and ends.
+-- The handler `parent`: call "a" and "b" of "Child" with empty inputs, await both results, take the
+-- first and the second, write the output "done", end. When it is cancelled it writes a failure and
+-- ends.
 use Rattle.std.specs.Prelude.{◌==◌, if◌then◌else◌, List, [], length, slice_get, codes}
 use Rattle.vm_types.specs.declared.steps.Answer.{Answer}
 use Rattle.vm_types.specs.declared.steps.Step.{Step}
@@ -15,10 +16,13 @@ parent_step answers =
     if length answers == 1 then call_of (codes "Child") (codes "a") []
     else if length answers == 2 then call_of (codes "Child") (codes "b") []
     else if length answers == 3 then
-    step.Await (AllCompleted (both (call_handle_of (slice_get answers 1)) (call_handle_of (slice_get answers 2))))
+    step.Await (AllCompleted
+    (both (call_handle_of (slice_get answers 1)) (call_handle_of (slice_get answers 2))))
     else if length answers == 4 then
-    (if is_cancelled (slice_get answers 3) then cancelled_output else step.Take (call_handle_of (slice_get answers 1)))
+    (if is_cancelled (slice_get answers 3) then cancelled_output
+    else step.Take (call_handle_of (slice_get answers 1)))
     else if length answers == 5 then
-    (if is_cancelled (slice_get answers 3) then step.End else step.Take (call_handle_of (slice_get answers 2)))
+    (if is_cancelled (slice_get answers 3) then step.End
+    else step.Take (call_handle_of (slice_get answers 2)))
     else if length answers == 6 then step.WriteOutput (Success (codes "done")) stable
     else step.End

@@ -1,6 +1,6 @@
--- The handler `race`: sleep, call "greet" of "Greeter" with the input, await the first of both, and ask whether the call's
--- result is there. If so take it and write it as the output; else take the sleep and write "timeout". Then end. When it
--- is cancelled it writes a failure and ends.
+-- The handler `race`: sleep, call "greet" of "Greeter" with the input, await the first of both, and
+-- ask whether the call's result is there. If so take it and write it as the output; else take the
+-- sleep and write "timeout". Then end. When it is cancelled it writes a failure and ends.
 use Rattle.std.specs.Prelude.{◌==◌, if◌then◌else◌, List, [], length, slice_get, codes, None}
 use Rattle.vm_types.specs.declared.steps.Answer.{Answer}
 use Rattle.vm_types.specs.declared.steps.Step.{Step}
@@ -15,22 +15,27 @@ use Rattle.handlers.specs.Calls.{both, call_of}
 -- the handle of the call, where its result is there, and else of the sleep
 abbrev pub winner : List Answer → NotificationHandle
 winner answers =
-    if is_completed (slice_get answers 4) then call_handle_of (slice_get answers 2) else handle_of (slice_get answers 1)
+    if is_completed (slice_get answers 4) then call_handle_of (slice_get answers 2)
+    else handle_of (slice_get answers 1)
 
 -- what the call gave, where its result was there, and else "timeout"
 abbrev pub race_output : List Answer → NonEmptyValue
 race_output answers =
-    if is_completed (slice_get answers 4) then output_of (slice_get answers 5) else Success (codes "timeout")
+    if is_completed (slice_get answers 4) then output_of (slice_get answers 5)
+    else Success (codes "timeout")
 
 -- the step after so many answers
 abbrev pub race_step : List Answer → Step
 race_step answers =
     if length answers == 1 then step.Sleep [] (record { secs = 1; nanos = 0 }) None
-    else if length answers == 2 then call_of (codes "Greeter") (codes "greet") (input_of (slice_get answers 0))
+    else if length answers == 2
+    then call_of (codes "Greeter") (codes "greet") (input_of (slice_get answers 0))
     else if length answers == 3 then
-    step.Await (FirstCompleted (both (handle_of (slice_get answers 1)) (call_handle_of (slice_get answers 2))))
+    step.Await (FirstCompleted
+    (both (handle_of (slice_get answers 1)) (call_handle_of (slice_get answers 2))))
     else if length answers == 4 then
-    (if is_cancelled (slice_get answers 3) then cancelled_output else step.Completed (call_handle_of (slice_get answers 2)))
+    (if is_cancelled (slice_get answers 3) then cancelled_output
+    else step.Completed (call_handle_of (slice_get answers 2)))
     else if length answers == 5 then
     (if is_cancelled (slice_get answers 3) then step.End else step.Take (winner answers))
     else if length answers == 6 then step.WriteOutput (race_output answers) stable

@@ -1,5 +1,5 @@
--- The handler `sleeper`: sleep, await it, take it, write an empty output, end. When it is cancelled it writes a failure
--- and ends.
+-- The handler `sleeper`: sleep, await it, take it, write an empty output, end. When it is cancelled
+-- it writes a failure and ends.
 use Rattle.std.specs.Prelude.{◌==◌, if◌then◌else◌, List, [], length, slice_get, None}
 use Rattle.vm_types.specs.declared.steps.Answer.{Answer}
 use Rattle.vm_types.specs.declared.steps.Step.{Step}
@@ -14,7 +14,8 @@ sleeper_step answers =
     if length answers == 1 then step.Sleep [] (record { secs = 1; nanos = 0 }) None
     else if length answers == 2 then step.Await (Single (handle_of (slice_get answers 1)))
     else if length answers == 3 then
-    (if is_cancelled (slice_get answers 2) then cancelled_output else step.Take (handle_of (slice_get answers 1)))
+    (if is_cancelled (slice_get answers 2) then cancelled_output
+    else step.Take (handle_of (slice_get answers 1)))
     else if length answers == 4 then
     (if is_cancelled (slice_get answers 2) then step.End else step.WriteOutput (Success []) stable)
     else step.End

@@ -26,7 +26,8 @@ pub enum Named {
 impl Named {
     /// The handler of this name, if there is one whose attempts execute nothing outside.
     pub fn of_name(alloc: Global, name: &str) -> Option<Named>
-        ensures { MatchOption result (step_named name.now ≡ None) (λ handler. step_named name.now ≡ Some (step_of handler)) }
+        ensures { MatchOption result (step_named name.now ≡ None) (λ handler. step_named name.now
+            ≡ Some (step_of handler)) }
     {
         match name {
             "sleeper" => Some(Named::Sleeper(Sleeper { alloc })),
@@ -40,7 +41,8 @@ impl Named {
 
     /// The handler of this name, if there is one: `charge` too, whose run a round executes.
     pub fn in_rounds(alloc: Global, name: &str) -> Option<Named>
-        ensures { MatchOption result (step_in_rounds name.now ≡ None) (λ handler. step_in_rounds name.now ≡ Some (step_of handler)) }
+        ensures { MatchOption result (step_in_rounds name.now
+            ≡ None) (λ handler. step_in_rounds name.now ≡ Some (step_of handler)) }
     {
         match name {
             "charge" => Some(Named::Charge(Charge { alloc })),

@@ -4,4 +4,5 @@ use Rattle.std.specs.Cmp.Lexicographic.{pointwise}
 
 -- the text under `content-type`; under any other name there is no header
 abbrev pub found : List ℕ → List ℕ → Option (Option (List ℕ))
-found content_type name = if pointwise nat_eq name (codes "content-type") then Some (Some content_type) else Some None
+found content_type name =
+    if pointwise nat_eq name (codes "content-type") then Some (Some content_type) else Some None

@@ -1,4 +1,5 @@
--- What a run of the program does: it reads its input, drives an attempt to its end, and writes the attempt's output.
+-- What a run of the program does: it reads its input, drives an attempt to its end, and writes the
+-- attempt's output.
 use Rattle.std.specs.Prelude.{◌≡◌, ◌⊎◌, ℕ, zero, suc, ◌-◌, ◌^◌, List, [], Option, Some, None, IfSome, Result, Ok, Err}
 use Rattle.std.proofs.Common.{Global}
 use Rattle.std.specs.List.{concat}
@@ -25,7 +26,8 @@ use Rattle.vm_attempt.specs.Fixed.{fixed_by}
 -- so many steps, each of which gave the handler one answer
 abbrev pub Stepped : Meaning → ℕ → Record → Record → Type 0
 Stepped meaning zero first now = now ≡ first
-Stepped meaning (suc n) first now = (before : Record) × Stepped meaning n first before × StepDoes meaning before (Ok progress.Stepped) now
+Stepped meaning (suc n) first now = (before : Record) × Stepped meaning n first before
+    × StepDoes meaning before (Ok progress.Stepped) now
 
 -- how the attempt ends by this step, if it is the last one
 abbrev pub end_after : Result Progress Error → Option AttemptEnd
@@ -37,47 +39,65 @@ end_after (Ok (progress.Waiting input run)) = Some attempt_end.Stalled
 end_after (Ok (progress.ExecuteRun run)) = Some attempt_end.Stalled
 end_after (Err e) = Some (attempt_end.Failed e)
 
--- Steps are made until one gives the handler no answer. An attempt that gave 2 ^ 64 - 1 answers is stalled.
+-- Steps are made until one gives the handler no answer. An attempt that gave 2 ^ 64 - 1 answers is
+-- stalled.
 abbrev pub Drives : Meaning → Record → AttemptEnd → Record → Type 0
 Drives meaning first ending now =
-    ((n : ℕ) × (before : Record) × (last : Result Progress Error) × Stepped meaning n first before × StepDoes meaning before last now × (end_after last ≡ Some ending))
+    ((n : ℕ) × (before : Record) × (last : Result Progress Error) × Stepped meaning n first before
+    × StepDoes meaning before last now × (end_after last ≡ Some ending))
     ⊎ (Stepped meaning (2 ^ 64 - 1) first now × (ending ≡ attempt_end.Stalled))
 
 -- the attempt is fed the bytes, and then its input is closed
 abbrev pub IsFed : List ℕ → Record → Record → Type 0
 IsFed input first now =
-    (between : Record) × ((fits : Result Unit AllocError) × FeedDoes first.starved input first fits between) × ((fits : Result Unit AllocError) × CloseDoes between.starved between fits now)
+    (between : Record) × ((fits : Result Unit AllocError)
+    × FeedDoes first.starved input first fits between)
+    × ((fits : Result Unit AllocError) × CloseDoes between.starved between fits now)
 
 -- The attempt is fed the bytes, it is driven, this is all its output, and this holds of it then.
 abbrev pub Runs : (Record → Type 0) → Meaning → Record → List ℕ → AttemptEnd → List ℕ → Type 0
 Runs holds_then meaning fresh input ending output =
-    (fed : Record) × (driven : Record) × IsFed input fresh fed × Drives meaning fed ending driven × (output ≡ concat driven.vm.machine.output) × holds_then driven
+    (fed : Record) × (driven : Record) × IsFed input fresh fed × Drives meaning fed ending driven
+    × (output ≡ concat driven.vm.machine.output) × holds_then driven
 
 -- what waits is whole frames
 abbrev pub SendsWhole : Record → Type 0
 SendsWhole r = WholeFrames r.vm.machine.output
 
 -- The input is all that the reader had left, where this is known, and this holds of the output.
-abbrev pub Serves : (Record → Type 0) → Meaning → Record → Option (List ℕ) → (List ℕ → Type 0) → AttemptEnd → Type 0
+abbrev pub Serves : (Record → Type 0) → Meaning → Record → Option (List ℕ) → (List ℕ → Type 0)
+    → AttemptEnd → Type 0
 Serves holds_then meaning fresh left written ending =
-    (input : List ℕ) × (output : List ℕ) × IfSome left (λ bytes. input ≡ bytes) × Runs holds_then meaning fresh input ending output × written output
+    (input : List ℕ) × (output : List ℕ) × IfSome left (λ bytes. input ≡ bytes)
+    × Runs holds_then meaning fresh input ending output × written output
 
--- Where no completion has two results, the answers of an attempt with the options by default are told by the journal that it was
--- fed and what it wrote.
+-- Where no completion has two results, the answers of an attempt with the options by default are
+-- told by the journal that it was fed and what it wrote.
 abbrev pub IsTold : Meaning → Version → Record → Type 0
-IsTold meaning version r = NoneHasTwo (fixed_by meaning version default_options) (heard version r) → (r.answers ≡ []) ⊎ AnswersAreTold (fixed_by meaning version default_options) r
+IsTold meaning version r = NoneHasTwo (fixed_by meaning version default_options) (heard version r)
+    → (r.answers ≡ []) ⊎ AnswersAreTold (fixed_by meaning version default_options) r
 
--- the same of a new attempt with the options by default, for the version that was asked for: its answers are told
-abbrev pub ServesAnew : Global → Result Version Error → Meaning → Option (List ℕ) → (List ℕ → Type 0) → AttemptEnd → Type 0
-ServesAnew alloc (Ok version) meaning left written ending = Serves (IsTold meaning version) meaning (fresh_record (made alloc default_options version)) left written ending
+-- the same of a new attempt with the options by default, for the version that was asked for: its
+-- answers are told
+abbrev pub ServesAnew : Global → Result Version Error → Meaning → Option (List ℕ)
+    → (List ℕ → Type 0) → AttemptEnd → Type 0
+ServesAnew alloc (Ok version) meaning left written ending = Serves (IsTold meaning version) meaning
+    (fresh_record (made alloc default_options version)) left written ending
 ServesAnew alloc (Err refusal) meaning left written ending = ⊥
 
--- What each end of a run says. `serves` says that an attempt was served to that end, and what is written of its output
--- into a writer that held and now holds these bytes; `read` that all was read, and `unwritten` that nothing was written.
-abbrev pub Tells : Result Version Error → ((List ℕ → Type 0) → AttemptEnd → Type 0) → Option (List ℕ) → Option (List ℕ) → (IoError → Type 0) → (IoError → Type 0) → Type 0 → Type 0 → RunEnd → Type 0
+-- What each end of a run says. `serves` says that an attempt was served to that end, and what is
+-- written of its output into a writer that held and now holds these bytes; `read` that all was
+-- read, and `unwritten` that nothing was written.
+abbrev pub Tells : Result Version Error → ((List ℕ → Type 0) → AttemptEnd → Type 0)
+    → Option (List ℕ) → Option (List ℕ) → (IoError → Type 0) → (IoError → Type 0) → Type 0 → Type 0
+    → RunEnd → Type 0
 Tells version serves held holds read_fails write_fails read unwritten UnknownHandler = unwritten
-Tells version serves held holds read_fails write_fails read unwritten (Refused refusal) = (version ≡ Err refusal) × unwritten
-Tells version serves held holds read_fails write_fails read unwritten (ReadFailed e) = read_fails e × unwritten
+Tells version serves held holds read_fails write_fails read unwritten (Refused refusal) = (version
+    ≡ Err refusal) × unwritten
+Tells version serves held holds read_fails write_fails read unwritten (ReadFailed e) = read_fails e
+    × unwritten
 Tells version serves held holds read_fails write_fails read unwritten NoMemory = read × unwritten
-Tells version serves held holds read_fails write_fails read unwritten (WriteFailed ending e) = write_fails e × read × serves (AppendsSome held holds) ending
-Tells version serves held holds read_fails write_fails read unwritten (Written ending) = read × serves (Appends held holds) ending
+Tells version serves held holds read_fails write_fails read unwritten (WriteFailed ending e) =
+    write_fails e × read × serves (AppendsSome held holds) ending
+Tells version serves held holds read_fails write_fails read unwritten (Written ending) = read
+    × serves (Appends held holds) ending

@@ -6,7 +6,8 @@ use Rattle.runner.specs.declared.run_end.AttemptEnd.TheVariants as attempt_end
 use Rattle.runner.specs.declared.run_end.RunEnd.{RunEnd}
 use Rattle.runner.specs.declared.run_end.RunEnd.TheVariants.{UnknownHandler, Refused, ReadFailed, NoMemory, WriteFailed, Written}
 
--- 0: the handler has ended; 1: the VM, reading or writing failed; 2: the arguments make no sense; 3: suspended
+-- 0: the handler has ended; 1: the VM, reading or writing failed; 2: the arguments make no sense;
+-- 3: suspended
 abbrev pub code_of : ExitStatus → ℕ
 code_of status.Ended = 0
 code_of status.Failed = 1

@@ -20,7 +20,9 @@ use vm_attempt::{Attempt, Handler, Progress};
 
 /// Makes a step, and tells how the attempt ends, if it is the last one.
 fn step_of<H: Handler>(attempt: &mut Attempt<H>) -> Option<AttemptEnd>
-    ensures does { (last : Result Progress Error) × StepDoes (H.meaning attempt.old.handler) attempt.old.record_of last attempt.new.record_of × (result ≡ end_after last) }
+    ensures does { (last : Result Progress Error)
+        × StepDoes (H.meaning attempt.old.handler) attempt.old.record_of last attempt.new.record_of
+        × (result ≡ end_after last) }
     ensures handler { attempt.new.handler ≡ attempt.old.handler }
 {
     match attempt.step() {
@@ -35,7 +37,8 @@ fn step_of<H: Handler>(attempt: &mut Attempt<H>) -> Option<AttemptEnd>
 
 /// Makes steps until one gives the handler no answer.
 fn drive<H: Handler>(attempt: &mut Attempt<H>) -> AttemptEnd
-    ensures { Drives (H.meaning attempt.old.handler) attempt.old.record_of result attempt.new.record_of }
+    ensures { Drives (H.meaning attempt.old.handler) attempt.old.record_of result
+        attempt.new.record_of }
 {
     for _ in 0..u64::MAX {
         if let Some(ending) = step_of(attempt) {
@@ -59,7 +62,8 @@ fn serve<H: Handler>(
     attempt: &mut Attempt<H>,
     input: Bytes,
 ) -> Result<(AttemptEnd, Bytes), AllocError>
-    ensures { IfOk result (λ served. Runs SendsWhole (H.meaning attempt.old.handler) attempt.old.record_of input served.0 served.1) }
+    ensures { IfOk result (λ served. Runs SendsWhole (H.meaning attempt.old.handler)
+        attempt.old.record_of input served.0 served.1) }
 {
     feed_all(attempt, input);
     let ending = drive(attempt);
@@ -74,7 +78,8 @@ fn serve_anew<H: Handler + Drop>(
     handler: H,
     input: Vec<u8>,
 ) -> Result<(AttemptEnd, Bytes), AllocError>
-    ensures { IfOk result (λ served. ServesAnew alloc (version_in (Some (Some content_type.now))) (H.meaning handler) (Some input.items) (λ output. output ≡ served.1) served.0) }
+    ensures { IfOk result (λ served. ServesAnew alloc (version_in (Some (Some content_type.now)))
+        (H.meaning handler) (Some input.items) (λ output. output ≡ served.1) served.0) }
 {
     let input = Bytes::from_vec(input)?;
     let content_type = ContentType(content_type);
@@ -94,8 +99,14 @@ fn run_handler<H: Handler + Drop, R: Source, W: Sink>(
 ) -> RunEnd
     ensures known { result ≢ run_end.UnknownHandler }
     // A refused content type is found before anything is read.
-    ensures refused { IfErr (version_in (Some (Some content_type.now))) (λ refusal. (result ≡ run_end.Refused refusal) × (reader.new ≡ reader.old) × (writer.new ≡ writer.old)) }
-    ensures runs { Tells (version_in (Some (Some content_type.now))) (ServesAnew alloc (version_in (Some (Some content_type.now))) (H.meaning handler) (R.remaining reader.old)) (W.contents writer.old) (W.contents writer.new) (R.fails reader.old) (W.fails writer.old) (IsAtEnd (R.remaining reader.new)) (writer.new ≡ writer.old) result }
+    ensures refused { IfErr (version_in (Some (Some content_type.now)))
+        (λ refusal. (result ≡ run_end.Refused refusal) × (reader.new ≡ reader.old)
+        × (writer.new ≡ writer.old)) }
+    ensures runs { Tells (version_in (Some (Some content_type.now)))
+        (ServesAnew alloc (version_in (Some (Some content_type.now))) (H.meaning handler)
+        (R.remaining reader.old)) (W.contents writer.old) (W.contents writer.new)
+        (R.fails reader.old) (W.fails writer.old) (IsAtEnd (R.remaining reader.new)) (writer.new
+        ≡ writer.old) result }
 {
     if let Err(refusal) = ContentType(content_type).version() {
         return RunEnd::Refused(refusal);
@@ -127,11 +138,19 @@ pub fn run<R: Source, W: Sink>(
     ensures unread { result ≡ run_end.UnknownHandler → reader.new ≡ reader.old }
     ensures unwritten { result ≡ run_end.UnknownHandler → writer.new ≡ writer.old }
     // So is a refused content type.
-    ensures refused { IfSome (step_named handler.now) (λ _. IfErr (version_in (Some (Some content_type.now))) (λ refusal. (result ≡ run_end.Refused refusal) × (reader.new ≡ reader.old) × (writer.new ≡ writer.old))) }
+    ensures refused { IfSome (step_named handler.now)
+        (λ _. IfErr (version_in (Some (Some content_type.now)))
+        (λ refusal. (result ≡ run_end.Refused refusal) × (reader.new ≡ reader.old)
+        × (writer.new ≡ writer.old))) }
     // Each other run has read all that there was and served it to an attempt, whose answers are told by that journal and by what
     // it wrote; or reading has failed, or memory was lacking behind it, and nothing is written. All that the attempt sends is
     // written, or a beginning where writing has failed.
-    ensures runs { IfSome (step_named handler.now) (λ meaning. Tells (version_in (Some (Some content_type.now))) (ServesAnew alloc (version_in (Some (Some content_type.now))) meaning (R.remaining reader.old)) (W.contents writer.old) (W.contents writer.new) (R.fails reader.old) (W.fails writer.old) (IsAtEnd (R.remaining reader.new)) (writer.new ≡ writer.old) result) }
+    ensures runs { IfSome (step_named handler.now)
+        (λ meaning. Tells (version_in (Some (Some content_type.now)))
+        (ServesAnew alloc (version_in (Some (Some content_type.now))) meaning
+        (R.remaining reader.old)) (W.contents writer.old) (W.contents writer.new)
+        (R.fails reader.old) (W.fails writer.old) (IsAtEnd (R.remaining reader.new)) (writer.new
+        ≡ writer.old) result) }
 {
     match Named::of_name(alloc, handler) {
         Some(handler) => run_handler(alloc, content_type, handler, reader, writer),

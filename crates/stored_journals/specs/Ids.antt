@@ -23,10 +23,12 @@ known_now ids id = unwrap_or (lookup (is_at (nat_cmp id)) ids.since) (known_kept
 
 -- this is known of one id from now on, and of the others what was
 abbrev pub Changes : ℕ → (Known → Known) → Seen → Seen → Type 0
-Changes id change old new = (q : ℕ) → known_now new q ≡ (if id == q then change (known_now old q) else known_now old q)
+Changes id change old new =
+    (q : ℕ) → known_now new q ≡ (if id == q then change (known_now old q) else known_now old q)
 
 -- what is said of each id, changed by these: what completes it, and whether it was completed
-abbrev pub SaysWith : (ℕ → Option Completes → Option Completes) → (ℕ → Bool → Bool) → Seen → Seen → Type 0
+abbrev pub SaysWith : (ℕ → Option Completes → Option Completes) → (ℕ → Bool → Bool) → Seen → Seen
+    → Type 0
 SaysWith kinds dones old new =
     (id : ℕ) (before : Option Completes) (done : Bool) → Says before done (known_now old id)
     → Says (kinds id before) (dones id done) (known_now new id)

@@ -53,9 +53,11 @@ abbrev pub done_read : ℕ → Option Notification → Bool → Bool
 done_read id None done = done
 done_read id (Some note) done = done || is_of id note.id
 
--- an entry is appended that says this, if it is a command, or that is this notification, if it is one
+-- an entry is appended that says this, if it is a command, or that is this notification, if it is
+-- one
 pub record Appends (said : Option Message) (note : Option Notification) (old : View) (new : View) : Type 0 where
-  pub ids : SaysWith (λ id before. completes_read id said before) (λ id done. done_read id note done) old.ids new.ids
+  pub ids : SaysWith (λ id before. completes_read id said before)
+      (λ id done. done_read id note done) old.ids new.ids
   pub count : new.entries ≡ old.entries + 1
 
 -- ---- what comes of an entry
@@ -63,12 +65,14 @@ pub record Appends (said : Option Message) (note : Option Notification) (old : V
 -- behind each journal that is known the entry has no fault, and with it the journal is known
 abbrev pub Enters : (List (List ℕ) → Option RoundFault) → List ℕ → View → View → Type 0
 Enters fault entry old new =
-    (journal : List (List ℕ)) → Holds old journal → (fault journal ≡ None) × Holds new (journal ++ entry ∷ [])
+    (journal : List (List ℕ)) → Holds old journal → (fault journal ≡ None)
+    × Holds new (journal ++ entry ∷ [])
 
 -- it is out of memory, or the fault behind each journal that is known
 abbrev pub IsFault : (List (List ℕ) → Option RoundFault) → View → RoundFault → Type 0
 IsFault fault view f =
-    (f ≡ round_fault.Memory) ⊎ ((journal : List (List ℕ)) → Holds view journal → fault journal ≡ Some f)
+    (f ≡ round_fault.Memory)
+    ⊎ ((journal : List (List ℕ)) → Holds view journal → fault journal ≡ Some f)
 
 -- behind each journal that is known the frame has no fault, and it is appended
 abbrev pub Loads : RawMessage → View → View → Type 0
@@ -96,21 +100,25 @@ room_at entries = if entries == most then Some round_fault.JournalFull else None
 
 -- the fault of a completion, by what is known of its id
 abbrev pub known_fault : Known → NotificationResult → Option RoundFault → Option RoundFault
-known_fault known brings room = completion_fault (option_map as_completes known.kind) known.done brings room
+known_fault known brings room =
+    completion_fault (option_map as_completes known.kind) known.done brings room
 
 -- the same in a journal that is given
 abbrev pub known_given : Known → NotificationResult → Option RoundFault → Option RoundFault
-known_given known brings room = completion_fault (as_given (option_map as_completes known.kind)) known.done brings room
+known_given known brings room =
+    completion_fault (as_given (option_map as_completes known.kind)) known.done brings room
 
 -- the fault of a notification
 abbrev pub arriving_fault : NotificationId → NotificationResult → View → Option RoundFault
-arriving_fault (CompletionId id) brings view = known_fault (known_now view.ids id) brings (room_at view.entries)
+arriving_fault (CompletionId id) brings view = known_fault (known_now view.ids id) brings
+    (room_at view.entries)
 arriving_fault (SignalId id) brings view = room_at view.entries
 arriving_fault (SignalName name) brings view = room_at view.entries
 
 -- the fault of a notification in a journal that is given
 abbrev pub given_note_fault : NotificationId → NotificationResult → View → Option RoundFault
-given_note_fault (CompletionId id) brings view = known_given (known_now view.ids id) brings (room_at view.entries)
+given_note_fault (CompletionId id) brings view = known_given (known_now view.ids id) brings
+    (room_at view.entries)
 given_note_fault (SignalId id) brings view = room_at view.entries
 given_note_fault (SignalName name) brings view = room_at view.entries
 
@@ -126,8 +134,10 @@ may_be_given false raw read = is_some (said_of read) || is_some (note_of read)
 
 -- the fault of a frame in a journal that is given, and of what was read from it
 abbrev pub given_fault : RawMessage → Part → View → Option RoundFault
-given_fault raw read view = option_or (noted_fault (note_of read) view) (option_or (room_at view.entries) (place_fault (may_be_given (view.entries == 0) raw read)))
+given_fault raw read view = option_or (noted_fault (note_of read) view)
+    (option_or (room_at view.entries) (place_fault (may_be_given (view.entries == 0) raw read)))
 
 -- the fault of a proposal
 abbrev pub proposing_fault : ℕ → View → Option RoundFault
-proposing_fault id view = proposed_fault (option_map as_completes (known_now view.ids id).kind) (known_now view.ids id).done (room_at view.entries)
+proposing_fault id view = proposed_fault (option_map as_completes (known_now view.ids id).kind)
+    (known_now view.ids id).done (room_at view.entries)

@@ -1,4 +1,5 @@
--- What a journal says of a completion id: what completes it, if a command carries it, and whether it was completed.
+-- What a journal says of a completion id: what completes it, if a command carries it, and whether
+-- it was completed.
 use Rattle.std.specs.Prelude.{◌≡◌, ℕ, ◌==◌, Bool, true, false, List, Option, Some, None}
 use Rattle.std.specs.Option.{option_map}
 use Rattle.vm_store.specs.declared.completions.Completes.{Completes}
@@ -22,7 +23,8 @@ pub record Says (what : Option Completes) (whether : Bool) (known : Known) : Typ
 
 -- this is what a journal says of an id
 abbrev pub IsKnown : List (List ℕ) → ℕ → Known → Type 0
-IsKnown journal id known = Says (completes_among id (said_in journal) None) (is_completed id (notes_in journal)) known
+IsKnown journal id known =
+    Says (completes_among id (said_in journal) None) (is_completed id (notes_in journal)) known
 
 -- no command carries the id, and nothing completed it
 abbrev pub nothing_known : Known

@@ -31,16 +31,23 @@ pub record StoresBy (version : Version) (w : Written) (old : View) (entries : Li
   pub appends : Appends (said_at (stored_as w)) (note_in (stored_as w)) old new
 
 -- a frame was stored, or there is nothing to be stored of it
-abbrev pub StoresRawBy : Version → RawMessage → Bool → View → List (List ℕ) → List ℕ → View → List (List ℕ) → List ℕ → Type 0
-StoresRawBy version raw false old entries feed new entries' feed' = (written_as raw ≡ None) × (new ≡ old) × (entries' ≡ entries) × (feed' ≡ feed)
-StoresRawBy version raw true old entries feed new entries' feed' = (w : Written) × (written_as raw ≡ Some w) × StoresBy version w old entries feed new entries' feed'
+abbrev pub StoresRawBy : Version → RawMessage → Bool → View → List (List ℕ) → List ℕ → View
+    → List (List ℕ) → List ℕ → Type 0
+StoresRawBy version raw false old entries feed new entries' feed' =
+    (written_as raw ≡ None) × (new ≡ old) × (entries' ≡ entries) × (feed' ≡ feed)
+StoresRawBy version raw true old entries feed new entries' feed' = (w : Written)
+    × (written_as raw ≡ Some w) × StoresBy version w old entries feed new entries' feed'
 
--- the next frame was looked at, and stored where there is something to be stored of it; or none is whole
-abbrev pub StoresOneBy : Version → List ℕ → Option Bool → List ℕ → View → List (List ℕ) → List ℕ → View → List (List ℕ) → List ℕ → Type 0
+-- the next frame was looked at, and stored where there is something to be stored of it; or none is
+-- whole
+abbrev pub StoresOneBy : Version → List ℕ → Option Bool → List ℕ → View → List (List ℕ) → List ℕ
+    → View → List (List ℕ) → List ℕ → Type 0
 StoresOneBy version unstored None unstored' old entries feed new entries' feed' =
-    ((next_of unstored ≡ Partial) ⊎ (next_of unstored ≡ Malformed)) × (unstored' ≡ unstored) × (new ≡ old) × (entries' ≡ entries) × (feed' ≡ feed)
+    ((next_of unstored ≡ Partial) ⊎ (next_of unstored ≡ Malformed)) × (unstored' ≡ unstored)
+    × (new ≡ old) × (entries' ≡ entries) × (feed' ≡ feed)
 StoresOneBy version unstored (Some b) unstored' old entries feed new entries' feed' =
-    (raw : RawMessage) × (next_of unstored ≡ Whole raw unstored') × (length raw.body < 2 ^ 64) × StoresRawBy version raw b old entries feed new entries' feed'
+    (raw : RawMessage) × (next_of unstored ≡ Whole raw unstored') × (length raw.body < 2 ^ 64)
+    × StoresRawBy version raw b old entries feed new entries' feed'
 
 -- what is stored of a frame has this fault
 pub record FaultsBy (raw : RawMessage) (view : View) (f : RoundFault) : Type 0 where
@@ -55,14 +62,17 @@ pub record NextFaultsBy (unstored : List ℕ) (view : View) (f : RoundFault) : T
   pub next : next_of unstored ≡ Whole raw rest
   pub has : FaultsBy raw view f
 
--- For each journal that is known and ends with these entries, the next n commands and proposals are stored, or all if there are
--- fewer; and the journal with their entries is known.
-abbrev pub StoresNext : Version → ℕ → List ℕ → List ℕ → View → List (List ℕ) → List ℕ → View → List (List ℕ) → List ℕ → Type 0
+-- For each journal that is known and ends with these entries, the next n commands and proposals are
+-- stored, or all if there are fewer; and the journal with their entries is known.
+abbrev pub StoresNext : Version → ℕ → List ℕ → List ℕ → View → List (List ℕ) → List ℕ → View
+    → List (List ℕ) → List ℕ → Type 0
 StoresNext version n unstored unstored' old entries feed new entries' feed' =
     (before : List (List ℕ)) → Holds old (before ++ entries)
-    → Stores version n unstored (before ++ entries) feed (before ++ entries') feed' unstored' × Holds new (before ++ entries')
+    → Stores version n unstored (before ++ entries) feed (before ++ entries') feed' unstored'
+    × Holds new (before ++ entries')
 
--- it is out of memory, or the fault of the first that has one, behind each journal that is known and ends with these entries
+-- it is out of memory, or the fault of the first that has one, behind each journal that is known
+-- and ends with these entries
 abbrev pub IsStoringFault : ℕ → List ℕ → View → List (List ℕ) → RoundFault → Type 0
 IsStoringFault n unstored old entries f =
     (f ≡ round_fault.Memory)

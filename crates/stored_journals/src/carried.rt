@@ -28,7 +28,8 @@ fn one(id: u32) -> Carried
 
 /// The completion ids that a command carries.
 pub(crate) fn ids_in(command: &Message) -> Carried
-    ensures { (id : ℕ) (before : Option Completes) → completes_by id command.now before ≡ with_result id result.result (with_called id result.called before) }
+    ensures { (id : ℕ) (before : Option Completes) → completes_by id command.now before
+        ≡ with_result id result.result (with_called id result.called before) }
 {
     match command {
         Message::Sleep(c) => one(c.result_completion_id),

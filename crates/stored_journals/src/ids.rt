@@ -94,7 +94,8 @@ impl Ids {
 
     /// The id of a call's invocation, if there is one, is carried.
     pub(crate) fn carry_called(&mut self, called: Option<u32>) -> Result<(), AllocError>
-        ensures ok { OnOk result (SaysWith (λ id before. with_called id called before) (λ id done. done)
+        ensures ok { OnOk result
+            (SaysWith (λ id before. with_called id called before) (λ id done. done)
             self.old self.new) }
         ensures kept { self.new.kept ≡ self.old.kept }
     {
@@ -106,7 +107,8 @@ impl Ids {
 
     /// The id of a result, if there is one, is carried.
     pub(crate) fn carry_result(&mut self, carried: Option<(u32, Kind)>) -> Result<(), AllocError>
-        ensures ok { OnOk result (SaysWith (λ id before. with_result id carried before) (λ id done. done)
+        ensures ok { OnOk result
+            (SaysWith (λ id before. with_result id carried before) (λ id done. done)
             self.old self.new) }
         ensures kept { self.new.kept ≡ self.old.kept }
     {
@@ -118,7 +120,8 @@ impl Ids {
 
     /// A notification completes its id, if it is a completion.
     pub(crate) fn note(&mut self, note: &NotificationId) -> Result<(), AllocError>
-        ensures ok { OnOk result (SaysWith (λ id before. before) (λ id done. done || is_of id note.now)
+        ensures ok { OnOk result
+            (SaysWith (λ id before. before) (λ id done. done || is_of id note.now)
             self.old self.new) }
         ensures kept { self.new.kept ≡ self.old.kept }
     {

@@ -269,8 +269,10 @@ impl StoredJournal {
 
     /// What was stored since the last commit is committed. After an error the journal has to be loaded again.
     pub fn keep(&mut self) -> Result<(), AllocError>
-        ensures now { OnOk result ((journal : List (List ℕ)) → Holds self.old journal → Holds self.new journal) }
-        ensures kept { OnOk result ((journal : List (List ℕ)) → Holds self.old journal → Kept self.new journal) }
+        ensures now { OnOk result ((journal : List (List ℕ)) → Holds self.old journal
+            → Holds self.new journal) }
+        ensures kept { OnOk result ((journal : List (List ℕ)) → Holds self.old journal
+            → Kept self.new journal) }
     {
         self.ids.keep()?;
         self.kept = self.entries;

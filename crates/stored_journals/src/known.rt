@@ -72,7 +72,8 @@ impl Known {
         brings: &NotificationResult,
         room: Option<RoundFault>,
     ) -> Option<RoundFault>
-        ensures { result ≡ completion_fault (option_map as_completes self.kind) self.done brings.now room }
+        ensures { result ≡ completion_fault (option_map as_completes self.kind) self.done brings.now
+            room }
     {
         match (self.kind, self.done) {
             (None, _) => Some(RoundFault::NoSuchId),
@@ -87,7 +88,8 @@ impl Known {
         brings: &NotificationResult,
         room: Option<RoundFault>,
     ) -> Option<RoundFault>
-        ensures { result ≡ completion_fault (as_given (option_map as_completes self.kind)) self.done brings.now room }
+        ensures { result ≡ completion_fault (as_given (option_map as_completes self.kind)) self.done
+            brings.now room }
     {
         match (self.kind, self.done) {
             (None, _) => Some(RoundFault::NoSuchId),

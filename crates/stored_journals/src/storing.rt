@@ -102,7 +102,8 @@ fn answer_bytes(
     id: u32,
     completion: &Bytes,
 ) -> Result<Bytes, AllocError>
-    ensures bytes { IfOk result (λ b. b ≡ (if is_from_v7 version then encoding (acknowledgement id) else completion.now)) }
+    ensures bytes { IfOk result (λ b. b
+        ≡ (if is_from_v7 version then encoding (acknowledgement id) else completion.now)) }
     ensures whole { OnOk result (is_from_v7 version ≡ true → IsWhole (acknowledgement id)) }
 {
     if version >= Version::V7 {
@@ -123,7 +124,8 @@ fn append_frame(
     requires room { journal.old.entries < 4_294_967_295 }
     requires fits { length raw.now.body < 2 ^ 64 }
     ensures stored { OnOk result (entries.new.items ≡ entries.old.items ++ frame_of raw.now ∷ []) }
-    ensures appended { OnOk result (Appends (said_at (frame_of raw.now)) (note_in (frame_of raw.now)) journal.old journal.new) }
+    ensures appended { OnOk result
+        (Appends (said_at (frame_of raw.now)) (note_in (frame_of raw.now)) journal.old journal.new) }
     ensures kept { IsSameKept journal.old journal.new }
 {
     let frame = frame_bytes(alloc, raw)?;
@@ -166,7 +168,8 @@ fn append_completion(
     note: Notification,
 ) -> Result<Bytes, AllocError>
     requires { journal.old.entries < 4_294_967_295 }
-    ensures stored { OnOk result (entries.new.items ≡ entries.old.items ++ encoding (message.Notification note) ∷ []) }
+    ensures stored { OnOk result (entries.new.items ≡ entries.old.items
+        ++ encoding (message.Notification note) ∷ []) }
     ensures appended { OnOk result (Appends None (Some note) journal.old journal.new) }
     ensures bytes { IfOk result (λ b. b ≡ encoding (message.Notification note)) }
     ensures whole { OnOk result (IsWhole (message.Notification note)) }
@@ -189,10 +192,14 @@ fn settle(
     proposal: KeptProposal,
 ) -> Result<(), AllocError>
     requires { journal.old.entries < 4_294_967_295 }
-    ensures stored { OnOk result (entries.new.items ≡ entries.old.items ++ encoding (completed_by proposal) ∷ []) }
+    ensures stored { OnOk result (entries.new.items ≡ entries.old.items
+        ++ encoding (completed_by proposal) ∷ []) }
     ensures waits { OnOk result (feed.new.items ≡ feed.old.items ++ answered_by version proposal) }
-    ensures appended { OnOk result (Appends None (Some (completion_of proposal.completion_id proposal)) journal.old journal.new) }
-    ensures whole { OnOk result (IsWhole (completed_by proposal) × (is_from_v7 version ≡ true → IsWhole (acknowledgement proposal.completion_id))) }
+    ensures appended { OnOk result
+        (Appends None (Some (completion_of proposal.completion_id proposal)) journal.old
+        journal.new) }
+    ensures whole { OnOk result (IsWhole (completed_by proposal)
+        × (is_from_v7 version ≡ true → IsWhole (acknowledgement proposal.completion_id))) }
     ensures kept { IsSameKept journal.old journal.new }
 {
     let id = proposal.completion_id;
@@ -239,7 +246,8 @@ fn store_item(
     requires { fits_in item }
     ensures ok { OnOk result (StoresBy version item
         journal.old entries.old.items feed.old.items journal.new entries.new.items feed.new.items) }
-    ensures err { IfErr result (λ f. (f ≡ round_fault.Memory) ⊎ (storing_by item journal.old ≡ Some f)) }
+    ensures err { IfErr result (λ f. (f ≡ round_fault.Memory)
+        ⊎ (storing_by item journal.old ≡ Some f)) }
     ensures kept { IsSameKept journal.old journal.new }
 {
     match item {
@@ -299,7 +307,8 @@ fn store_one(
 ) -> Result<Option<bool>, RoundFault>
     ensures ok { IfOk result (λ o. StoresOneBy version unstored.old o unstored.new
         journal.old entries.old.items feed.old.items journal.new entries.new.items feed.new.items) }
-    ensures err { IfErr result (λ f. (f ≡ round_fault.Memory) ⊎ NextFaultsBy unstored.old journal.old f) }
+    ensures err { IfErr result (λ f. (f ≡ round_fault.Memory)
+        ⊎ NextFaultsBy unstored.old journal.old f) }
     ensures kept { IsSameKept journal.old journal.new }
 {
     match next_written(unstored) {

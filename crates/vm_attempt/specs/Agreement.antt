@@ -1,4 +1,5 @@
--- When the machine of an attempt agrees with a point of the handler's run, and what a call then does.
+-- When the machine of an attempt agrees with a point of the handler's run, and what a call then
+-- does.
 use Rattle.std.specs.Prelude.{◌≡◌, ◌⊎◌, ℕ, Bool, true, false, if◌then◌else◌, List, [], ◌∷◌, ◌++◌, map, Option, Some, None}
 use Rattle.std.specs.List.{list_any}
 use Rattle.std.proofs.Common.{Global}
@@ -44,7 +45,8 @@ use Rattle.vm_model.specs.Refusals.{IsRefusedFor}
 use Rattle.vm_steps.specs.declared.progress.Reply.{Reply}
 use Rattle.vm_steps.specs.declared.progress.Reply.TheVariants as reply
 
--- what the calls so far left in a machine that no later move depends on: the last command, as errors show it, and the pending runs
+-- what the calls so far left in a machine that no later move depends on: the last command, as
+-- errors show it, and the pending runs
 pub record Beside : Type 0 where
   pub last : LastCommand
   pub runs : List PendingRun
@@ -64,7 +66,8 @@ abbrev pub is_some_command : List RawMessage → Bool
 is_some_command [] = false
 is_some_command (c ∷ cs) = true
 
--- The machine at a point: what was handed out as state, what the attempt has written, and the point tell all else of it.
+-- The machine at a point: what was handed out as state, what the attempt has written, and the point
+-- tell all else of it.
 abbrev pub machine_at : Setup → StateMap → List RawMessage → Aside → Point → Machine
 machine_at s given written aside p = record {
   alloc = aside.alloc;
@@ -99,14 +102,16 @@ pub record Agrees (s : Setup) (given : StateMap) (written : List RawMessage) (v 
 abbrev pub command_frames : List RawMessage → List (List ℕ)
 command_frames cs = map (λ c. frame c.ty c.body) cs
 
--- the run moves on: to a point with these answers more, and these commands made, by what was handed out as state
+-- the run moves on: to a point with these answers more, and these commands made, by what was handed
+-- out as state
 pub record MovesOn (s : Setup) (m : Meaning) (given : StateMap) (p : Point) (gives : List Answer) (made : List RawMessage) (q : Point) : Type 0 where
   pub moves : ℕ
   pub run : Made s m (Handed given) moves p made q
   pub answers : q.answers ≡ p.answers ++ gives
 
--- A call was answered: the run moves on by that answer, the machine agrees with where that leads and keeps its proposals, what was made is
--- what was written, and nothing was made, or no recorded command is left there. No call has made a part there, if none had before.
+-- A call was answered: the run moves on by that answer, the machine agrees with where that leads
+-- and keeps its proposals, what was made is what was written, and nothing was made, or no recorded
+-- command is left there. No call has made a part there, if none had before.
 pub record Answered (s : Setup) (m : Meaning) (given : StateMap) (written : List RawMessage) (p : Point) (v : Machine) (a : Answer) (w : Machine) : Type 0 where
   pub at : Point
   pub made : List RawMessage
@@ -132,28 +137,30 @@ abbrev pub first_or : List ℕ → Tree → Tree
 first_or [] t = t
 first_or (handle ∷ handles) t = leaf handle
 
--- What an await of a future waits for: its tree, which the cancel signal ends too where it ends awaits; once that is there, the id of the
--- first call that is cancelled with the handler and whose id isn't known.
+-- What an await of a future waits for: its tree, which the cancel signal ends too where it ends
+-- awaits; once that is there, the id of the first call that is cancelled with the handler and whose
+-- id isn't known.
 abbrev pub awaited_tree : Setup → UnresolvedFuture → Derived → Tree
 awaited_tree s future d =
     if is_cancelled_in s d then first_or (unresolved d.tracked) (tree_of future)
     else if ends_awaits s.options.implicit_cancellation then or_cancelled (tree_of future)
     else tree_of future
 
--- This is left of a tree: of each node the children that have no outcome yet; whatever the leaves come to later, the two are awake
--- alike.
+-- This is left of a tree: of each node the children that have no outcome yet; whatever the leaves
+-- come to later, the two are awake alike.
 pub record IsLeftOf (s : Setup) (t : Tree) (d : Derived) (left : Tree) : Type 0 where
   pub residual : Residual (leaf_in s d) t left
   pub alike : AwakeAlike (leaf_in s d) t left
 
--- What an await that waits says, where it waits for input: what is left of it, by the ids of its handles, and by whether a run is
--- executing.
+-- What an await that waits says, where it waits for input: what is left of it, by the ids of its
+-- handles, and by whether a run is executing.
 abbrev pub waiting_on : Bool → Setup → Bool → Tree → Derived → List Message
-waiting_on true s executing left d = said_waiting s.version s.options.awaiting_on_policy executing (λ handle. id_at handle d.handles) left
+waiting_on true s executing left d = said_waiting s.version s.options.awaiting_on_policy executing
+    (λ handle. id_at handle d.handles) left
 waiting_on false s executing left d = []
 
--- It waits, for input or for a run, in a machine that agrees with where that leads and keeps its proposals; all that is written is what it says of what is left of
--- what it waits for.
+-- It waits, for input or for a run, in a machine that agrees with where that leads and keeps its
+-- proposals; all that is written is what it says of what is left of what it waits for.
 pub record StillAgrees (input : Bool) (s : Setup) (m : Meaning) (given : StateMap) (written : List RawMessage) (p : Point) (v w : Machine) : Type 0 where
   pub at : Point
   pub waits : Waits s m given p at
@@ -161,19 +168,22 @@ pub record StillAgrees (input : Bool) (s : Setup) (m : Meaning) (given : StateMa
   pub is_left : IsLeftOf s (awaited_tree s waits.future at.derived) at.derived left
   pub agrees : Agrees s given written w at
   pub kept : w.proposals ≡ v.proposals
-  pub output : w.output ≡ v.output ++ map encoding (waiting_on input s (list_any is_executing w.runs) left at.derived)
+  pub output : w.output ≡ v.output
+      ++ map encoding (waiting_on input s (list_any is_executing w.runs) left at.derived)
 
 -- what a suspension on this tree waits for, by the ids of its handles
 abbrev pub suspended_on : Tree → Derived → Suspension
 suspended_on left d = record { future = sent (λ handle. id_at handle d.handles) left }
 
--- it waits, and the invocation is suspended: one Suspension is written, on what is left of what it waits for
+-- it waits, and the invocation is suspended: one Suspension is written, on what is left of what it
+-- waits for
 pub record IsSuspended (s : Setup) (m : Meaning) (given : StateMap) (p : Point) (v w : Machine) : Type 0 where
   pub at : Point
   pub waits : Waits s m given p at
   pub left : Tree
   pub is_left : IsLeftOf s (awaited_tree s waits.future at.derived) at.derived left
-  pub output : w.output ≡ v.output ++ encoding (message.Suspension (suspended_on left at.derived)) ∷ []
+  pub output : w.output ≡ v.output
+      ++ encoding (message.Suspension (suspended_on left at.derived)) ∷ []
   pub closed : w.phase ≡ Closed
 
 -- the handler ends where no recorded command is left: one End is written
@@ -183,8 +193,9 @@ pub record HasEnded (m : Meaning) (p : Point) (v w : Machine) : Type 0 where
   pub output : w.output ≡ v.output ++ encoding message.End ∷ []
   pub closed : w.phase ≡ Closed
 
--- A call was refused: the run comes to a point from which no move leads on, and one Error is written, behind the commands that were
--- made up to there: none, or no recorded one is left. The error is that of the reason, by the error rule.
+-- A call was refused: the run comes to a point from which no move leads on, and one Error is
+-- written, behind the commands that were made up to there: none, or no recorded one is left. The
+-- error is that of the reason, by the error rule.
 pub record IsRefused (s : Setup) (m : Meaning) (given : StateMap) (p : Point) (v : Machine) (e : Error) (w : Machine) : Type 0 where
   pub at : Point
   pub made : List RawMessage
@@ -194,7 +205,8 @@ pub record IsRefused (s : Setup) (m : Meaning) (given : StateMap) (p : Point) (v
   pub reason : IsRefusedFor (move_at s m at) at.left at.queue why
   pub related : Option RelatedCommand
   pub error : e ≡ ruled v (named_error why related)
-  pub output : w.output ≡ v.output ++ (command_frames made ++ encoding (message.Error (error_message e)) ∷ [])
+  pub output : w.output ≡ v.output
+      ++ (command_frames made ++ encoding (message.Error (error_message e)) ∷ [])
   pub failure : w.failure ≡ Some e
 
 -- a call that may make more than one command: an await, and one that asks for several
@@ -203,7 +215,8 @@ MakesMany (ask.Await future) = Unit {0}
 MakesMany (ask.Commands kind first second) = Unit {0}
 MakesMany a = ⊥
 
--- A call that may make more than one command found no memory, once it had made these, each whole: none, or no recorded one is left.
+-- A call that may make more than one command found no memory, once it had made these, each whole:
+-- none, or no recorded one is left.
 pub record IsCutShort (s : Setup) (m : Meaning) (given : StateMap) (p : Point) (v : Machine) (e : Error) (w : Machine) : Type 0 where
   pub at : Point
   pub made : List RawMessage
@@ -215,10 +228,14 @@ pub record IsCutShort (s : Setup) (m : Meaning) (given : StateMap) (p : Point) (
   pub failure : w.failure ≡ Some e
 
 -- What a call does, by what it answers.
-abbrev pub Follows : Setup → Meaning → StateMap → List RawMessage → Point → Machine → Outcome Reply → Type 0
+abbrev pub Follows : Setup → Meaning → StateMap → List RawMessage → Point → Machine → Outcome Reply
+    → Type 0
 Follows s m given written p v (Done (reply.Answer a) w) = Answered s m given written p v a w
-Follows s m given written p v (Done (reply.Waiting input run) w) = StillAgrees input s m given written p v w
-Follows s m given written p v (Done (reply.Execute run) w) = StillAgrees false s m given written p v w
+Follows s m given written p v (Done (reply.Waiting input run) w) = StillAgrees input s m given
+    written p v w
+Follows s m given written p v (Done (reply.Execute run) w) = StillAgrees false s m given written p v
+    w
 Follows s m given written p v (Done reply.Suspended w) = IsSuspended s m given p v w
 Follows s m given written p v (Done reply.Ended w) = HasEnded m p v w
-Follows s m given written p v (Failed e w) = IsRefused s m given p v e w ⊎ IsCutShort s m given p v e w
+Follows s m given written p v (Failed e w) = IsRefused s m given p v e w
+    ⊎ IsCutShort s m given p v e w

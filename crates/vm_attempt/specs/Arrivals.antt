@@ -1,5 +1,5 @@
--- What frames bring to an attempt: a notification is an arrival, and an acknowledgement stands as the completion of its run, with the
--- result that was proposed.
+-- What frames bring to an attempt: a notification is an arrival, and an acknowledgement stands as
+-- the completion of its run, with the result that was proposed.
 use Rattle.std.specs.Prelude.{◌≡◌, true, if◌then◌else◌, IsSome, List, [], ◌∷◌, Option, Some, None}
 use Rattle.std.specs.List.{find}
 use Rattle.std.specs.Option.{option_map}
@@ -32,12 +32,14 @@ unacknowledged kept (Some ack) = without_first (is_for ack.id) kept
 
 -- what is kept behind a frame: each proposal is acknowledged once
 abbrev pub kept_behind : List KeptProposal → RawMessage → List KeptProposal
-kept_behind kept raw = if is_acknowledgement raw then unacknowledged kept (acknowledgement_in raw.body) else kept
+kept_behind kept raw =
+    if is_acknowledgement raw then unacknowledged kept (acknowledgement_in raw.body) else kept
 
 -- the arrivals that frames bring, in order
 abbrev pub arriving : List KeptProposal → List RawMessage → List Notification
 arriving kept [] = []
-arriving kept (raw ∷ raws) = notified_by (brought_by kept raw) (arriving (kept_behind kept raw) raws)
+arriving kept (raw ∷ raws) = notified_by (brought_by kept raw)
+    (arriving (kept_behind kept raw) raws)
 
 -- what is kept behind them
 abbrev pub kept_after : List KeptProposal → List RawMessage → List KeptProposal

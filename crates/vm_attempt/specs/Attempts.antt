@@ -13,7 +13,8 @@ use Rattle.vm_attempt.specs.Told.{AnswersAreTold, NothingWakes, NumbersFreshly, 
 abbrev pub IsWellFed : Fixed → Record → Type 0
 IsWellFed fixed r = Premises fixed (heard fixed.version r)
 
--- It is so as long as recorded commands are left, which a journal that doesn't fit the handler can have too.
+-- It is so as long as recorded commands are left, which a journal that doesn't fit the handler can
+-- have too.
 abbrev pub IsWellFedInReplay : Fixed → Record → Type 0
 IsWellFedInReplay fixed r = ReplayPremises fixed (heard fixed.version r)
 
@@ -31,7 +32,8 @@ AnswersAsTold fixed r = AnswersAreTold fixed r
 abbrev pub WaitsRightly : Fixed → Record → Type 0
 WaitsRightly fixed r = NothingWakes fixed r
 
--- The handler's next call is answered from the journal, or it is refused where the journal tells no more.
+-- The handler's next call is answered from the journal, or it is refused where the journal tells no
+-- more.
 abbrev pub StepReplays : Fixed → Record → Result Progress Error → Record → Type 0
 StepReplays fixed old result new = Replays fixed old result new
 
@@ -43,6 +45,7 @@ HasCause fixed r e = Blame fixed (all_heard fixed.version r) (all_said r) r.answ
 abbrev pub IsItsOwn : Fixed → Record → Error → Type 0
 IsItsOwn fixed r e = IsOwnError fixed (all_heard fixed.version r) (all_said r) r.answers e
 
--- If recorded commands are skipped, the commands that it wrote carry completion ids greater than all that its journal's commands carry.
+-- If recorded commands are skipped, the commands that it wrote carry completion ids greater than
+-- all that its journal's commands carry.
 abbrev pub CarriesNewIds : Fixed → Record → Type 0
 CarriesNewIds fixed r = NumbersFreshly fixed r

@@ -59,7 +59,8 @@ ruled_for fixed e = ruled_by fixed.version fixed.options e
 -- why a Start is refused: a state key is no text, or it tells of no entry
 abbrev pub refused_start : Start → Option (List (List ℕ × Option (List ℕ))) → Option NamedFault
 refused_start st None = Some fault.BadEagerStateKey
-refused_start st (Some entries) = if st.known_entries == 0 then Some fault.KnownEntriesIsZero else None
+refused_start st (Some entries) = if st.known_entries == 0 then Some fault.KnownEntriesIsZero
+    else None
 
 -- why a body is refused as a Start
 abbrev pub start_fault : Option Start → Option NamedFault
@@ -103,7 +104,8 @@ ephemeral_fault Processing raw = completion_fault (ephemeral_notification_in raw
 ephemeral_fault Closed raw = None
 ephemeral_fault phase raw = Some fault.UnexpectedState
 
--- why a frame is refused that is of no other kind, by whether it is the notification of an ephemeral read: no other one comes
+-- why a frame is refused that is of no other kind, by whether it is the notification of an
+-- ephemeral read: no other one comes
 abbrev pub unknown_fault : Bool → Phase → RawMessage → Option NamedFault
 unknown_fault true phase raw = ephemeral_fault phase raw
 unknown_fault false phase raw = Some fault.UnexpectedInputMessage
@@ -113,9 +115,10 @@ abbrev pub other_fault : List KeptProposal → Phase → RawMessage → Bool →
 other_fault kept phase raw true = acknowledgement_fault kept phase raw
 other_fault kept phase raw false = unknown_fault (is_ephemeral raw) phase raw
 
--- why a frame is refused in this phase, where these proposals are kept, by whether it is a Start, a command, a notification or an
--- acknowledgement
-abbrev pub fault_by : List KeptProposal → Phase → RawMessage → Bool → Bool → Bool → Bool → Option NamedFault
+-- why a frame is refused in this phase, where these proposals are kept, by whether it is a Start, a
+-- command, a notification or an acknowledgement
+abbrev pub fault_by : List KeptProposal → Phase → RawMessage → Bool → Bool → Bool → Bool
+    → Option NamedFault
 fault_by kept WaitingStart raw true b c d = start_fault (start_in raw.body)
 fault_by kept phase raw true b c d = Some fault.UnexpectedInputMessage
 fault_by kept WaitingReplayEntries raw false true c d = None
@@ -127,13 +130,15 @@ fault_by kept phase raw false false false d = other_fault kept phase raw d
 
 -- why a frame is refused in this phase, where these proposals are kept, if it is
 abbrev pub fault_among : List KeptProposal → Phase → RawMessage → Option NamedFault
-fault_among kept phase raw = fault_by kept phase raw (type_number raw.ty == 1) (is_command raw) (is_notification raw) (is_acknowledgement raw)
+fault_among kept phase raw = fault_by kept phase raw (type_number raw.ty == 1) (is_command raw)
+    (is_notification raw) (is_acknowledgement raw)
 
 -- why a frame that acknowledges nothing is refused in this phase of an attempt, if it is
 abbrev pub frame_fault : Phase → RawMessage → Option NamedFault
 frame_fault phase raw = fault_among [] phase raw
 
--- The first of the frames that is refused in the phase in which it comes; the machine has failed for that reason.
+-- The first of the frames that is refused in the phase in which it comes; the machine has failed
+-- for that reason.
 pub record FailsAt (raws : List RawMessage) (v m : Machine) : Type 0 where
   pub before : List RawMessage
   pub raw : RawMessage
@@ -141,7 +146,8 @@ pub record FailsAt (raws : List RawMessage) (v m : Machine) : Type 0 where
   pub split : raws ≡ before ++ raw ∷ behind
   pub live : (all_received before v).failure ≡ None
   pub why : NamedFault
-  pub reason : fault_among (all_received before v).proposals (all_received before v).phase raw ≡ Some why
+  pub reason : fault_among (all_received before v).proposals (all_received before v).phase raw
+      ≡ Some why
   pub failure : m.failure ≡ Some (ruled v (named_error why None))
 
 -- a Start came, and so many frames behind it
@@ -153,8 +159,8 @@ pub record Began (frames : List RawMessage) (count : ℕ → ℕ → Type 0) : T
   pub reads : start_in first.body ≡ Some start
   pub counts : count (length others) start.known_entries
 
--- In which phase a frame comes behind these, while so many known entries are missing: Start comes first, the known entries
--- then, and others behind them.
+-- In which phase a frame comes behind these, while so many known entries are missing: Start comes
+-- first, the known entries then, and others behind them.
 abbrev pub Place : Phase → ℕ → List RawMessage → Type 0
 Place WaitingStart k frames = frames ≡ []
 Place WaitingReplayEntries k frames = Began frames (λ n known. (n + k ≡ known) × (0 < k))
@@ -162,7 +168,8 @@ Place Replaying k frames = Began frames (λ n known. known ≤ n)
 Place Processing k frames = Began frames (λ n known. known ≤ n)
 Place Closed k frames = ⊥
 
--- One of the frames that were fed is refused in its place, where these proposals are kept that weren't acknowledged before it.
+-- One of the frames that were fed is refused in its place, where these proposals are kept that
+-- weren't acknowledged before it.
 pub record BadFrame (fixed : Fixed) (fed : Heard) (e : Error) : Type 0 where
   pub before : List RawMessage
   pub raw : RawMessage
@@ -191,10 +198,12 @@ first_input (c ∷ cs) = input_read_from c
 abbrev pub the_input : RelatedCommand
 the_input = record { index = 0; ty = type.InputCommand; name = [] }
 
--- why the first of some commands is no input: there is none, or it is of another type, or it can't be read
+-- why the first of some commands is no input: there is none, or it is of another type, or it can't
+-- be read
 abbrev pub no_input_fault : List RawMessage → NamedFault
 no_input_fault [] = fault.UnavailableEntry
-no_input_fault (c ∷ cs) = if type_number c.ty == type_number type.InputCommand then fault.BadMessage else fault.CommandTypeMismatch
+no_input_fault (c ∷ cs) = if type_number c.ty == type_number type.InputCommand then fault.BadMessage
+    else fault.CommandTypeMismatch
 
 -- the known entries have come, and the first command among them is no input
 pub record LacksInput (fixed : Fixed) (frames : List RawMessage) (e : Error) : Type 0 where
@@ -206,14 +215,17 @@ pub record LacksInput (fixed : Fixed) (frames : List RawMessage) (e : Error) : T
   pub reads : start_in first.body ≡ Some start
   pub count : length entries ≡ start.known_entries
   pub none : first_input (commands_among entries) ≡ None
-  pub error : e ≡ ruled_for fixed (named_error (no_input_fault (commands_among entries)) (Some the_input))
+  pub error : e ≡ ruled_for fixed
+      (named_error (no_input_fault (commands_among entries)) (Some the_input))
 
--- why so many commands behind the input can't be skipped, by the completion id that is next past all that they carry, if they can be read
+-- why so many commands behind the input can't be skipped, by the completion id that is next past
+-- all that they carry, if they can be read
 abbrev pub skip_fault : ℕ → Option ℕ → Option NamedFault
 skip_fault dropped None = Some fault.BadMessage
 skip_fault dropped (Some id) = result_err (counters_past dropped id fresh_counters)
 
--- Recorded commands are skipped, and one of those behind the input can't be read, or a kind of number runs out past them.
+-- Recorded commands are skipped, and one of those behind the input can't be read, or a kind of
+-- number runs out past them.
 pub record CannotSkip (fixed : Fixed) (frames : List RawMessage) (e : Error) : Type 0 where
   pub skips : fixed.options.journal_replay ≡ Disabled
   pub first : RawMessage
@@ -224,11 +236,12 @@ pub record CannotSkip (fixed : Fixed) (frames : List RawMessage) (e : Error) : T
   pub reads : start_in first.body ≡ Some start
   pub count : length entries ≡ start.known_entries
   pub why : NamedFault
-  pub reason : skip_fault (length (drop 1 (commands_among entries))) (past_all 1 (drop 1 (commands_among entries))) ≡ Some why
+  pub reason : skip_fault (length (drop 1 (commands_among entries)))
+      (past_all 1 (drop 1 (commands_among entries))) ≡ Some why
   pub error : e ≡ ruled_for fixed (named_error why (Some the_input))
 
--- The handler's call was refused for this reason, at the point with these answers to which the attempt's own run leads: it made what was
--- written.
+-- The handler's call was refused for this reason, at the point with these answers to which the
+-- attempt's own run leads: it made what was written.
 pub record RefusedCall (fixed : Fixed) (fed : Heard) (answers_so_far : List Answer) (e : Error) : Type 0 where
   pub journal : Journal fed
   pub written : List RawMessage
@@ -243,8 +256,8 @@ pub record RefusedCall (fixed : Fixed) (fed : Heard) (answers_so_far : List Answ
 
 -- ---- results of runs
 
--- What executing a run came to was refused, or fails the attempt, so that it is tried again or paused. It is the run whose result failed
--- the VM.
+-- What executing a run came to was refused, or fails the attempt, so that it is tried again or
+-- paused. It is the run whose result failed the VM.
 pub record RefusedResult (fixed : Fixed) (failed_by : Option NotificationHandle) (e : Error) : Type 0 where
   pub handle : NotificationHandle
   pub is_told : failed_by ≡ Some handle
@@ -259,17 +272,22 @@ pub record RefusedResult (fixed : Fixed) (failed_by : Option NotificationHandle)
 
 -- ---- why an attempt failed
 
--- Memory was lacking; a frame was refused, or bytes were no frame; the input was closed while known entries were missing; the
--- journal has no input, or its commands can't be skipped; the handler's call was refused, or an await found no memory for one of its
--- commands; or a run's result failed the VM.
+-- Memory was lacking; a frame was refused, or bytes were no frame; the input was closed while known
+-- entries were missing; the journal has no input, or its commands can't be skipped; the handler's
+-- call was refused, or an await found no memory for one of its commands; or a run's result failed
+-- the VM.
 pub data Blame (fixed : Fixed) (fed : Heard) (said : Said) (answers : List Answer) (e : Error) : Type 0 where
   Memory : e ≡ no_memory → Blame fixed fed said answers e
   Frame : BadFrame fixed fed e → Blame fixed fed said answers e
-  NoFrame : (frames_of (bytes_fed fed)).1 ≡ Garbage → e ≡ ruled_for fixed (named_error fault.BadMessage None) → Blame fixed fed said answers e
-  ClosedEarly : said.closed ≡ true → IsShort (frames_fed fed) → e ≡ ruled_for fixed (named_error fault.InputClosedWhileWaitingEntries None) → Blame fixed fed said answers e
+  NoFrame : (frames_of (bytes_fed fed)).1 ≡ Garbage → e
+      ≡ ruled_for fixed (named_error fault.BadMessage None) → Blame fixed fed said answers e
+  ClosedEarly : said.closed ≡ true → IsShort (frames_fed fed) → e
+      ≡ ruled_for fixed (named_error fault.InputClosedWhileWaitingEntries None)
+      → Blame fixed fed said answers e
   NoInput : LacksInput fixed (frames_fed fed) e → Blame fixed fed said answers e
   NoSkip : CannotSkip fixed (frames_fed fed) e → Blame fixed fed said answers e
-  Call : (Premises fixed fed → (e ≡ no_memory) ⊎ RefusedCall fixed fed answers e) → Blame fixed fed said answers e
+  Call : (Premises fixed fed → (e ≡ no_memory) ⊎ RefusedCall fixed fed answers e)
+      → Blame fixed fed said answers e
   RunResult : RefusedResult fixed said.failed_by e → Blame fixed fed said answers e
 
 -- As long as an attempt is not over, its VM isn't closed, and has failed only for such a reason.
@@ -281,11 +299,13 @@ pub record BlamedAt (fixed : Fixed) (over : Option Progress) (fed : Heard) (said
 abbrev pub IsBlamed : Fixed → Record → Type 0
 IsBlamed fixed r = BlamedAt fixed r.over (heard fixed.version r) (all_said r) r.answers r.vm.machine
 
--- Once the attempt is over its VM is closed, behind the known entries, or has failed for such a reason.
+-- Once the attempt is over its VM is closed, behind the known entries, or has failed for such a
+-- reason.
 pub record BehindEnd (fixed : Fixed) (all : Heard) (said : Said) (answers : List Answer) (vm : View) : Type 0 where
   pub phase : vm.machine.failure ≡ None → vm.machine.phase ≡ Closed
   pub place : vm.machine.failure ≡ None → Began (frames_fed all) (λ n known. known ≤ n)
-  pub made_for : vm.machine.failure ≡ None → (vm.machine.version ≡ fixed.version) × (vm.machine.options ≡ fixed.options)
+  pub made_for : vm.machine.failure ≡ None → (vm.machine.version ≡ fixed.version)
+      × (vm.machine.options ≡ fixed.options)
   pub tail : vm.machine.failure ≡ None → (frames_of (bytes_fed all)).1 ≡ Rest vm.undecoded
   pub blame : (e : Error) → vm.machine.failure ≡ Some e → Blame fixed all said answers e
 
@@ -305,18 +325,28 @@ IfError (Err e) P = P e
 
 -- ---- honest attempts
 
--- Each frame has its place and is whole there, or acknowledges a result that the attempt has proposed, each once; no bytes are garbage,
--- the known entries are a history of the handler, the premises hold, and each result of an invocation's id is one.
+-- Each frame has its place and is whole there, or acknowledges a result that the attempt has
+-- proposed, each once; no bytes are garbage, the known entries are a history of the handler, the
+-- premises hold, and each result of an invocation's id is one.
 pub record IsHonest (fixed : Fixed) (fed : Heard) : Type 0 where
   pub premises : Premises fixed fed
   pub kinds : AreRightlyKinded fixed fed
-  pub frames : (before : List RawMessage) (raw : RawMessage) (behind : List RawMessage) (phase : Phase) (k : ℕ) → frames_fed fed ≡ before ++ raw ∷ behind → Place phase k before → is_acknowledgement raw ≡ false → frame_fault phase raw ≡ None
-  pub acknowledgements : (before : List RawMessage) (raw : RawMessage) (behind : List RawMessage) → frames_fed fed ≡ before ++ raw ∷ behind → is_acknowledgement raw ≡ true → read_fault (kept_after fed.proposed (behind_first before)) (acknowledgement_in raw.body) ≡ None
+  pub frames : (before : List RawMessage) (raw : RawMessage) (behind : List RawMessage)
+      (phase : Phase) (k : ℕ) → frames_fed fed ≡ before ++ raw ∷ behind → Place phase k before
+      → is_acknowledgement raw ≡ false → frame_fault phase raw ≡ None
+  pub acknowledgements : (before : List RawMessage) (raw : RawMessage) (behind : List RawMessage)
+      → frames_fed fed ≡ before ++ raw ∷ behind → is_acknowledgement raw ≡ true
+      → read_fault (kept_after fed.proposed (behind_first before)) (acknowledgement_in raw.body)
+      ≡ None
   pub whole : (frames_of (bytes_fed fed)).1 ≢ Garbage
-  pub history : (first : RawMessage) (entries others : List RawMessage) (st : Start) → frames_fed fed ≡ first ∷ (entries ++ others) → start_in first.body ≡ Some st → length entries ≡ st.known_entries → (base : StateMap) × History (setup_for fixed st) fixed.handler base (as_entries entries)
+  pub history : (first : RawMessage) (entries others : List RawMessage) (st : Start)
+      → frames_fed fed ≡ first ∷ (entries ++ others) → start_in first.body ≡ Some st
+      → length entries ≡ st.known_entries → (base : StateMap)
+      × History (setup_for fixed st) fixed.handler base (as_entries entries)
 
--- The call was refused for a reason of its own at the point to which the attempt's own run leads: an argument or version check, numbers that
--- ran out, a state key that is no text. It isn't that the result of an invocation's id is none.
+-- The call was refused for a reason of its own at the point to which the attempt's own run leads:
+-- an argument or version check, numbers that ran out, a state key that is no text. It isn't that
+-- the result of an invocation's id is none.
 pub record RefusedItself (fixed : Fixed) (fed : Heard) (answers_so_far : List Answer) (e : Error) : Type 0 where
   pub journal : Journal fed
   pub written : List RawMessage
@@ -335,5 +365,6 @@ pub record RefusedItself (fixed : Fixed) (fed : Heard) (answers_so_far : List An
 abbrev pub IsOwnError : Fixed → Heard → Said → List Answer → Error → Type 0
 IsOwnError fixed fed said answers e =
     (e ≡ no_memory)
-    ⊎ (((said.closed ≡ true) × IsShort (frames_fed fed) × (e ≡ ruled_for fixed (named_error fault.InputClosedWhileWaitingEntries None)))
+    ⊎ (((said.closed ≡ true) × IsShort (frames_fed fed)
+    × (e ≡ ruled_for fixed (named_error fault.InputClosedWhileWaitingEntries None)))
     ⊎ (RefusedItself fixed fed answers e ⊎ RefusedResult fixed said.failed_by e))

@@ -12,7 +12,8 @@ pub record Fixed : Type 0 where
 
 -- for an attempt of this handler, of this version and with these options
 abbrev pub fixed_by : Meaning → Version → VMOptions → Fixed
-fixed_by handler version options = record { handler = handler; version = version; options = options }
+fixed_by handler version options =
+    record { handler = handler; version = version; options = options }
 
 -- for an attempt, by what its handler calls
 abbrev pub fixed_of : {H : Type 0} → Meaning → AttemptView H → Fixed

@@ -38,7 +38,8 @@ abbrev pub entry_frame : Entry → RawMessage
 entry_frame (Recorded raw) = raw
 entry_frame (Notified n) = notification_frame n
 
--- what comes behind the journal: a notification, or the acknowledgement of a result that was proposed
+-- what comes behind the journal: a notification, or the acknowledgement of a result that was
+-- proposed
 pub data Further : Type 0 where
   Notifies : Notification → Further
   Acknowledges : ProposeRunCompletionAck → Further
@@ -58,12 +59,14 @@ frame_bytes raw = frame raw.ty raw.body
 
 -- Start, the journal, and what comes behind it, as frames
 abbrev pub honest_frames : Start → List Entry → List Further → List RawMessage
-honest_frames start journal more = stored_form (message.Start start) ∷ (map entry_frame journal ++ map further_frame more)
+honest_frames start journal more =
+    stored_form (message.Start start) ∷ (map entry_frame journal ++ map further_frame more)
 
--- What was fed is a beginning of Start, which tells the length of the journal; of the whole journal, which is a history of the
--- handler; and of notifications and acknowledgements that come behind it, each of a result that the attempt has proposed, and once. Each
--- of these can be fed. Recorded commands are replayed, signals queue, and with all these arrivals no completion has two results at a
--- point that the handler's run comes to, and each result of an invocation's id is one.
+-- What was fed is a beginning of Start, which tells the length of the journal; of the whole
+-- journal, which is a history of the handler; and of notifications and acknowledgements that come
+-- behind it, each of a result that the attempt has proposed, and once. Each of these can be fed.
+-- Recorded commands are replayed, signals queue, and with all these arrivals no completion has two
+-- results at a point that the handler's run comes to, and each result of an invocation's id is one.
 pub record FeedsHonestly (fixed : Fixed) (fed : Heard) : Type 0 where
   pub start : Start
   pub journal : List Entry
@@ -81,5 +84,15 @@ pub record FeedsHonestly (fixed : Fixed) (fed : Heard) : Type 0 where
   pub history : History (setup_for fixed start) fixed.handler base journal
   pub replays : fixed.options.journal_replay ≡ Enabled
   pub queues : fixed.options.signal_delivery ≡ Queued
-  pub once : (n : ℕ) (made : List RawMessage) (p : Point) → Made (setup_for fixed start) fixed.handler (Handed (record { entries = state; coverage = coverage_of start.partial })) n (first_point (setup_for fixed start) history.input (notifications_in journal ++ arriving fed.proposed (map further_frame more)) history.rest) made p → HasNoTwo p
-  pub kinds : (n : ℕ) (made : List RawMessage) (p : Point) → Made (setup_for fixed start) fixed.handler (Handed (record { entries = state; coverage = coverage_of start.partial })) n (first_point (setup_for fixed start) history.input (notifications_in journal ++ arriving fed.proposed (map further_frame more)) history.rest) made p → AreOfTheirKind (notifications_in journal ++ arriving fed.proposed (map further_frame more)) (history.rest ++ made)
+  pub once : (n : ℕ) (made : List RawMessage) (p : Point)
+      → Made (setup_for fixed start) fixed.handler
+      (Handed (record { entries = state; coverage = coverage_of start.partial })) n
+      (first_point (setup_for fixed start) history.input (notifications_in journal
+      ++ arriving fed.proposed (map further_frame more)) history.rest) made p → HasNoTwo p
+  pub kinds : (n : ℕ) (made : List RawMessage) (p : Point)
+      → Made (setup_for fixed start) fixed.handler
+      (Handed (record { entries = state; coverage = coverage_of start.partial })) n
+      (first_point (setup_for fixed start) history.input (notifications_in journal
+      ++ arriving fed.proposed (map further_frame more)) history.rest) made p
+      → AreOfTheirKind (notifications_in journal
+      ++ arriving fed.proposed (map further_frame more)) (history.rest ++ made)

@@ -5,8 +5,8 @@ use Rattle.vm_attempt.specs.Fixed.{Fixed}
 use Rattle.vm_attempt.specs.Blames.{IsBlamed, IsLate}
 use Rattle.vm_attempt.specs.Told.{HasCome, IsKeptInReplay, IsKeptUnder, StillSleeps}
 
--- What came and what was written, why its VM failed, the handler's run under the premises and in replay, its await once it was suspended; and
--- what waits are whole frames.
+-- What came and what was written, why its VM failed, the handler's run under the premises and in
+-- replay, its await once it was suspended; and what waits are whole frames.
 abbrev pub AlwaysHolds : Fixed → Record → Type 0
 AlwaysHolds fixed r =
     HasCome fixed r

@@ -50,7 +50,8 @@ AcknowledgesNothing raw = is_acknowledgement raw ≡ false
 -- the commands among some frames
 abbrev pub commands_among : List RawMessage → List RawMessage
 commands_among [] = []
-commands_among (raw ∷ raws) = cond (is_command raw) (raw ∷ commands_among raws) (commands_among raws)
+commands_among (raw ∷ raws) = cond (is_command raw) (raw
+    ∷ commands_among raws) (commands_among raws)
 
 -- with the notification that was read, if there was one
 abbrev pub notified_by : Option Notification → List Notification → List Notification
@@ -60,7 +61,9 @@ notified_by (Some n) ns = n ∷ ns
 -- the notifications among some frames; a body that spells none brings none
 abbrev pub notifications_among : List RawMessage → List Notification
 notifications_among [] = []
-notifications_among (raw ∷ raws) = cond (is_notification raw) (notified_by (notification_in raw.body) (notifications_among raws)) (notifications_among raws)
+notifications_among (raw
+    ∷ raws) = cond (is_notification raw)
+    (notified_by (notification_in raw.body) (notifications_among raws)) (notifications_among raws)
 
 -- a command's frame as an entry, before others
 abbrev pub recorded_by : Bool → RawMessage → List Entry → List Entry
@@ -75,10 +78,14 @@ told_by (Some n) es = Notified n ∷ es
 -- frames as the entries of a journal; a notification's body that spells none is no entry
 abbrev pub as_entries : List RawMessage → List Entry
 as_entries [] = []
-as_entries (raw ∷ raws) = recorded_by (is_command raw) raw (cond (is_notification raw) (told_by (notification_in raw.body) (as_entries raws)) (as_entries raws))
+as_entries (raw ∷ raws) = recorded_by (is_command raw) raw
+    (cond (is_notification raw) (told_by (notification_in raw.body) (as_entries raws))
+    (as_entries raws))
 
--- Before the handler has read its input: the commands and notifications that came behind Start, and nothing else.
-abbrev pub machine_fed : Setup → StateMap → Aside → List RawMessage → List Notification → Phase → Machine
+-- Before the handler has read its input: the commands and notifications that came behind Start, and
+-- nothing else.
+abbrev pub machine_fed : Setup → StateMap → Aside → List RawMessage → List Notification → Phase
+    → Machine
 machine_fed s given aside cs ns phase = record {
   alloc = aside.alloc;
   version = s.version;
@@ -102,10 +109,12 @@ machine_fed s given aside cs ns phase = record {
   output_ended = false;
 }
 
--- Where the first command is an input, the handler is told it, the machine agrees with the first point, nothing is written, and nothing
--- was proposed; else the call is refused.
-abbrev pub BeginsOrFails : Setup → StateMap → Aside → List RawMessage → List Notification → Option InputCommand → Outcome Input → Type 0
-BeginsOrFails s given aside rest ns (Some c) (Done i w) = (i ≡ told_input s.identity c) × (Agrees s given [] w (start s c ns rest) × ((w.output ≡ aside.output) × (w.proposals ≡ [])))
+-- Where the first command is an input, the handler is told it, the machine agrees with the first
+-- point, nothing is written, and nothing was proposed; else the call is refused.
+abbrev pub BeginsOrFails : Setup → StateMap → Aside → List RawMessage → List Notification
+    → Option InputCommand → Outcome Input → Type 0
+BeginsOrFails s given aside rest ns (Some c) (Done i w) = (i ≡ told_input s.identity c)
+    × (Agrees s given [] w (start s c ns rest) × ((w.output ≡ aside.output) × (w.proposals ≡ [])))
 BeginsOrFails s given aside rest ns None (Failed e w) = Unit {0}
 BeginsOrFails s given aside rest ns (Some c) (Failed e w) = ⊥
 BeginsOrFails s given aside rest ns None (Done i w) = ⊥
@@ -125,13 +134,15 @@ phase_missing (suc k) = WaitingReplayEntries
 abbrev pub waiting : Setup → StateMap → Aside → ℕ → List RawMessage → List Notification → Machine
 waiting s given aside k cs ns = machine_fed s given (missing k aside) cs ns (phase_missing k)
 
--- What frames make of a machine that waits: it has failed; or it waits for those that are missing; or the journal is the
--- first of them, as many as were missing, and all their notifications are arrivals. No frame among them is an acknowledgement.
+-- What frames make of a machine that waits: it has failed; or it waits for those that are missing;
+-- or the journal is the first of them, as many as were missing, and all their notifications are
+-- arrivals. No frame among them is an acknowledgement.
 pub record StillWaits (s : Setup) (given : StateMap) (aside : Aside) (k : ℕ) (cs : List RawMessage) (ns : List Notification) (raws : List RawMessage) (m : Machine) : Type 0 where
   pub left : ℕ
   pub count : k ≡ length raws + suc left
   pub none_acknowledge : AllByRecursion AcknowledgesNothing raws
-  pub machine : m ≡ waiting s given aside (suc left) (cs ++ commands_among raws) (ns ++ notifications_among raws)
+  pub machine : m ≡ waiting s given aside (suc left) (cs ++ commands_among raws) (ns
+      ++ notifications_among raws)
 
 -- the known entries have all come
 pub record HasAll (s : Setup) (given : StateMap) (aside : Aside) (k : ℕ) (cs : List RawMessage) (ns : List Notification) (raws : List RawMessage) (m : Machine) : Type 0 where
@@ -140,17 +151,24 @@ pub record HasAll (s : Setup) (given : StateMap) (aside : Aside) (k : ℕ) (cs :
   pub split : raws ≡ entries ++ others
   pub none_acknowledge : AllByRecursion AcknowledgesNothing raws
   pub count : length entries ≡ k
-  pub machine : m ≡ waiting s given aside 0 (cs ++ commands_among entries) (ns ++ notifications_among raws)
+  pub machine : m ≡ waiting s given aside 0 (cs ++ commands_among entries) (ns
+      ++ notifications_among raws)
 
 -- what frames make of a machine that waits
-abbrev pub TakenIn : Setup → StateMap → Aside → ℕ → List RawMessage → List Notification → List RawMessage → Machine → Type 0
-TakenIn s given aside k cs ns raws m = IsSome m.failure ⊎ (StillWaits s given aside k cs ns raws m ⊎ HasAll s given aside k cs ns raws m)
+abbrev pub TakenIn : Setup → StateMap → Aside → ℕ → List RawMessage → List Notification
+    → List RawMessage → Machine → Type 0
+TakenIn s given aside k cs ns raws m = IsSome m.failure
+    ⊎ (StillWaits s given aside k cs ns raws m ⊎ HasAll s given aside k cs ns raws m)
 
 -- ---- from Start on
 
 -- the setup of an attempt of this version, with these options and this Start
 abbrev pub setup_with : Version → VMOptions → Start → Setup
-setup_with version options st = record { version = version; options = options; identity = identity_of (info_of version options.fallback_random_seed st) }
+setup_with version options st = record {
+  version = version;
+  options = options;
+  identity = identity_of (info_of version options.fallback_random_seed st);
+}
 
 -- the setup of an attempt with this Start
 abbrev pub setup_for : Fixed → Start → Setup
@@ -158,15 +176,26 @@ setup_for fixed st = setup_with fixed.version fixed.options st
 
 -- what stands aside in an attempt with this Start
 abbrev pub aside_for : Global → Version → VMOptions → Start → Aside
-aside_for alloc version options st = record { alloc = alloc; start = info_of version options.fallback_random_seed st; input_closed = false; entries_missing = 0; beside = record { last = record { ty = type.Start; name = [] }; runs = [] }; proposals = []; output = [] }
+aside_for alloc version options st = record {
+  alloc = alloc;
+  start = info_of version options.fallback_random_seed st;
+  input_closed = false;
+  entries_missing = 0;
+  beside = record { last = record { ty = type.Start; name = [] }; runs = [] };
+  proposals = [];
+  output = [];
+}
 
--- the first frame was a Start: its state is kept, and the machine waits for as many entries as it tells
+-- the first frame was a Start: its state is kept, and the machine waits for as many entries as it
+-- tells
 pub record HasStarted (alloc : Global) (version : Version) (options : VMOptions) (raw : RawMessage) (m : Machine) : Type 0 where
   pub start : Start
   pub entries : List (List ℕ × Option (List ℕ))
   pub reads : start_in raw.body ≡ Some start
   pub keys : entries_in start.state ≡ Some entries
-  pub machine : m ≡ waiting (setup_with version options start) (record { entries = entries; coverage = coverage_of start.partial }) (aside_for alloc version options start) start.known_entries [] []
+  pub machine : m ≡ waiting (setup_with version options start)
+      (record { entries = entries; coverage = coverage_of start.partial })
+      (aside_for alloc version options start) start.known_entries [] []
 
 -- the first frame came
 abbrev pub StartCame : Global → Version → VMOptions → RawMessage → Machine → Type 0
@@ -178,8 +207,11 @@ pub record StartedWith (alloc : Global) (version : Version) (options : VMOptions
   pub entries : List (List ℕ × Option (List ℕ))
   pub reads : start_in first.body ≡ Some start
   pub keys : entries_in start.state ≡ Some entries
-  pub fed : TakenIn (setup_with version options start) (record { entries = entries; coverage = coverage_of start.partial }) (aside_for alloc version options start) start.known_entries [] [] raws m
+  pub fed : TakenIn (setup_with version options start)
+      (record { entries = entries; coverage = coverage_of start.partial })
+      (aside_for alloc version options start) start.known_entries [] [] raws m
 
 -- what frames make of a new machine
 abbrev pub Started : Global → Version → VMOptions → RawMessage → List RawMessage → Machine → Type 0
-Started alloc version options first raws m = IsSome m.failure ⊎ StartedWith alloc version options first raws m
+Started alloc version options first raws m =
+    IsSome m.failure ⊎ StartedWith alloc version options first raws m

@@ -69,7 +69,8 @@ frames_fed fed = (frames_of (bytes_fed fed)).0
 -- the commands among some messages, as they are stored
 abbrev pub commands_of : List Message → List RawMessage
 commands_of [] = []
-commands_of (m ∷ ms) = cond (is_command (stored_form m)) (stored_form m ∷ commands_of ms) (commands_of ms)
+commands_of (m ∷ ms) = cond (is_command (stored_form m)) (stored_form m
+    ∷ commands_of ms) (commands_of ms)
 
 -- messages were written, none of them a command or a proposal
 pub record Quiet (old new : Machine) : Type 0 where
@@ -78,7 +79,8 @@ pub record Quiet (old new : Machine) : Type 0 where
   pub commands : commands_of messages ≡ []
   pub proposals : proposals_among (map stored_form messages) ≡ []
 
--- What was taken are whole frames of some messages, what waits are frames too, and these are the commands among them all.
+-- What was taken are whole frames of some messages, what waits are frames too, and these are the
+-- commands among them all.
 pub record Wrote (taken waits : List (List ℕ)) (written : List RawMessage) : Type 0 where
   pub sent : List Message
   pub bytes : concat taken ≡ flat_map encoding sent
@@ -91,8 +93,8 @@ pub record Wrote (taken waits : List (List ℕ)) (written : List RawMessage) : T
 abbrev pub written_by : Record → List RawMessage
 written_by r = commands_among (frames_of (bytes_written r)).0
 
--- The journal of an attempt: behind Start as many frames as it tells are the known entries: commands and notifications, the first
--- command among them the input.
+-- The journal of an attempt: behind Start as many frames as it tells are the known entries:
+-- commands and notifications, the first command among them the input.
 pub record Journal (fed : Heard) : Type 0 where
   pub first_frame : RawMessage
   pub entries : List RawMessage
@@ -110,8 +112,8 @@ pub record Journal (fed : Heard) : Type 0 where
   pub input : InputCommand
   pub reads_input : input_read_from first ≡ Some input
 
--- all arrivals that came, in order, among the known entries and behind them: a notification as it is, and an acknowledgement as the
--- completion of its run with the result that was proposed
+-- all arrivals that came, in order, among the known entries and behind them: a notification as it
+-- is, and an acknowledgement as the completion of its run with the result that was proposed
 abbrev pub arrivals : {fed : Heard} → Journal fed → List Notification
 arrivals {fed} j = arriving fed.proposed (j.entries ++ j.others)
 
@@ -123,13 +125,15 @@ arrivals_of fed = arriving fed.proposed (behind (frames_fed fed))
 abbrev pub handed_out : {fed : Heard} → Journal fed → StateMap
 handed_out j = record { entries = j.state; coverage = coverage_of j.start.partial }
 
--- What an attempt begins with: the point after the input, with all arrivals, and the recorded commands behind the input.
+-- What an attempt begins with: the point after the input, with all arrivals, and the recorded
+-- commands behind the input.
 abbrev pub begun : {fed : Heard} → Fixed → Journal fed → Point
 begun fixed j = start (setup_for fixed j.start) j.input (arrivals j) j.rest
 
 -- So many moves of the handler's run lead from there to this point, and made these commands.
 abbrev pub MovesTo : {fed : Heard} → Fixed → Journal fed → ℕ → List RawMessage → Point → Type 0
-MovesTo fixed j moves made p = Made (setup_for fixed j.start) fixed.handler (Handed (handed_out j)) moves (begun fixed j) made p
+MovesTo fixed j moves made p = Made (setup_for fixed j.start) fixed.handler (Handed (handed_out j))
+    moves (begun fixed j) made p
 
 -- the move that the handler's run makes at a point
 abbrev pub next_move : {fed : Heard} → Fixed → Journal fed → Point → Move
@@ -137,22 +141,26 @@ next_move fixed j p = move_at (setup_for fixed j.start) fixed.handler p
 
 -- ---- new numbers
 
--- Each completion id that a written command carries is greater than each that a command of the attempt's journal carries.
+-- Each completion id that a written command carries is greater than each that a command of the
+-- attempt's journal carries.
 pub record HasFreshIds (fed : Heard) (written : List RawMessage) : Type 0 where
   pub journal : Journal fed
   pub greater : AreGreater (all_carried (journal.first ∷ journal.rest)) (all_carried written)
 
--- Where the recorded commands are skipped, no command was written, or each completion id that one carries is greater than each that a
--- recorded command carries.
+-- Where the recorded commands are skipped, no command was written, or each completion id that one
+-- carries is greater than each that a recorded command carries.
 abbrev pub NumbersFreshly : Fixed → Record → Type 0
-NumbersFreshly fixed r = fixed.options.journal_replay ≡ Disabled → (written_by r ≡ []) ⊎ HasFreshIds (heard fixed.version r) (written_by r)
+NumbersFreshly fixed r = fixed.options.journal_replay ≡ Disabled → (written_by r ≡ [])
+    ⊎ HasFreshIds (heard fixed.version r) (written_by r)
 
 -- ---- what is asked of the options and of the runtime
 
--- No completion has two results at a point that the handler's run comes to, by what was fed, where each further command is its own.
+-- No completion has two results at a point that the handler's run comes to, by what was fed, where
+-- each further command is its own.
 abbrev pub NoneHasTwo : Fixed → Heard → Type 0
 NoneHasTwo fixed fed =
-    (j : Journal fed) (n : ℕ) (made : List RawMessage) (p : Point) → MovesTo fixed j n made p → HasNoTwo p
+    (j : Journal fed) (n : ℕ) (made : List RawMessage) (p : Point) → MovesTo fixed j n made p
+    → HasNoTwo p
 
 -- Recorded commands are replayed, signals queue, and no completion has two results.
 pub record Premises (fixed : Fixed) (fed : Heard) : Type 0 where
@@ -163,29 +171,35 @@ pub record Premises (fixed : Fixed) (fed : Heard) : Type 0 where
 -- No completion has two results at a point where recorded commands are left, by what was fed.
 abbrev pub NoneHasTwoInReplay : Fixed → Heard → Type 0
 NoneHasTwoInReplay fixed fed =
-    (j : Journal fed) (n : ℕ) (made : List RawMessage) (p : Point) → MovesTo fixed j n made p → p.left ≢ [] → HasNoTwo p
+    (j : Journal fed) (n : ℕ) (made : List RawMessage) (p : Point) → MovesTo fixed j n made p
+    → p.left ≢ [] → HasNoTwo p
 
--- What is asked for replay alone: recorded commands are replayed, signals queue, and no completion has two results as long as recorded
--- commands are left. A journal that doesn't fit the handler can have it too.
+-- What is asked for replay alone: recorded commands are replayed, signals queue, and no completion
+-- has two results as long as recorded commands are left. A journal that doesn't fit the handler can
+-- have it too.
 pub record ReplayPremises (fixed : Fixed) (fed : Heard) : Type 0 where
   pub replays : fixed.options.journal_replay ≡ Enabled
   pub queues : fixed.options.signal_delivery ≡ Queued
   pub once : NoneHasTwoInReplay fixed fed
 
--- Each result of an invocation's id is one: of the ids that the commands carry for it which are recorded and which the handler's run makes,
--- by what was fed.
+-- Each result of an invocation's id is one: of the ids that the commands carry for it which are
+-- recorded and which the handler's run makes, by what was fed.
 abbrev pub AreRightlyKinded : Fixed → Heard → Type 0
 AreRightlyKinded fixed fed =
-    (j : Journal fed) (n : ℕ) (made : List RawMessage) (p : Point) → MovesTo fixed j n made p → AreOfTheirKind (arrivals j) (j.rest ++ made)
+    (j : Journal fed) (n : ℕ) (made : List RawMessage) (p : Point) → MovesTo fixed j n made p
+    → AreOfTheirKind (arrivals j) (j.rest ++ made)
 
 -- ---- the answers
 
--- A point is told by an attempt's journal followed by what it wrote, with the arrivals that it was fed.
+-- A point is told by an attempt's journal followed by what it wrote, with the arrivals that it was
+-- fed.
 abbrev pub Tells : {fed : Heard} → Fixed → Journal fed → List RawMessage → Point → Type 0
-Tells fixed j written p = Told (setup_for fixed j.start) fixed.handler j.input (arrivals j) (j.rest ++ written) p
+Tells fixed j written p =
+    Told (setup_for fixed j.start) fixed.handler j.input (arrivals j) (j.rest ++ written) p
 
--- The answers of an attempt are those of a point that is told; what it wrote are just the commands that the calls up to there
--- define, where none is recorded; and while recorded commands are left, it has written none.
+-- The answers of an attempt are those of a point that is told; what it wrote are just the commands
+-- that the calls up to there define, where none is recorded; and while recorded commands are left,
+-- it has written none.
 pub record ToldBy (fixed : Fixed) (fed : Heard) (answers_so_far : List Answer) (written : List RawMessage) : Type 0 where
   pub journal : Journal fed
   pub at : Point
@@ -199,8 +213,8 @@ pub record ToldBy (fixed : Fixed) (fed : Heard) (answers_so_far : List Answer) (
 abbrev pub AnswersAreTold : Fixed → Record → Type 0
 AnswersAreTold fixed r = ToldBy fixed (heard fixed.version r) r.answers (written_by r)
 
--- An await waits rightly: with all arrivals that were fed the journal tells no point with more answers; and where all its commands and
--- all arrivals are used, the run needs one more arrival.
+-- An await waits rightly: with all arrivals that were fed the journal tells no point with more
+-- answers; and where all its commands and all arrivals are used, the run needs one more arrival.
 pub record IsAsleep (fixed : Fixed) (fed : Heard) (answers_so_far : List Answer) (written : List RawMessage) : Type 0 where
   pub journal : Journal fed
   pub future : UnresolvedFuture
@@ -219,11 +233,13 @@ NothingWakes fixed r = IsAsleep fixed (heard fixed.version r) r.answers (written
 
 -- an await waits rightly, by what was written
 abbrev pub Sleeps : Fixed → Heard → List Answer → List (List ℕ) → View → Type 0
-Sleeps fixed fed answers taken vm = (written : List RawMessage) × Wrote taken vm.machine.output written × IsAsleep fixed fed answers written
+Sleeps fixed fed answers taken vm = (written : List RawMessage)
+    × Wrote taken vm.machine.output written × IsAsleep fixed fed answers written
 
--- A call is refused that began while recorded commands were left: the run comes to a point with these answers from which no move leads
--- on, for this reason; one Error is written, which says so by the error rule, and the VM fails by it. A cancelled await may have made
--- commands before it, but none while recorded ones were left.
+-- A call is refused that began while recorded commands were left: the run comes to a point with
+-- these answers from which no move leads on, for this reason; one Error is written, which says so
+-- by the error rule, and the VM fails by it. A cancelled await may have made commands before it,
+-- but none while recorded ones were left.
 pub record RefusesReplay (fixed : Fixed) (fed : Heard) (answers_so_far : List Answer) (e : Error) (old new : Machine) : Type 0 where
   pub journal : Journal fed
   pub at : Point
@@ -236,11 +252,13 @@ pub record RefusesReplay (fixed : Fixed) (fed : Heard) (answers_so_far : List An
   pub reason : IsRefusedFor (next_move fixed journal at) at.left at.queue why
   pub related : Option RelatedCommand
   pub error : e ≡ ruled old (named_error why related)
-  pub output : new.output ≡ old.output ++ (command_frames written ++ encoding (message.Error (error_message e)) ∷ [])
+  pub output : new.output ≡ old.output
+      ++ (command_frames written ++ encoding (message.Error (error_message e)) ∷ [])
   pub failure : new.failure ≡ Some e
 
--- A call that may make more than one command, and began while recorded ones were left, found no memory for one of them. It may have made
--- others before, each whole, but none while recorded ones were left.
+-- A call that may make more than one command, and began while recorded ones were left, found no
+-- memory for one of them. It may have made others before, each whole, but none while recorded ones
+-- were left.
 pub record StarvesReplay (fixed : Fixed) (fed : Heard) (answers_so_far : List Answer) (e : Error) (old new : Machine) : Type 0 where
   pub journal : Journal fed
   pub at : Point
@@ -254,10 +272,11 @@ pub record StarvesReplay (fixed : Fixed) (fed : Heard) (answers_so_far : List An
   pub output : new.output ≡ old.output ++ command_frames written
   pub failure : new.failure ≡ Some e
 
--- While recorded commands are left, the handler's call is answered, and nothing is written, or no recorded command is left any more; or it
--- is refused; or memory is lacking.
+-- While recorded commands are left, the handler's call is answered, and nothing is written, or no
+-- recorded command is left any more; or it is refused; or memory is lacking.
 abbrev pub Replays : Fixed → Record → Result Progress Error → Record → Type 0
-Replays fixed old (Ok progress.Stepped) new = (new.vm.machine.output ≡ old.vm.machine.output) ⊎ (new.vm.machine.phase ≡ Processing)
+Replays fixed old (Ok progress.Stepped) new = (new.vm.machine.output ≡ old.vm.machine.output)
+    ⊎ (new.vm.machine.phase ≡ Processing)
 Replays fixed old (Ok progress.NotReady) new = ⊥
 Replays fixed old (Ok (progress.Waiting input run)) new = ⊥
 Replays fixed old (Ok (progress.ExecuteRun run)) new = ⊥
@@ -274,9 +293,11 @@ pub record IsLive (v : Machine) : Type 0 where
   pub failure : v.failure ≡ None
   pub phase : is_running v.phase ≡ true
 
--- What a machine keeps are the proposals that weren't acknowledged, and each acknowledgement found its proposal.
+-- What a machine keeps are the proposals that weren't acknowledged, and each acknowledgement found
+-- its proposal.
 abbrev pub KeepsProposals : {fed : Heard} → Journal fed → Machine → Type 0
-KeepsProposals {fed} j v = (v.proposals ≡ kept_after fed.proposed (j.entries ++ j.others)) × AllFound fed.proposed (j.entries ++ j.others)
+KeepsProposals {fed} j v = (v.proposals ≡ kept_after fed.proposed (j.entries ++ j.others))
+    × AllFound fed.proposed (j.entries ++ j.others)
 
 -- nothing is proposed before no recorded command is left
 abbrev pub ProposesLate : Heard → Phase → Type 0
@@ -287,8 +308,9 @@ abbrev pub StillAwaits : Meaning → Point → Option UnresolvedFuture → Type 
 StillAwaits m p None = Unit {0}
 StillAwaits m p (Some future) = m p.answers ≡ step.Await future
 
--- The handler runs: so many moves lead from the point after the input to one with the attempt's answers, and made what was
--- written; and as long as the VM can make calls it agrees with that point.
+-- The handler runs: so many moves lead from the point after the input to one with the attempt's
+-- answers, and made what was written; and as long as the VM can make calls it agrees with that
+-- point.
 pub record Runs (fixed : Fixed) (fed : Heard) (answers_so_far : List Answer) (waiting : Option UnresolvedFuture) (taken : List (List ℕ)) (vm : View) : Type 0 where
   pub journal : Journal fed
   pub written : List RawMessage
@@ -298,32 +320,38 @@ pub record Runs (fixed : Fixed) (fed : Heard) (answers_so_far : List Answer) (wa
   pub run : MovesTo fixed journal moves written at
   pub answers : at.answers ≡ answers_so_far
   pub awaits : StillAwaits fixed.handler at waiting
-  pub agrees : IsLive vm.machine → Agrees (setup_for fixed journal.start) (handed_out journal) written vm.machine at
+  pub agrees : IsLive vm.machine
+      → Agrees (setup_for fixed journal.start) (handed_out journal) written vm.machine at
   pub rests : IsLive vm.machine → at.derived.parts ≡ 0
   pub keeps : IsLive vm.machine → KeepsProposals journal vm.machine
-  pub phase : vm.machine.failure ≡ None → (is_running vm.machine.phase ≡ true) ⊎ (vm.machine.phase ≡ Closed)
+  pub phase : vm.machine.failure ≡ None → (is_running vm.machine.phase ≡ true)
+      ⊎ (vm.machine.phase ≡ Closed)
   pub tail : IsLive vm.machine → (frames_of (bytes_fed fed)).1 ≡ Rest vm.undecoded
 
--- Where the recorded commands are skipped, the completion ids that the written commands carry, and those of commands to come, are past all
--- that the recorded ones carry: from this one on.
+-- Where the recorded commands are skipped, the completion ids that the written commands carry, and
+-- those of commands to come, are past all that the recorded ones carry: from this one on.
 pub record NumbersOn (recorded written : List RawMessage) (v : Machine) : Type 0 where
   pub next : ℕ
   pub past : AreBelow next (all_carried recorded)
   pub from : AreFrom next (all_carried written)
   pub further : IsLive v → next ≤ v.counters.completion
 
--- The handler has read its input, which the journal begins with. What was written are the frames of messages. The VM was made for
--- this version and these options; it runs, or it is closed or has failed.
+-- The handler has read its input, which the journal begins with. What was written are the frames of
+-- messages. The VM was made for this version and these options; it runs, or it is closed or has
+-- failed.
 pub record Came (fixed : Fixed) (fed : Heard) (answers_so_far : List Answer) (taken : List (List ℕ)) (vm : View) : Type 0 where
   pub journal : Journal fed
   pub answered : answers_so_far ≢ []
   pub written : List RawMessage
   pub wrote : Wrote taken vm.machine.output written
-  pub made_for : IsLive vm.machine → (vm.machine.version ≡ fixed.version) × (vm.machine.options ≡ fixed.options)
+  pub made_for : IsLive vm.machine → (vm.machine.version ≡ fixed.version)
+      × (vm.machine.options ≡ fixed.options)
   pub keeps : IsLive vm.machine → KeepsProposals journal vm.machine
   pub early : IsLive vm.machine → ProposesLate fed vm.machine.phase
-  pub fresh : fixed.options.journal_replay ≡ Disabled → NumbersOn (journal.first ∷ journal.rest) written vm.machine
-  pub phase : vm.machine.failure ≡ None → (is_running vm.machine.phase ≡ true) ⊎ (vm.machine.phase ≡ Closed)
+  pub fresh : fixed.options.journal_replay ≡ Disabled
+      → NumbersOn (journal.first ∷ journal.rest) written vm.machine
+  pub phase : vm.machine.failure ≡ None → (is_running vm.machine.phase ≡ true)
+      ⊎ (vm.machine.phase ≡ Closed)
   pub tail : IsLive vm.machine → (frames_of (bytes_fed fed)).1 ≡ Rest vm.undecoded
 
 -- The first frame was a Start: the VM waits for known entries, or has them all.
@@ -337,14 +365,21 @@ pub record Begun (fixed : Fixed) (fed : Heard) (machine : Machine) : Type 0 wher
   pub reads_state : entries_in start.state ≡ Some state
   pub aside : Aside
   pub of_start : aside.start ≡ info_of fixed.version fixed.options.fallback_random_seed start
-  pub waits : StillWaits (setup_for fixed start) (record { entries = state; coverage = coverage_of start.partial }) aside start.known_entries [] [] others machine
-      ⊎ HasAll (setup_for fixed start) (record { entries = state; coverage = coverage_of start.partial }) aside start.known_entries [] [] others machine
+  pub waits : StillWaits (setup_for fixed start)
+      (record { entries = state; coverage = coverage_of start.partial }) aside start.known_entries
+      [] [] others machine
+      ⊎ HasAll (setup_for fixed start)
+      (record { entries = state; coverage = coverage_of start.partial }) aside
+      start.known_entries [] [] others machine
 
 -- no frame came, or the first was a Start
 abbrev pub Comes : Fixed → Heard → Machine → Type 0
-Comes fixed fed machine = ((frames_fed fed ≡ []) × ((alloc : Global) × (machine ≡ fresh alloc fixed.version fixed.options))) ⊎ Begun fixed fed machine
+Comes fixed fed machine = ((frames_fed fed ≡ [])
+    × ((alloc : Global) × (machine ≡ fresh alloc fixed.version fixed.options)))
+    ⊎ Begun fixed fed machine
 
--- The handler hasn't read its input: nothing was answered, and no command and no proposal was written.
+-- The handler hasn't read its input: nothing was answered, and no command and no proposal was
+-- written.
 pub record BeforeInput (fixed : Fixed) (fed : Heard) (answers_so_far : List Answer) (waiting : Option UnresolvedFuture) (taken : List (List ℕ)) (vm : View) : Type 0 where
   pub answers : answers_so_far ≡ []
   pub none_proposed : fed.proposed ≡ []
@@ -355,11 +390,13 @@ pub record BeforeInput (fixed : Fixed) (fed : Heard) (answers_so_far : List Answ
 
 -- what came and what was written, whatever the options are and whatever comes
 abbrev pub HasCome : Fixed → Record → Type 0
-HasCome fixed r = BeforeInput fixed (heard fixed.version r) r.answers r.waiting r.taken r.vm ⊎ Came fixed (heard fixed.version r) r.answers r.taken r.vm
+HasCome fixed r = BeforeInput fixed (heard fixed.version r) r.answers r.waiting r.taken r.vm
+    ⊎ Came fixed (heard fixed.version r) r.answers r.taken r.vm
 
 -- what each call of an attempt keeps of its handler's run
 abbrev pub IsKept : Fixed → Record → Type 0
-IsKept fixed r = BeforeInput fixed (heard fixed.version r) r.answers r.waiting r.taken r.vm ⊎ Runs fixed (heard fixed.version r) r.answers r.waiting r.taken r.vm
+IsKept fixed r = BeforeInput fixed (heard fixed.version r) r.answers r.waiting r.taken r.vm
+    ⊎ Runs fixed (heard fixed.version r) r.answers r.waiting r.taken r.vm
 
 -- the same, under the premises
 abbrev pub IsKeptUnder : Fixed → Record → Type 0
@@ -368,13 +405,17 @@ IsKeptUnder fixed r = Premises fixed (heard fixed.version r) → IsKept fixed r
 -- The handler has read its input, and as long as recorded commands are left it runs.
 pub record InReplay (fixed : Fixed) (fed : Heard) (answers_so_far : List Answer) (waiting : Option UnresolvedFuture) (taken : List (List ℕ)) (vm : View) : Type 0 where
   pub came : Came fixed fed answers_so_far taken vm
-  pub run : vm.machine.failure ≡ None → vm.machine.phase ≡ Replaying → Runs fixed fed answers_so_far waiting taken vm
+  pub run : vm.machine.failure ≡ None → vm.machine.phase ≡ Replaying
+      → Runs fixed fed answers_so_far waiting taken vm
 
 -- what each call of an attempt keeps in replay, under the premises of replay
 abbrev pub IsKeptInReplay : Fixed → Record → Type 0
 IsKeptInReplay fixed r =
-    ReplayPremises fixed (heard fixed.version r) → BeforeInput fixed (heard fixed.version r) r.answers r.waiting r.taken r.vm ⊎ InReplay fixed (heard fixed.version r) r.answers r.waiting r.taken r.vm
+    ReplayPremises fixed (heard fixed.version r)
+    → BeforeInput fixed (heard fixed.version r) r.answers r.waiting r.taken r.vm
+    ⊎ InReplay fixed (heard fixed.version r) r.answers r.waiting r.taken r.vm
 
 -- once the handler's await was suspended it waits rightly, under the premises
 abbrev pub StillSleeps : Fixed → Record → Type 0
-StillSleeps fixed r = Premises fixed (heard fixed.version r) → (made : Progress) → r.over ≡ Some made → IfWaits (Ok made) (Sleeps fixed (heard fixed.version r) r.answers r.taken r.vm)
+StillSleeps fixed r = Premises fixed (heard fixed.version r) → (made : Progress) → r.over
+    ≡ Some made → IfWaits (Ok made) (Sleeps fixed (heard fixed.version r) r.answers r.taken r.vm)

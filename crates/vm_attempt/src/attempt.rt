@@ -69,7 +69,8 @@ impl<H: Handler> Attempt<H> {
     ) -> VMResult<Self>
     where
         H: Drop,
-        ensures { MakesAttempt alloc options handler (version_in (M.found headers (codes "content-type"))) result }
+        ensures { MakesAttempt alloc options handler
+            (version_in (M.found headers (codes "content-type"))) result }
     {
         match CoreVM::new(alloc, headers, options) {
             Ok(vm) => Ok(Attempt {

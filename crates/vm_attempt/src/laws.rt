@@ -54,70 +54,112 @@ ghost use Rattle.await_trees.specs.declared.tree.UnresolvedFuture.{UnresolvedFut
 /// commands that is refused, or finds no memory, has made a beginning of its commands, each whole. Of an await this is said where signals
 /// queue and no completion has two results, and of a call with several commands where none of them is made. (That a command which was written can be read back is in the contract of each call.)
 pub fn calls_follow()
-    ensures { (s : Setup) (m : Meaning) (given : StateMap) (written : List RawMessage) (v : Machine) (p : Point) (o : Outcome Reply) → ((future : UnresolvedFuture) → IsAwaiting m p future → (s.options.signal_delivery ≡ Queued) × HasNoTwo p) → p.derived.parts ≡ 0 → Agrees s given written v p → Performs (m p.answers) v o → IfDone o (ReadsBack (m p.answers) v) → Follows s m given written p v o }
+    ensures { (s : Setup) (m : Meaning) (given : StateMap) (written : List RawMessage) (v : Machine)
+        (p : Point) (o : Outcome Reply)
+        → ((future : UnresolvedFuture) → IsAwaiting m p future
+        → (s.options.signal_delivery ≡ Queued) × HasNoTwo p) → p.derived.parts ≡ 0
+        → Agrees s given written v p → Performs (m p.answers) v o
+        → IfDone o (ReadsBack (m p.answers) v) → Follows s m given written p v o }
 {}
 
 /// Frames that come to a machine that agrees with a point are arrivals: a notification as it is, and an acknowledgement as the completion
 /// of its run, with the result that was proposed, once. The machine then agrees with that point and these arrivals behind its own, and keeps
 /// the proposals that weren't acknowledged; or it has failed, by the first frame that is refused in the phase in which it comes.
 pub fn frames_arrive()
-    ensures { (s : Setup) (given : StateMap) (written : List RawMessage) (v : Machine) (p : Point) (raws : List RawMessage) → Agrees s given written v p → (Agrees s given written (all_received raws v) (later (arriving v.proposals raws) p) × ((all_received raws v).proposals ≡ kept_after v.proposals raws)) ⊎ FailsAt raws v (all_received raws v) }
+    ensures { (s : Setup) (given : StateMap) (written : List RawMessage) (v : Machine) (p : Point)
+        (raws : List RawMessage) → Agrees s given written v p
+        → (Agrees s given written (all_received raws v) (later (arriving v.proposals raws) p)
+        × ((all_received raws v).proposals ≡ kept_after v.proposals raws))
+        ⊎ FailsAt raws v (all_received raws v) }
 {}
 
 /// A machine that has the whole journal, whose commands are replayed, reads its input: where the first command is one, the handler is told
 /// it, and the machine agrees with the first point of the handler's run; else the call is refused.
 pub fn attempts_begin()
-    ensures { (s : Setup) (given : StateMap) (aside : Aside) (first : RawMessage) (rest : List RawMessage) (ns : List Notification) → s.options.journal_replay ≡ Enabled → s.identity ≡ identity_of aside.start → BeginsOrFails s given aside rest ns (input_read_from first) (input_step (machine_fed s given aside (first ∷ rest) ns Replaying)) }
+    ensures { (s : Setup) (given : StateMap) (aside : Aside) (first : RawMessage)
+        (rest : List RawMessage) (ns : List Notification) → s.options.journal_replay ≡ Enabled
+        → s.identity ≡ identity_of aside.start
+        → BeginsOrFails s given aside rest ns (input_read_from first)
+        (input_step (machine_fed s given aside (first ∷ rest) ns Replaying)) }
 {}
 
 /// Frames that come to a new machine: it has failed; or the first is a Start, and the machine waits for as many of the known
 /// entries as are missing; or the known entries are the journal, and all notifications that came are arrivals. It fails only by
 /// a frame that is refused in the phase in which it comes: it doesn't decode, its type isn't allowed there, or Start is refused.
 pub fn journals_come()
-    ensures fails { (raws : List RawMessage) (v : Machine) → v.failure ≡ None → IsSome (all_received raws v).failure → FailsAt raws v (all_received raws v) }
-    ensures comes { (alloc : Global) (version : Version) (options : VMOptions) (first : RawMessage) (raws : List RawMessage) → Started alloc version options first raws (all_received (first ∷ raws) (fresh alloc version options)) }
+    ensures fails { (raws : List RawMessage) (v : Machine) → v.failure ≡ None
+        → IsSome (all_received raws v).failure → FailsAt raws v (all_received raws v) }
+    ensures comes { (alloc : Global) (version : Version) (options : VMOptions) (first : RawMessage)
+        (raws : List RawMessage)
+        → Started alloc version options first raws
+        (all_received (first ∷ raws) (fresh alloc version options)) }
 {}
 
 /// What each call of an attempt keeps, whatever the options are and whatever comes: before the input nothing was answered and no
 /// command written; then each command that was written can be read back.
 pub fn attempts_write()
-    ensures made { (alloc : Global) (fixed : Fixed) → HasCome fixed (fresh_record (made alloc fixed.options fixed.version)) }
-    ensures fed { (fixed : Fixed) (piece : List ℕ) (old : Record) (result : Result Unit AllocError) (new : Record) → HasCome fixed old → FeedDoes old.starved piece old result new → HasCome fixed new }
-    ensures closed { (fixed : Fixed) (old : Record) (result : Result Unit AllocError) (new : Record) → HasCome fixed old → CloseDoes old.starved old result new → HasCome fixed new }
-    ensures taken { (fixed : Fixed) (old : Record) (result : Result (List ℕ) AllocError) (new : Record) → HasCome fixed old → Takes old result new → HasCome fixed new }
-    ensures stepped { (fixed : Fixed) (old : Record) (result : Result Progress Error) (new : Record) → HasCome fixed old → StepDoes fixed.handler old result new → HasCome fixed new }
-    ensures told { (fixed : Fixed) (handle : NotificationHandle) (exit : RunExitResult) (policy : RetryPolicy) (old : Record) (result : Result Unit Error) (new : Record) → HasCome fixed old → FinishDoes old.starved handle exit policy old result new → HasCome fixed new }
+    ensures made { (alloc : Global) (fixed : Fixed)
+        → HasCome fixed (fresh_record (made alloc fixed.options fixed.version)) }
+    ensures fed { (fixed : Fixed) (piece : List ℕ) (old : Record) (result : Result Unit AllocError)
+        (new : Record) → HasCome fixed old → FeedDoes old.starved piece old result new
+        → HasCome fixed new }
+    ensures closed { (fixed : Fixed) (old : Record) (result : Result Unit AllocError) (new : Record)
+        → HasCome fixed old → CloseDoes old.starved old result new → HasCome fixed new }
+    ensures taken { (fixed : Fixed) (old : Record) (result : Result (List ℕ) AllocError)
+        (new : Record) → HasCome fixed old → Takes old result new → HasCome fixed new }
+    ensures stepped { (fixed : Fixed) (old : Record) (result : Result Progress Error) (new : Record)
+        → HasCome fixed old → StepDoes fixed.handler old result new → HasCome fixed new }
+    ensures told { (fixed : Fixed) (handle : NotificationHandle) (exit : RunExitResult)
+        (policy : RetryPolicy) (old : Record) (result : Result Unit Error) (new : Record)
+        → HasCome fixed old → FinishDoes old.starved handle exit policy old result new
+        → HasCome fixed new }
 {}
 
 /// What each call of an attempt keeps under the premises: recorded commands are replayed, signals queue, and no completion has two
 /// results. So many moves of the handler's run lead to its answers and made what was written, and the machine
 /// agrees with that point as long as it can make calls.
 pub fn attempts_keep()
-    ensures made { (fixed : Fixed) (alloc : Global) → IsKeptUnder fixed (fresh_record (made alloc fixed.options fixed.version)) }
-    ensures fed { (fixed : Fixed) (piece : List ℕ) (old : Record) (result : Result Unit AllocError) (new : Record) → IsKeptUnder fixed old → FeedDoes old.starved piece old result new → IsKeptUnder fixed new }
-    ensures closed { (fixed : Fixed) (old : Record) (result : Result Unit AllocError) (new : Record) → IsKeptUnder fixed old → CloseDoes old.starved old result new → IsKeptUnder fixed new }
-    ensures taken { (fixed : Fixed) (old : Record) (result : Result (List ℕ) AllocError) (new : Record) → IsKeptUnder fixed old → Takes old result new → IsKeptUnder fixed new }
-    ensures stepped { (fixed : Fixed) (old : Record) (result : Result Progress Error) (new : Record) → IsKeptUnder fixed old → StepDoes fixed.handler old result new → IsKeptUnder fixed new }
-    ensures told { (fixed : Fixed) (handle : NotificationHandle) (exit : RunExitResult) (policy : RetryPolicy) (old : Record) (result : Result Unit Error) (new : Record) → HasCome fixed old → IsKeptUnder fixed old → FinishDoes old.starved handle exit policy old result new → IsKeptUnder fixed new }
+    ensures made { (fixed : Fixed) (alloc : Global)
+        → IsKeptUnder fixed (fresh_record (made alloc fixed.options fixed.version)) }
+    ensures fed { (fixed : Fixed) (piece : List ℕ) (old : Record) (result : Result Unit AllocError)
+        (new : Record) → IsKeptUnder fixed old → FeedDoes old.starved piece old result new
+        → IsKeptUnder fixed new }
+    ensures closed { (fixed : Fixed) (old : Record) (result : Result Unit AllocError) (new : Record)
+        → IsKeptUnder fixed old → CloseDoes old.starved old result new → IsKeptUnder fixed new }
+    ensures taken { (fixed : Fixed) (old : Record) (result : Result (List ℕ) AllocError)
+        (new : Record) → IsKeptUnder fixed old → Takes old result new → IsKeptUnder fixed new }
+    ensures stepped { (fixed : Fixed) (old : Record) (result : Result Progress Error) (new : Record)
+        → IsKeptUnder fixed old → StepDoes fixed.handler old result new → IsKeptUnder fixed new }
+    ensures told { (fixed : Fixed) (handle : NotificationHandle) (exit : RunExitResult)
+        (policy : RetryPolicy) (old : Record) (result : Result Unit Error) (new : Record)
+        → HasCome fixed old → IsKeptUnder fixed old
+        → FinishDoes old.starved handle exit policy old result new → IsKeptUnder fixed new }
 {}
 
 /// Where the known entries are a history of the handler, no call is refused while recorded commands are left: no mismatch, no
 /// pending await, no end before its time.
 pub fn histories_are_replayed()
-    ensures { (fixed : Fixed) (fed : Heard) (answers : List Answer) (e : Error) (old new : Machine) (refusal : RefusesReplay fixed fed answers e old new) (recorded : RawMessage) (further : List RawMessage) → refusal.at.left ≡ recorded ∷ further → (base : StateMap) → History (setup_for fixed refusal.journal.start) fixed.handler base (as_entries refusal.journal.entries) → ⊥ }
+    ensures { (fixed : Fixed) (fed : Heard) (answers : List Answer) (e : Error) (old new : Machine)
+        (refusal : RefusesReplay fixed fed answers e old new) (recorded : RawMessage)
+        (further : List RawMessage) → refusal.at.left ≡ recorded ∷ further → (base : StateMap)
+        → History (setup_for fixed refusal.journal.start) fixed.handler base
+        (as_entries refusal.journal.entries) → ⊥ }
 {}
 
 /// Under the premises the answers of an attempt are those of a point that its journal tells, followed by what it wrote, with the arrivals that it
 /// was fed; while recorded commands are left, it has written none.
 pub fn answers_are_told()
-    ensures { (fixed : Fixed) (r : Record) → IsKeptUnder fixed r → WholeFrames r.vm.machine.output → Premises fixed (heard fixed.version r) → (r.answers ≡ []) ⊎ AnswersAreTold fixed r }
+    ensures { (fixed : Fixed) (r : Record) → IsKeptUnder fixed r → WholeFrames r.vm.machine.output
+        → Premises fixed (heard fixed.version r) → (r.answers ≡ []) ⊎ AnswersAreTold fixed r }
 {}
 
 /// Where the known entries are a history of the handler and each frame has its place, an error is only: want of memory; input that
 /// was closed while known entries were missing; or, where no recorded command is left, a call's own refusal, for an argument or
 /// version check, a kind of number that ran out, or a state key that is no text; or that of a run's result that failed the VM.
 pub fn honest_attempts_fail_by_themselves()
-    ensures { (fixed : Fixed) (fed : Heard) (said : Said) (answers : List Answer) (e : Error) → IsHonest fixed fed → Blame fixed fed said answers e → IsOwnError fixed fed said answers e }
+    ensures { (fixed : Fixed) (fed : Heard) (said : Said) (answers : List Answer) (e : Error)
+        → IsHonest fixed fed → Blame fixed fed said answers e
+        → IsOwnError fixed fed said answers e }
 {}
 
 /// Bytes that are a beginning of Start, of the whole journal, which is a history of the handler, and of notifications behind it are
@@ -129,5 +171,9 @@ pub fn honest_bytes_are_honest()
 /// A run is handed out to be executed once at most: whatever calls are made of an attempt, from its first on, and whatever they answer, no
 /// two of its steps answer `ExecuteRun` with the same handle.
 pub fn runs_are_executed_once()
-    ensures { (fixed : Fixed) (alloc : Global) (handle : NotificationHandle) (before between : ℕ) (a b c d : Record) → Leads fixed.handler before (fresh_record (made alloc fixed.options fixed.version)) a → StepDoes fixed.handler a (Ok (ExecuteRun handle)) b → Leads fixed.handler between b c → StepDoes fixed.handler c (Ok (ExecuteRun handle)) d → ⊥ }
+    ensures { (fixed : Fixed) (alloc : Global) (handle : NotificationHandle) (before between : ℕ)
+        (a b c d : Record) → Leads fixed.handler before
+        (fresh_record (made alloc fixed.options fixed.version)) a
+        → StepDoes fixed.handler a (Ok (ExecuteRun handle)) b → Leads fixed.handler between b c
+        → StepDoes fixed.handler c (Ok (ExecuteRun handle)) d → ⊥ }
 {}

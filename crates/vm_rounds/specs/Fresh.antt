@@ -16,16 +16,19 @@ ids_in journal = all_carried (commands_among (frames_in journal))
 abbrev pub ids_written : List ℕ → List ℕ
 ids_written output = all_carried (commands_among (frames_of output).0)
 
--- A round over a journal has added entries to it, and its attempt has written this output: each completion id that a command of either carries is greater
--- than each that the journal's commands carried when the round began.
+-- A round over a journal has added entries to it, and its attempt has written this output: each
+-- completion id that a command of either carries is greater than each that the journal's commands
+-- carried when the round began.
 pub record IsFresh (before added : List (List ℕ)) (output : List ℕ) : Type 0 where
   pub written : AreGreater (ids_in before) (ids_written output)
   pub stored : AreGreater (ids_in before) (ids_in added)
 
--- the same of each of these rounds, of which the first began when the last journal had so many of its entries
+-- the same of each of these rounds, of which the first began when the last journal had so many of
+-- its entries
 abbrev pub AreFresh : ℕ → List (List ℕ) → List ReportView → Type 0
 AreFresh n journal [] = Unit {0}
-AreFresh n journal (r ∷ rs) = IsFresh (take n journal) (drop n (take r.entries journal)) r.output × AreFresh r.entries journal rs
+AreFresh n journal (r ∷ rs) = IsFresh (take n journal) (drop n (take r.entries journal)) r.output
+    × AreFresh r.entries journal rs
 
 -- recorded commands are skipped
 abbrev pub Skips : VMOptions → Type 0

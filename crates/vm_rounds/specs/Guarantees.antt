@@ -19,7 +19,8 @@ use Rattle.vm_rounds.specs.Owning.{AreOwn}
 use Rattle.vm_rounds.specs.Rounds.{Agree, ComesFromOutside, CompletesOnce, ReportView, RoundsDo}
 use Rattle.vm_rounds.specs.Sound.{IsSoundFor}
 
--- What is fixed over all rounds: what the handler calls next after the answers that it saw, and with what its attempts are made.
+-- What is fixed over all rounds: what the handler calls next after the answers that it saw, and
+-- with what its attempts are made.
 pub record Case : Type 0 where
   pub handler : Meaning
   pub setting : Setting
@@ -30,16 +31,20 @@ case_of handler world = record { handler = handler; setting = world.setting }
 
 -- ---- of a journal
 
--- One run of the handler made the journal: each of its commands stands there once, in order, and no other.
+-- One run of the handler made the journal: each of its commands stands there once, in order, and no
+-- other.
 abbrev pub IsExactlyOnce : Case → List (List ℕ) → Type 0
-IsExactlyOnce c journal = IsOneRun (setup_of c.setting) c.handler (Honest (base_of c.setting)) (entries_of journal)
+IsExactlyOnce c journal =
+    IsOneRun (setup_of c.setting) c.handler (Honest (base_of c.setting)) (entries_of journal)
 
 -- So did one run that nothing interrupted: each call knew the whole state.
 abbrev pub IsUninterrupted : Case → List (List ℕ) → Type 0
-IsUninterrupted c journal = IsOneRun (setup_of c.setting) c.handler (Whole (base_of c.setting)) (entries_of journal)
+IsUninterrupted c journal =
+    IsOneRun (setup_of c.setting) c.handler (Whole (base_of c.setting)) (entries_of journal)
 
--- The journal can be replayed to its end, whoever made it: recorded commands are replayed, signals queue, the handler's calls are its commands
--- in order, and these leave of the state what the calls leave.
+-- The journal can be replayed to its end, whoever made it: recorded commands are replayed, signals
+-- queue, the handler's calls are its commands in order, and these leave of the state what the calls
+-- leave.
 abbrev pub IsReplayable : Case → List (List ℕ) → Type 0
 IsReplayable c journal = IsSoundFor c.handler c.setting journal
 
@@ -51,7 +56,8 @@ CanBeReplayed handler world = IsReplayable (case_of handler world) world.journal
 abbrev pub HasOneResultEach : Case → List (List ℕ) → Type 0
 HasOneResultEach c journal = CompletesOnce (setup_of c.setting) c.handler (entries_of journal)
 
--- Each result of an id that a call or a one-way call carries for its invocation's is an invocation's id.
+-- Each result of an id that a call or a one-way call carries for its invocation's is an
+-- invocation's id.
 abbrev pub HasRightKinds : List (List ℕ) → Type 0
 HasRightKinds journal = AreOfTheirKind (notes_in journal) (commands_among (frames_in journal))
 
@@ -61,26 +67,30 @@ HasRightKinds journal = AreOfTheirKind (notes_in journal) (commands_among (frame
 abbrev pub told : List Report → List ReportView
 told reports = map report_view reports
 
--- Of the answers that an earlier report's journal tells, and those of a later report, one list begins the other.
+-- Of the answers that an earlier report's journal tells, and those of a later report, one list
+-- begins the other.
 abbrev pub AttemptsAgree : Case → List (List ℕ) → List ReportView → Type 0
 AttemptsAgree c journal reports = Agree (setup_of c.setting) c.handler journal reports
 
--- Each attempt saw the answers that its journal tells, and each command that was stored stands after all that its attempt was delivered before
--- it wrote the command.
-abbrev pub RoundsAreHonest : Case → List Round → List (List ℕ) → List ReportView → List (List ℕ) → Type 0
+-- Each attempt saw the answers that its journal tells, and each command that was stored stands
+-- after all that its attempt was delivered before it wrote the command.
+abbrev pub RoundsAreHonest : Case → List Round → List (List ℕ) → List ReportView → List (List ℕ)
+    → Type 0
 RoundsAreHonest c rounds old reports new =
     (d : RoundsDo c.handler c.setting rounds old reports new)
     → AreHonest (Honest (base_of c.setting)) c.handler c.setting rounds old reports new d
 
--- Each report's error, if it has one, is its attempt's own: want of memory, input that was closed too early, a call's own refusal behind the
--- recorded commands, or that of a run's result; or, if no attempt was made, why. No mismatch is among them.
-abbrev pub ErrorsAreTheirOwn : Case → List Round → List (List ℕ) → List ReportView → List (List ℕ) → Type 0
+-- Each report's error, if it has one, is its attempt's own: want of memory, input that was closed
+-- too early, a call's own refusal behind the recorded commands, or that of a run's result; or, if
+-- no attempt was made, why. No mismatch is among them.
+abbrev pub ErrorsAreTheirOwn : Case → List Round → List (List ℕ) → List ReportView → List (List ℕ)
+    → Type 0
 ErrorsAreTheirOwn c rounds old reports new =
     (d : RoundsDo c.handler c.setting rounds old reports new)
     → AreOwn c.handler c.setting rounds old reports new d
 
--- A fault is want of memory, a full journal, or that of an arrival, on a journal that begins with the old one: what an attempt wrote can always
--- be stored.
+-- A fault is want of memory, a full journal, or that of an arrival, on a journal that begins with
+-- the old one: what an attempt wrote can always be stored.
 abbrev pub FaultsComeFromOutside : List Round → List (List ℕ) → RoundFault → Type 0
 FaultsComeFromOutside rounds old f = ComesFromOutside rounds old f
 
@@ -90,6 +100,7 @@ FaultsComeFromOutside rounds old f = ComesFromOutside rounds old f
 abbrev pub Lasts : (List (List ℕ) → Type 0) → WorldView → WorldView → Type 0
 Lasts Has old new = Has old.journal → Has new.journal
 
--- In each round the completion ids of the new commands are greater than all that the journal's commands carried when it began.
+-- In each round the completion ids of the new commands are greater than all that the journal's
+-- commands carried when it began.
 abbrev pub IdsAreNew : WorldView → List ReportView → WorldView → Type 0
 IdsAreNew old reports new = AreFresh (length old.journal) new.journal reports

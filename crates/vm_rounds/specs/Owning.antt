@@ -1,4 +1,5 @@
--- Whose errors the reports of rounds tell: each is its attempt's own, or that of the attempt's making.
+-- Whose errors the reports of rounds tell: each is its attempt's own, or that of the attempt's
+-- making.
 use Rattle.std.specs.Prelude.{◌≡◌, ℕ, List, [], ◌∷◌, ◌++◌, Some}
 use Rattle.std.proofs.Common.{inl, inr}
 use Rattle.journal_errors.specs.declared.error.Error.{Error}
@@ -12,22 +13,29 @@ use Rattle.vm_store.specs.declared.types.Setting.{Setting}
 use Rattle.vm_store.specs.Worlds.{fixed_in}
 use Rattle.vm_rounds.specs.Rounds.{Happen, IsRefusal, Now, ReportView, RoundDoes, RoundsDo, begin}
 
--- At a moment of a round, behind the first of its events, its attempt has this error as its own: want of memory, input that was closed too
--- early, a call's own refusal behind the recorded commands, or that of a run's result.
+-- At a moment of a round, behind the first of its events, its attempt has this error as its own:
+-- want of memory, input that was closed too early, a call's own refusal behind the recorded
+-- commands, or that of a run's result.
 pub record IsOwnIn (m : Meaning) (w : Setting) (events : List Event) (begun : Now) (e : Error) : Type 0 where
   pub before : List Event
   pub behind : List Event
   pub split : events ≡ before ++ behind
   pub now : Now
   pub happen : Happen m before begun now
-  pub own : IsOwnError (fixed_in m w) (all_heard w.version now.attempt) (all_said now.attempt) now.attempt.answers e
+  pub own : IsOwnError (fixed_in m w) (all_heard w.version now.attempt) (all_said now.attempt)
+      now.attempt.answers e
 
 -- The error of a round, if it has one, is its attempt's own; or, if no attempt was made, why.
-abbrev pub OwnOf : (m : Meaning) (w : Setting) (round : Round) (old : List (List ℕ)) (report : ReportView) (new : List (List ℕ)) → RoundDoes m w round old report new → Type 0
-OwnOf m w round old report new (inl d) = (e : Error) → report.error ≡ Some e → IsOwnIn m w round.events (begin d.alloc w round old) e
-OwnOf m w round old report new (inr d) = (e : Error) → report.error ≡ Some e → IsRefusal (supported w.version) e
+abbrev pub OwnOf : (m : Meaning) (w : Setting) (round : Round) (old : List (List ℕ))
+    (report : ReportView) (new : List (List ℕ)) → RoundDoes m w round old report new → Type 0
+OwnOf m w round old report new (inl d) = (e : Error) → report.error ≡ Some e
+    → IsOwnIn m w round.events (begin d.alloc w round old) e
+OwnOf m w round old report new (inr d) = (e : Error) → report.error ≡ Some e
+    → IsRefusal (supported w.version) e
 
 -- so it is in each of the rounds
-abbrev pub AreOwn : (m : Meaning) (w : Setting) (rounds : List Round) (old : List (List ℕ)) (reports : List ReportView) (new : List (List ℕ)) → RoundsDo m w rounds old reports new → Type 0
+abbrev pub AreOwn : (m : Meaning) (w : Setting) (rounds : List Round) (old : List (List ℕ))
+    (reports : List ReportView) (new : List (List ℕ)) → RoundsDo m w rounds old reports new → Type 0
 AreOwn m w [] old reports new d = Unit {0}
-AreOwn m w (r ∷ rs) old reports new (mid, report, more, is, does, others) = OwnOf m w r old report mid does × AreOwn m w rs mid more new others
+AreOwn m w (r ∷ rs) old reports new (mid, report, more, is, does, others) = OwnOf m w r old report
+    mid does × AreOwn m w rs mid more new others

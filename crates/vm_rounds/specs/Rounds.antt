@@ -41,8 +41,9 @@ use Rattle.vm_attempt.specs.Fixed.{Fixed}
 
 -- ---- a round on its way
 
--- The version that the attempt was made for, the journal, the bytes that wait, the attempt, all output that was taken, its bytes that weren't looked at for storing, whether
--- the input was closed, and the first error.
+-- The version that the attempt was made for, the journal, the bytes that wait, the attempt, all
+-- output that was taken, its bytes that weren't looked at for storing, whether the input was
+-- closed, and the first error.
 pub record Now : Type 0 where
   pub version : Version
   pub journal : List (List ℕ)
@@ -74,31 +75,52 @@ memory_of (Err e) = Some no_memory
 abbrev pub Pieces : Bool → ℕ → Now → Now → Type 0
 Pieces true n old new = new ≡ old
 Pieces false n old new =
-    (result : Result Unit AllocError) × (r : Record) × FeedDoes old.attempt.starved (take n old.waiting) old.attempt result r
-    × (new ≡ record old { waiting = drop n old.waiting; attempt = r; error = first_error old.error (memory_of result) })
+    (result : Result Unit AllocError) × (r : Record)
+    × FeedDoes old.attempt.starved (take n old.waiting) old.attempt result r
+    × (new ≡ record old {
+      waiting = drop n old.waiting;
+      attempt = r;
+      error = first_error old.error (memory_of result);
+    })
 
 -- what an event does
 abbrev pub Happens : Meaning → Event → Now → Now → Type 0
 Happens m (event.Piece n) old new = Pieces old.closed n old new
 Happens m event.Close old new =
-    (result : Result Unit AllocError) × (r : Record) × CloseDoes old.attempt.starved old.attempt result r
-    × (new ≡ record old { attempt = r; closed = true; error = first_error old.error (memory_of result) })
+    (result : Result Unit AllocError) × (r : Record)
+    × CloseDoes old.attempt.starved old.attempt result r
+    × (new ≡ record old {
+      attempt = r;
+      closed = true;
+      error = first_error old.error (memory_of result);
+    })
 Happens m event.Step old new =
     (result : Result Progress Error) × (r : Record) × StepDoes m old.attempt result r
     × (new ≡ record old { attempt = r; error = first_error old.error (error_of result) })
 Happens m (event.RunResult handle exit policy) old new =
-    (result : Result Unit Error) × (r : Record) × FinishDoes old.attempt.starved handle exit policy old.attempt result r
+    (result : Result Unit Error) × (r : Record)
+    × FinishDoes old.attempt.starved handle exit policy old.attempt result r
     × (new ≡ record old { attempt = r; error = first_error old.error (error_of result) })
 Happens m (event.Arrive x) old new =
-    (arrival_fault x old.journal ≡ None) × (new ≡ record old { journal = old.journal ++ x ∷ []; waiting = old.waiting ++ x })
+    (arrival_fault x old.journal ≡ None)
+    × (new ≡ record old { journal = old.journal ++ x ∷ []; waiting = old.waiting ++ x })
 Happens m (event.Store n) old new =
     (journal : List (List ℕ)) × (waiting : List ℕ) × (unstored : List ℕ)
-    × Stores old.version n (old.unstored ++ concat old.attempt.vm.machine.output) old.journal old.waiting journal waiting unstored
-    × (new ≡ record old { journal = journal; waiting = waiting; output = old.output ++ concat old.attempt.vm.machine.output; unstored = unstored; attempt = taken_from old.attempt })
+    × Stores old.version n (old.unstored
+    ++ concat old.attempt.vm.machine.output) old.journal old.waiting journal waiting unstored
+    × (new ≡ record old {
+      journal = journal;
+      waiting = waiting;
+      output = old.output
+          ++ concat old.attempt.vm.machine.output;
+      unstored = unstored;
+      attempt = taken_from old.attempt;
+    })
     × WholeFrames old.attempt.vm.machine.output
     × (old.attempt.proposed ≡ proposals_in (bytes_written old.attempt))
 
--- an event's fault, but for want of memory; of what is stored, where whole frames wait, that of the first item that has one
+-- an event's fault, but for want of memory; of what is stored, where whole frames wait, that of the
+-- first item that has one
 abbrev pub Fault : Event → Now → RoundFault → Type 0
 Fault (event.Piece n) now f = ⊥
 Fault event.Close now f = ⊥
@@ -106,7 +128,8 @@ Fault event.Step now f = ⊥
 Fault (event.RunResult handle exit policy) now f = ⊥
 Fault (event.Arrive x) now f = arrival_fault x now.journal ≡ Some f
 Fault (event.Store n) now f =
-    FirstFault now.version (take n (written_from (now.unstored ++ concat now.attempt.vm.machine.output))) now.journal f
+    FirstFault now.version (take n
+    (written_from (now.unstored ++ concat now.attempt.vm.machine.output))) now.journal f
     × WholeFrames now.attempt.vm.machine.output
 
 -- an event's fault
@@ -126,21 +149,24 @@ Happen m (e ∷ es) old new = (mid : Now) × Happens m e old mid × Happen m es 
 -- the first of these events that has a fault has this one
 abbrev pub HappenFaults : Meaning → List Event → Now → RoundFault → Type 0
 HappenFaults m [] now f = ⊥
-HappenFaults m (e ∷ es) now f = Faults e now f ⊎ ((mid : Now) × Happens m e now mid × HappenFaults m es mid f)
+HappenFaults m (e ∷ es) now f = Faults e now f
+    ⊎ ((mid : Now) × Happens m e now mid × HappenFaults m es mid f)
 
 -- ---- rounds whose attempt was refused
 
 -- the arrivals are stored, and nothing else happens
 abbrev pub ArrivalsDo : List Event → List (List ℕ) → List (List ℕ) → Type 0
 ArrivalsDo [] old new = new ≡ old
-ArrivalsDo (event.Arrive x ∷ es) old new = (arrival_fault x old ≡ None) × ArrivalsDo es (old ++ x ∷ []) new
+ArrivalsDo (event.Arrive x ∷ es) old new = (arrival_fault x old ≡ None)
+    × ArrivalsDo es (old ++ x ∷ []) new
 ArrivalsDo (e ∷ es) old new = ArrivalsDo es old new
 
 -- the first of the arrivals that has a fault has this one
 abbrev pub ArrivalsFault : List Event → List (List ℕ) → RoundFault → Type 0
 ArrivalsFault [] journal f = ⊥
 ArrivalsFault (event.Arrive x ∷ es) journal f =
-    ((f ≡ round_fault.Memory) ⊎ (arrival_fault x journal ≡ Some f)) ⊎ ((arrival_fault x journal ≡ None) × ArrivalsFault es (journal ++ x ∷ []) f)
+    ((f ≡ round_fault.Memory) ⊎ (arrival_fault x journal ≡ Some f))
+    ⊎ ((arrival_fault x journal ≡ None) × ArrivalsFault es (journal ++ x ∷ []) f)
 ArrivalsFault (e ∷ es) journal f = ArrivalsFault es journal f
 
 -- why no attempt was made: its version isn't supported, or want of memory
@@ -159,14 +185,22 @@ pub record ReportView : Type 0 where
 
 -- what is told of a round with its attempt
 abbrev pub report_of : Now → ReportView
-report_of now = record { answers = now.attempt.answers; output = now.output ++ concat now.attempt.vm.machine.output; error = now.error; entries = length now.journal }
+report_of now = record {
+  answers = now.attempt.answers;
+  output = now.output
+      ++ concat now.attempt.vm.machine.output;
+  error = now.error;
+  entries = length now.journal;
+}
 
 -- what is told of a round whose attempt was refused
 abbrev pub refused_report : Error → List (List ℕ) → ReportView
-refused_report e journal = record { answers = []; output = []; error = Some e; entries = length journal }
+refused_report e journal =
+    record { answers = []; output = []; error = Some e; entries = length journal }
 
--- What an attempt's own contract tells of it at the end of its round: before its input it has written no command; and under the
--- premises its journal, with what it wrote, tells its answers; and where recorded commands are skipped, its commands carry new ids.
+-- What an attempt's own contract tells of it at the end of its round: before its input it has
+-- written no command; and under the premises its journal, with what it wrote, tells its answers;
+-- and where recorded commands are skipped, its commands carry new ids.
 pub record EndsTold (fixed : Fixed) (r : Record) : Type 0 where
   pub begins : r.answers ≡ [] → written_by r ≡ []
   pub told : Premises fixed (heard fixed.version r) → (r.answers ≡ []) ⊎ AnswersAreTold fixed r
@@ -174,11 +208,21 @@ pub record EndsTold (fixed : Fixed) (r : Record) : Type 0 where
 
 -- a round begins with this attempt, and these bytes wait
 abbrev pub new_now : Version → List (List ℕ) → List ℕ → Record → Now
-new_now version journal waiting r = record { version = version; journal = journal; waiting = waiting; attempt = r; output = []; unstored = []; closed = false; error = None }
+new_now version journal waiting r = record {
+  version = version;
+  journal = journal;
+  waiting = waiting;
+  attempt = r;
+  output = [];
+  unstored = [];
+  closed = false;
+  error = None;
+}
 
 -- a round begins with a new attempt, and its Start and the whole journal wait
 abbrev pub begin : Global → Setting → Round → List (List ℕ) → Now
-begin alloc w round journal = new_now w.version journal (encoding (start_message w round journal) ++ concat journal) (fresh_record (made alloc w.options w.version))
+begin alloc w round journal = new_now w.version journal (encoding (start_message w round journal)
+    ++ concat journal) (fresh_record (made alloc w.options w.version))
 
 -- no event lets the journal have more entries than may be
 abbrev pub IsShort : Meaning → List Event → Now → Type 0
@@ -196,8 +240,8 @@ pub record Ran (fixed : Fixed) (events : List Event) (begun : Now) (report : Rep
 abbrev pub IsSupported : Version → Type 0
 IsSupported version = supported version ≡ Ok version
 
--- A round with its attempt, in a version that the VM supports, leaves this journal and tells this report. The keys of the state that its
--- Start hands out are texts.
+-- A round with its attempt, in a version that the VM supports, leaves this journal and tells this
+-- report. The keys of the state that its Start hands out are texts.
 pub record AttemptDoes (m : Meaning) (w : Setting) (round : Round) (old : List (List ℕ)) (report : ReportView) (new : List (List ℕ)) : Type 0 where
   pub alloc : Global
   pub speaks : IsSupported w.version
@@ -213,11 +257,14 @@ pub record RefusedDoes (w : Setting) (round : Round) (old : List (List ℕ)) (re
   pub told : report ≡ refused_report error new
 
 -- what a round does
-abbrev pub RoundDoes : Meaning → Setting → Round → List (List ℕ) → ReportView → List (List ℕ) → Type 0
-RoundDoes m w round old report new = AttemptDoes m w round old report new ⊎ RefusedDoes w round old report new
+abbrev pub RoundDoes : Meaning → Setting → Round → List (List ℕ) → ReportView → List (List ℕ)
+    → Type 0
+RoundDoes m w round old report new =
+    AttemptDoes m w round old report new ⊎ RefusedDoes w round old report new
 
 -- rounds, one after another
-abbrev pub RoundsDo : Meaning → Setting → List Round → List (List ℕ) → List ReportView → List (List ℕ) → Type 0
+abbrev pub RoundsDo : Meaning → Setting → List Round → List (List ℕ) → List ReportView
+    → List (List ℕ) → Type 0
 RoundsDo m w [] old reports new = (reports ≡ []) × (new ≡ old)
 RoundsDo m w (r ∷ rs) old reports new =
     (mid : List (List ℕ)) × (report : ReportView) × (more : List ReportView)
@@ -238,14 +285,16 @@ pub record RefusedFaults (w : Setting) (round : Round) (old : List (List ℕ)) (
 
 -- a round's fault: want of memory, or that of the first event that has one
 abbrev pub RoundFaults : Meaning → Setting → Round → List (List ℕ) → RoundFault → Type 0
-RoundFaults m w round old f = (f ≡ round_fault.Memory) ⊎ (AttemptFaults m w round old f ⊎ RefusedFaults w round old f)
+RoundFaults m w round old f =
+    (f ≡ round_fault.Memory) ⊎ (AttemptFaults m w round old f ⊎ RefusedFaults w round old f)
 
 -- the first round that has a fault has this one
 abbrev pub RoundsFault : Meaning → Setting → List Round → List (List ℕ) → RoundFault → Type 0
 RoundsFault m w [] old f = f ≡ round_fault.Memory
 RoundsFault m w (r ∷ rs) old f =
     RoundFaults m w r old f
-    ⊎ ((mid : List (List ℕ)) × (report : ReportView) × RoundDoes m w r old report mid × RoundsFault m w rs mid f)
+    ⊎ ((mid : List (List ℕ)) × (report : ReportView) × RoundDoes m w r old report mid
+    × RoundsFault m w rs mid f)
 
 -- ---- faults that come from outside
 
@@ -287,15 +336,22 @@ AreWhole rounds = AllByRecursion (λ r. r.partial ≡ false) rounds
 -- What a journal told, and the answers of these reports: one begins the other.
 abbrev pub TellsAlong : Setup → Meaning → List Entry → List ReportView → Type 0
 TellsAlong s m journal reports =
-    (first : RawMessage) (input : InputCommand) (rest : List RawMessage) (p : Point) → commands_in journal ≡ first ∷ rest → input_read_from first ≡ Some input → Told s m input (notifications_in journal) rest p
+    (first : RawMessage) (input : InputCommand) (rest : List RawMessage) (p : Point)
+    → commands_in journal ≡ first ∷ rest → input_read_from first ≡ Some input
+    → Told s m input (notifications_in journal) rest p
     → AllByRecursion (λ r. OneBegins p.answers r.answers) reports
 
--- what the last journal told when each report was made, as far as its entries count, and the answers of all later reports
+-- what the last journal told when each report was made, as far as its entries count, and the
+-- answers of all later reports
 abbrev pub Agree : Setup → Meaning → List (List ℕ) → List ReportView → Type 0
 Agree s m journal [] = Unit {0}
-Agree s m journal (r ∷ rs) = TellsAlong s m (entries_of (take r.entries journal)) rs × Agree s m journal rs
+Agree s m journal (r ∷ rs) = TellsAlong s m (entries_of (take r.entries journal)) rs
+    × Agree s m journal rs
 
--- At no point that a journal tells has a completion id two results: of its eager read, of those that came, of those that wait.
+-- At no point that a journal tells has a completion id two results: of its eager read, of those
+-- that came, of those that wait.
 abbrev pub CompletesOnce : Setup → Meaning → List Entry → Type 0
 CompletesOnce s m journal =
-    (first : RawMessage) (input : InputCommand) (rest : List RawMessage) (p : Point) → commands_in journal ≡ first ∷ rest → input_read_from first ≡ Some input → Told s m input (notifications_in journal) rest p → HasNoTwo p
+    (first : RawMessage) (input : InputCommand) (rest : List RawMessage) (p : Point)
+    → commands_in journal ≡ first ∷ rest → input_read_from first ≡ Some input
+    → Told s m input (notifications_in journal) rest p → HasNoTwo p

@@ -8,8 +8,8 @@ use Rattle.vm_store.specs.States.{base_of}
 use Rattle.vm_store.specs.Worlds.{setup_of}
 use Rattle.vm_rounds.specs.Rounds.{Replays}
 
--- In this setting recorded commands are replayed and signals queue, and the journal is a sound history of the handler, from the state before
--- any command.
+-- In this setting recorded commands are replayed and signals queue, and the journal is a sound
+-- history of the handler, from the state before any command.
 pub record IsSoundFor (m : Meaning) (w : Setting) (journal : List (List ℕ)) : Type 0 where
   pub replays : Replays w.options
   pub history : SoundHistory (setup_of w) m (base_of w) (entries_of journal)

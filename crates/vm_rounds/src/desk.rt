@@ -42,8 +42,10 @@ fn note(error: &mut Option<Error>, next: Option<Error>)
 
 /// An arrival is stored, if it has no fault.
 pub fn arrive_in(alloc: Global, journal: &mut Vec<Bytes>, entry: &Bytes) -> Result<(), RoundFault>
-    ensures ok { OnOk result ((arrival_fault entry.now journal.old.items ≡ None) × (journal.new.items ≡ journal.old.items ++ entry.now ∷ [])) }
-    ensures err { IfErr result (λ f. (f ≡ round_fault.Memory) ⊎ (arrival_fault entry.now journal.old.items ≡ Some f)) }
+    ensures ok { OnOk result ((arrival_fault entry.now journal.old.items ≡ None)
+        × (journal.new.items ≡ journal.old.items ++ entry.now ∷ [])) }
+    ensures err { IfErr result (λ f. (f ≡ round_fault.Memory)
+        ⊎ (arrival_fault entry.now journal.old.items ≡ Some f)) }
 {
     match arrival_fault(alloc, entry, journal.as_slice()) {
         Err(_) => return Err(RoundFault::Memory),
@@ -62,9 +64,13 @@ pub fn arrive_in(alloc: Global, journal: &mut Vec<Bytes>, entry: &Bytes) -> Resu
 /// A notification is stored and waits.
 fn arrive(desk: &mut Desk, entry: &Bytes) -> Result<(), RoundFault>
     ensures ok { OnOk result ((arrival_fault entry.now desk.old.journal.items ≡ None)
-        × (desk.new.journal.items ≡ desk.old.journal.items ++ entry.now ∷ []) × (desk.new.waiting.items ≡ desk.old.waiting.items ++ entry.now)) }
-    ensures same { OnOk result ((desk.new.version ≡ desk.old.version) × (desk.new.output ≡ desk.old.output) × (desk.new.unstored ≡ desk.old.unstored) × (desk.new.closed ≡ desk.old.closed) × (desk.new.error ≡ desk.old.error)) }
-    ensures err { IfErr result (λ f. (f ≡ round_fault.Memory) ⊎ (arrival_fault entry.now desk.old.journal.items ≡ Some f)) }
+        × (desk.new.journal.items ≡ desk.old.journal.items ++ entry.now ∷ [])
+        × (desk.new.waiting.items ≡ desk.old.waiting.items ++ entry.now)) }
+    ensures same { OnOk result ((desk.new.version ≡ desk.old.version)
+        × (desk.new.output ≡ desk.old.output) × (desk.new.unstored ≡ desk.old.unstored)
+        × (desk.new.closed ≡ desk.old.closed) × (desk.new.error ≡ desk.old.error)) }
+    ensures err { IfErr result (λ f. (f ≡ round_fault.Memory)
+        ⊎ (arrival_fault entry.now desk.old.journal.items ≡ Some f)) }
 {
     arrive_in(desk.alloc, &mut desk.journal, entry)?;
     if desk.waiting.extend_from_slice(entry.as_slice()).is_err() {
@@ -98,9 +104,11 @@ fn front(waiting: &mut BytesMut, n: usize) -> Result<Bytes, AllocError>
 
 /// A piece of what waits is fed.
 fn piece<H: Handler>(attempt: &mut Attempt<&H>, desk: &mut Desk, n: usize) -> Result<(), RoundFault>
-    ensures does { Outcome (H.meaning attempt.old.handler.now) (event.Piece n) (the_now desk.old attempt.old.record_of) result (the_now desk.new attempt.new.record_of) }
+    ensures does { Outcome (H.meaning attempt.old.handler.now) (event.Piece n)
+        (the_now desk.old attempt.old.record_of) result (the_now desk.new attempt.new.record_of) }
     ensures handler { attempt.new.handler.now ≡ attempt.old.handler.now }
-    ensures made_for { (attempt.new.version ≡ attempt.old.version) × (attempt.new.options ≡ attempt.old.options) }
+    ensures made_for { (attempt.new.version ≡ attempt.old.version)
+        × (attempt.new.options ≡ attempt.old.options) }
 {
     if desk.closed {
         return Ok(());
@@ -115,9 +123,11 @@ fn piece<H: Handler>(attempt: &mut Attempt<&H>, desk: &mut Desk, n: usize) -> Re
 
 /// The input is closed.
 fn close<H: Handler>(attempt: &mut Attempt<&H>, desk: &mut Desk)
-    ensures does { Happens (H.meaning attempt.old.handler.now) event.Close (the_now desk.old attempt.old.record_of) (the_now desk.new attempt.new.record_of) }
+    ensures does { Happens (H.meaning attempt.old.handler.now) event.Close
+        (the_now desk.old attempt.old.record_of) (the_now desk.new attempt.new.record_of) }
     ensures handler { attempt.new.handler.now ≡ attempt.old.handler.now }
-    ensures made_for { (attempt.new.version ≡ attempt.old.version) × (attempt.new.options ≡ attempt.old.options) }
+    ensures made_for { (attempt.new.version ≡ attempt.old.version)
+        × (attempt.new.options ≡ attempt.old.options) }
 {
     let closed = attempt.close();
     desk.closed = true;
@@ -126,9 +136,11 @@ fn close<H: Handler>(attempt: &mut Attempt<&H>, desk: &mut Desk)
 
 /// The attempt's step; its error is kept.
 fn step<H: Handler>(attempt: &mut Attempt<&H>, desk: &mut Desk)
-    ensures does { Happens (H.meaning attempt.old.handler.now) event.Step (the_now desk.old attempt.old.record_of) (the_now desk.new attempt.new.record_of) }
+    ensures does { Happens (H.meaning attempt.old.handler.now) event.Step
+        (the_now desk.old attempt.old.record_of) (the_now desk.new attempt.new.record_of) }
     ensures handler { attempt.new.handler.now ≡ attempt.old.handler.now }
-    ensures made_for { (attempt.new.version ≡ attempt.old.version) × (attempt.new.options ≡ attempt.old.options) }
+    ensures made_for { (attempt.new.version ≡ attempt.old.version)
+        × (attempt.new.options ≡ attempt.old.options) }
 {
     let error = attempt.step().err();
     note(&mut desk.error, error);
@@ -154,9 +166,12 @@ fn run_result<H: Handler>(
     exit: &RunExitResult,
     policy: &RetryPolicy,
 ) -> Result<(), RoundFault>
-    ensures does { Outcome (H.meaning attempt.old.handler.now) (event.RunResult handle exit.now policy.now) (the_now desk.old attempt.old.record_of) result (the_now desk.new attempt.new.record_of) }
+    ensures does { Outcome (H.meaning attempt.old.handler.now)
+        (event.RunResult handle exit.now policy.now) (the_now desk.old attempt.old.record_of) result
+        (the_now desk.new attempt.new.record_of) }
     ensures handler { attempt.new.handler.now ≡ attempt.old.handler.now }
-    ensures made_for { (attempt.new.version ≡ attempt.old.version) × (attempt.new.options ≡ attempt.old.options) }
+    ensures made_for { (attempt.new.version ≡ attempt.old.version)
+        × (attempt.new.options ≡ attempt.old.options) }
 {
     let Ok((exit, policy)) = copy_result(exit, policy) else {
         return Err(RoundFault::Memory);
@@ -168,9 +183,11 @@ fn run_result<H: Handler>(
 
 /// The next commands and proposals that were written are stored.
 fn store<H: Handler>(attempt: &mut Attempt<&H>, desk: &mut Desk, n: usize) -> Result<(), RoundFault>
-    ensures does { Outcome (H.meaning attempt.old.handler.now) (event.Store n) (the_now desk.old attempt.old.record_of) result (the_now desk.new attempt.new.record_of) }
+    ensures does { Outcome (H.meaning attempt.old.handler.now) (event.Store n)
+        (the_now desk.old attempt.old.record_of) result (the_now desk.new attempt.new.record_of) }
     ensures handler { attempt.new.handler.now ≡ attempt.old.handler.now }
-    ensures made_for { (attempt.new.version ≡ attempt.old.version) × (attempt.new.options ≡ attempt.old.options) }
+    ensures made_for { (attempt.new.version ≡ attempt.old.version)
+        × (attempt.new.options ≡ attempt.old.options) }
 {
     // What the record says was proposed is what the output proposes.
     let _ = attempt.output_len();
@@ -199,9 +216,11 @@ pub fn happen<H: Handler>(
     desk: &mut Desk,
     event: &Event,
 ) -> Result<(), RoundFault>
-    ensures does { Outcome (H.meaning attempt.old.handler.now) event.now (the_now desk.old attempt.old.record_of) result (the_now desk.new attempt.new.record_of) }
+    ensures does { Outcome (H.meaning attempt.old.handler.now) event.now
+        (the_now desk.old attempt.old.record_of) result (the_now desk.new attempt.new.record_of) }
     ensures handler { attempt.new.handler.now ≡ attempt.old.handler.now }
-    ensures made_for { (attempt.new.version ≡ attempt.old.version) × (attempt.new.options ≡ attempt.old.options) }
+    ensures made_for { (attempt.new.version ≡ attempt.old.version)
+        × (attempt.new.options ≡ attempt.old.options) }
 {
     match event {
         Event::Piece(n) => piece(attempt, desk, *n),

@@ -43,7 +43,8 @@ fn waiting_bytes(
     journal: &[Bytes],
 ) -> Result<BytesMut, AllocError>
     requires { length journal.now ≤ most }
-    ensures bytes { IfOk result (λ b. b.items ≡ encoding (start_message setting.now round.now journal.now) ++ concat journal.now) }
+    ensures bytes { IfOk result (λ b. b.items
+        ≡ encoding (start_message setting.now round.now journal.now) ++ concat journal.now) }
     ensures whole { OnOk result (IsWhole (start_message setting.now round.now journal.now)) }
     ensures texts { OnOk result (HaveTextKeys (pairs_for setting.now round.now journal.now)) }
 {
@@ -60,10 +61,15 @@ fn happen_all<H: Handler>(
     desk: &mut Desk,
     events: &[Event],
 ) -> Result<(), RoundFault>
-    ensures ok { OnOk result (Happen (H.meaning attempt.old.handler.now) events.now (the_now desk.old attempt.old.record_of) (the_now desk.new attempt.new.record_of)) }
-    ensures err { IfErr result (λ f. HappenFaults (H.meaning attempt.old.handler.now) events.now (the_now desk.old attempt.old.record_of) f) }
+    ensures ok { OnOk result
+        (Happen (H.meaning attempt.old.handler.now) events.now
+        (the_now desk.old attempt.old.record_of) (the_now desk.new attempt.new.record_of)) }
+    ensures err { IfErr result
+        (λ f. HappenFaults (H.meaning attempt.old.handler.now) events.now
+        (the_now desk.old attempt.old.record_of) f) }
     ensures handler { attempt.new.handler.now ≡ attempt.old.handler.now }
-    ensures made_for { (attempt.new.version ≡ attempt.old.version) × (attempt.new.options ≡ attempt.old.options) }
+    ensures made_for { (attempt.new.version ≡ attempt.old.version)
+        × (attempt.new.options ≡ attempt.old.options) }
 {
     for event in events {
         happen(attempt, desk, event)?;
@@ -100,9 +106,11 @@ fn report<H: Handler>(
     desk: Desk,
 ) -> Result<(Vec<Bytes>, Report), AllocError>
     requires { length desk.journal.items ≤ most }
-    ensures report { IfOk result (λ r. report_view r.1 ≡ report_of (the_now desk attempt.old.record_of)) }
+    ensures report { IfOk result (λ r. report_view r.1
+        ≡ report_of (the_now desk attempt.old.record_of)) }
     ensures journal { IfOk result (λ r. r.0.items ≡ desk.journal.items) }
-    ensures ends { EndsTold (fixed_of (H.meaning attempt.old.handler.now) attempt.old) attempt.old.record_of }
+    ensures ends { EndsTold (fixed_of (H.meaning attempt.old.handler.now) attempt.old)
+        attempt.old.record_of }
 {
     let answers = copy_answers(alloc, attempt.answers())?;
     let bytes = attempt.take_output()?;
@@ -132,9 +140,11 @@ fn new_attempt<'a, H: Handler>(
     setting: &Setting,
     handler: &'a H,
 ) -> VMResult<Attempt<&'a H>>
-    ensures record { IfOk result (λ a. a.record_of ≡ fresh_record (made alloc setting.now.options setting.now.version)) }
+    ensures record { IfOk result (λ a. a.record_of
+        ≡ fresh_record (made alloc setting.now.options setting.now.version)) }
     ensures handler { IfOk result (λ a. a.handler.now ≡ handler.now) }
-    ensures made_for { IfOk result (λ a. (a.version ≡ setting.now.version) × (a.options ≡ setting.now.options)) }
+    ensures made_for { IfOk result (λ a. (a.version ≡ setting.now.version)
+        × (a.options ≡ setting.now.options)) }
     ensures supported { OnOk result (IsSupported setting.now.version) }
     ensures refused { IfErr result (λ e. IsRefusal (supported setting.now.version) e) }
 {
@@ -152,7 +162,8 @@ fn refused_round(
 ) -> Result<(Vec<Bytes>, Report), RoundFault>
     requires entries { IsJournal journal.items }
     requires refusal { IsRefusal (supported setting.now.version) error }
-    ensures ok { IfOk result (λ r. RefusedDoes setting.now round.now journal.items (report_view r.1) r.0.items) }
+    ensures ok { IfOk result
+        (λ r. RefusedDoes setting.now round.now journal.items (report_view r.1) r.0.items) }
     ensures err { IfErr result (λ f. RefusedFaults setting.now round.now journal.items f) }
 {
     arrive_all(alloc, &mut journal, round.events.as_slice())?;
@@ -177,9 +188,15 @@ fn made_round<H: Handler>(
     waiting: BytesMut,
     events: &[Event],
 ) -> Result<(Vec<Bytes>, Report), RoundFault>
-    requires short { IsShort (H.meaning attempt.old.handler.now) events.now (new_now version journal.items waiting.items attempt.old.record_of) }
-    ensures ok { IfOk result (λ r. Ran (fixed_of (H.meaning attempt.old.handler.now) attempt.old) events.now (new_now version journal.items waiting.items attempt.old.record_of) (report_view r.1) r.0.items) }
-    ensures err { IfErr result (λ f. (f ≡ round_fault.Memory) ⊎ HappenFaults (H.meaning attempt.old.handler.now) events.now (new_now version journal.items waiting.items attempt.old.record_of) f) }
+    requires short { IsShort (H.meaning attempt.old.handler.now) events.now
+        (new_now version journal.items waiting.items attempt.old.record_of) }
+    ensures ok { IfOk result
+        (λ r. Ran (fixed_of (H.meaning attempt.old.handler.now) attempt.old) events.now
+        (new_now version journal.items waiting.items attempt.old.record_of) (report_view r.1)
+        r.0.items) }
+    ensures err { IfErr result (λ f. (f ≡ round_fault.Memory)
+        ⊎ HappenFaults (H.meaning attempt.old.handler.now) events.now
+        (new_now version journal.items waiting.items attempt.old.record_of) f) }
 {
     let mut desk = Desk {
         alloc,
@@ -210,9 +227,12 @@ pub fn run_round<H: Handler>(
     round: &Round,
 ) -> Result<(Vec<Bytes>, Report), RoundFault>
     requires entries { IsJournal journal.items }
-    ensures ok { IfOk result (λ r. RoundDoes (H.meaning handler.now) setting.now round.now journal.items (report_view r.1) r.0.items) }
+    ensures ok { IfOk result
+        (λ r. RoundDoes (H.meaning handler.now) setting.now round.now journal.items
+        (report_view r.1) r.0.items) }
     ensures entries { IfOk result (λ r. IsJournal r.0.items) }
-    ensures err { IfErr result (λ f. RoundFaults (H.meaning handler.now) setting.now round.now journal.items f) }
+    ensures err { IfErr result
+        (λ f. RoundFaults (H.meaning handler.now) setting.now round.now journal.items f) }
 {
     match new_attempt(alloc, setting, handler) {
         Err(error) => refused_round(alloc, setting, journal, round, error),

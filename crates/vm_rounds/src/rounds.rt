@@ -13,7 +13,9 @@ use vm_store::types::{Report, Round, RoundFault};
 
 /// Keeps a report, if there is memory.
 fn keep_report(reports: &mut Vec<Report>, report: Report) -> bool
-    ensures { map report_view reports.new.items ≡ (if result then map report_view reports.old.items ++ report_view report ∷ [] else map report_view reports.old.items) }
+    ensures { map report_view reports.new.items
+        ≡ (if result then map report_view reports.old.items ++ report_view report ∷ []
+        else map report_view reports.old.items) }
 {
     reports.push(report).is_ok()
 }

@@ -36,7 +36,8 @@ impl Model for World {
 
 /// The frame of an Input command.
 fn input_bytes(alloc: Global, input: Bytes) -> Result<Bytes, AllocError>
-    ensures bytes { IfOk result (λ b. b ≡ encoding (message.Input (record { headers = []; value = input }))) }
+    ensures bytes { IfOk result (λ b. b
+        ≡ encoding (message.Input (record { headers = []; value = input }))) }
     ensures whole { OnOk result (IsWhole (message.Input (record { headers = []; value = input }))) }
 {
     let message = Message::Input(InputCommand {
@@ -57,7 +58,8 @@ fn one_entry(alloc: Global, frame: Bytes) -> Result<Vec<Bytes>, AllocError>
 
 /// The journal of a new world.
 fn first_journal(alloc: Global, input: Bytes) -> Result<Vec<Bytes>, AllocError>
-    ensures bytes { IfOk result (λ j. j.items ≡ encoding (message.Input (record { headers = []; value = input })) ∷ []) }
+    ensures bytes { IfOk result (λ j. j.items
+        ≡ encoding (message.Input (record { headers = []; value = input })) ∷ []) }
     ensures whole { OnOk result (IsWhole (message.Input (record { headers = []; value = input }))) }
 {
     match input_bytes(alloc, input) {
@@ -102,12 +104,21 @@ impl World {
         input: Bytes,
         state: Vec<(String, Bytes)>,
     ) -> Result<World, RoundFault>
-        ensures setting { IfOk result (λ w. w.setting ≡ record { identity = identity; options = options; version = version; base = pairs_given state.items }) }
-        ensures journal { IfOk result (λ w. w.journal ≡ encoding (message.Input (record { headers = []; value = input })) ∷ []) }
+        ensures setting { IfOk result (λ w. w.setting
+            ≡ record {
+              identity = identity;
+              options = options;
+              version = version;
+              base = pairs_given state.items;
+            }) }
+        ensures journal { IfOk result (λ w. w.journal
+            ≡ encoding (message.Input (record { headers = []; value = input })) ∷ []) }
         ensures err { IfErr result (λ f. f ≡ round_fault.Memory) }
         // For every handler one run made the journal, whatever its calls know of the state.
-        ensures one_run { IfOk result (λ w. (m : Meaning) → IsOneRun (setup_of w.setting) m (Honest (base_of w.setting)) (entries_of w.journal)) }
-        ensures undisturbed { IfOk result (λ w. (m : Meaning) → IsOneRun (setup_of w.setting) m (Whole (base_of w.setting)) (entries_of w.journal)) }
+        ensures one_run { IfOk result (λ w. (m : Meaning)
+            → IsOneRun (setup_of w.setting) m (Honest (base_of w.setting)) (entries_of w.journal)) }
+        ensures undisturbed { IfOk result (λ w. (m : Meaning)
+            → IsOneRun (setup_of w.setting) m (Whole (base_of w.setting)) (entries_of w.journal)) }
         // Each result of an invocation's id that it holds is one: it holds none.
         ensures kinds { IfOk result (λ w. HasRightKinds w.journal) }
     {
@@ -140,7 +151,13 @@ impl World {
         state: Vec<(String, Bytes)>,
         entries: Vec<Bytes>,
     ) -> Result<World, RoundFault>
-        ensures setting { IfOk result (λ w. w.setting ≡ record { identity = identity; options = options; version = version; base = pairs_given state.items }) }
+        ensures setting { IfOk result (λ w. w.setting
+            ≡ record {
+              identity = identity;
+              options = options;
+              version = version;
+              base = pairs_given state.items;
+            }) }
         ensures journal { IfOk result (λ w. w.journal ≡ entries.items) }
         ensures given { OnOk result ((entries.items ≢ []) × AreGiven [] entries.items) }
         // If a handler can replay it, each result of an invocation's id that it holds is one.

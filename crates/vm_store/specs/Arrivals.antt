@@ -27,17 +27,28 @@ if_same false kind before = before
 
 -- what completes an id by this command, or else as before
 abbrev pub completes_by : ℕ → Message → Option Completes → Option Completes
-completes_by id (message.Sleep c) before = if_same (c.result_completion_id == id) completes.AnyResult before
-completes_by id (message.GetLazyState c) before = if_same (c.result_completion_id == id) completes.AnyResult before
-completes_by id (message.GetLazyStateKeys c) before = if_same (c.result_completion_id == id) completes.AnyResult before
-completes_by id (message.GetPromise c) before = if_same (c.result_completion_id == id) completes.AnyResult before
-completes_by id (message.PeekPromise c) before = if_same (c.result_completion_id == id) completes.AnyResult before
-completes_by id (message.CompletePromise c) before = if_same (c.result_completion_id == id) completes.AnyResult before
-completes_by id (message.AttachInvocation c) before = if_same (c.result_completion_id == id) completes.AnyResult before
-completes_by id (message.GetInvocationOutput c) before = if_same (c.result_completion_id == id) completes.AnyResult before
-completes_by id (message.Call c) before = if_same (c.result_completion_id == id) completes.AnyResult (if_same (c.request.invocation_id_notification_idx == id) completes.InvocationId before)
-completes_by id (message.OneWayCall c) before = if_same (c.request.invocation_id_notification_idx == id) completes.InvocationId before
-completes_by id (message.Run c) before = if_same (c.result_completion_id == id) completes.Proposal before
+completes_by id (message.Sleep c) before = if_same (c.result_completion_id == id)
+    completes.AnyResult before
+completes_by id (message.GetLazyState c) before = if_same (c.result_completion_id == id)
+    completes.AnyResult before
+completes_by id (message.GetLazyStateKeys c) before = if_same (c.result_completion_id == id)
+    completes.AnyResult before
+completes_by id (message.GetPromise c) before = if_same (c.result_completion_id == id)
+    completes.AnyResult before
+completes_by id (message.PeekPromise c) before = if_same (c.result_completion_id == id)
+    completes.AnyResult before
+completes_by id (message.CompletePromise c) before = if_same (c.result_completion_id == id)
+    completes.AnyResult before
+completes_by id (message.AttachInvocation c) before = if_same (c.result_completion_id == id)
+    completes.AnyResult before
+completes_by id (message.GetInvocationOutput c) before = if_same (c.result_completion_id == id)
+    completes.AnyResult before
+completes_by id (message.Call c) before = if_same (c.result_completion_id == id) completes.AnyResult
+    (if_same (c.request.invocation_id_notification_idx == id) completes.InvocationId before)
+completes_by id (message.OneWayCall c) before = if_same
+    (c.request.invocation_id_notification_idx == id) completes.InvocationId before
+completes_by id (message.Run c) before = if_same (c.result_completion_id == id) completes.Proposal
+    before
 completes_by id m before = before
 
 -- what completes an id, by the last of these commands that carries it
@@ -70,16 +81,20 @@ abbrev pub room_fault : List (List ℕ) → Option RoundFault
 room_fault journal = if length journal == most then Some round_fault.JournalFull else None
 
 -- the fault of a completion: by what completes its id, whether it was completed, and what it brings
-abbrev pub completion_fault : Option Completes → Bool → NotificationResult → Option RoundFault → Option RoundFault
+abbrev pub completion_fault : Option Completes → Bool → NotificationResult → Option RoundFault
+    → Option RoundFault
 completion_fault None done brings room = Some round_fault.NoSuchId
 completion_fault (Some kind) true brings room = Some round_fault.SecondCompletion
-completion_fault (Some completes.InvocationId) false brings room = if is_invocation_id brings then room else Some round_fault.WrongKind
+completion_fault (Some completes.InvocationId) false brings room = if is_invocation_id brings
+    then room else Some round_fault.WrongKind
 completion_fault (Some completes.Proposal) false brings room = Some round_fault.RunIsProposed
 completion_fault (Some completes.AnyResult) false brings room = room
 
 -- the fault of a notification
 abbrev pub note_fault : NotificationId → NotificationResult → List (List ℕ) → Option RoundFault
-note_fault (CompletionId id) brings journal = completion_fault (completes_among id (said_in journal) None) (is_completed id (notes_in journal)) brings (room_fault journal)
+note_fault (CompletionId id) brings journal = completion_fault
+    (completes_among id (said_in journal) None) (is_completed id (notes_in journal)) brings
+    (room_fault journal)
 note_fault (SignalId id) brings journal = room_fault journal
 note_fault (SignalName name) brings journal = room_fault journal
 
@@ -88,14 +103,16 @@ abbrev pub read_fault : Option Notification → List (List ℕ) → Option Round
 read_fault None journal = Some round_fault.NotANotification
 read_fault (Some n) journal = note_fault n.id n.result journal
 
--- The first fault that an arrival has on a journal, but for want of memory: it is no notification, no stored command carries its
--- id, the id was completed, an invocation's id is completed by something else, the result is a run's, the journal is full.
+-- The first fault that an arrival has on a journal, but for want of memory: it is no notification,
+-- no stored command carries its id, the id was completed, an invocation's id is completed by
+-- something else, the result is a run's, the journal is full.
 abbrev pub arrival_fault : List ℕ → List (List ℕ) → Option RoundFault
 arrival_fault bytes journal = read_fault (note_in bytes) journal
 
 -- ---- proposals
 
--- the fault of a proposal: by what completes its id, and whether it was completed; a run's result is no invocation's id
+-- the fault of a proposal: by what completes its id, and whether it was completed; a run's result
+-- is no invocation's id
 abbrev pub proposed_fault : Option Completes → Bool → Option RoundFault → Option RoundFault
 proposed_fault None done room = Some round_fault.NoSuchId
 proposed_fault (Some kind) true room = Some round_fault.SecondCompletion
@@ -103,7 +120,9 @@ proposed_fault (Some completes.InvocationId) false room = Some round_fault.Wrong
 proposed_fault (Some completes.Proposal) false room = room
 proposed_fault (Some completes.AnyResult) false room = room
 
--- The first fault of a proposal for the run of this id, which is stored as a completion, but for want of memory: no stored command
--- carries its id, the id was completed, an invocation's id is expected, the journal is full.
+-- The first fault of a proposal for the run of this id, which is stored as a completion, but for
+-- want of memory: no stored command carries its id, the id was completed, an invocation's id is
+-- expected, the journal is full.
 abbrev pub proposal_fault : ℕ → List (List ℕ) → Option RoundFault
-proposal_fault id journal = proposed_fault (completes_among id (said_in journal) None) (is_completed id (notes_in journal)) (room_fault journal)
+proposal_fault id journal = proposed_fault (completes_among id (said_in journal) None)
+    (is_completed id (notes_in journal)) (room_fault journal)

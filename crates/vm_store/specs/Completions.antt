@@ -34,9 +34,11 @@ IsOfKind (Some completes.InvocationId) result = is_invocation_id result ≡ true
 IsOfKind (Some completes.Proposal) result = Unit {0}
 IsOfKind (Some completes.AnyResult) result = Unit {0}
 
--- a completion behind these entries is of the kind of its id, by the last of their commands that carries it
+-- a completion behind these entries is of the kind of its id, by the last of their commands that
+-- carries it
 abbrev pub IsOfItsKind : NotificationId → NotificationResult → List (List ℕ) → Type 0
-IsOfItsKind (CompletionId id) result before = IsOfKind (completes_among id (said_in before) None) result
+IsOfItsKind (CompletionId id) result before = IsOfKind (completes_among id (said_in before) None)
+    result
 IsOfItsKind (SignalId id) result before = Unit {0}
 IsOfItsKind (SignalName name) result before = Unit {0}
 
@@ -48,4 +50,5 @@ NoteIsOfItsKind (Some n) before = IsOfItsKind n.id n.result before
 -- each completion among some entries behind these was of the kind of its id where it was stored
 abbrev pub EachOfItsKind : List (List ℕ) → List (List ℕ) → Type 0
 EachOfItsKind before [] = Unit {0}
-EachOfItsKind before (x ∷ xs) = NoteIsOfItsKind (note_in x) before × EachOfItsKind (before ++ x ∷ []) xs
+EachOfItsKind before (x ∷ xs) = NoteIsOfItsKind (note_in x) before
+    × EachOfItsKind (before ++ x ∷ []) xs

@@ -1,4 +1,5 @@
--- How the next frame that an attempt wrote is stored: the steps of what Storing says of all of them.
+-- How the next frame that an attempt wrote is stored: the steps of what Storing says of all of
+-- them.
 use Rattle.std.specs.Prelude.{◌≡◌, ◌⊎◌, ℕ, ◌<◌, ◌^◌, Bool, true, false, List, [], ◌∷◌, ◌++◌, length, Option, Some, None}
 use Rattle.journal_errors.specs.declared.version.Version.{Version}
 use Rattle.journal_messages.specs.declared.message.RawMessage.{RawMessage}
@@ -26,16 +27,23 @@ pub record StoresItem (version : Version) (w : Written) (journal : List (List �
   pub whole : IsWholeItem version w
 
 -- a frame was stored, or there is nothing to be stored of it
-abbrev pub StoresRaw : Version → RawMessage → Bool → List (List ℕ) → List ℕ → List (List ℕ) → List ℕ → Type 0
-StoresRaw version raw false journal waiting journal' waiting' = (written_as raw ≡ None) × (journal' ≡ journal) × (waiting' ≡ waiting)
-StoresRaw version raw true journal waiting journal' waiting' = (w : Written) × (written_as raw ≡ Some w) × StoresItem version w journal waiting journal' waiting'
+abbrev pub StoresRaw : Version → RawMessage → Bool → List (List ℕ) → List ℕ → List (List ℕ) → List ℕ
+    → Type 0
+StoresRaw version raw false journal waiting journal' waiting' =
+    (written_as raw ≡ None) × (journal' ≡ journal) × (waiting' ≡ waiting)
+StoresRaw version raw true journal waiting journal' waiting' = (w : Written)
+    × (written_as raw ≡ Some w) × StoresItem version w journal waiting journal' waiting'
 
--- the next frame was looked at, and stored where there is something to be stored of it; or none is whole
-abbrev pub StoresOne : Version → List (List ℕ) → List ℕ → List ℕ → Option Bool → List (List ℕ) → List ℕ → List ℕ → Type 0
+-- the next frame was looked at, and stored where there is something to be stored of it; or none is
+-- whole
+abbrev pub StoresOne : Version → List (List ℕ) → List ℕ → List ℕ → Option Bool → List (List ℕ)
+    → List ℕ → List ℕ → Type 0
 StoresOne version journal waiting unstored None journal' waiting' unstored' =
-    ((next_of unstored ≡ Partial) ⊎ (next_of unstored ≡ Malformed)) × (unstored' ≡ unstored) × (journal' ≡ journal) × (waiting' ≡ waiting)
+    ((next_of unstored ≡ Partial) ⊎ (next_of unstored ≡ Malformed)) × (unstored' ≡ unstored)
+    × (journal' ≡ journal) × (waiting' ≡ waiting)
 StoresOne version journal waiting unstored (Some b) journal' waiting' unstored' =
-    (raw : RawMessage) × (next_of unstored ≡ Whole raw unstored') × (length raw.body < 2 ^ 64) × StoresRaw version raw b journal waiting journal' waiting'
+    (raw : RawMessage) × (next_of unstored ≡ Whole raw unstored') × (length raw.body < 2 ^ 64)
+    × StoresRaw version raw b journal waiting journal' waiting'
 
 -- what is stored of a frame has this fault
 pub record HasFault (raw : RawMessage) (journal : List (List ℕ)) (f : RoundFault) : Type 0 where

@@ -1,4 +1,5 @@
--- The state that a round hands out: the base, changed by the journal's commands, whole or for some keys.
+-- The state that a round hands out: the base, changed by the journal's commands, whole or for some
+-- keys.
 use Rattle.std.specs.Prelude.{◌≡◌, ℕ, nat_eq, Bool, true, false, cond, List, [], ◌∷◌, Option, Some, None}
 use Rattle.std.specs.Cmp.Lexicographic.{pointwise}
 use Rattle.std.specs.List.{list_all, list_any}
@@ -32,7 +33,8 @@ is_asked true keys key = is_listed keys key
 abbrev pub pairs_in : (List ℕ → Bool) → List (List ℕ × Option (List ℕ)) → List (List ℕ × List ℕ)
 pairs_in asked [] = []
 pairs_in asked ((key, None) ∷ es) = pairs_in asked es
-pairs_in asked ((key, Some value) ∷ es) = cond (asked key) ((key, value) ∷ pairs_in asked es) (pairs_in asked es)
+pairs_in asked ((key, Some value) ∷ es) = cond (asked key) ((key, value)
+    ∷ pairs_in asked es) (pairs_in asked es)
 
 -- each key is a text
 abbrev pub HaveTextKeys : List (List ℕ × List ℕ) → Type 0
@@ -40,4 +42,5 @@ HaveTextKeys pairs = list_all (λ p. is_utf8 p.0) pairs ≡ true
 
 -- what a round hands out
 abbrev pub pairs_for : Setting → Round → List (List ℕ) → List (List ℕ × List ℕ)
-pairs_for w round journal = pairs_in (is_asked round.partial round.keys) (state_of w journal).entries
+pairs_for w round journal =
+    pairs_in (is_asked round.partial round.keys) (state_of w journal).entries

@@ -65,7 +65,8 @@ stored_as (Proposal p) = encoding (completed_by p)
 
 -- what answers a proposal: from version 7 on its acknowledgement, before it the completion
 abbrev pub answered_by : Version → KeptProposal → List ℕ
-answered_by version p = if is_from_v7 version then encoding (acknowledgement p.completion_id) else encoding (completed_by p)
+answered_by version p = if is_from_v7 version then encoding (acknowledgement p.completion_id)
+    else encoding (completed_by p)
 
 -- what waits once it is stored: nothing behind a command, behind a proposal what answers it
 abbrev pub waits_behind : Version → Written → List ℕ
@@ -80,20 +81,25 @@ storing_fault (Proposal p) journal = proposal_fault p.completion_id journal
 -- none of these has a fault, where they are stored one after another
 abbrev pub NoneFaults : List Written → List (List ℕ) → Type 0
 NoneFaults [] journal = Unit {0}
-NoneFaults (w ∷ ws) journal = (storing_fault w journal ≡ None) × NoneFaults ws (journal ++ stored_as w ∷ [])
+NoneFaults (w ∷ ws) journal = (storing_fault w journal ≡ None)
+    × NoneFaults ws (journal ++ stored_as w ∷ [])
 
 -- it can be read back, and so can what answers it
 abbrev pub CanBeRead : Version → Written → Type 0
 CanBeRead version (Command raw) = length raw.body < 2 ^ 64
-CanBeRead version (Proposal p) = IsWhole (completed_by p) × (is_from_v7 version ≡ true → IsWhole (acknowledgement p.completion_id))
+CanBeRead version (Proposal p) = IsWhole (completed_by p)
+    × (is_from_v7 version ≡ true → IsWhole (acknowledgement p.completion_id))
 
 -- the first of these that has a fault has this one, and those before it can be read back
 abbrev pub FirstFault : Version → List Written → List (List ℕ) → RoundFault → Type 0
 FirstFault version [] journal f = ⊥
-FirstFault version (w ∷ ws) journal f = (storing_fault w journal ≡ Some f) ⊎ ((storing_fault w journal ≡ None) × CanBeRead version w × FirstFault version ws (journal ++ stored_as w ∷ []) f)
+FirstFault version (w ∷ ws) journal f = (storing_fault w journal ≡ Some f)
+    ⊎ ((storing_fault w journal ≡ None) × CanBeRead version w
+    × FirstFault version ws (journal ++ stored_as w ∷ []) f)
 
--- The next n commands and proposals among the frames of some bytes are stored, or all where there are fewer: some frames of them were
--- looked at, the journal has grown by what is stored of them, and what answers the proposals waits.
+-- The next n commands and proposals among the frames of some bytes are stored, or all where there
+-- are fewer: some frames of them were looked at, the journal has grown by what is stored of them,
+-- and what answers the proposals waits.
 pub record Stores (version : Version) (n : ℕ) (unstored : List ℕ) (journal : List (List ℕ)) (waiting : List ℕ) (journal' : List (List ℕ)) (waiting' : List ℕ) (unstored' : List ℕ) : Type 0 where
   pub seen : List RawMessage
   pub frames : frames_of unstored ≡ (seen ++ (frames_of unstored').0, (frames_of unstored').1)

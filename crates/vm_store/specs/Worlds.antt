@@ -22,8 +22,8 @@ pub record WorldView : Type 0 where
   pub setting : Setting
   pub journal : List (List ℕ)
 
--- Each of the bytes is an entry, they are no more than may be, no completion has two results, each is of an id that a command carries,
--- and was of the kind of its id where it was stored.
+-- Each of the bytes is an entry, they are no more than may be, no completion has two results, each
+-- is of an id that a command carries, and was of the kind of its id where it was stored.
 pub record IsJournal (journal : List (List ℕ)) : Type 0 where
   pub entries : AreEntries journal
   pub short : length journal ≤ most
@@ -66,4 +66,6 @@ fixed_in handler w = fixed_by handler w.version w.options
 
 -- what all attempts of a world are made with, as a run is told it
 abbrev pub setup_of : Setting → Setup
-setup_of w = setup_with w.version w.options (start_of w.identity [] (record { partial = false; keys = []; retry_count = 0; duration = 0; events = [] }) 0)
+setup_of w = setup_with w.version w.options
+    (start_of w.identity []
+    (record { partial = false; keys = []; retry_count = 0; duration = 0; events = [] }) 0)

@@ -30,7 +30,8 @@ fn given_note_fault(
     note: &Notification,
     journal: &[Bytes],
 ) -> Result<Option<RoundFault>, AllocError>
-    ensures { IfOk result (λ fault. fault ≡ given_note_fault note.now.id note.now.result journal.now) }
+    ensures { IfOk result (λ fault. fault
+        ≡ given_note_fault note.now.id note.now.result journal.now) }
 {
     match &note.id {
         NotificationId::CompletionId(id) => {

@@ -22,7 +22,8 @@ use wire::{Items, Text};
 
 /// The state before any command.
 fn base_values(alloc: Global, base: &[(Text, Bytes)]) -> Result<Values, AllocError>
-    ensures { IfOk result (λ v. v ≡ record { entries = state_entries base.now; coverage = Complete }) }
+    ensures { IfOk result (λ v. v
+        ≡ record { entries = state_entries base.now; coverage = Complete }) }
 {
     let mut values = Values::new(alloc);
     for (key, value) in base {
@@ -118,7 +119,8 @@ pub fn start_bytes(
     journal: &[Bytes],
 ) -> Result<Bytes, AllocError>
     requires { length journal.now ≤ most }
-    ensures bytes { IfOk result (λ b. b ≡ encoding (start_message setting.now round.now journal.now)) }
+    ensures bytes { IfOk result (λ b. b
+        ≡ encoding (start_message setting.now round.now journal.now)) }
     ensures whole { OnOk result (IsWhole (start_message setting.now round.now journal.now)) }
     ensures texts { OnOk result (HaveTextKeys (pairs_for setting.now round.now journal.now)) }
 {

@@ -101,7 +101,8 @@ fn answer_bytes(
     id: u32,
     completion: &Bytes,
 ) -> Result<Bytes, AllocError>
-    ensures bytes { IfOk result (λ b. b ≡ (if is_from_v7 version then encoding (acknowledgement id) else completion.now)) }
+    ensures bytes { IfOk result (λ b. b
+        ≡ (if is_from_v7 version then encoding (acknowledgement id) else completion.now)) }
     ensures whole { OnOk result (is_from_v7 version ≡ true → IsWhole (acknowledgement id)) }
 {
     if version >= Version::V7 {
@@ -117,8 +118,10 @@ fn store_command(
     journal: &mut Vec<Bytes>,
     raw: &RawMessage,
 ) -> Result<(), RoundFault>
-    ensures ok { OnOk result ((journal.new.items ≡ journal.old.items ++ frame_of raw.now ∷ []) × (room_fault journal.old.items ≡ None)) }
-    ensures err { IfErr result (λ f. (f ≡ round_fault.Memory) ⊎ (room_fault journal.old.items ≡ Some f)) }
+    ensures ok { OnOk result ((journal.new.items ≡ journal.old.items ++ frame_of raw.now ∷ [])
+        × (room_fault journal.old.items ≡ None)) }
+    ensures err { IfErr result (λ f. (f ≡ round_fault.Memory)
+        ⊎ (room_fault journal.old.items ≡ Some f)) }
 {
     if let Some(fault) = room_fault(journal.as_slice()) {
         return Err(fault);
@@ -140,7 +143,8 @@ fn settled_bytes(
 ) -> Result<(Bytes, Bytes), AllocError>
     ensures completion { IfOk result (λ b. b.0 ≡ encoding (completed_by proposal)) }
     ensures answer { IfOk result (λ b. b.1 ≡ answered_by version proposal) }
-    ensures whole { OnOk result (IsWhole (completed_by proposal) × (is_from_v7 version ≡ true → IsWhole (acknowledgement proposal.completion_id))) }
+    ensures whole { OnOk result (IsWhole (completed_by proposal)
+        × (is_from_v7 version ≡ true → IsWhole (acknowledgement proposal.completion_id))) }
 {
     let id = proposal.completion_id;
     let completion = completion_bytes(alloc, proposal)?;
@@ -156,8 +160,11 @@ fn store_proposal(
     waiting: &mut BytesMut,
     proposal: KeptProposal,
 ) -> Result<(), RoundFault>
-    ensures ok { OnOk result (StoresItem version (written.Proposal proposal) journal.old.items waiting.old.items journal.new.items waiting.new.items) }
-    ensures err { IfErr result (λ f. (f ≡ round_fault.Memory) ⊎ (storing_fault (written.Proposal proposal) journal.old.items ≡ Some f)) }
+    ensures ok { OnOk result
+        (StoresItem version (written.Proposal proposal) journal.old.items waiting.old.items
+        journal.new.items waiting.new.items) }
+    ensures err { IfErr result (λ f. (f ≡ round_fault.Memory)
+        ⊎ (storing_fault (written.Proposal proposal) journal.old.items ≡ Some f)) }
 {
     match proposal_fault(alloc, proposal.completion_id, journal.as_slice()) {
         Err(_) => return Err(RoundFault::Memory),
@@ -184,8 +191,11 @@ fn store_item(
     waiting: &mut BytesMut,
     item: Written,
 ) -> Result<(), RoundFault>
-    ensures ok { OnOk result (StoresItem version item journal.old.items waiting.old.items journal.new.items waiting.new.items) }
-    ensures err { IfErr result (λ f. (f ≡ round_fault.Memory) ⊎ (storing_fault item journal.old.items ≡ Some f)) }
+    ensures ok { OnOk result
+        (StoresItem version item journal.old.items waiting.old.items journal.new.items
+        waiting.new.items) }
+    ensures err { IfErr result (λ f. (f ≡ round_fault.Memory)
+        ⊎ (storing_fault item journal.old.items ≡ Some f)) }
 {
     match item {
         Written::Command(raw) => store_command(alloc, journal, &raw),
@@ -215,7 +225,9 @@ fn store_raw(
     waiting: &mut BytesMut,
     raw: RawMessage,
 ) -> Result<bool, RoundFault>
-    ensures ok { IfOk result (λ b. StoresRaw version raw b journal.old.items waiting.old.items journal.new.items waiting.new.items) }
+    ensures ok { IfOk result
+        (λ b. StoresRaw version raw b journal.old.items waiting.old.items journal.new.items
+        waiting.new.items) }
     ensures err { IfErr result (λ f. (f ≡ round_fault.Memory) ⊎ HasFault raw journal.old.items f) }
 {
     match written_as(alloc, raw) {
@@ -236,8 +248,11 @@ fn store_one(
     waiting: &mut BytesMut,
     unstored: &mut Decoder,
 ) -> Result<Option<bool>, RoundFault>
-    ensures ok { IfOk result (λ o. StoresOne version journal.old.items waiting.old.items unstored.old o journal.new.items waiting.new.items unstored.new) }
-    ensures err { IfErr result (λ f. (f ≡ round_fault.Memory) ⊎ NextFaults unstored.old journal.old.items f) }
+    ensures ok { IfOk result
+        (λ o. StoresOne version journal.old.items waiting.old.items unstored.old o journal.new.items
+        waiting.new.items unstored.new) }
+    ensures err { IfErr result (λ f. (f ≡ round_fault.Memory)
+        ⊎ NextFaults unstored.old journal.old.items f) }
 {
     match next_written(unstored) {
         Err(fault) => Err(fault),
@@ -258,8 +273,11 @@ pub fn store_from(
     unstored: &mut Decoder,
     n: usize,
 ) -> Result<(), RoundFault>
-    ensures ok { OnOk result (Stores version n unstored.old journal.old.items waiting.old.items journal.new.items waiting.new.items unstored.new) }
-    ensures err { IfErr result (λ f. (f ≡ round_fault.Memory) ⊎ FirstFault version (take n (written_from unstored.old)) journal.old.items f) }
+    ensures ok { OnOk result
+        (Stores version n unstored.old journal.old.items waiting.old.items journal.new.items
+        waiting.new.items unstored.new) }
+    ensures err { IfErr result (λ f. (f ≡ round_fault.Memory)
+        ⊎ FirstFault version (take n (written_from unstored.old)) journal.old.items f) }
 {
     let mut left = n;
     while left > 0 {

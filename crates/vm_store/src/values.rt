@@ -111,7 +111,8 @@ impl Values {
         partial: bool,
         keys: &[Text],
     ) -> Result<Items<(Bytes, Bytes)>, AllocError>
-        ensures pairs { IfOk result (λ pairs. pairs ≡ pairs_in (is_asked partial keys.now) self.now.entries) }
+        ensures pairs { IfOk result (λ pairs. pairs
+            ≡ pairs_in (is_asked partial keys.now) self.now.entries) }
         ensures texts { IfOk result (λ pairs. HaveTextKeys pairs) }
     {
         let mut pairs = Items::new(alloc);
