@@ -29,10 +29,10 @@ static void put(frames *to, const void *bytes, size_t len)
 /* A number in so many bytes, the most significant first. */
 static void number(frames *to, uint64_t value, int width)
 {
-    for (int at = width - 1; at >= 0; at--) {
-        uint8_t byte = (uint8_t)(value >> 8 * at);
-        put(to, &byte, 1);
-    }
+    uint8_t spelled[32] = {0};
+    for (int at = width - 1; at >= 0 && value > 0; at--, value >>= 8)
+        spelled[at] = (uint8_t)value;
+    put(to, spelled, (size_t)width);
 }
 
 static void text(frames *to, const char *value)
