@@ -29,10 +29,10 @@ static void put(frames *to, const void *bytes, size_t len)
 /* A number in so many bytes, the most significant first. */
 static void number(frames *to, uint64_t value, int width)
 {
-    for (int at = width - 1; at >= 0; at--) {
-        uint8_t byte = (uint8_t)(value >> 8 * at);
-        put(to, &byte, 1);
-    }
+    uint8_t spelled[32] = {0};
+    for (int at = width - 1; at >= 0 && value > 0; at--, value >>= 8)
+        spelled[at] = (uint8_t)value;
+    put(to, spelled, (size_t)width);
 }
 
 static void text(frames *to, const char *value)
@@ -207,12 +207,13 @@ static void runs(uint32_t n, frames *fed)
 {
     const palqytun_pair none[] = {{bytes(""), bytes("")}};
     const palqytun_value value = {false, 0, bytes("result"), none, 0};
+    const palqytun_policy always = {0};
     begin(1, 1, fed);
     for (uint32_t i = 1; i <= n; i++) {
         uint32_t handle = done(palqytun_run(&vm, bytes("charge"))).first;
         if (done(palqytun_await(&vm, handle)).kind != PALQYTUN_EXECUTE_RUN)
             exit(1);
-        done(palqytun_propose(&vm, handle, &value));
+        done(palqytun_propose(&vm, handle, &value, &always));
         head(fed, 6, 4);
         number(fed, i, 4);
         feed(fed);

@@ -1,8 +1,8 @@
 /* The invocation VM for callers of C.
 
    A call of the VM is made in one of two ways. As a line of text, whose answer is a line too: docs/VMSCRIPT.md has all lines and
-   answers. Or, faster, by a function of its own, on numbers and byte strings: the typed calls below. Both may be mixed on one VM,
-   which a line `vm` makes. Bytes of input and output go in and out as they are.
+   answers. Or, faster, by a function of its own, on numbers and byte strings: the typed calls below. Both may be mixed on one VM.
+   Bytes of input and output go in and out as they are.
 
    Memory. A session is a block of the heap and what hangs on it, by the program's malloc, realloc and free, which must belong
    together, and give blocks aligned as C asks. The library keeps nothing that it is passed: lines and bytes are copied, and
@@ -38,7 +38,7 @@ enum {
     PALQYTUN_NO_MEMORY = 1,
     /* The palqytun_vm has no session: palqytun_new didn't make one, or palqytun_free let it go. Nothing was done. */
     PALQYTUN_NO_SESSION = 2,
-    /* The session has no VM: no line `vm` was answered with `ok` yet, or a later one was refused. Nothing was done. */
+    /* The session has no VM: none was made yet, or a later one was refused. Nothing was done. */
     PALQYTUN_NO_VM = 3,
     /* The buffer is too short. Nothing was done. */
     PALQYTUN_NO_ROOM = 4,
@@ -152,6 +152,105 @@ enum {
     PALQYTUN_UNKNOWN = 5
 };
 
+/* What a VM is asked to do in another way: `palqytun_options options = {0};` are the defaults. */
+typedef struct {
+    /* A cancelled await cancels 0: its calls too, 1: nothing else, 2: its sends, 3: both. 4: the cancel signal ends no await. */
+    uint32_t cancellation;
+    /* Replay 0: compares payloads, 1: doesn't. */
+    uint32_t checks;
+    /* An await that waits for input says what it waits for 0: unless a run executes, 1: always, 2: never. */
+    uint32_t awaiting;
+    /* An invocation whose journal doesn't fit its handler 0: follows the retry policy, 1: pauses, 2: fails. */
+    uint32_t mismatch;
+    /* Recorded commands are 0: replayed, 1: skipped. */
+    uint32_t replay;
+    /* Several deliveries of one signal 0: queue up, 1: the newest replaces the others. */
+    uint32_t delivery;
+    /* The handler's random seed, if the version hands none out. */
+    uint64_t seed;
+} palqytun_options;
+
+/* An error. */
+typedef struct {
+    uint16_t code;
+    /* 0: it is tried again. 1: the invocation pauses. 2: it fails. */
+    uint32_t behavior;
+    palqytun_bytes message;
+    palqytun_bytes stacktrace;
+    /* The delay of the next try. */
+    bool has_delay;
+    uint64_t delay_millis;
+} palqytun_error;
+
+/* The command that an error relates to. */
+typedef struct {
+    /* 0: none. 1: the last. 2: the next. 3: the one of this index. */
+    uint32_t kind;
+    uint32_t index;
+    /* What the next one is, or that of the index: a PALQYTUN_COMMAND_. */
+    uint32_t type;
+    palqytun_optional name;
+} palqytun_command;
+
+/* What a command is. */
+enum {
+    PALQYTUN_COMMAND_INPUT = 0,
+    PALQYTUN_COMMAND_OUTPUT = 1,
+    PALQYTUN_COMMAND_GET_STATE = 2,
+    PALQYTUN_COMMAND_GET_STATE_KEYS = 3,
+    PALQYTUN_COMMAND_SET_STATE = 4,
+    PALQYTUN_COMMAND_CLEAR_STATE = 5,
+    PALQYTUN_COMMAND_CLEAR_ALL_STATE = 6,
+    PALQYTUN_COMMAND_GET_PROMISE = 7,
+    PALQYTUN_COMMAND_PEEK_PROMISE = 8,
+    PALQYTUN_COMMAND_COMPLETE_PROMISE = 9,
+    PALQYTUN_COMMAND_SLEEP = 10,
+    PALQYTUN_COMMAND_CALL = 11,
+    PALQYTUN_COMMAND_ONE_WAY_CALL = 12,
+    PALQYTUN_COMMAND_SEND_SIGNAL = 13,
+    PALQYTUN_COMMAND_RUN = 14,
+    PALQYTUN_COMMAND_ATTACH_INVOCATION = 15,
+    PALQYTUN_COMMAND_GET_INVOCATION_OUTPUT = 16,
+    PALQYTUN_COMMAND_COMPLETE_AWAKEABLE = 17,
+    PALQYTUN_COMMAND_CANCEL_INVOCATION = 18
+};
+
+/* Which invocation is meant. What a kind doesn't name is empty, and not NULL. */
+typedef struct {
+    /* 0: the one of this id. 1: a workflow. 2: the one of this idempotency key. */
+    uint32_t kind;
+    /* The id, the workflow's name, or the service's. */
+    palqytun_bytes name;
+    /* The workflow's key, or the idempotency key. */
+    palqytun_bytes key;
+    /* The handler's name, of an idempotency key. */
+    palqytun_bytes handler;
+    /* The service's key, of an idempotency key. */
+    palqytun_optional service_key;
+    palqytun_optional scope;
+} palqytun_invocation;
+
+/* When a run that failed is tried again: `palqytun_policy policy = {0};` is always. */
+typedef struct {
+    /* 0: always. 1: never. 2: after the same delay each time. 3: after a growing delay. */
+    uint32_t kind;
+    /* Of a growing delay: the first one, and the factor by which it grows, over a denominator that isn't 0. */
+    uint64_t initial_millis;
+    uint32_t numerator;
+    uint32_t denominator;
+    /* The delay; of a growing one the longest. */
+    bool has_interval;
+    uint64_t interval_millis;
+    /* The most attempts. */
+    bool has_attempts;
+    uint32_t attempts;
+    /* The longest time for all of them. */
+    bool has_duration;
+    uint64_t duration_millis;
+    /* At one of these bounds the invocation pauses; else the error is the run's result. */
+    bool pauses;
+} palqytun_policy;
+
 /* What a reply is, with what its numbers and parts are. Numbers that are not named are 0. */
 enum {
     /* Nothing; or what was taken has no result, or there is no command. */
@@ -217,6 +316,10 @@ typedef struct {
 /* Writes a part of the last reply to the front of out, and tells how long it is. PALQYTUN_NO_ROOM: len is the length that it needs. */
 palqytun_told palqytun_part(palqytun_vm *vm, size_t at, uint8_t *out, size_t out_len);
 
+/* Makes a VM in the place of the session's last one, for the version that the content type names, and answers that version; or the error
+   says why there is none. */
+palqytun_replied palqytun_make(palqytun_vm *vm, palqytun_optional content_type, const palqytun_options *options);
+
 /* Of the attempt: whether the handler may be run (a flag), the head of the response, that no more input comes, the bytes that wait to be
    sent, the state, and the index of the last command. */
 palqytun_replied palqytun_is_ready(palqytun_vm *vm);
@@ -225,6 +328,9 @@ palqytun_replied palqytun_close_input(palqytun_vm *vm);
 palqytun_replied palqytun_output(palqytun_vm *vm);
 palqytun_replied palqytun_state(palqytun_vm *vm);
 palqytun_replied palqytun_last_command_index(palqytun_vm *vm);
+
+/* The handler failed by an error of its own, which fails the VM; one that has failed keeps its first error. */
+palqytun_replied palqytun_report_error(palqytun_vm *vm, const palqytun_error *error, const palqytun_command *related);
 
 /* What the handler was called with; its first call. */
 palqytun_replied palqytun_input(palqytun_vm *vm);
@@ -257,6 +363,10 @@ palqytun_replied palqytun_send(
     palqytun_vm *vm, const palqytun_target *target, palqytun_bytes input, uint64_t at_millis, palqytun_bytes name, bool unstable);
 palqytun_replied palqytun_cancel_invocation(palqytun_vm *vm, palqytun_bytes invocation_id);
 
+/* Attaches to an invocation, or looks whether it has an output. */
+palqytun_replied palqytun_attach(palqytun_vm *vm, const palqytun_invocation *invocation);
+palqytun_replied palqytun_get_output(palqytun_vm *vm, const palqytun_invocation *invocation);
+
 /* Awakeables, signals and promises. */
 palqytun_replied palqytun_awakeable(palqytun_vm *vm);
 palqytun_replied palqytun_complete_awakeable(palqytun_vm *vm, palqytun_bytes id, const palqytun_value *value, bool unstable);
@@ -267,9 +377,12 @@ palqytun_replied palqytun_get_promise(palqytun_vm *vm, palqytun_bytes key);
 palqytun_replied palqytun_peek_promise(palqytun_vm *vm, palqytun_bytes key);
 palqytun_replied palqytun_complete_promise(palqytun_vm *vm, palqytun_bytes key, const palqytun_value *value, bool unstable);
 
-/* A run, and its result once it was executed. Of a failure that is to be retried, and of a policy, the line `propose` tells. */
+/* A run, and its result once it was executed; or the error of one that was executed for so many milliseconds and may be tried again. Of an
+   error the policy says whether the invocation fails to be tried again, pauses, or has it as the run's result. */
 palqytun_replied palqytun_run(palqytun_vm *vm, palqytun_bytes name);
-palqytun_replied palqytun_propose(palqytun_vm *vm, uint32_t handle, const palqytun_value *value);
+palqytun_replied palqytun_propose(palqytun_vm *vm, uint32_t handle, const palqytun_value *value, const palqytun_policy *policy);
+palqytun_replied palqytun_propose_retryable(
+    palqytun_vm *vm, uint32_t handle, uint64_t duration_millis, const palqytun_error *error, const palqytun_policy *policy);
 
 /* The handler's result, and its end. */
 palqytun_replied palqytun_write_output(palqytun_vm *vm, const palqytun_value *value, bool unstable);

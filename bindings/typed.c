@@ -71,19 +71,22 @@ static int show(palqytun_vm *vm, const char *call, palqytun_replied replied)
 /* Makes a session with a VM, and feeds it the journal. */
 static int begin(palqytun_vm *vm)
 {
-    static const char line[] = "vm \"application/vnd.restate.invocation.v7\"";
+    palqytun_options options = {.replay = 2};
     uint32_t status = palqytun_new(vm);
     if (status != PALQYTUN_DONE)
         return failed(status);
     status = palqytun_sleep(vm, bytes(""), 1).status;
     if (status != PALQYTUN_NO_VM)
         return failed(status);
-    status = palqytun_line(vm, (const uint8_t *)line, sizeof line - 1).status;
-    if (status == PALQYTUN_DONE)
-        status = palqytun_feed(vm, journal, sizeof journal);
-    /* The line is right, so it made no VM only where it found no memory. */
-    if (status == PALQYTUN_NO_VM)
-        status = PALQYTUN_NO_MEMORY;
+    /* An option that there isn't. */
+    status = palqytun_make(vm, given("application/vnd.restate.invocation.v7"), &options).status;
+    if (status != PALQYTUN_BAD_NUMBER)
+        return failed(status);
+    options.replay = 0;
+    int ended = show(vm, "make", palqytun_make(vm, given("application/vnd.restate.invocation.v7"), &options));
+    if (ended != 0)
+        return ended;
+    status = palqytun_feed(vm, journal, sizeof journal);
     return status == PALQYTUN_DONE ? 0 : failed(status);
 }
 
@@ -124,6 +127,34 @@ static int remember(palqytun_vm *vm)
     return ended;
 }
 
+/* Attaches to a workflow, and looks at the output of an invocation. */
+static int look(palqytun_vm *vm)
+{
+    const palqytun_invocation workflow = {1, bytes("signup"), bytes("ada"), bytes(""), none(), none()};
+    const palqytun_invocation other = {0, bytes("inv_1"), bytes(""), bytes(""), none(), none()};
+    const palqytun_invocation unknown = {3, bytes(""), bytes(""), bytes(""), none(), none()};
+    int ended = show(vm, "attach", palqytun_attach(vm, &workflow));
+    if (ended == 0)
+        ended = show(vm, "get_output", palqytun_get_output(vm, &other));
+    if (ended == 0 && palqytun_attach(vm, &unknown).status != PALQYTUN_BAD_NUMBER)
+        ended = 4;
+    return ended;
+}
+
+/* An error of the handler's own, on a VM that is let go afterwards: it fails by it. */
+static int report(palqytun_vm *vm)
+{
+    const palqytun_options options = {0};
+    const palqytun_error error = {418, 1, bytes("no tea"), bytes("at 1"), true, 500};
+    const palqytun_command related = {0, 0, 0, none()};
+    int ended = show(vm, "make", palqytun_make(vm, given("application/vnd.restate.invocation.v7"), &options));
+    if (ended == 0)
+        ended = show(vm, "report_error", palqytun_report_error(vm, &error, &related));
+    if (ended == 0)
+        ended = show(vm, "sleep", palqytun_sleep(vm, bytes(""), 1));
+    return ended;
+}
+
 /* The handler's result, its output, and a call of a VM that is closed. */
 static int finish(palqytun_vm *vm)
 {
@@ -159,7 +190,11 @@ static int run(palqytun_vm *vm)
     if (ended == 0)
         ended = remember(vm);
     if (ended == 0)
+        ended = look(vm);
+    if (ended == 0)
         ended = finish(vm);
+    if (ended == 0)
+        ended = report(vm);
     return ended;
 }
 

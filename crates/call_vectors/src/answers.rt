@@ -1,7 +1,7 @@
 // Each typed call on a VM in Processing, with what it is answered, as a line of a script prints it.
 use invocation_vm::CoreVM;
 use lines::line::Line;
-use replies::Shown;
+use replies::{Reply, Shown};
 use scripts::run::answer;
 use sessions::VmCall;
 use std::alloc::Global;
@@ -10,13 +10,16 @@ use std::test::Fail;
 use typed_calls::awaits::{AwaitCall, AwaitTreeCall, TakeCall};
 use typed_calls::callees::{CallCall, DeadlineCall, GivenTarget, SendCall};
 use typed_calls::given::{Lent, MayLend, Pair};
+use typed_calls::invocations::{AttachCall, GetOutputCall, GivenInvocation};
 use typed_calls::journal::{
     AwakeableCall, CancelCall, CompleteAwakeableCall, CompletePromiseCall, CompleteSignalCall,
     EndCall, GetPromiseCall, PeekPromiseCall, SignalCall, SleepCall, WriteOutputCall,
 };
 use typed_calls::nodes::Node;
+use typed_calls::policies::GivenPolicy;
 use typed_calls::queries::{CompletedCall, HeadCall, IndexCall, ReadyCall, StateCall};
-use typed_calls::run_calls::{ProposeCall, RunCall};
+use typed_calls::reports::{GivenCommand, GivenError, ReportCall};
+use typed_calls::run_calls::{ProposeCall, ProposeRetryableCall, RunCall};
 use typed_calls::state::{ClearAllCall, ClearCall, GetCall, GetKeysCall, SetCall};
 use typed_calls::values::GivenValue;
 use vectors::frames::{INPUT_TILL, START_1};
@@ -67,6 +70,47 @@ fn greeter<'a>(headers: &'a [Pair<'a>]) -> GivenTarget<'a> {
     }
 }
 
+/// A policy of this kind, without bounds, whose delay grows by 3/0.
+fn retried(kind: u32) -> GivenPolicy {
+    GivenPolicy {
+        kind,
+        initial_millis: 100,
+        numerator: 3,
+        denominator: 0,
+        has_interval: true,
+        interval_millis: 500,
+        has_attempts: false,
+        attempts: 0,
+        has_duration: false,
+        duration_millis: 0,
+        pauses: false,
+    }
+}
+
+/// The error 503 "later", of this behavior.
+fn later(behavior: u32) -> GivenError<'static> {
+    GivenError {
+        code: 503,
+        behavior,
+        message: lent("later"),
+        stacktrace: lent("at 1"),
+        has_delay: true,
+        delay_millis: 20,
+    }
+}
+
+/// An invocation that is meant in this way.
+fn elsewhere(kind: u32) -> GivenInvocation<'static> {
+    GivenInvocation {
+        kind,
+        name: lent("signup"),
+        key: lent("ada"),
+        handler: lent("run"),
+        service_key: may_lend(true, "k"),
+        scope: may_lend(false, ""),
+    }
+}
+
 /// A VM in Processing.
 fn processing(alloc: Global) -> Result<CoreVM, Fail> {
     let mut vm = None;
@@ -87,8 +131,9 @@ fn processing(alloc: Global) -> Result<CoreVM, Fail> {
 /// Makes a call, and prints what it is answered.
 fn made<C: VmCall>(alloc: Global, vm: &mut CoreVM, call: C) -> Result<Line, Fail> {
     let mut line = Line::new(alloc);
-    match call.make(alloc, vm) {
-        Ok(reply) => reply.show(&mut line)?,
+    let mut reply = Reply::Nothing;
+    match call.make(alloc, vm, &mut reply) {
+        Ok(_) => reply.show(&mut line)?,
         Err(status) => line.number(u64::from(status.code()))?,
     }
     Ok(line)
@@ -254,6 +299,7 @@ fn runs_are_executed_and_the_handler_ends(rt: HostRuntime) -> Result<(), Fail> {
     let propose = ProposeCall {
         handle: 17,
         value: success("paid"),
+        policy: retried(0),
     };
     assert_eq!(rt; made(alloc, &mut vm, propose)?.as_str(), "ok");
     let write = WriteOutputCall {
@@ -267,5 +313,79 @@ fn runs_are_executed_and_the_handler_ends(rt: HostRuntime) -> Result<(), Fail> {
         made(alloc, &mut vm, closed)?.as_str(),
         "err 598 \"ClosedError\""
     );
+    Ok(())
+}
+
+#[test]
+fn invocations_are_attached_to(rt: HostRuntime) -> Result<(), Fail> {
+    let alloc = rt.alloc();
+    let mut vm = processing(alloc)?;
+    for (kind, wanted) in [(0, "ok 17"), (1, "ok 18"), (2, "ok 19"), (3, "8")] {
+        let attach = AttachCall {
+            invocation: elsewhere(kind),
+        };
+        assert_eq!(rt; made(alloc, &mut vm, attach)?.as_str(), wanted);
+    }
+    for (kind, wanted) in [(0, "ok 20"), (1, "ok 21"), (2, "ok 22"), (3, "8")] {
+        let ask = GetOutputCall {
+            invocation: elsewhere(kind),
+        };
+        assert_eq!(rt; made(alloc, &mut vm, ask)?.as_str(), wanted);
+    }
+    Ok(())
+}
+
+#[test]
+fn errors_are_reported(rt: HostRuntime) -> Result<(), Fail> {
+    let alloc = rt.alloc();
+    let mut vm = processing(alloc)?;
+    for (behavior, kind, ty, wanted) in [
+        (3, 0, 0, "8"),
+        (0, 4, 0, "8"),
+        (0, 2, 19, "8"),
+        (0, 3, 18, "ok"),
+    ] {
+        let report = ReportCall {
+            error: later(behavior),
+            related: GivenCommand {
+                kind,
+                index: 1,
+                ty,
+                name: may_lend(true, "n"),
+            },
+        };
+        assert_eq!(rt; made(alloc, &mut vm, report)?.as_str(), wanted);
+    }
+    assert_eq!(rt;
+        made(alloc, &mut vm, EndCall)?.as_str(),
+        "err 503 \"later\""
+    );
+    Ok(())
+}
+
+#[test]
+fn failures_may_be_retried(rt: HostRuntime) -> Result<(), Fail> {
+    let alloc = rt.alloc();
+    let mut vm = processing(alloc)?;
+    let run = RunCall {
+        name: lent("charge"),
+    };
+    assert_eq!(rt; made(alloc, &mut vm, run)?.as_str(), "ok 17 false");
+    let awaits = AwaitCall { handle: 17 };
+    assert_eq!(rt; made(alloc, &mut vm, awaits)?.as_str(), "ok run 17");
+    for (behavior, kind, wanted) in [
+        (3, 0, "8"),
+        (0, 4, "8"),
+        (0, 3, "8"),
+        (0, 2, "err 503 \"later\""),
+    ] {
+        let propose = ProposeRetryableCall {
+            handle: 17,
+            duration_millis: 5,
+            error: later(behavior),
+            policy: retried(kind),
+        };
+        assert_eq!(rt; made(alloc, &mut vm, propose)?.as_str(), wanted);
+    }
     Ok(())
 }

@@ -2,23 +2,28 @@
 ghost use Rattle.std.specs.Prelude.{◌≡◌, ◌≤◌};
 ghost use Rattle.sessions.specs.Calls.{CalledFromC, PartRead};
 ghost use Rattle.sessions.specs.Statuses.{status_of};
-ghost use Rattle.typed_calls.specs.Calls.{AsksCompleted, AsksIndex, AsksReady, AsksState, AwaitsHandle, AwaitsNodes, CallsHandler, CallsWithDeadline, CancelsInvocation, ClearsAllState, ClearsState, ClosesInput, CompletesAwakeable, CompletesPromise, CompletesSignal, Ends, GetsPromise, MakesAwakeable, MakesSignal, PeeksPromise, Proposes, ReadsEphemerally, ReadsHead, ReadsInput, ReadsKeys, ReadsState, Runs, SendsTo, SetsState, Sleeps, Takes, TakesEphemeral, TakesOutputOf, WritesOutput};
+ghost use Rattle.typed_calls.specs.Making.{MakesAsGiven};
+ghost use Rattle.typed_calls.specs.Calls.{AsksCompleted, AsksIndex, AsksReady, AsksState, AttachesTo, AwaitsHandle, AwaitsNodes, CallsHandler, CallsWithDeadline, CancelsInvocation, ClearsAllState, ClearsState, ClosesInput, CompletesAwakeable, CompletesPromise, CompletesSignal, Ends, GetsOutput, GetsPromise, MakesAwakeable, MakesSignal, PeeksPromise, Proposes, ProposesRetryable, ReadsEphemerally, ReadsHead, ReadsInput, ReadsKeys, ReadsState, ReportsError, Runs, SendsTo, SetsState, Sleeps, Takes, TakesEphemeral, TakesOutputOf, WritesOutput};
 
 use sessions::vm_call::{call, read_part};
 use sessions::{Replied, Told, Vm};
 use std::alloc::Global;
 use typed_calls::awaits::{AwaitCall, AwaitTreeCall, TakeCall};
 use typed_calls::callees::{CallCall, DeadlineCall, GivenTarget, SendCall};
-use typed_calls::given::Lent;
+use typed_calls::given::{Lent, MayLend};
+use typed_calls::invocations::{AttachCall, GetOutputCall, GivenInvocation};
 use typed_calls::journal::{
     AwakeableCall, CancelCall, CompleteAwakeableCall, CompletePromiseCall, CompleteSignalCall,
     EndCall, GetPromiseCall, PeekPromiseCall, SignalCall, SleepCall, WriteOutputCall,
 };
+use typed_calls::making::{GivenOptions, make_vm};
 use typed_calls::nodes::Node;
+use typed_calls::policies::GivenPolicy;
 use typed_calls::queries::{
     CloseCall, CompletedCall, HeadCall, IndexCall, InputCall, OutputCall, ReadyCall, StateCall,
 };
-use typed_calls::run_calls::{ProposeCall, RunCall};
+use typed_calls::reports::{GivenCommand, GivenError, ReportCall};
+use typed_calls::run_calls::{ProposeCall, ProposeRetryableCall, RunCall};
 use typed_calls::state::{
     ClearAllCall, ClearCall, EphemeralGetCall, GetCall, GetKeysCall, SetCall, TakeEphemeralCall,
 };
@@ -32,6 +37,75 @@ pub extern "C" fn palqytun_part(alloc: Global, vm: &mut Vm, at: usize, out: &mut
     ensures read { PartRead at (status_of result.status) result.len out.old out.new vm.old.value }
 {
     read_part(alloc, vm, at, out)
+}
+
+/// Makes a VM in the place of the last.
+#[unsafe(no_mangle)]
+pub extern "C" fn palqytun_make(
+    alloc: Global,
+    vm: &mut Vm,
+    content_type: MayLend,
+    options: &GivenOptions,
+) -> Replied
+    ensures { MakesAsGiven alloc content_type.entry options.now result vm.old.value vm.new.value }
+{
+    make_vm(alloc, vm, content_type, options)
+}
+
+/// Fails the VM by an error of the handler's own.
+#[unsafe(no_mangle)]
+pub extern "C" fn palqytun_report_error(
+    alloc: Global,
+    vm: &mut Vm,
+    error: &GivenError,
+    related: &GivenCommand,
+) -> Replied
+    ensures { CalledFromC (ReportsError error.now related.now) result vm.old.value vm.new.value }
+{
+    call(
+        alloc,
+        vm,
+        ReportCall {
+            error: *error,
+            related: *related,
+        },
+    )
+}
+
+/// Attaches to another invocation.
+#[unsafe(no_mangle)]
+pub extern "C" fn palqytun_attach(
+    alloc: Global,
+    vm: &mut Vm,
+    invocation: &GivenInvocation,
+) -> Replied
+    ensures { CalledFromC (AttachesTo invocation.now) result vm.old.value vm.new.value }
+{
+    call(
+        alloc,
+        vm,
+        AttachCall {
+            invocation: *invocation,
+        },
+    )
+}
+
+/// Looks whether another invocation has an output.
+#[unsafe(no_mangle)]
+pub extern "C" fn palqytun_get_output(
+    alloc: Global,
+    vm: &mut Vm,
+    invocation: &GivenInvocation,
+) -> Replied
+    ensures { CalledFromC (GetsOutput invocation.now) result vm.old.value vm.new.value }
+{
+    call(
+        alloc,
+        vm,
+        GetOutputCall {
+            invocation: *invocation,
+        },
+    )
 }
 
 /// A sleep until a time, in milliseconds since the Unix epoch.
@@ -365,15 +439,16 @@ pub extern "C" fn palqytun_run(alloc: Global, vm: &mut Vm, name: Lent) -> Replie
     call(alloc, vm, RunCall { name })
 }
 
-/// Gives the result of a run that was executed.
+/// Gives the result of a run that was executed, under a policy.
 #[unsafe(no_mangle)]
 pub extern "C" fn palqytun_propose(
     alloc: Global,
     vm: &mut Vm,
     handle: u32,
     value: &GivenValue,
+    policy: &GivenPolicy,
 ) -> Replied
-    ensures { CalledFromC (Proposes handle value.now) result vm.old.value vm.new.value }
+    ensures { CalledFromC (Proposes handle value.now policy.now) result vm.old.value vm.new.value }
 {
     call(
         alloc,
@@ -381,6 +456,32 @@ pub extern "C" fn palqytun_propose(
         ProposeCall {
             handle,
             value: *value,
+            policy: *policy,
+        },
+    )
+}
+
+/// Gives the error of a run that was executed for so many milliseconds; its policy says whether it is tried again.
+#[unsafe(no_mangle)]
+pub extern "C" fn palqytun_propose_retryable(
+    alloc: Global,
+    vm: &mut Vm,
+    handle: u32,
+    duration_millis: u64,
+    error: &GivenError,
+    policy: &GivenPolicy,
+) -> Replied
+    ensures { CalledFromC (ProposesRetryable handle duration_millis error.now policy.now)
+        result vm.old.value vm.new.value }
+{
+    call(
+        alloc,
+        vm,
+        ProposeRetryableCall {
+            handle,
+            duration_millis,
+            error: *error,
+            policy: *policy,
         },
     )
 }

@@ -1,5 +1,10 @@
 -- What a call of a session's VM from C does, whichever it is, and how its reply is read.
 use Rattle.std.specs.Prelude.{◌≡◌, ◌<◌, ◌++◌, ℕ, List, length, drop, Option, Some, None, Result, Ok, Err}
+use Rattle.std.proofs.Common.{Global}
+use Rattle.journal_errors.specs.declared.error.Error.{Error}
+use Rattle.journal_errors.specs.declared.version.Version.{Version}
+use Rattle.vm_types.specs.declared.options.VMOptions.{VMOptions}
+use Rattle.scripts.specs.Performed.{Made}
 use Rattle.invocation_vm.specs.declared.core_vm.CoreVM.{CoreVM}
 use Rattle.invocation_vm.specs.Seen.{seen}
 use Rattle.invocation_vm.specs.Views.{View}
@@ -20,6 +25,11 @@ abbrev pub reply_kept : Result Reply Status → Reply → Reply
 reply_kept (Ok reply) last = reply
 reply_kept (Err status) last = last
 
+-- A call is made of a VM, of which is said what it does: C is told its reply, which is kept in the place of the last; or why it isn't made.
+abbrev pub IsMadeOf : (Result Reply Status → View → View → Type 0) → Result Replied Status → View → View → Reply → Reply → Type 0
+IsMadeOf does (Ok told) old new last kept = does (Ok kept) old new × (told ≡ summary kept)
+IsMadeOf does (Err status) old new last kept = does (Err status) old new × (kept ≡ last)
+
 -- A call is made of a VM, of which is said what it does; C is told its outcome, and its reply is kept.
 pub record IsCalled (does : Result Reply Status → View → View → Type 0) (replied : Replied) (old new : CoreVM) (last next : Reply) : Type 0 where
   pub outcome : Result Reply Status
@@ -38,6 +48,13 @@ abbrev pub CalledFromC : (Result Reply Status → View → View → Type 0) → 
 CalledFromC does told (Some old) (Some new) = OnVm does told old.vm new.vm old.reply new.reply × (new.answer ≡ old.answer)
 CalledFromC does told None None = told ≡ kept_told status.NoSession
 CalledFromC does told old new = ⊥
+
+-- A VM is put into the session that there is, in the place of the last; or there is none, and C is told why. The last answer to a line stays.
+abbrev pub MadeFromC : Global → VMOptions → Result Version Error → Replied → Option Session → Option Session → Type 0
+MadeFromC alloc options wanted told (Some old) (Some new) =
+    Made alloc options wanted new.reply new.vm × (told ≡ summary new.reply) × (new.answer ≡ old.answer)
+MadeFromC alloc options wanted told None None = told ≡ kept_told status.NoSession
+MadeFromC alloc options wanted told old new = ⊥
 
 -- Bytes are written to the front of the room for them, if there is so much.
 abbrev pub Written : List ℕ → Status → ℕ → List ℕ → List ℕ → Type 0

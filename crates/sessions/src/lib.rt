@@ -3,6 +3,7 @@
 
 pub mod calls;
 mod held;
+mod kept;
 mod kind;
 mod loose;
 mod parts;
@@ -13,8 +14,9 @@ pub mod vm_call;
 
 pub use calls::Told;
 pub use held::Vm;
+pub use kept::{keep, keep_awaited, keep_ended, keep_handle, keep_taken};
 pub use kind::Kind;
-pub use replied::Replied;
+pub use replied::{Replied, tell_status};
 pub use session::Session;
 pub use status::Status;
 pub use vm_call::VmCall;

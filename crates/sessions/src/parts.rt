@@ -106,7 +106,7 @@ fn in_input(input: &Input, at: usize) -> Option<&[u8]>
 }
 
 /// Of what a handle has, if it has something.
-fn in_taken(taken: &Option<Value>, at: usize) -> Option<&[u8]>
+pub(crate) fn in_taken(taken: &Option<Value>, at: usize) -> Option<&[u8]>
     ensures { option_copied result ≡ in_taken taken.now at }
 {
     match taken {

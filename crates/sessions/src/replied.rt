@@ -24,7 +24,7 @@ pub struct Replied {
 }
 
 /// Of a reply with these three numbers.
-fn told(kind: Kind, first: u32, second: u32, third: u32) -> Replied
+pub(crate) fn told(kind: Kind, first: u32, second: u32, third: u32) -> Replied
     ensures { result ≡ told kind first second third }
 {
     Replied {
@@ -131,7 +131,7 @@ fn tell_value(value: &Value) -> Replied
     }
 }
 
-fn tell_taken(taken: &Option<Value>) -> Replied
+pub(crate) fn tell_taken(taken: &Option<Value>) -> Replied
     ensures { result ≡ taken_told taken.now }
 {
     match taken {
@@ -140,7 +140,7 @@ fn tell_taken(taken: &Option<Value>) -> Replied
     }
 }
 
-fn tell_response(response: &AwaitResponse) -> Replied
+pub(crate) fn tell_response(response: &AwaitResponse) -> Replied
     ensures { result ≡ response_told response.now }
 {
     match response {
@@ -223,7 +223,7 @@ pub(crate) fn tell(reply: &Reply) -> Replied
 }
 
 /// Of a call that isn't made.
-pub(crate) fn tell_status(status: Status) -> Replied
+pub fn tell_status(status: Status) -> Replied
     ensures { result ≡ kept_told status }
 {
     Replied {

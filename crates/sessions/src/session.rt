@@ -1,19 +1,26 @@
 //! One VM, its last answer to a line, and its last reply to a call.
-ghost use Rattle.std.specs.Prelude.{◌≡◌, Some};
+ghost use Rattle.std.specs.Prelude.{◌≡◌, Some, codes};
+ghost use Rattle.invocation_vm.specs.Making.{version_in};
+ghost use Rattle.requests.specs.ContentTypes.{found};
+ghost use Rattle.scripts.specs.Performed.{Made};
 ghost use Rattle.sessions.specs.Calls.{OnVm, Written, part_read};
-ghost use Rattle.sessions.specs.Replies.{part_len, part_of, summary};
+ghost use Rattle.sessions.specs.Replies.{part_of, summary};
 ghost use Rattle.sessions.specs.Sessions.{AnswerRead, Drained, Fed, IsEmpty, LineDone};
 
+use crate::kept::keep;
 use crate::parts::part_of;
-use crate::replied::{Replied, tell, tell_status};
+use crate::replied::{Replied, tell_status};
 use crate::status::Status;
 use crate::vm_call::VmCall;
 use bytes::Bytes;
 use invocation_vm::{CoreVM, VM};
 use lines::line::Line;
 use replies::Reply;
+use requests::content_type::ContentType;
+use scripts::perform::make_anew;
 use scripts::run::answer;
 use std::alloc::Global;
+use vm_parts::VMOptions;
 
 /// One VM, if it was made, the answer to the last line, and the reply to the last call.
 #[derive(Drop)]
@@ -33,25 +40,6 @@ fn write(bytes: &[u8], out: &mut [u8]) -> (Status, usize)
     }
     out[..len].copy_from_slice(bytes);
     (Status::Done, len)
-}
-
-/// How long the first part of a reply is, 0 without one.
-fn first_len(reply: &Reply) -> usize
-    ensures { result ≡ part_len (part_of reply.now 0) }
-{
-    match part_of(reply, 0) {
-        Some(part) => part.len(),
-        None => 0,
-    }
-}
-
-/// What C is told of a reply.
-fn summary(reply: &Reply) -> Replied
-    ensures { result ≡ summary reply.now }
-{
-    let mut replied = tell(reply);
-    replied.len = first_len(reply);
-    replied
 }
 
 /// Feeds a VM bytes of its input.
@@ -115,6 +103,7 @@ impl Session {
     }
 
     /// Makes a call of the VM, keeps what it is answered, and tells of it. Where it isn't made the last reply stays.
+    #[tactic(auto, using(crate::proofs::Made::is_called, crate::proofs::Made::is_kept))]
     pub fn call<C: VmCall>(&mut self, alloc: Global, call: C) -> Replied
         ensures answer { self.new.answer ≡ self.old.answer }
         ensures called { OnVm (C.does call) result self.old.vm self.new.vm self.old.reply self.new.reply }
@@ -122,13 +111,20 @@ impl Session {
         let Some(vm) = &mut self.vm else {
             return tell_status(Status::NoVm);
         };
-        match call.make(alloc, vm) {
-            Ok(reply) => {
-                self.reply = reply;
-                summary(&self.reply)
-            }
+        match call.make(alloc, vm, &mut self.reply) {
+            Ok(replied) => replied,
             Err(status) => tell_status(status),
         }
+    }
+
+    /// Puts a new VM in the place of the last, and tells which, or why there is none.
+    pub fn make(&mut self, alloc: Global, content_type: ContentType, options: VMOptions) -> Replied
+        ensures answer { self.new.answer ≡ self.old.answer }
+        ensures made { Made alloc options (version_in (found content_type (codes "content-type"))) self.new.reply self.new.vm }
+        ensures told { result ≡ summary self.new.reply }
+    {
+        let reply = make_anew(alloc, &mut self.vm, content_type, options);
+        keep(&mut self.reply, reply)
     }
 
     /// Writes a part of the last reply to the front of `out`, where there is room for it; and how long it is.

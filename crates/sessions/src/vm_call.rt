@@ -1,6 +1,8 @@
 //! Calls of a session's VM from C, whichever they are.
-ghost use Rattle.std.specs.Prelude.{◌≡◌, ◌≤◌};
-ghost use Rattle.sessions.specs.Calls.{CalledFromC, PartRead};
+ghost use Rattle.std.specs.Prelude.{◌≡◌, ◌≤◌, codes};
+ghost use Rattle.invocation_vm.specs.Making.{version_in};
+ghost use Rattle.requests.specs.ContentTypes.{found};
+ghost use Rattle.sessions.specs.Calls.{CalledFromC, MadeFromC, PartRead};
 ghost use Rattle.sessions.specs.Statuses.{status_of};
 
 use crate::calls::{Told, give, take, tell};
@@ -9,7 +11,9 @@ use crate::replied::{Replied, tell_status};
 use crate::status::Status;
 use invocation_vm::CoreVM;
 use replies::Reply;
+use requests::content_type::ContentType;
 use std::alloc::Global;
+use vm_parts::VMOptions;
 
 /// A call of a VM, with what C gave for it.
 pub trait VmCall: Drop {
@@ -17,14 +21,15 @@ pub trait VmCall: Drop {
     ghost use Rattle.invocation_vm.specs.Seen.{seen};
     ghost use Rattle.invocation_vm.specs.Views.{View};
     ghost use Rattle.replies.specs.declared.reply.Reply.{Reply};
+    ghost use Rattle.sessions.specs.Calls.{IsMadeOf};
     ghost use Rattle.sessions.specs.declared.status.Status.{Status};
 
     /// What it does to a VM: what it is answered, or why it isn't made; and the VM before and after.
     ghost does: { Self → Result Reply Status → View → View → Type 0 };
 
-    /// Makes the call, unless what C gave doesn't serve.
-    fn make(self, alloc: Global, vm: &mut CoreVM) -> Result<Reply, Status>
-        ensures { does self result (seen vm.old) (seen vm.new) };
+    /// Makes the call, keeps what it is answered in the place of the last reply, and tells of it; unless what C gave doesn't serve.
+    fn make(self, alloc: Global, vm: &mut CoreVM, kept: &mut Reply) -> Result<Replied, Status>
+        ensures { IsMadeOf (does self) result (seen vm.old) (seen vm.new) kept.old kept.new };
 }
 
 /// Makes a call of the session's VM, keeps what it is answered, and tells of it.
@@ -34,6 +39,20 @@ pub fn call<C: VmCall>(alloc: Global, vm: &mut Vm, call: C) -> Replied
     match take(alloc, vm) {
         Some(mut session) => {
             let replied = session.call(alloc, call);
+            give(alloc, vm, session);
+            replied
+        }
+        None => tell_status(Status::NoSession),
+    }
+}
+
+/// Puts a new VM into the session in the place of the last, and tells which, or why there is none.
+pub fn make(alloc: Global, vm: &mut Vm, content_type: ContentType, options: VMOptions) -> Replied
+    ensures { MadeFromC alloc options (version_in (found content_type (codes "content-type"))) result vm.old.value vm.new.value }
+{
+    match take(alloc, vm) {
+        Some(mut session) => {
+            let replied = session.make(alloc, content_type, options);
             give(alloc, vm, session);
             replied
         }

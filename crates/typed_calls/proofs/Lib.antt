@@ -1,2 +1,3 @@
 pub mod Refusing
 pub mod Rows
+pub mod Outcomes

@@ -1,17 +1,32 @@
 -- Why texts can't be copied, of some of them and of all.
-use Rattle.std.proofs.Common.{◌⊎◌, ◌<◌, inl, inr, ℕ, zero, suc, List, [], ◌∷◌, ◌++◌, get_or, length, le_of_suc-le-suc, not-suc-le-zero}
+use Rattle.std.proofs.Common.{◌≡◌, ◌⊎◌, ◌<◌, inl, inr, true, ℕ, None, zero, suc, List, [], ◌∷◌, ◌++◌, get_or, length, le_of_suc-le-suc, not-suc-le-zero}
 use Rattle.std.specs.List.{flat_map}
 use Rattle.std.specs.Str.{IsUtf8}
 use Rattle.sessions.specs.declared.status.Status.{Status}
 use Rattle.sessions.specs.declared.status.Status.TheVariants as status
 use Rattle.typed_calls.specs.declared.given.Pair.{Pair}
-use Rattle.typed_calls.specs.Given.{IsWhy, Refuses, SomeIsNoText, texts_of_pair}
+use Rattle.typed_calls.specs.declared.reports.GivenCommand.{GivenCommand}
+use Rattle.typed_calls.specs.Given.{IsWhy, Misfits, Refuses, SomeIsNoText, texts_in, texts_of_pair}
+use Rattle.typed_calls.specs.Reports.{NamesNoCommand, has_type, type_at}
 
 pub no_memory : (texts : List (List ℕ)) → Refuses texts status.NoMemory
 no_memory texts = record { why = tt }
 
 pub no_text : (text : List ℕ) → ¬ IsUtf8 text → Refuses (text ∷ []) status.BadText
 no_text text bad = record { why = inl bad }
+
+-- what keeps texts from being copied keeps the call from being made
+pub misfit : (texts : List (List ℕ)) (NamesNone : Type 0) (s : Status) → Refuses texts s → Misfits texts NamesNone s
+misfit texts NamesNone status.NoMemory refuses = tt
+misfit texts NamesNone status.BadText refuses = refuses.why
+misfit texts NamesNone status.Done refuses = absurd refuses.why
+misfit texts NamesNone status.NoSession refuses = absurd refuses.why
+misfit texts NamesNone status.NoVm refuses = absurd refuses.why
+misfit texts NamesNone status.NoRoom refuses = absurd refuses.why
+misfit texts NamesNone status.Refused refuses = absurd refuses.why
+misfit texts NamesNone status.BadTree refuses = absurd refuses.why
+misfit texts NamesNone status.BadNumber refuses = absurd refuses.why
+misfit texts NamesNone status.NoPart refuses = absurd refuses.why
 
 some_first : (xs ys : List (List ℕ)) → SomeIsNoText xs → SomeIsNoText (xs ++ ys)
 some_first [] ys none = absurd none
@@ -55,3 +70,30 @@ pair_refused [] k d s below refuses = absurd (not-suc-le-zero below)
 pair_refused (pair ∷ pairs) zero d s below refuses = first_refused (texts_of_pair pair) (flat_map texts_of_pair pairs) s refuses
 pair_refused (pair ∷ pairs) (suc k) d s below refuses =
     last_refused (texts_of_pair pair) (flat_map texts_of_pair pairs) s (pair_refused pairs k d s (le_of_suc-le-suc below) refuses)
+
+-- what keeps a call from being made by some of its texts and numbers keeps it by all of them
+misfit_of : (xs ys : List (List ℕ)) (A B : Type 0) → (SomeIsNoText xs → SomeIsNoText ys) → (A → B) → (s : Status) → Misfits xs A s → Misfits ys B s
+misfit_of xs ys A B more names status.NoMemory why = tt
+misfit_of xs ys A B more names status.BadText why = more why
+misfit_of xs ys A B more names status.BadNumber why = names why
+misfit_of xs ys A B more names status.Done why = absurd why
+misfit_of xs ys A B more names status.NoSession why = absurd why
+misfit_of xs ys A B more names status.NoVm why = absurd why
+misfit_of xs ys A B more names status.NoRoom why = absurd why
+misfit_of xs ys A B more names status.Refused why = absurd why
+misfit_of xs ys A B more names status.BadTree why = absurd why
+misfit_of xs ys A B more names status.NoPart why = absurd why
+
+pub misfit_first : (xs ys : List (List ℕ)) (A B : Type 0) (s : Status) → Misfits xs A s → Misfits (xs ++ ys) (A ⊎ B) s
+misfit_first xs ys A B s why = misfit_of xs (xs ++ ys) A (A ⊎ B) (some_first xs ys) (λ a. inl a) s why
+
+pub misfit_last : (xs ys : List (List ℕ)) (A B : Type 0) (s : Status) → Misfits ys B s → Misfits (xs ++ ys) (A ⊎ B) s
+misfit_last xs ys A B s why = misfit_of ys (xs ++ ys) B (A ⊎ B) (some_last xs ys) (λ b. inr b) s why
+
+-- no type of a command is named
+pub misfit_type : (given : GivenCommand) (s : Status) → has_type given.kind ≡ true → Misfits (texts_in given.name) (type_at given.ty ≡ None) s → Misfits (texts_in given.name) (NamesNoCommand given) s
+misfit_type given s kind why =
+    misfit_of (texts_in given.name) (texts_in given.name) (type_at given.ty ≡ None) (NamesNoCommand given) (λ some. some) (λ ty. inr (kind, ty)) s why
+
+pub misfit_more : (xs : List (List ℕ)) (A B : Type 0) (s : Status) → Misfits xs A s → Misfits xs (A ⊎ B) s
+misfit_more xs A B s why = misfit_of xs xs A (A ⊎ B) (λ some. some) (λ a. inl a) s why

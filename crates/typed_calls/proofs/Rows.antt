@@ -1,5 +1,5 @@
 -- Rows of nodes.
-use Rattle.std.proofs.Common.{◌≡◌, ◌+◌, ℕ, List, [], ◌∷◌, ◌++◌, length, take, drop, refl, sym, ◌∙◌, ap, append_assoc, append-nil, length-drop, take-append-drop, arith}
+use Rattle.std.proofs.Common.{◌≡◌, ◌+◌, ◌<◌, inl, ℕ, zero, suc, get_or, le_of_suc-le-suc, not-suc-le-zero, List, [], ◌∷◌, ◌++◌, length, take, drop, refl, sym, ◌∙◌, ap, append_assoc, append-nil, length-drop, take-append-drop, arith}
 use Rattle.journal_attempt.specs.declared.future.FutureKind.{FutureKind}
 use Rattle.journal_attempt.specs.declared.future.FutureKind.TheVariants.{FirstCompleted, AllCompleted, FirstSucceededOrAllFailed, AllSucceededOrFirstFailed, Unknown}
 use Rattle.await_trees.specs.Copies.{future_node}
@@ -9,7 +9,9 @@ use Rattle.await_trees.specs.declared.tree.UnresolvedFuture.{UnresolvedFuture}
 use Rattle.await_trees.specs.declared.tree.UnresolvedFuture.TheVariants.{Single}
 use Rattle.await_trees.proofs.TreeOf.{tree_of-Single, tree_of-FirstCompleted, tree_of-AllCompleted, tree_of-FirstSucceededOrAllFailed, tree_of-AllSucceededOrFirstFailed, tree_of-Unknown}
 use Rattle.typed_calls.specs.declared.nodes.Node.{Node}
-use Rattle.typed_calls.specs.Nodes.{kind_code, nodes_of, rows_of, size, written}
+use Rattle.sessions.specs.declared.status.Status.{Status}
+use Rattle.sessions.specs.declared.status.Status.TheVariants as status
+use Rattle.typed_calls.specs.Nodes.{CantStand, FailsAsTree, StopsAtNode, kind_code, nodes_of, rows_of, size, written}
 
 tree_of_node : (kind : FutureKind) (us : List UnresolvedFuture) → tree_of (future_node kind us) ≡ node kind (forest_of us)
 tree_of_node FirstCompleted us = tree_of-FirstCompleted us
@@ -63,3 +65,31 @@ one us h n kind number =
 pub alone : (u : UnresolvedFuture) (us rest : List UnresolvedFuture) (nodes : List Node) → written us ≡ nodes → us ≡ rest ++ u ∷ [] → rest ≡ [] → nodes_of (tree_of u) ≡ nodes
 alone u us rest nodes same split none =
     sym (append-nil (nodes_of (tree_of u))) ∙ ap (λ front. written (front ++ u ∷ [])) (sym none) ∙ ap written (sym split) ∙ same
+
+-- a row of nodes, parted at one of them
+split_at : (nodes : List Node) (k : ℕ) (d : Node) → k < length nodes → take k nodes ++ get_or nodes k d ∷ drop (suc k) nodes ≡ nodes
+split_at [] k d below = absurd (not-suc-le-zero below)
+split_at (n ∷ ns) zero d below = refl
+split_at (n ∷ ns) (suc k) d below = ap (λ row. n ∷ row) (split_at ns k d (le_of_suc-le-suc below))
+
+stopped : (nodes : List Node) (us : List UnresolvedFuture) (k : ℕ) (d : Node) (s : Status) → k < length nodes → written us ≡ take k nodes → CantStand (get_or nodes k d) (length us) s → StopsAtNode nodes s
+stopped nodes us k d s below same cant = record {
+  front = us;
+  at = get_or nodes k d;
+  rest = drop (suc k) nodes;
+  split = ap (λ row. row ++ get_or nodes k d ∷ drop (suc k) nodes) same ∙ split_at nodes k d below;
+  cant = cant;
+}
+
+-- nodes stop being trees at the first that can't stand behind those in front of it
+pub stops : (nodes : List Node) (us : List UnresolvedFuture) (k : ℕ) (d : Node) (s : Status) → k < length nodes → written us ≡ take k nodes → CantStand (get_or nodes k d) (length us) s → FailsAsTree nodes s
+stops nodes us k d status.NoMemory below same cant = tt
+stops nodes us k d status.BadNumber below same cant = stopped nodes us k d status.BadNumber below same cant
+stops nodes us k d status.BadTree below same cant = inl (stopped nodes us k d status.BadTree below same cant)
+stops nodes us k d status.Done below same cant = absurd cant
+stops nodes us k d status.NoSession below same cant = absurd cant
+stops nodes us k d status.NoVm below same cant = absurd cant
+stops nodes us k d status.NoRoom below same cant = absurd cant
+stops nodes us k d status.Refused below same cant = absurd cant
+stops nodes us k d status.BadText below same cant = absurd cant
+stops nodes us k d status.NoPart below same cant = absurd cant

@@ -1,9 +1,14 @@
 -- What each call from C does to a VM: what it is answered, or why it isn't made; and the VM before and after.
-use Rattle.std.specs.Prelude.{◌≡◌, ℕ, Bool, List, [], ◌∷◌, Result}
+use Rattle.std.specs.Prelude.{◌≡◌, ◌⊎◌, ℕ, Bool, List, [], ◌∷◌, ◌++◌, Option, Some, None, Result}
 use Rattle.await_trees.specs.declared.tree.UnresolvedFuture.TheVariants.{Single}
 use Rattle.vm_types.specs.declared.steps.Answer.TheVariants as answer
-use Rattle.retries.specs.declared.policy.RetryPolicy.TheVariants.{Infinite}
-use Rattle.vm_asks.specs.Asks.{call_command, call_handles, cancel_invocation_command, clear_all_state_command, clear_state_command, complete_awakeable_command, complete_promise_command, complete_signal_command, deadline_handles, get_promise_command, output_command, peek_promise_command, send_command, send_handle, set_state_command, sleep_command}
+use Rattle.retries.specs.declared.policy.RetryPolicy.{RetryPolicy}
+use Rattle.runs.specs.declared.types.RunExitResult.TheVariants as exit
+use Rattle.journal_errors.specs.declared.error.Error.{Error}
+use Rattle.vm_types.specs.declared.command_type.CommandRelationship.{CommandRelationship}
+use Rattle.std.specs.declared.time.Duration.{Duration}
+use Rattle.journal_calls.specs.declared.invocations.InvocationTarget.{InvocationTarget}
+use Rattle.vm_asks.specs.Asks.{attach_invocation_command, call_command, call_handles, cancel_invocation_command, clear_all_state_command, clear_state_command, complete_awakeable_command, complete_promise_command, complete_signal_command, deadline_handles, get_invocation_output_command, get_promise_command, output_command, peek_promise_command, send_command, send_handle, set_state_command, sleep_command}
 use Rattle.vm_asks.specs.declared.state_read.StateRead.TheVariants as reads
 use Rattle.vm_machine.specs.Ephemerals.{ephemeral_step, take_ephemeral_step}
 use Rattle.vm_machine.specs.Inputs.{end_step, input_step}
@@ -11,7 +16,7 @@ use Rattle.vm_machine.specs.Queries.{last_index, state_of}
 use Rattle.vm_machine.specs.Signals.{signal_step}
 use Rattle.vm_machine.specs.Takes.{is_completed, take_step}
 use Rattle.invocation_vm.specs.Calls.{CallsAllFor, CallsCommand, CallsFlatAwait, CallsFor, CallsProposal, CallsRead, CallsRun, CallsUnit, new_awakeable_step}
-use Rattle.invocation_vm.specs.Views.{View, after_closing}
+use Rattle.invocation_vm.specs.Views.{View, after_closing, after_error}
 use Rattle.replies.specs.declared.reply.Reply.{Reply}
 use Rattle.replies.specs.declared.reply.Reply.TheVariants as reply
 use Rattle.line_parts.specs.Results.{settled}
@@ -20,6 +25,14 @@ use Rattle.sessions.specs.declared.status.Status.{Status}
 use Rattle.typed_calls.specs.declared.callees.GivenTarget.{GivenTarget}
 use Rattle.typed_calls.specs.declared.nodes.Node.{Node}
 use Rattle.typed_calls.specs.declared.values.GivenValue.{GivenValue}
+use Rattle.typed_calls.specs.declared.invocations.GivenInvocation.{GivenInvocation}
+use Rattle.typed_calls.specs.declared.policies.GivenPolicy.{GivenPolicy}
+use Rattle.typed_calls.specs.declared.reports.GivenCommand.{GivenCommand}
+use Rattle.typed_calls.specs.declared.reports.GivenError.{GivenError}
+use Rattle.typed_calls.specs.Given.{IsSpan, Misfits, texts_in}
+use Rattle.typed_calls.specs.Invocations.{invocation_of, texts_of_invocation}
+use Rattle.typed_calls.specs.Policies.{IsNoPolicy, IsPolicyOf}
+use Rattle.typed_calls.specs.Reports.{IsErrorOf, IsRelatedOf, NamesNoCommand, behavior_at, texts_of_error}
 use Rattle.typed_calls.specs.Callees.{target_of, texts_of_call}
 use Rattle.typed_calls.specs.Makes.{IsMade, MadeUnless, MadeWith, all_handles, awakeable, handle, handles, input, nothing, sent, taken}
 use Rattle.typed_calls.specs.Nodes.{AwaitsTree, FailsAsTree}
@@ -116,7 +129,7 @@ AwaitsHandle awaited =
 
 -- the tree that nodes are is awaited
 abbrev pub AwaitsNodes : List Node → Call
-AwaitsNodes nodes = MadeUnless FailsAsTree (AwaitsTree nodes)
+AwaitsNodes nodes = MadeUnless (FailsAsTree nodes) (AwaitsTree nodes)
 
 -- the result of a handle is taken
 abbrev pub Takes : ℕ → Call
@@ -160,10 +173,42 @@ ReadsInput = IsMade (Answers input input_step)
 abbrev pub Runs : List ℕ → Call
 Runs name = MadeWith (name ∷ []) (Tells reply.Run (CallsRun name))
 
--- the result of a run, of which nothing is retried
-abbrev pub Proposes : ℕ → GivenValue → Call
-Proposes of value =
-    MadeWith (texts_of_value value) (Tells nothing (CallsProposal (record { 0 = of }) (settled (value_of value)) Infinite))
+-- the result of a run, under a policy
+abbrev pub Proposes : ℕ → GivenValue → GivenPolicy → Call
+Proposes of value given =
+    MadeUnless (Misfits (texts_of_value value) (IsNoPolicy given)) (λ told old new.
+    (policy : RetryPolicy) × IsPolicyOf given policy
+    × Tells nothing (CallsProposal (record { 0 = of }) (settled (value_of value)) policy) told old new)
+
+-- a run's error after so many milliseconds, of which its policy says what comes
+abbrev pub ProposesRetryable : ℕ → ℕ → GivenError → GivenPolicy → Call
+ProposesRetryable of millis given by =
+    MadeUnless (Misfits (texts_of_error given) ((behavior_at given.behavior ≡ None) ⊎ IsNoPolicy by)) (λ told old new.
+    (span : Duration) × (e : Error) × (policy : RetryPolicy)
+    × IsSpan millis span × IsErrorOf given e × IsPolicyOf by policy
+    × Tells nothing (CallsProposal (record { 0 = of }) (exit.RetryableFailure span e) policy) told old new)
+
+-- the handler failed by an error of its own, which relates to a command or to none
+abbrev pub ReportsError : GivenError → GivenCommand → Call
+ReportsError given command =
+    MadeUnless (Misfits (texts_of_error given ++ texts_in command.name) ((behavior_at given.behavior ≡ None) ⊎ NamesNoCommand command)) (λ told old new.
+    (e : Error) × (related : Option CommandRelationship)
+    × IsErrorOf given e × IsRelatedOf command related
+    × Feeds [] (after_error old e related) told old new)
+
+-- the handler attaches to another invocation
+abbrev pub AttachesTo : GivenInvocation → Call
+AttachesTo given =
+    MadeUnless (Misfits (texts_of_invocation given) (invocation_of given ≡ None)) (λ told old new.
+    (target : InvocationTarget) × (invocation_of given ≡ Some target)
+    × Tells handle (CallsCommand (attach_invocation_command target old.machine.version)) told old new)
+
+-- another invocation's output is asked for
+abbrev pub GetsOutput : GivenInvocation → Call
+GetsOutput given =
+    MadeUnless (Misfits (texts_of_invocation given) (invocation_of given ≡ None)) (λ told old new.
+    (target : InvocationTarget) × (invocation_of given ≡ Some target)
+    × Tells handle (CallsCommand (get_invocation_output_command target old.machine.version)) told old new)
 
 -- another handler is called
 abbrev pub CallsHandler : GivenTarget → List ℕ → List ℕ → Bool → Call

@@ -1,6 +1,8 @@
 -- What C lends for a call, as values.
-use Rattle.std.specs.Prelude.{◌⊎◌, ℕ, if◌then◌else◌, List, [], ◌∷◌, Option, Some, None}
+use Rattle.std.specs.Prelude.{◌≡◌, ◌*◌, ◌⊎◌, Bool, true, false, ℕ, if◌then◌else◌, List, [], ◌∷◌, Option, Some, None}
+use Rattle.std.specs.Duration.{as_nanos}
 use Rattle.std.specs.Str.{IsUtf8}
+use Rattle.std.specs.declared.time.Duration.{Duration}
 use Rattle.journal_values.specs.declared.parts.Header.{Header}
 use Rattle.sessions.specs.declared.status.Status.{Status}
 use Rattle.sessions.specs.declared.status.Status.TheVariants as status
@@ -22,6 +24,13 @@ IsWhy texts other = ⊥
 pub record Refuses (texts : List (List ℕ)) (given : Status) : Type 0 where
   pub why : IsWhy texts given
 
+-- why what C gave serves for no call: no memory is found, one of these texts isn't UTF-8, or a number names no case
+abbrev pub Misfits : List (List ℕ) → Type 0 → Status → Type 0
+Misfits texts NamesNone status.NoMemory = Unit {0}
+Misfits texts NamesNone status.BadText = SomeIsNoText texts
+Misfits texts NamesNone status.BadNumber = NamesNone
+Misfits texts NamesNone other = ⊥
+
 -- bytes, if they are given
 abbrev pub optional_of : MayLend → Option (List ℕ)
 optional_of may = if may.is_given then Some may.lent.bytes.now else None
@@ -39,3 +48,13 @@ header_of pair = record { key = pair.key.bytes.now; value = pair.value.bytes.now
 
 abbrev pub texts_of_pair : Pair → List (List ℕ)
 texts_of_pair pair = pair.key.bytes.now ∷ pair.value.bytes.now ∷ []
+
+-- a span of so many milliseconds
+abbrev pub IsSpan : ℕ → Duration → Type 0
+IsSpan millis span = as_nanos span ≡ millis * 1_000_000
+
+-- a span of so many milliseconds, if it is given
+abbrev pub IsSpanIf : Bool → ℕ → Option Duration → Type 0
+IsSpanIf true millis (Some span) = IsSpan millis span
+IsSpanIf false millis None = Unit {0}
+IsSpanIf is_given millis other = ⊥

@@ -3,4 +3,8 @@ pub mod Nodes
 pub mod Makes
 pub mod Values
 pub mod Callees
+pub mod Invocations
+pub mod Policies
+pub mod Reports
 pub mod Calls
+pub mod Making

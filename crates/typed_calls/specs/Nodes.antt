@@ -1,5 +1,5 @@
 -- How a tree of awaits is written as a row of nodes.
-use Rattle.std.specs.Prelude.{◌≡◌, ℕ, ◌+◌, List, [], ◌∷◌, ◌++◌}
+use Rattle.std.specs.Prelude.{◌≡◌, ◌≢◌, ◌⊎◌, ◌<◌, ℕ, ◌+◌, ◌==◌, if◌then◌else◌, List, [], ◌∷◌, ◌++◌, length, Option, Some, None}
 use Rattle.std.specs.List.{flat_map}
 use Rattle.journal_attempt.specs.declared.future.FutureKind.{FutureKind}
 use Rattle.journal_attempt.specs.declared.future.FutureKind.TheVariants.{FirstCompleted, AllCompleted, FirstSucceededOrAllFailed, AllSucceededOrFirstFailed, Unknown}
@@ -21,6 +21,16 @@ kind_code AllCompleted = 2
 kind_code FirstSucceededOrAllFailed = 3
 kind_code AllSucceededOrFirstFailed = 4
 kind_code Unknown = 5
+
+-- the kind of a number, if it names one
+abbrev pub kind_at : ℕ → Option FutureKind
+kind_at n =
+    if n == 1 then Some FirstCompleted
+    else if n == 2 then Some AllCompleted
+    else if n == 3 then Some FirstSucceededOrAllFailed
+    else if n == 4 then Some AllSucceededOrFirstFailed
+    else if n == 5 then Some Unknown
+    else None
 
 -- how many trees stand in a row
 abbrev pub size : Forest → ℕ
@@ -45,9 +55,31 @@ written futures = flat_map (λ future. nodes_of (tree_of future)) futures
 abbrev pub AwaitsTree : List Node → Reply → View → View → Type 0
 AwaitsTree nodes told old new = (future : UnresolvedFuture) × (nodes_of (tree_of future) ≡ nodes) × Tells reply.Awaited (CallsFlatAwait future) told old new
 
--- Why nodes aren't awaited: no memory is found, they aren't one tree, or a number names no kind.
-abbrev pub FailsAsTree : Status → Type 0
-FailsAsTree status.NoMemory = Unit {0}
-FailsAsTree status.BadTree = Unit {0}
-FailsAsTree status.BadNumber = Unit {0}
-FailsAsTree other = ⊥
+-- A node can't stand behind so many trees: no memory is found for it, its kind is none, or it is over more trees than there are.
+abbrev pub CantStand : Node → ℕ → Status → Type 0
+CantStand n many status.NoMemory = Unit {0}
+CantStand n many status.BadNumber = (n.kind ≢ 0) × (kind_at n.kind ≡ None)
+CantStand n many status.BadTree = (kind : FutureKind) × (kind_code kind ≡ n.kind) × (many < n.number)
+CantStand n many other = ⊥
+
+-- the first node that can't stand behind the trees that those in front of it are
+pub record StopsAtNode (nodes : List Node) (given : Status) : Type 0 where
+  pub front : List UnresolvedFuture
+  pub at : Node
+  pub rest : List Node
+  pub split : written front ++ at ∷ rest ≡ nodes
+  pub cant : CantStand at (length front) given
+
+-- all nodes are trees, but not one alone
+pub record IsNotOneTree (nodes : List Node) : Type 0 where
+  pub trees : List UnresolvedFuture
+  pub all : written trees ≡ nodes
+  pub many : length trees ≢ 1
+
+-- Why nodes aren't awaited: no memory is found; a number names no kind; or they aren't one tree, for a node is over more trees than stand
+-- in front of it, or the nodes are no tree or several.
+abbrev pub FailsAsTree : List Node → Status → Type 0
+FailsAsTree nodes status.NoMemory = Unit {0}
+FailsAsTree nodes status.BadNumber = StopsAtNode nodes status.BadNumber
+FailsAsTree nodes status.BadTree = StopsAtNode nodes status.BadTree ⊎ IsNotOneTree nodes
+FailsAsTree nodes other = ⊥

@@ -3,8 +3,7 @@
 use crate::nodes::{Node, future_of};
 use invocation_vm::{CoreVM, NotificationHandle, VM};
 use replies::Reply;
-use scripts::perform::{awaited, taken};
-use sessions::{Status, VmCall};
+use sessions::{Replied, Status, VmCall, keep_awaited, keep_taken};
 use std::alloc::Global;
 use vm_parts::UnresolvedFuture;
 
@@ -19,9 +18,9 @@ impl VmCall for AwaitCall {
 
     ghost does = { λ it. AwaitsHandle it.handle };
 
-    fn make(self, alloc: Global, vm: &mut CoreVM) -> Result<Reply, Status> {
+    fn make(self, alloc: Global, vm: &mut CoreVM, kept: &mut Reply) -> Result<Replied, Status> {
         let future = UnresolvedFuture::Single(NotificationHandle(self.handle));
-        Ok(awaited(vm.do_await(future)))
+        Ok(keep_awaited(kept, vm.do_await(future)))
     }
 }
 
@@ -36,9 +35,9 @@ impl<'a> VmCall for AwaitTreeCall<'a> {
 
     ghost does = { λ it. AwaitsNodes it.nodes.now };
 
-    fn make(self, alloc: Global, vm: &mut CoreVM) -> Result<Reply, Status> {
+    fn make(self, alloc: Global, vm: &mut CoreVM, kept: &mut Reply) -> Result<Replied, Status> {
         let future = future_of(alloc, self.nodes)?;
-        Ok(awaited(vm.do_await(future)))
+        Ok(keep_awaited(kept, vm.do_await(future)))
     }
 }
 
@@ -53,7 +52,7 @@ impl VmCall for TakeCall {
 
     ghost does = { λ it. Takes it.handle };
 
-    fn make(self, alloc: Global, vm: &mut CoreVM) -> Result<Reply, Status> {
-        Ok(taken(vm.take_notification(NotificationHandle(self.handle))))
+    fn make(self, alloc: Global, vm: &mut CoreVM, kept: &mut Reply) -> Result<Replied, Status> {
+        Ok(keep_taken(kept, vm.take_notification(NotificationHandle(self.handle))))
     }
 }

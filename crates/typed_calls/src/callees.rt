@@ -12,7 +12,7 @@ use crate::values::payload;
 use bytes::Bytes;
 use invocation_vm::{CoreVM, VM, VMResult};
 use replies::Reply;
-use sessions::{Status, VmCall};
+use sessions::{Replied, Status, VmCall, keep};
 use std::alloc::Global;
 use vm_parts::{Answer, CallHandle, DeadlineCallHandle, SendHandle, Target};
 
@@ -126,14 +126,17 @@ impl<'a> VmCall for CallCall<'a> {
 
     ghost does = { λ it. CallsHandler it.target it.input.bytes.now it.name.bytes.now it.unstable };
 
-    fn make(self, alloc: Global, vm: &mut CoreVM) -> Result<Reply, Status> {
+    fn make(self, alloc: Global, vm: &mut CoreVM, kept: &mut Reply) -> Result<Replied, Status> {
         let Callee {
             target,
             input,
             name,
         } = callee_of(alloc, &self.target, self.input.bytes, self.name.bytes)?;
         let options = payload(self.unstable);
-        Ok(called(vm.sys_call(target, input, Some(name), options)))
+        Ok(keep(
+            kept,
+            called(vm.sys_call(target, input, Some(name), options)),
+        ))
     }
 }
 
@@ -152,7 +155,7 @@ impl<'a> VmCall for DeadlineCall<'a> {
 
     ghost does = { λ it. CallsWithDeadline it.target it.input.bytes.now it.deadline_millis it.name.bytes.now it.unstable };
 
-    fn make(self, alloc: Global, vm: &mut CoreVM) -> Result<Reply, Status> {
+    fn make(self, alloc: Global, vm: &mut CoreVM, kept: &mut Reply) -> Result<Replied, Status> {
         let Callee {
             target,
             input,
@@ -161,7 +164,7 @@ impl<'a> VmCall for DeadlineCall<'a> {
         let options = payload(self.unstable);
         let deadline = time_of(self.deadline_millis);
         let given = vm.sys_call_with_deadline(target, input, deadline, Some(name), options);
-        Ok(called_with_deadline(given))
+        Ok(keep(kept, called_with_deadline(given)))
     }
 }
 
@@ -181,7 +184,7 @@ impl<'a> VmCall for SendCall<'a> {
 
     ghost does = { λ it. SendsTo it.target it.input.bytes.now it.at_millis it.name.bytes.now it.unstable };
 
-    fn make(self, alloc: Global, vm: &mut CoreVM) -> Result<Reply, Status> {
+    fn make(self, alloc: Global, vm: &mut CoreVM, kept: &mut Reply) -> Result<Replied, Status> {
         let Callee {
             target,
             input,
@@ -189,6 +192,9 @@ impl<'a> VmCall for SendCall<'a> {
         } = callee_of(alloc, &self.target, self.input.bytes, self.name.bytes)?;
         let options = payload(self.unstable);
         let at = Some(time_of(self.at_millis));
-        Ok(sent(vm.sys_send(target, input, at, Some(name), options)))
+        Ok(keep(
+            kept,
+            sent(vm.sys_send(target, input, at, Some(name), options)),
+        ))
     }
 }

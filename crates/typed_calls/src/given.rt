@@ -2,7 +2,7 @@
 ghost use Rattle.std.specs.Prelude.{◌≡◌, ◌/◌, ◌∷◌, [], map, IfOk, IfErr, string_bytes};
 ghost use Rattle.std.specs.Duration.{as_nanos};
 ghost use Rattle.std.specs.List.{flat_map};
-ghost use Rattle.typed_calls.specs.Given.{Refuses, header_of, optional_of, pair_of, texts_in, texts_of_pair};
+ghost use Rattle.typed_calls.specs.Given.{IsSpan, IsSpanIf, Refuses, header_of, optional_of, pair_of, texts_in, texts_of_pair};
 
 use bytes::Bytes;
 use journal_values::Header;
@@ -160,4 +160,22 @@ pub(crate) fn time_of(millis: u64) -> Duration
     ensures { as_nanos result / 1_000_000 ≡ millis }
 {
     Duration::from_millis(millis)
+}
+
+/// A span of time.
+pub(crate) fn span_of(millis: u64) -> Duration
+    ensures { IsSpan millis result }
+{
+    Duration::from_millis(millis)
+}
+
+/// A span of time, if it is given.
+pub(crate) fn optional_span(is_given: bool, millis: u64) -> Option<Duration>
+    ensures { IsSpanIf is_given millis result }
+{
+    if is_given {
+        Some(span_of(millis))
+    } else {
+        None
+    }
 }

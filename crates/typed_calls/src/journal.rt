@@ -4,8 +4,8 @@ use crate::given::{Lent, string_of, time_of, two_strings};
 use crate::values::{GivenValue, payload, value_of};
 use invocation_vm::{CoreVM, VM};
 use replies::Reply;
-use scripts::perform::{awakeable, ended, handle};
-use sessions::{Status, VmCall};
+use scripts::perform::awakeable;
+use sessions::{Replied, Status, VmCall, keep, keep_ended, keep_handle};
 use std::alloc::Global;
 
 /// A sleep until a time, in milliseconds since the Unix epoch. An empty name is none.
@@ -20,9 +20,9 @@ impl<'a> VmCall for SleepCall<'a> {
 
     ghost does = { λ it. Sleeps it.name.bytes.now it.wake_up_millis };
 
-    fn make(self, alloc: Global, vm: &mut CoreVM) -> Result<Reply, Status> {
+    fn make(self, alloc: Global, vm: &mut CoreVM, kept: &mut Reply) -> Result<Replied, Status> {
         let name = string_of(alloc, self.name.bytes)?;
-        Ok(handle(vm.sys_sleep(name, time_of(self.wake_up_millis), None)))
+        Ok(keep_handle(kept, vm.sys_sleep(name, time_of(self.wake_up_millis), None)))
     }
 }
 
@@ -35,8 +35,8 @@ impl VmCall for AwakeableCall {
 
     ghost does = { λ it. MakesAwakeable };
 
-    fn make(self, alloc: Global, vm: &mut CoreVM) -> Result<Reply, Status> {
-        Ok(awakeable(vm.sys_awakeable()))
+    fn make(self, alloc: Global, vm: &mut CoreVM, kept: &mut Reply) -> Result<Replied, Status> {
+        Ok(keep(kept, awakeable(vm.sys_awakeable())))
     }
 }
 
@@ -51,9 +51,9 @@ impl<'a> VmCall for SignalCall<'a> {
 
     ghost does = { λ it. MakesSignal it.name.bytes.now };
 
-    fn make(self, alloc: Global, vm: &mut CoreVM) -> Result<Reply, Status> {
+    fn make(self, alloc: Global, vm: &mut CoreVM, kept: &mut Reply) -> Result<Replied, Status> {
         let name = string_of(alloc, self.name.bytes)?;
-        Ok(handle(vm.create_signal_handle(name)))
+        Ok(keep_handle(kept, vm.create_signal_handle(name)))
     }
 }
 
@@ -68,9 +68,9 @@ impl<'a> VmCall for GetPromiseCall<'a> {
 
     ghost does = { λ it. GetsPromise it.key.bytes.now };
 
-    fn make(self, alloc: Global, vm: &mut CoreVM) -> Result<Reply, Status> {
+    fn make(self, alloc: Global, vm: &mut CoreVM, kept: &mut Reply) -> Result<Replied, Status> {
         let key = string_of(alloc, self.key.bytes)?;
-        Ok(handle(vm.sys_get_promise(key)))
+        Ok(keep_handle(kept, vm.sys_get_promise(key)))
     }
 }
 
@@ -85,9 +85,9 @@ impl<'a> VmCall for PeekPromiseCall<'a> {
 
     ghost does = { λ it. PeeksPromise it.key.bytes.now };
 
-    fn make(self, alloc: Global, vm: &mut CoreVM) -> Result<Reply, Status> {
+    fn make(self, alloc: Global, vm: &mut CoreVM, kept: &mut Reply) -> Result<Replied, Status> {
         let key = string_of(alloc, self.key.bytes)?;
-        Ok(handle(vm.sys_peek_promise(key)))
+        Ok(keep_handle(kept, vm.sys_peek_promise(key)))
     }
 }
 
@@ -104,10 +104,13 @@ impl<'a> VmCall for CompletePromiseCall<'a> {
 
     ghost does = { λ it. CompletesPromise it.key.bytes.now it.value it.unstable };
 
-    fn make(self, alloc: Global, vm: &mut CoreVM) -> Result<Reply, Status> {
+    fn make(self, alloc: Global, vm: &mut CoreVM, kept: &mut Reply) -> Result<Replied, Status> {
         let key = string_of(alloc, self.key.bytes)?;
         match value_of(alloc, &self.value) {
-            Ok(value) => Ok(handle(vm.sys_complete_promise(key, value, payload(self.unstable)))),
+            Ok(value) => Ok(keep_handle(
+                kept,
+                vm.sys_complete_promise(key, value, payload(self.unstable)),
+            )),
             Err(status) => {
                 drop(key);
                 Err(status)
@@ -129,10 +132,13 @@ impl<'a> VmCall for CompleteAwakeableCall<'a> {
 
     ghost does = { λ it. CompletesAwakeable it.id.bytes.now it.value it.unstable };
 
-    fn make(self, alloc: Global, vm: &mut CoreVM) -> Result<Reply, Status> {
+    fn make(self, alloc: Global, vm: &mut CoreVM, kept: &mut Reply) -> Result<Replied, Status> {
         let id = string_of(alloc, self.id.bytes)?;
         match value_of(alloc, &self.value) {
-            Ok(value) => Ok(ended(vm.sys_complete_awakeable(id, value, payload(self.unstable)))),
+            Ok(value) => Ok(keep_ended(
+                kept,
+                vm.sys_complete_awakeable(id, value, payload(self.unstable)),
+            )),
             Err(status) => {
                 drop(id);
                 Err(status)
@@ -154,10 +160,10 @@ impl<'a> VmCall for CompleteSignalCall<'a> {
 
     ghost does = { λ it. CompletesSignal it.target.bytes.now it.name.bytes.now it.value };
 
-    fn make(self, alloc: Global, vm: &mut CoreVM) -> Result<Reply, Status> {
+    fn make(self, alloc: Global, vm: &mut CoreVM, kept: &mut Reply) -> Result<Replied, Status> {
         let (target, name) = two_strings(alloc, self.target.bytes, self.name.bytes)?;
         match value_of(alloc, &self.value) {
-            Ok(value) => Ok(ended(vm.sys_complete_signal(target, name, value))),
+            Ok(value) => Ok(keep_ended(kept, vm.sys_complete_signal(target, name, value))),
             Err(status) => {
                 drop(target);
                 drop(name);
@@ -178,9 +184,9 @@ impl<'a> VmCall for CancelCall<'a> {
 
     ghost does = { λ it. CancelsInvocation it.target.bytes.now };
 
-    fn make(self, alloc: Global, vm: &mut CoreVM) -> Result<Reply, Status> {
+    fn make(self, alloc: Global, vm: &mut CoreVM, kept: &mut Reply) -> Result<Replied, Status> {
         let target = string_of(alloc, self.target.bytes)?;
-        Ok(ended(vm.sys_cancel_invocation(target)))
+        Ok(keep_ended(kept, vm.sys_cancel_invocation(target)))
     }
 }
 
@@ -196,9 +202,9 @@ impl<'a> VmCall for WriteOutputCall<'a> {
 
     ghost does = { λ it. WritesOutput it.value it.unstable };
 
-    fn make(self, alloc: Global, vm: &mut CoreVM) -> Result<Reply, Status> {
+    fn make(self, alloc: Global, vm: &mut CoreVM, kept: &mut Reply) -> Result<Replied, Status> {
         let value = value_of(alloc, &self.value)?;
-        Ok(ended(vm.sys_write_output(value, payload(self.unstable))))
+        Ok(keep_ended(kept, vm.sys_write_output(value, payload(self.unstable))))
     }
 }
 
@@ -211,7 +217,7 @@ impl VmCall for EndCall {
 
     ghost does = { λ it. Ends };
 
-    fn make(self, alloc: Global, vm: &mut CoreVM) -> Result<Reply, Status> {
-        Ok(ended(vm.sys_end()))
+    fn make(self, alloc: Global, vm: &mut CoreVM, kept: &mut Reply) -> Result<Replied, Status> {
+        Ok(keep_ended(kept, vm.sys_end()))
     }
 }

@@ -4,9 +4,13 @@
 pub mod awaits;
 pub mod callees;
 pub mod given;
+pub mod invocations;
 pub mod journal;
+pub mod making;
 pub mod nodes;
+pub mod policies;
 pub mod queries;
+pub mod reports;
 pub mod run_calls;
 pub mod state;
 pub mod values;

@@ -1,7 +1,7 @@
 //! Trees of awaits as a row of nodes.
-ghost use Rattle.std.specs.Prelude.{◌≡◌, ◌++◌, ◌∷◌, [], IfErr, IfOk, IfSome};
+ghost use Rattle.std.specs.Prelude.{◌≡◌, ◌≢◌, ◌++◌, ◌∷◌, [], length, IfErr, IfOk, IfSome};
 ghost use Rattle.await_trees.specs.Tree.{tree_of};
-ghost use Rattle.typed_calls.specs.Nodes.{FailsAsTree, kind_code, nodes_of, written};
+ghost use Rattle.typed_calls.specs.Nodes.{CantStand, FailsAsTree, kind_at, kind_code, nodes_of, written};
 
 use await_trees::{FutureKind, node_over};
 use sessions::Status;
@@ -21,7 +21,8 @@ pub struct Node {
 
 /// The kind of this number.
 fn kind_of(code: u32) -> Option<FutureKind>
-    ensures { IfSome result (λ kind. kind_code kind ≡ code) }
+    ensures found { result ≡ kind_at code }
+    ensures numbered { IfSome result (λ kind. kind_code kind ≡ code) }
 {
     match code {
         1 => Some(FutureKind::FirstCompleted),
@@ -35,8 +36,9 @@ fn kind_of(code: u32) -> Option<FutureKind>
 
 /// The tree of a node over the last of the trees that stand in front of it, which are taken.
 fn tree_over(trees: &mut Vec<UnresolvedFuture>, node: Node) -> Result<UnresolvedFuture, Status>
+    requires { node.kind ≢ 0 }
     ensures ok { IfOk result (λ tree. written trees.new.items ++ nodes_of (tree_of tree) ≡ written trees.old.items ++ node ∷ []) }
-    ensures err { IfErr result FailsAsTree }
+    ensures err { IfErr result (CantStand node (length trees.old.items)) }
 {
     let Some(kind) = kind_of(node.kind) else {
         return Err(Status::BadNumber);
@@ -53,7 +55,7 @@ fn tree_over(trees: &mut Vec<UnresolvedFuture>, node: Node) -> Result<Unresolved
 /// Puts a node behind the trees in front of it, over the last of them.
 fn put_node(trees: &mut Vec<UnresolvedFuture>, node: Node) -> Result<(), Status>
     ensures ok { IfOk result (λ _. written trees.new.items ≡ written trees.old.items ++ node ∷ []) }
-    ensures err { IfErr result FailsAsTree }
+    ensures err { IfErr result (CantStand node (length trees.old.items)) }
 {
     let tree = if node.kind == 0 {
         UnresolvedFuture::Single(NotificationHandle(node.number))
@@ -69,7 +71,7 @@ fn put_node(trees: &mut Vec<UnresolvedFuture>, node: Node) -> Result<(), Status>
 /// The tree that a row of nodes is.
 pub(crate) fn future_of(alloc: Global, nodes: &[Node]) -> Result<UnresolvedFuture, Status>
     ensures ok { IfOk result (λ future. nodes_of (tree_of future) ≡ nodes.now) }
-    ensures err { IfErr result FailsAsTree }
+    ensures err { IfErr result (FailsAsTree nodes.now) }
 {
     let mut trees = Vec::new(alloc);
     for node in nodes {

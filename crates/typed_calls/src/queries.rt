@@ -3,7 +3,7 @@
 use invocation_vm::{CoreVM, NotificationHandle, VM};
 use replies::Reply;
 use scripts::perform::{fed, head, input, output, ready};
-use sessions::{Status, VmCall};
+use sessions::{Replied, Status, VmCall, keep};
 use std::alloc::Global;
 use vm_parts::Answer;
 
@@ -16,8 +16,8 @@ impl VmCall for HeadCall {
 
     ghost does = { λ it. ReadsHead };
 
-    fn make(self, alloc: Global, vm: &mut CoreVM) -> Result<Reply, Status> {
-        Ok(head(vm.get_response_head()))
+    fn make(self, alloc: Global, vm: &mut CoreVM, kept: &mut Reply) -> Result<Replied, Status> {
+        Ok(keep(kept, head(vm.get_response_head())))
     }
 }
 
@@ -30,8 +30,8 @@ impl VmCall for CloseCall {
 
     ghost does = { λ it. ClosesInput };
 
-    fn make(self, alloc: Global, vm: &mut CoreVM) -> Result<Reply, Status> {
-        Ok(fed(vm.notify_input_closed()))
+    fn make(self, alloc: Global, vm: &mut CoreVM, kept: &mut Reply) -> Result<Replied, Status> {
+        Ok(keep(kept, fed(vm.notify_input_closed())))
     }
 }
 
@@ -44,8 +44,8 @@ impl VmCall for OutputCall {
 
     ghost does = { λ it. TakesOutputOf };
 
-    fn make(self, alloc: Global, vm: &mut CoreVM) -> Result<Reply, Status> {
-        Ok(output(vm.take_output()))
+    fn make(self, alloc: Global, vm: &mut CoreVM, kept: &mut Reply) -> Result<Replied, Status> {
+        Ok(keep(kept, output(vm.take_output())))
     }
 }
 
@@ -58,8 +58,8 @@ impl VmCall for ReadyCall {
 
     ghost does = { λ it. AsksReady };
 
-    fn make(self, alloc: Global, vm: &mut CoreVM) -> Result<Reply, Status> {
-        Ok(ready(vm.is_ready_to_execute()))
+    fn make(self, alloc: Global, vm: &mut CoreVM, kept: &mut Reply) -> Result<Replied, Status> {
+        Ok(keep(kept, ready(vm.is_ready_to_execute())))
     }
 }
 
@@ -74,9 +74,9 @@ impl VmCall for CompletedCall {
 
     ghost does = { λ it. AsksCompleted it.handle };
 
-    fn make(self, alloc: Global, vm: &mut CoreVM) -> Result<Reply, Status> {
+    fn make(self, alloc: Global, vm: &mut CoreVM, kept: &mut Reply) -> Result<Replied, Status> {
         let is = vm.is_completed(NotificationHandle(self.handle));
-        Ok(Reply::Answer(Answer::Completed(is)))
+        Ok(keep(kept, Reply::Answer(Answer::Completed(is))))
     }
 }
 
@@ -89,8 +89,8 @@ impl VmCall for StateCall {
 
     ghost does = { λ it. AsksState };
 
-    fn make(self, alloc: Global, vm: &mut CoreVM) -> Result<Reply, Status> {
-        Ok(Reply::State(vm.state()))
+    fn make(self, alloc: Global, vm: &mut CoreVM, kept: &mut Reply) -> Result<Replied, Status> {
+        Ok(keep(kept, Reply::State(vm.state())))
     }
 }
 
@@ -103,8 +103,8 @@ impl VmCall for IndexCall {
 
     ghost does = { λ it. AsksIndex };
 
-    fn make(self, alloc: Global, vm: &mut CoreVM) -> Result<Reply, Status> {
-        Ok(Reply::Index(vm.last_command_index()))
+    fn make(self, alloc: Global, vm: &mut CoreVM, kept: &mut Reply) -> Result<Replied, Status> {
+        Ok(keep(kept, Reply::Index(vm.last_command_index())))
     }
 }
 
@@ -117,7 +117,7 @@ impl VmCall for InputCall {
 
     ghost does = { λ it. ReadsInput };
 
-    fn make(self, alloc: Global, vm: &mut CoreVM) -> Result<Reply, Status> {
-        Ok(input(vm.sys_input()))
+    fn make(self, alloc: Global, vm: &mut CoreVM, kept: &mut Reply) -> Result<Replied, Status> {
+        Ok(keep(kept, input(vm.sys_input())))
     }
 }

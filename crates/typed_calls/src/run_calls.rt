@@ -2,14 +2,15 @@
 ghost use Rattle.std.specs.Prelude.{◌≡◌};
 ghost use Rattle.line_parts.specs.Results.{settled};
 
-use crate::given::{Lent, string_of};
+use crate::given::{Lent, span_of, string_of};
+use crate::policies::{GivenPolicy, policy_of};
+use crate::reports::{GivenError, error_of};
 use crate::values::{GivenValue, value_of};
 use invocation_vm::{CoreVM, NotificationHandle, VM};
 use replies::Reply;
-use retries::RetryPolicy;
 use runs::RunExitResult;
-use scripts::perform::{ended, ran};
-use sessions::{Status, VmCall};
+use scripts::perform::ran;
+use sessions::{Replied, Status, VmCall, keep, keep_ended};
 use std::alloc::Global;
 use vm_parts::NonEmptyValue;
 
@@ -24,9 +25,9 @@ impl<'a> VmCall for RunCall<'a> {
 
     ghost does = { λ it. Runs it.name.bytes.now };
 
-    fn make(self, alloc: Global, vm: &mut CoreVM) -> Result<Reply, Status> {
+    fn make(self, alloc: Global, vm: &mut CoreVM, kept: &mut Reply) -> Result<Replied, Status> {
         let name = string_of(alloc, self.name.bytes)?;
-        Ok(ran(vm.sys_run(name)))
+        Ok(keep(kept, ran(vm.sys_run(name))))
     }
 }
 
@@ -40,22 +41,66 @@ fn settled(value: NonEmptyValue) -> RunExitResult
     }
 }
 
-/// The result of a run that was executed.
+/// The result of a run that was executed, and the policy that it was under.
 #[derive(Clone, Copy)]
 pub struct ProposeCall<'a> {
     pub handle: u32,
     pub value: GivenValue<'a>,
+    pub policy: GivenPolicy,
 }
 
+#[tactic(auto, using(crate::proofs::Refusing::misfit))]
 impl<'a> VmCall for ProposeCall<'a> {
     ghost use Rattle.typed_calls.specs.Calls.{Proposes};
 
-    ghost does = { λ it. Proposes it.handle it.value };
+    ghost does = { λ it. Proposes it.handle it.value it.policy };
 
-    fn make(self, alloc: Global, vm: &mut CoreVM) -> Result<Reply, Status> {
-        let value = value_of(alloc, &self.value)?;
-        let handle = NotificationHandle(self.handle);
-        let policy = RetryPolicy::Infinite;
-        Ok(ended(vm.propose_run_completion(handle, settled(value), policy)))
+    fn make(self, alloc: Global, vm: &mut CoreVM, kept: &mut Reply) -> Result<Replied, Status> {
+        let Some(policy) = policy_of(&self.policy) else {
+            return Err(Status::BadNumber);
+        };
+        match value_of(alloc, &self.value) {
+            Ok(value) => {
+                let handle = NotificationHandle(self.handle);
+                Ok(keep_ended(
+                    kept,
+                    vm.propose_run_completion(handle, settled(value), policy),
+                ))
+            }
+            Err(status) => Err(status),
+        }
+    }
+}
+
+/// A run that was executed failed after so many milliseconds, and may be tried again by a policy.
+#[derive(Clone, Copy)]
+pub struct ProposeRetryableCall<'a> {
+    pub handle: u32,
+    pub duration_millis: u64,
+    pub error: GivenError<'a>,
+    pub policy: GivenPolicy,
+}
+
+#[tactic(auto, using(crate::proofs::Refusing::misfit_more))]
+impl<'a> VmCall for ProposeRetryableCall<'a> {
+    ghost use Rattle.typed_calls.specs.Calls.{ProposesRetryable};
+
+    ghost does = { λ it. ProposesRetryable it.handle it.duration_millis it.error it.policy };
+
+    fn make(self, alloc: Global, vm: &mut CoreVM, kept: &mut Reply) -> Result<Replied, Status> {
+        let Some(policy) = policy_of(&self.policy) else {
+            return Err(Status::BadNumber);
+        };
+        match error_of(alloc, &self.error) {
+            Ok(error) => {
+                let handle = NotificationHandle(self.handle);
+                let failed = RunExitResult::RetryableFailure {
+                    attempt_duration: span_of(self.duration_millis),
+                    error,
+                };
+                Ok(keep_ended(kept, vm.propose_run_completion(handle, failed, policy)))
+            }
+            Err(status) => Err(status),
+        }
     }
 }

@@ -4,8 +4,8 @@ use crate::given::{Lent, bytes_of, string_of, two_strings};
 use crate::values::payload;
 use invocation_vm::{CoreVM, EphemeralCompletionId, VM};
 use replies::Reply;
-use scripts::perform::{ended, ephemeral, handle, taken};
-use sessions::{Status, VmCall};
+use scripts::perform::ephemeral;
+use sessions::{Replied, Status, VmCall, keep, keep_ended, keep_handle, keep_taken};
 use std::alloc::Global;
 
 /// A key is given a value. An empty name is none.
@@ -22,12 +22,12 @@ impl<'a> VmCall for SetCall<'a> {
 
     ghost does = { λ it. SetsState it.key.bytes.now it.value.bytes.now it.name.bytes.now it.unstable };
 
-    fn make(self, alloc: Global, vm: &mut CoreVM) -> Result<Reply, Status> {
+    fn make(self, alloc: Global, vm: &mut CoreVM, kept: &mut Reply) -> Result<Replied, Status> {
         let (key, name) = two_strings(alloc, self.key.bytes, self.name.bytes)?;
         match bytes_of(alloc, self.value.bytes) {
             Ok(value) => {
                 let options = payload(self.unstable);
-                Ok(ended(vm.sys_state_set(key, value, Some(name), options)))
+                Ok(keep_ended(kept, vm.sys_state_set(key, value, Some(name), options)))
             }
             Err(status) => {
                 drop(key);
@@ -50,9 +50,9 @@ impl<'a> VmCall for ClearCall<'a> {
 
     ghost does = { λ it. ClearsState it.key.bytes.now it.name.bytes.now };
 
-    fn make(self, alloc: Global, vm: &mut CoreVM) -> Result<Reply, Status> {
+    fn make(self, alloc: Global, vm: &mut CoreVM, kept: &mut Reply) -> Result<Replied, Status> {
         let (key, name) = two_strings(alloc, self.key.bytes, self.name.bytes)?;
-        Ok(ended(vm.sys_state_clear(key, Some(name))))
+        Ok(keep_ended(kept, vm.sys_state_clear(key, Some(name))))
     }
 }
 
@@ -67,9 +67,9 @@ impl<'a> VmCall for ClearAllCall<'a> {
 
     ghost does = { λ it. ClearsAllState it.name.bytes.now };
 
-    fn make(self, alloc: Global, vm: &mut CoreVM) -> Result<Reply, Status> {
+    fn make(self, alloc: Global, vm: &mut CoreVM, kept: &mut Reply) -> Result<Replied, Status> {
         let name = string_of(alloc, self.name.bytes)?;
-        Ok(ended(vm.sys_state_clear_all(Some(name))))
+        Ok(keep_ended(kept, vm.sys_state_clear_all(Some(name))))
     }
 }
 
@@ -85,9 +85,9 @@ impl<'a> VmCall for GetCall<'a> {
 
     ghost does = { λ it. ReadsState it.key.bytes.now it.name.bytes.now };
 
-    fn make(self, alloc: Global, vm: &mut CoreVM) -> Result<Reply, Status> {
+    fn make(self, alloc: Global, vm: &mut CoreVM, kept: &mut Reply) -> Result<Replied, Status> {
         let (key, name) = two_strings(alloc, self.key.bytes, self.name.bytes)?;
-        Ok(handle(vm.sys_state_get(key, Some(name), payload(false))))
+        Ok(keep_handle(kept, vm.sys_state_get(key, Some(name), payload(false))))
     }
 }
 
@@ -102,9 +102,9 @@ impl<'a> VmCall for GetKeysCall<'a> {
 
     ghost does = { λ it. ReadsKeys it.name.bytes.now };
 
-    fn make(self, alloc: Global, vm: &mut CoreVM) -> Result<Reply, Status> {
+    fn make(self, alloc: Global, vm: &mut CoreVM, kept: &mut Reply) -> Result<Replied, Status> {
         let name = string_of(alloc, self.name.bytes)?;
-        Ok(handle(vm.sys_state_get_keys(Some(name))))
+        Ok(keep_handle(kept, vm.sys_state_get_keys(Some(name))))
     }
 }
 
@@ -119,9 +119,9 @@ impl<'a> VmCall for EphemeralGetCall<'a> {
 
     ghost does = { λ it. ReadsEphemerally it.key.bytes.now };
 
-    fn make(self, alloc: Global, vm: &mut CoreVM) -> Result<Reply, Status> {
+    fn make(self, alloc: Global, vm: &mut CoreVM, kept: &mut Reply) -> Result<Replied, Status> {
         let key = string_of(alloc, self.key.bytes)?;
-        Ok(ephemeral(vm.ephemeral_state_get(key)))
+        Ok(keep(kept, ephemeral(vm.ephemeral_state_get(key))))
     }
 }
 
@@ -136,7 +136,10 @@ impl VmCall for TakeEphemeralCall {
 
     ghost does = { λ it. TakesEphemeral it.id };
 
-    fn make(self, alloc: Global, vm: &mut CoreVM) -> Result<Reply, Status> {
-        Ok(taken(vm.take_ephemeral_notification(EphemeralCompletionId(self.id))))
+    fn make(self, alloc: Global, vm: &mut CoreVM, kept: &mut Reply) -> Result<Replied, Status> {
+        Ok(keep_taken(
+            kept,
+            vm.take_ephemeral_notification(EphemeralCompletionId(self.id)),
+        ))
     }
 }

@@ -1,90 +1,179 @@
-"""Arguments of several words: values, results of runs, invocations to attach to, calls of other handlers."""
+"""Arguments as a typed call takes them.
+
+Each function is given an argument's name and its value, checks it as `_words` does, and answers a structure of `palqytun.h`, which keeps all that
+it points to.
+"""
 
 from __future__ import annotations
 
+import ctypes
 import re
 from collections.abc import Iterable
 from typing import get_args
 
-from palqytun._words import CODE, data, encoded, flag, message, number, one_of, option, pairs, text, whole
+from palqytun._library import Bytes, Command, Error, Invocation, Node, Optional, Options, Pair, Policy, Target, Value
+from palqytun._words import CODE, HANDLE, SEED, both, encoded, integer, octets, one_of, spoken, utf8
 from palqytun.errors import BadLine
+from palqytun.retries import RetryPolicy
 from palqytun.values import Behaviour, Data, Failure, IdempotencyId, InvocationId, Retryable, WorkflowId
 
+_ABSENT = Optional(False, Bytes(b"", 0))
+_NO_PAIRS = (Pair * 1)(Pair(Bytes(b"", 0), Bytes(b"", 0)))
+NO_TEXT = Bytes(b"", 0)
+
 # A command as `related` has it: `last`, `next(TYPE NAME)` or `at(N TYPE NAME)`, where the name is a text in quotes or `-`.
-_RELATED = re.compile(r'last|(?:next\(|at\([0-9]+ )[A-Za-z]+ (?:-|"(?:[^"\\\n\r]|\\.)*")\)')
+_RELATED = re.compile(r'last|(?:(next)\(|at\(([0-9]+) )([A-Za-z]+) (?:-|"((?:[^"\\\n\r]|\\.)*)")\)')
+_ESCAPED = re.compile(rb'\\(?:x([0-9A-Fa-f]{2})|(["\\]))')
+_TYPES = (
+    "Input",
+    "Output",
+    "GetState",
+    "GetStateKeys",
+    "SetState",
+    "ClearState",
+    "ClearAllState",
+    "GetPromise",
+    "PeekPromise",
+    "CompletePromise",
+    "Sleep",
+    "Call",
+    "OneWayCall",
+    "SendSignal",
+    "Run",
+    "AttachInvocation",
+    "GetInvocationOutput",
+    "CompleteAwakeable",
+    "CancelInvocation",
+)
 
 
-def named(name: str | None, unstable: bool = False) -> str:
-    """The name of a command, and whether its payload may differ in replay."""
-    return "" if name is None and unstable is False else option("name", "name", name) + flag("unstable", unstable)
+def lent_text(name: str, value: object) -> Bytes:
+    """A text."""
+    text = utf8(name, value)
+    return Bytes(text, len(text))
 
 
-def given(name: str, value: Data | Failure) -> str:
+def lent_name(value: object) -> Bytes:
+    """A command's name, or the empty one for `None`."""
+    return NO_TEXT if value is None or value == "" else lent_text("name", value)
+
+
+def lent_data(name: str, value: object) -> Bytes:
+    """Bytes."""
+    data = octets(name, value)
+    return Bytes(data, len(data))
+
+
+def _optional(name: str, value: object) -> Optional:
+    return _ABSENT if value is None else Optional(True, lent_text(name, value))
+
+
+def _lent_pairs(name: str, value: object) -> tuple[ctypes.Array[Pair], int]:
+    """Pairs of texts, and how many there are. The row has one at least, for no pointer is NULL."""
+    found = [Pair(lent_text(f"a key of {name}", key), lent_text(f"a value of {name}", one)) for key, one in both(name, value)]
+    return ((Pair * len(found))(*found), len(found)) if found else (_NO_PAIRS, 0)
+
+
+def lent_value(name: str, value: Data | Failure) -> Value:
     """A handler's value: bytes, or a failure."""
     if not isinstance(value, Failure):
-        return f"success {data(name, value)}"
-    metadata = "".join(f" {{{key} {one}}}" for key, one in pairs(f"{name}.metadata", value.metadata))
-    return f"failure {whole(f'{name}.code', value.code, CODE)} {text(f'{name}.message', value.message)}{metadata}"
+        return Value(False, 0, lent_data(name, value), _NO_PAIRS, 0)
+    metadata, many = _lent_pairs(f"{name}.metadata", value.metadata)
+    return Value(True, integer(f"{name}.code", value.code, CODE), lent_text(f"{name}.message", value.message), metadata, many)
 
 
-def details(stacktrace: str | None, behaviour: Behaviour, delay: int | None) -> str:
-    """What is said of an error beside its code and text."""
-    stack = "" if stacktrace is None else f" stack={message('stacktrace', stacktrace)}"
-    return f"{stack} behaviour={one_of('behaviour', behaviour, get_args(Behaviour))}{number('delay', 'delay', delay)}"
-
-
-def tried(name: str, result: Data | Failure | Retryable) -> str:
-    """What a try of a run gave: a value, a failure, or an error that may be tried again."""
-    if not isinstance(result, Retryable):
-        return given(name, result)
-    code, text = whole(f"{name}.code", result.code, CODE), message(f"{name}.message", result.message)
-    more = details(result.stacktrace, result.behaviour, result.delay)
-    return f"retryable {whole(f'{name}.duration', result.duration)} {code} {text}{more}"
-
-
-def related_to(command: str | None) -> str:
-    """The command that an error relates to."""
-    if command is None:
-        return ""
-    if not isinstance(command, str):
-        raise TypeError(f"related must be a str, not {type(command).__name__}")
-    if not _RELATED.fullmatch(command):
-        raise BadLine(f"related must be last, next(TYPE NAME) or at(N TYPE NAME), not {command[:100]!r}")
-    encoded("related", command)
-    return f" rel={command}"
-
-
-def target_of(target: InvocationId | WorkflowId | IdempotencyId) -> str:
-    """An invocation to attach to."""
-    if isinstance(target, InvocationId):
-        return f"id {text('target.id', target.id)}"
-    if isinstance(target, WorkflowId):
-        scope = option("scope", "target.scope", target.scope)
-        return f"workflow {text('target.name', target.name)} {text('target.key', target.key)}{scope}"
-    if isinstance(target, IdempotencyId):
-        service, handler = text("target.service", target.service), text("target.handler", target.handler)
-        key = text("target.idempotency_key", target.idempotency_key)
-        more = option("skey", "target.service_key", target.service_key) + option("scope", "target.scope", target.scope)
-        return f"idem {service} {handler} {key}{more}"
-    raise TypeError(f"target must be an InvocationId, a WorkflowId or an IdempotencyId, not {type(target).__name__}")
-
-
-def callee(service: str, handler: str, value: Data) -> str:
-    """The handler that is called, and its input."""
-    return f"{text('service', service)} {text('handler', handler)} {data('value', value)}"
-
-
-def call_options(
+def lent_target(
+    service: str,
+    handler: str,
     key: str | None,
     idempotency_key: str | None,
     scope: str | None,
     limit_key: str | None,
     headers: Iterable[tuple[str, str]],
-    name: str | None,
-    unstable: bool,
-) -> str:
-    """What may be said of a call of a handler beside the handler and its input."""
-    keys = option("key", "key", key) + option("idem", "idempotency_key", idempotency_key)
-    limits = option("scope", "scope", scope) + option("limit", "limit_key", limit_key)
-    each = "".join(f" header={{{one} {other}}}" for one, other in pairs("headers", headers))
-    return f"{keys}{limits}{each}{named(name, unstable)}"
+) -> Target:
+    """The handler that is called, and how."""
+    called = lent_text("service", service), lent_text("handler", handler)
+    keys = _optional("key", key), _optional("idempotency_key", idempotency_key)
+    limits = _optional("scope", scope), _optional("limit_key", limit_key)
+    return Target(*called, *keys, *limits, *_lent_pairs("headers", headers))
+
+
+def lent_nodes(nodes: tuple[tuple[int, int], ...]) -> ctypes.Array[Node]:
+    """The nodes of a tree that is awaited."""
+    return (Node * len(nodes))(*(Node(kind, number) for kind, number in nodes))
+
+
+def lent_options(words: dict[str, tuple[str, tuple[str, ...]]], seed: int) -> Options:
+    """The options of a VM: each by its word among the words that it has."""
+    return Options(*(known.index(one_of(name, word, known)) for name, (word, known) in words.items()), integer("seed", seed, SEED))
+
+
+def lent_content_type(content_type: str | None) -> Optional:
+    """The content type, or that there is none."""
+    return _optional("content_type", content_type)
+
+
+def _lent_message(name: str, value: object) -> Bytes:
+    text = spoken(name, value)
+    return Bytes(text, len(text))
+
+
+def lent_error(
+    name: str, code: int, message: str, stacktrace: str | None, behaviour: Behaviour, delay: int | None
+) -> Error:
+    """An error. `name` stands in front of what is wrong with it."""
+    number, text = integer(f"{name}code", code, CODE), _lent_message(f"{name}message", message)
+    stack = NO_TEXT if stacktrace is None else _lent_message("stacktrace", stacktrace)
+    known = get_args(Behaviour)
+    then = known.index(one_of("behaviour", behaviour, known))
+    return Error(number, then, text, stack, delay is not None, 0 if delay is None else integer("delay", delay))
+
+
+def lent_retryable(name: str, result: Retryable) -> Error:
+    """The error of a try that may be made again."""
+    return lent_error(f"{name}.", result.code, result.message, result.stacktrace, result.behaviour, result.delay)
+
+
+def _unescaped(quoted: str) -> bytes:
+    """The bytes of a name that stood in quotes."""
+    return _ESCAPED.sub(lambda it: it[2] or bytes([int(it[1], 16)]), quoted.encode())
+
+
+def lent_command(command: str | None) -> Command:
+    """The command that an error relates to."""
+    if command is None:
+        return Command(0, 0, 0, _ABSENT)
+    if not isinstance(command, str):
+        raise TypeError(f"related must be a str, not {type(command).__name__}")
+    found = _RELATED.fullmatch(command)
+    if not found or (found[3] is not None and found[3] not in _TYPES):
+        raise BadLine(f"related must be last, next(TYPE NAME) or at(N TYPE NAME), not {command[:100]!r}")
+    encoded("related", command)
+    if found[3] is None:
+        return Command(1, 0, 0, _ABSENT)
+    given = None if found[4] is None else _unescaped(found[4])
+    name = _ABSENT if given is None else Optional(True, Bytes(given, len(given)))
+    index = 0 if found[2] is None else integer("related", int(found[2]), HANDLE)
+    return Command(2 if found[1] else 3, index, _TYPES.index(found[3]), name)
+
+
+def lent_invocation(target: InvocationId | WorkflowId | IdempotencyId) -> Invocation:
+    """An invocation to attach to."""
+    if isinstance(target, InvocationId):
+        return Invocation(0, lent_text("target.id", target.id), NO_TEXT, NO_TEXT, _ABSENT, _ABSENT)
+    if isinstance(target, WorkflowId):
+        name, key = lent_text("target.name", target.name), lent_text("target.key", target.key)
+        return Invocation(1, name, key, NO_TEXT, _ABSENT, _optional("target.scope", target.scope))
+    if isinstance(target, IdempotencyId):
+        service, handler = lent_text("target.service", target.service), lent_text("target.handler", target.handler)
+        key = lent_text("target.idempotency_key", target.idempotency_key)
+        more = _optional("target.service_key", target.service_key), _optional("target.scope", target.scope)
+        return Invocation(2, service, key, handler, *more)
+    raise TypeError(f"target must be an InvocationId, a WorkflowId or an IdempotencyId, not {type(target).__name__}")
+
+
+def lent_policy(policy: RetryPolicy) -> Policy:
+    """A policy of retries."""
+    if not isinstance(policy, RetryPolicy):
+        raise TypeError(f"policy must be a RetryPolicy, not {type(policy).__name__}")
+    return Policy(*policy.numbers)

@@ -1,4 +1,4 @@
-"""The shared object, and its six functions (`palqytun.h`)."""
+"""The shared object, and its functions (`palqytun.h`)."""
 
 from __future__ import annotations
 
@@ -7,14 +7,43 @@ import functools
 import os
 import pathlib
 from collections.abc import Callable
-from typing import cast
+from typing import Any, cast
 
-DONE, NO_MEMORY, NO_SESSION, NO_VM, NO_ROOM = range(5)
+DONE, NO_MEMORY, NO_SESSION, NO_VM, NO_ROOM, REFUSED = range(6)
 """How a call ended."""
+BAD_TEXT, NO_PART = 6, 9
+
+(
+    NOTHING,
+    HANDLE,
+    AWAKEABLE,
+    RUN,
+    EPHEMERAL,
+    FLAG,
+    STATE,
+    INDEX,
+    VERSION,
+    HEAD,
+    OUTPUT,
+    INPUT,
+    AWAKE,
+    WAITING,
+    EXECUTE_RUN,
+    CANCELLED,
+    VOID,
+    VALUE,
+    FAILURE,
+    KEYS,
+    INVOCATION_ID,
+    ERROR,
+) = range(22)
+"""What a reply is."""
+
+_U16, _U32, _U64, _SIZE, _BOOL = ctypes.c_uint16, ctypes.c_uint32, ctypes.c_uint64, ctypes.c_size_t, ctypes.c_bool
 
 
 class Session(ctypes.Structure):
-    """A session: at most one VM, and the answer to the last line."""
+    """A session: at most one VM, the answer to the last line, and the reply to the last typed call."""
 
     _fields_ = [("at", ctypes.c_void_p)]
     at: int | None
@@ -23,8 +52,118 @@ class Session(ctypes.Structure):
 class Told(ctypes.Structure):
     """How a call ended, and a length in bytes."""
 
-    _fields_ = [("status", ctypes.c_uint32), ("len", ctypes.c_size_t)]
+    _fields_ = [("status", _U32), ("len", _SIZE)]
     status: int
+    len: int
+
+
+class Bytes(ctypes.Structure):
+    """Bytes that are lent for a call. It keeps the `bytes` that it points to."""
+
+    _fields_ = [("at", ctypes.c_char_p), ("len", _SIZE)]
+
+
+class Optional(ctypes.Structure):
+    """Bytes, or none."""
+
+    _fields_ = [("is_given", _BOOL), ("bytes", Bytes)]
+
+
+class Pair(ctypes.Structure):
+    """A key and its value."""
+
+    _fields_ = [("key", Bytes), ("value", Bytes)]
+
+
+class Value(ctypes.Structure):
+    """A result: bytes, or a failure."""
+
+    _fields_ = [("is_failure", _BOOL), ("code", _U16), ("bytes", Bytes), ("metadata", ctypes.POINTER(Pair)), ("metadata_len", _SIZE)]
+
+
+class Target(ctypes.Structure):
+    """Which handler is called, and how."""
+
+    _fields_ = [
+        ("service", Bytes),
+        ("handler", Bytes),
+        ("key", Optional),
+        ("idempotency_key", Optional),
+        ("scope", Optional),
+        ("limit_key", Optional),
+        ("headers", ctypes.POINTER(Pair)),
+        ("headers_len", _SIZE),
+    ]
+
+
+class Node(ctypes.Structure):
+    """A node of a tree that is awaited."""
+
+    _fields_ = [("kind", _U32), ("number", _U32)]
+
+
+class Options(ctypes.Structure):
+    """What a VM is asked to do in another way."""
+
+    _fields_ = [("cancellation", _U32), ("checks", _U32), ("awaiting", _U32), ("mismatch", _U32), ("replay", _U32), ("delivery", _U32), ("seed", _U64)]
+
+
+class Error(ctypes.Structure):
+    """An error."""
+
+    _fields_ = [("code", _U16), ("behavior", _U32), ("message", Bytes), ("stacktrace", Bytes), ("has_delay", _BOOL), ("delay_millis", _U64)]
+
+
+class Command(ctypes.Structure):
+    """The command that an error relates to."""
+
+    _fields_ = [("kind", _U32), ("index", _U32), ("type", _U32), ("name", Optional)]
+
+
+class Invocation(ctypes.Structure):
+    """Which invocation is meant."""
+
+    _fields_ = [("kind", _U32), ("name", Bytes), ("key", Bytes), ("handler", Bytes), ("service_key", Optional), ("scope", Optional)]
+
+
+class Policy(ctypes.Structure):
+    """When a run that failed is tried again."""
+
+    _fields_ = [
+        ("kind", _U32),
+        ("initial_millis", _U64),
+        ("numerator", _U32),
+        ("denominator", _U32),
+        ("has_interval", _BOOL),
+        ("interval_millis", _U64),
+        ("has_attempts", _BOOL),
+        ("attempts", _U32),
+        ("has_duration", _BOOL),
+        ("duration_millis", _U64),
+        ("pauses", _BOOL),
+    ]
+
+
+class Replied(ctypes.Structure):
+    """What a typed call is answered."""
+
+    _fields_ = [
+        ("status", _U32),
+        ("kind", _U32),
+        ("first", _U32),
+        ("second", _U32),
+        ("third", _U32),
+        ("number", _U64),
+        ("rows", _SIZE),
+        ("len", _SIZE),
+    ]
+    status: int
+    kind: int
+    first: int
+    second: int
+    third: int
+    number: int
+    rows: int
     len: int
 
 
@@ -36,19 +175,62 @@ def front(room: Buffer, size: int) -> bytes:
     return cast(bytes, room[:size])
 
 
-_SESSION, _TEXT, _SIZE = ctypes.POINTER(Session), ctypes.c_char_p, ctypes.c_size_t
-_FUNCTIONS = [
-    ("new", [_SESSION], ctypes.c_uint32),
-    ("line", [_SESSION, _TEXT, _SIZE], Told),
-    ("answer", [_SESSION, _TEXT, _SIZE], Told),
-    ("feed", [_SESSION, _TEXT, _SIZE], ctypes.c_uint32),
-    ("take_output", [_SESSION, _TEXT, _SIZE], Told),
-    ("free", [_SESSION], None),
-]
+_SESSION, _TEXT = ctypes.POINTER(Session), ctypes.c_char_p
+_VALUE, _TARGET, _INVOCATION = ctypes.POINTER(Value), ctypes.POINTER(Target), ctypes.POINTER(Invocation)
+_ERROR, _POLICY = ctypes.POINTER(Error), ctypes.POINTER(Policy)
+
+# What each function is given beside the session, and what it returns.
+_FUNCTIONS: dict[str, tuple[list[Any], Any]] = {
+    "new": ([], _U32),
+    "line": ([_TEXT, _SIZE], Told),
+    "answer": ([_TEXT, _SIZE], Told),
+    "feed": ([_TEXT, _SIZE], _U32),
+    "take_output": ([_TEXT, _SIZE], Told),
+    "free": ([], None),
+    "part": ([_SIZE, _TEXT, _SIZE], Told),
+    "make": ([Optional, ctypes.POINTER(Options)], Replied),
+    "is_ready": ([], Replied),
+    "head": ([], Replied),
+    "close_input": ([], Replied),
+    "state": ([], Replied),
+    "last_command_index": ([], Replied),
+    "report_error": ([_ERROR, ctypes.POINTER(Command)], Replied),
+    "input": ([], Replied),
+    "await": ([_U32], Replied),
+    "await_tree": ([ctypes.POINTER(Node), _SIZE], Replied),
+    "take": ([_U32], Replied),
+    "is_completed": ([_U32], Replied),
+    "sleep": ([Bytes, _U64], Replied),
+    "state_get": ([Bytes, Bytes], Replied),
+    "state_get_keys": ([Bytes], Replied),
+    "state_set": ([Bytes, Bytes, Bytes, _BOOL], Replied),
+    "state_clear": ([Bytes, Bytes], Replied),
+    "state_clear_all": ([Bytes], Replied),
+    "ephemeral_state_get": ([Bytes], Replied),
+    "take_ephemeral": ([_U32], Replied),
+    "call": ([_TARGET, Bytes, Bytes, _BOOL], Replied),
+    "call_with_deadline": ([_TARGET, Bytes, _U64, Bytes, _BOOL], Replied),
+    "send": ([_TARGET, Bytes, _U64, Bytes, _BOOL], Replied),
+    "cancel_invocation": ([Bytes], Replied),
+    "attach": ([_INVOCATION], Replied),
+    "get_output": ([_INVOCATION], Replied),
+    "awakeable": ([], Replied),
+    "complete_awakeable": ([Bytes, _VALUE, _BOOL], Replied),
+    "signal": ([Bytes], Replied),
+    "complete_signal": ([Bytes, Bytes, _VALUE], Replied),
+    "get_promise": ([Bytes], Replied),
+    "peek_promise": ([Bytes], Replied),
+    "complete_promise": ([Bytes, _VALUE, _BOOL], Replied),
+    "run": ([Bytes], Replied),
+    "propose": ([_U32, _VALUE, _POLICY], Replied),
+    "propose_retryable": ([_U32, _U64, _ERROR, _POLICY], Replied),
+    "write_output": ([_VALUE, _BOOL], Replied),
+    "end": ([], Replied),
+}
 
 
 class Library:
-    """The functions. None of them blocks, so they keep the interpreter's lock."""
+    """The functions. None of them blocks, so they keep the interpreter's lock. A typed call is under its name in `calls`."""
 
     new: Callable[[Session], int]
     line: Callable[[Session, bytes, int], Told]
@@ -56,16 +238,19 @@ class Library:
     feed: Callable[[Session, bytes, int], int]
     take_output: Callable[[Session, Buffer, int], Told]
     free: Callable[[Session], None]
+    part: Callable[[Session, int, Buffer, int], Told]
 
     def __init__(self, path: str) -> None:
         try:
             library = ctypes.PyDLL(path)
-            functions = [getattr(library, f"palqytun_{name}") for name, _, _ in _FUNCTIONS]
+            functions = {name: getattr(library, f"palqytun_{name}") for name in _FUNCTIONS}
         except (OSError, AttributeError) as error:
             raise ImportError(f"{error}: ./bindings/build makes it, at the top of the repository, or PALQYTUN_LIBRARY names it") from error
-        for function, (name, arguments, result) in zip(functions, _FUNCTIONS):
-            function.argtypes, function.restype = arguments, result
-            setattr(self, name, function)
+        for name, (arguments, result) in _FUNCTIONS.items():
+            functions[name].argtypes, functions[name].restype = [_SESSION, *arguments], result
+            if result is not Replied:
+                setattr(self, name, functions[name])
+        self.calls: dict[str, Callable[..., Replied]] = {name: it for name, it in functions.items() if it.restype is Replied}
 
 
 @functools.cache

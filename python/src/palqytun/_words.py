@@ -1,13 +1,14 @@
-"""The words of a line: what an argument may be, and how the VM reads it.
+"""What an argument may be: its value, or what stands in a line.
 
-Each function is given an argument's name and its value, and answers what stands in the line. A value of the wrong type is a `TypeError`, one
-that the VM can't read a `BadLine`; both name the argument.
+Each function is given an argument's name and its value. A value of the wrong type is a `TypeError`, one that the VM can't read a `BadLine`;
+both name the argument.
 """
 
 from __future__ import annotations
 
 import operator
 from collections.abc import Collection, Iterable
+from typing import cast
 
 from palqytun.errors import BadLine
 
@@ -21,14 +22,21 @@ def _wanted(name: str, what: str, value: object) -> TypeError:
     return TypeError(f"{name} must be {what}, not {type(value).__name__}")
 
 
-def whole(name: str, value: object, most: int = TIME, least: int = 0) -> str:
+def integer(name: str, value: object, most: int = TIME, least: int = 0) -> int:
     """A whole number from `least` to `most`."""
+    if type(value) is int and least <= value <= most:
+        return value
     if isinstance(value, bool) or not hasattr(value, "__index__"):
         raise _wanted(name, "an int", value)
     number = operator.index(value)
     if not least <= number <= most:
         raise BadLine(f"{name} must be from {least} to {most}, not {number if number.bit_length() < 100 else 'a number this long'}")
-    return str(number)
+    return number
+
+
+def whole(name: str, value: object, most: int = TIME, least: int = 0) -> str:
+    """A whole number from `least` to `most`, as a line has it."""
+    return str(integer(name, value, most, least))
 
 
 def number(word: str, name: str, value: object, most: int = TIME) -> str:
@@ -49,32 +57,36 @@ def encoded(name: str, text: str) -> bytes:
         raise BadLine(f"{name} is no UTF-8: at {error.start} stands {text[error.start]!r}, half of a surrogate pair") from None
 
 
+def utf8(name: str, value: object) -> bytes:
+    """A text's UTF-8."""
+    if not isinstance(value, str):
+        raise _wanted(name, "a str", value)
+    return encoded(name, value)
+
+
 def text(name: str, value: object) -> str:
     """A text."""
+    utf8(name, value)
+    return quoted(cast(str, value))
+
+
+def spoken(name: str, value: object) -> bytes:
+    """The UTF-8 of a text that says what went wrong. Halves of surrogate pairs are written as `\\udcff`, for an error has to get through."""
     if not isinstance(value, str):
         raise _wanted(name, "a str", value)
-    if not value.isascii():
-        encoded(name, value)
-    return quoted(value)
+    return value.encode(errors="backslashreplace")
 
 
-def message(name: str, value: object) -> str:
-    """A text that says what went wrong. Halves of surrogate pairs are written as `\\udcff`, for an error has to get through."""
-    if not isinstance(value, str):
-        raise _wanted(name, "a str", value)
-    return quoted(value.encode(errors="backslashreplace").decode())
-
-
-def option(word: str, name: str, value: object) -> str:
-    """An option `word=TEXT`, or nothing for `None`."""
-    return "" if value is None else f" {word}={text(name, value)}"
+def truth(name: str, value: object) -> bool:
+    """Whether something holds."""
+    if not isinstance(value, bool):
+        raise _wanted(name, "a bool", value)
+    return value
 
 
 def flag(name: str, value: object) -> str:
     """An option that is one word."""
-    if not isinstance(value, bool):
-        raise _wanted(name, "a bool", value)
-    return f" {name}" if value else ""
+    return f" {name}" if truth(name, value) else ""
 
 
 def one_of(name: str, value: object, words: Collection[str]) -> str:
@@ -86,9 +98,9 @@ def one_of(name: str, value: object, words: Collection[str]) -> str:
     return value
 
 
-def data(name: str, value: object) -> str:
-    """Bytes."""
-    return f"0x{(value if isinstance(value, bytes) else view(name, value)).hex()}"
+def octets(name: str, value: object) -> bytes:
+    """The bytes of an argument."""
+    return value if isinstance(value, bytes) else bytes(view(name, value))
 
 
 def view(name: str, value: object) -> memoryview:
@@ -99,13 +111,13 @@ def view(name: str, value: object) -> memoryview:
         raise _wanted(name, "bytes", value) from None
 
 
-def pairs(name: str, value: object) -> list[tuple[str, str]]:
-    """Pairs of texts, each in quotes."""
+def both(name: str, value: object) -> list[tuple[object, object]]:
+    """Pairs."""
     if isinstance(value, str) or not isinstance(value, Iterable):
         raise _wanted(name, "pairs of str", value)
     found = []
     for pair in value:
         if not isinstance(pair, (tuple, list)) or len(pair) != 2:
             raise _wanted(f"each of {name}", "a pair of str", pair)
-        found.append((text(f"a key of {name}", pair[0]), text(f"a value of {name}", pair[1])))
+        found.append((pair[0], pair[1]))
     return found

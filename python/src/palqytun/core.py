@@ -25,8 +25,7 @@ Waiting(input=True, run=False)
 Traceback (most recent call last):
 palqytun.errors.Suspended: 599 SUSPENDED
 
-The methods speak to the shared object in lines of text (docs/VMSCRIPT.md), but for input and output, whose bytes go as they are. A line
-that no method writes can be sent by `VM.line`. A VM may go from thread to thread, but has one call at a time: guard one that threads share
+The methods make the typed calls of the shared object. A line of text (docs/VMSCRIPT.md) can be sent by `VM.line`. A VM may go from thread to thread, but has one call at a time: guard one that threads share
 by a lock of your own.
 
 The shared object lies in this package; `./bindings/build` puts it there. It is loaded by the first `VM`. The environment variable
@@ -41,10 +40,26 @@ from types import TracebackType
 from typing import Literal, Never, Self, cast
 
 from palqytun import _library
-from palqytun._answers import input_of, pairs, result_of, shown, texts
-from palqytun._arguments import call_options, callee, details, given, named, related_to, target_of, tried
-from palqytun._words import CODE, HANDLE, SEED, data, encoded, flag, number, one_of, text, view, whole
-from palqytun._words import message as _message
+from palqytun._answers import shown
+from palqytun._arguments import (
+    NO_TEXT,
+    lent_command,
+    lent_content_type,
+    lent_data,
+    lent_error,
+    lent_invocation,
+    lent_name,
+    lent_nodes,
+    lent_options,
+    lent_policy,
+    lent_retryable,
+    lent_target,
+    lent_text,
+    lent_value,
+)
+from palqytun._library import Replied
+from palqytun._replies import Parts, awaited_of, input_of, result_of
+from palqytun._words import HANDLE, encoded, integer, octets, truth
 from palqytun.errors import BadLine, Cancelled, Closed, Code, JournalMismatch, Suspended, VMError, error_of
 from palqytun.futures import (
     Future,
@@ -52,7 +67,7 @@ from palqytun.futures import (
     all_succeeded_or_first_failed,
     first_completed,
     first_succeeded_or_all_failed,
-    tree,
+    handle_of,
     unknown,
 )
 from palqytun.retries import RetryPolicy, retry_exponential, retry_fixed, retry_forever, retry_never
@@ -120,7 +135,7 @@ __all__ = [
 
 State = Literal["WaitingPreFlight", "Replaying", "Processing", "Closed"]
 
-# The options of a VM, each with its words; beside these there is `seed`, a number.
+# The options of a VM, each with its words, the default first; beside these there is `seed`, a number.
 _OPTIONS = {
     "cancel": ("calls", "none", "sends", "both", "off"),
     "checks": ("on", "off"),
@@ -130,12 +145,7 @@ _OPTIONS = {
     "delivery": ("queued", "overwrite"),
 }
 
-# What an await that waits is answered.
-_WAITS = {
-    f"wait {'true' if for_input else 'false'} {'true' if for_run else 'false'}": Waiting(for_input, for_run)
-    for for_input in (False, True)
-    for for_run in (False, True)
-}
+_STATES: tuple[State, ...] = ("WaitingPreFlight", "Replaying", "Processing", "Closed")
 
 
 class VM:
@@ -182,16 +192,17 @@ class VM:
         for name in unknown:
             raise TypeError(f"VM has no option {name}; its options are {', '.join(_OPTIONS)}, seed")
         options = dict(cancel=cancel, checks=checks, awaiting=awaiting, mismatch=mismatch, replay=replay, delivery=delivery)
-        words = "".join(f" {name}={one_of(name, value, _OPTIONS[name])}" for name, value in options.items())
-        version = "-" if content_type is None else text("content_type", content_type)
-        line = f"vm {version}{words} seed={whole('seed', seed, SEED)}"
+        words = lent_options({name: (word, _OPTIONS[name]) for name, word in options.items()}, seed)
+        asked = lent_content_type(content_type)
         self._library = _library.library()
         self._session = _library.Session()
+        self._calls = self._library.calls
+        self._parts = Parts(self._library, self._session)
         self._room = ctypes.create_string_buffer(256)
         self._is_begun = False
         if self._library.new(self._session) != _library.DONE:
             raise MemoryError("no memory for a VM")
-        self.version = self.call(line)
+        self.version = f"V{self._made(self._calls['make'](self._session, asked, words)).first}"
 
     def __enter__(self) -> Self:
         return self
@@ -242,22 +253,36 @@ class VM:
         if kind == "ok":
             return rest
         if kind == "err":
-            raise self._refusal(line, rest)
+            code, _, inside = rest.partition(" ")
+            raise self._refusal(int(code), shown(inside[1:-1]).decode(), line == "sys_input")
         if kind == "none":
             raise RuntimeError("there is no VM")
         raise BadLine(f"the VM can't read this line: {line[:200]}")
 
-    def _refusal(self, line: str, error: str) -> Exception:
-        """What a call is refused by, which was answered `err CODE "TEXT"`."""
-        code, _, inside = error.partition(" ")
-        said = shown(inside[1:-1]).decode()
-        if code == "500" and not said:
-            return MemoryError("the VM found no memory")
-        return error_of(int(code), said, self._hint(line, int(code), said))
+    def _made(self, replied: Replied) -> Replied:
+        """What a typed call is answered; an error is raised."""
+        if replied.status:
+            self._check_made(replied)
+        return replied
 
-    def _hint(self, line: str, code: int, said: str) -> str | None:
+    def _check_made(self, replied: Replied, is_first: bool = False) -> None:
+        """Raises an error that a typed call is answered."""
+        if replied.status == _library.REFUSED:
+            raise self._refusal(replied.number, self._parts.text(0), is_first)
+        self._check(replied.status)
+        if replied.status == _library.BAD_TEXT:
+            raise BadLine("a text is no UTF-8")
+        if replied.status:
+            raise RuntimeError(f"the call was not made: status {replied.status}")
+
+    def _refusal(self, code: int, said: str, is_first: bool) -> Exception:
+        """What a call is refused by: this error."""
+        if code == Code.INTERNAL and not said:
+            return MemoryError("the VM found no memory")
+        return error_of(code, said, self._hint(code, said, is_first))
+
+    def _hint(self, code: int, said: str, is_first: bool) -> str | None:
         """What to call in the place of a call that came before the handler's first, or of a first one that came twice."""
-        is_first = line == "sys_input"
         if self._is_begun:
             return "sys_input was called before" if is_first and said in ("UnexpectedStateError", "CommandTypeMismatchError") else None
         if said == "UnexpectedStateError":
@@ -272,17 +297,17 @@ class VM:
         >>> vm.get_response_head().headers
         (('content-type', 'application/vnd.restate.invocation.v7'),)
         """
-        status, version, rest = (self.call("head") + " ").split(" ", 2)
-        return ResponseHead(int(status), version, pairs(texts(rest)))
+        replied = self._made(self._calls["head"](self._session))
+        return ResponseHead(replied.number, self.version, self._parts.pairs(0, replied.rows))
 
     def notify_input(self, data: Data) -> None:
         """The next bytes of the attempt, cut anywhere. What they spell may fail the VM, which the next call raises."""
-        data = data if isinstance(data, bytes) else bytes(view("data", data))
+        data = octets("data", data)
         self._check(self._library.feed(self._session, data, len(data)))
 
     def notify_input_closed(self) -> None:
         """No more bytes come."""
-        self.call("close")
+        self._made(self._calls["close_input"](self._session))
 
     def notify_error(
         self,
@@ -304,8 +329,8 @@ class VM:
         Traceback (most recent call last):
         palqytun.errors.VMError: 418 no tea
         """
-        said = details(stacktrace, behaviour, delay)
-        self.call(f"error {whole('code', code, CODE)} {_message('message', message)}{said}{related_to(related)}")
+        error = lent_error("", code, message, stacktrace, behaviour, delay)
+        self._made(self._calls["report_error"](self._session, error, lent_command(related)))
 
     def take_output(self) -> bytes:
         """Takes all bytes that wait to be sent: whole frames.
@@ -326,11 +351,11 @@ class VM:
         >>> vm.is_ready_to_execute()
         True
         """
-        return self.call("ready") == "true"
+        return self._made(self._calls["is_ready"](self._session)).first == 1
 
     def is_completed(self, handle: int) -> bool:
         """Whether a take of the handle would answer a value."""
-        return self.call(f"completed {whole('handle', handle, HANDLE)}") == "true"
+        return self._made(self._calls["is_completed"](self._session, integer("handle", handle, HANDLE))).first == 1
 
     def do_await(self, future: int | Future) -> Literal[True] | ExecuteRun | EphemeralReady | Waiting:
         """Whether the future, a handle or a `Future`, is awake.
@@ -350,16 +375,15 @@ class VM:
         >>> vm.do_await(run.handle)
         Waiting(input=True, run=True)
         """
-        answer = self.call(f"await {tree('future', future)}")
-        if answer == "any":
+        if isinstance(future, Future):
+            replied = self._made(self._calls["await_tree"](self._session, lent_nodes(future.nodes), len(future.nodes)))
+        else:
+            replied = self._made(self._calls["await"](self._session, handle_of("future", future)))
+        if replied.kind == _library.AWAKE:
             return True
-        if answer == "cancelled":
+        if replied.kind == _library.CANCELLED:
             raise Cancelled("the invocation was cancelled")
-        if answer.startswith("run "):
-            return ExecuteRun(int(answer[4:]))
-        if answer.startswith("ephemeral "):
-            return EphemeralReady(int(answer[10:]))
-        return _WAITS[answer]
+        return awaited_of(replied)
 
     def take_notification(self, handle: int) -> Result | None:
         """Takes the result that a handle has: `bytes`, `VOID`, a `Failure`, a list of keys or an `InvocationId`; `None` if it has none.
@@ -368,11 +392,14 @@ class VM:
         >>> vm.take_notification(read), vm.take_notification(read)
         (VOID, None)
         """
-        return result_of(self.call(f"take {whole('handle', handle, HANDLE)}"))
+        replied = self._made(self._calls["take"](self._session, integer("handle", handle, HANDLE)))
+        return result_of(replied, self._parts)
 
     def sys_input(self) -> Input:
         """What the handler was called with; its first call."""
-        found = input_of(self.call("sys_input"))
+        replied = self._calls["input"](self._session)
+        self._check_made(replied, is_first=True)
+        found = input_of(replied, self._parts)
         self._is_begun = True
         return found
 
@@ -385,7 +412,10 @@ class VM:
         Traceback (most recent call last):
         TypeError: wake_up_time must be an int, not str
         """
-        return int(self.call(f"sleep {text('name', name)} {whole('wake_up_time', wake_up_time)}{number('now', 'now', now)}"))
+        called = lent_text("name", name) if name != "" else NO_TEXT
+        if now is not None:
+            integer("now", now)
+        return self._made(self._calls["sleep"](self._session, called, integer("wake_up_time", wake_up_time))).first
 
     def sys_state_get(self, key: str, *, name: str | None = None, unstable: bool = False) -> int:
         """Reads the value of a state key; answers a handle, whose result is `bytes` or `VOID`.
@@ -394,7 +424,8 @@ class VM:
         >>> vm.take_notification(vm.sys_state_get("visits"))
         b'7'
         """
-        return int(self.call(f"get {text('key', key)}{named(name, unstable)}"))
+        truth("unstable", unstable)
+        return self._made(self._calls["state_get"](self._session, lent_text("key", key), lent_name(name))).first
 
     def sys_state_get_keys(self, *, name: str | None = None) -> int:
         """Reads the keys that have a value; answers a handle, whose result is a list.
@@ -403,7 +434,7 @@ class VM:
         >>> vm.take_notification(vm.sys_state_get_keys())
         ['visits']
         """
-        return int(self.call(f"keys{named(name)}"))
+        return self._made(self._calls["state_get_keys"](self._session, lent_name(name))).first
 
     def ephemeral_state_get(self, key: str) -> int:
         """Reads the value of a state key and leaves nothing of it in the journal, for what doesn't steer the handler; answers the read's id.
@@ -414,11 +445,12 @@ class VM:
         Traceback (most recent call last):
         palqytun.errors.VMError: 573 UnsupportedFeatureForNegotiatedVersion
         """
-        return int(self.call(f"ephemeral_get {text('key', key)}"))
+        return self._made(self._calls["ephemeral_state_get"](self._session, lent_text("key", key))).first
 
     def take_ephemeral_notification(self, id: int) -> bytes | Void | None:
         """Takes the value of an ephemeral read: `bytes`, or `VOID` if the key has none; `None` if it isn't there."""
-        return cast(bytes | Void | None, result_of(self.call(f"take_ephemeral {whole('id', id, HANDLE)}")))
+        replied = self._made(self._calls["take_ephemeral"](self._session, integer("id", id, HANDLE)))
+        return cast(bytes | Void | None, result_of(replied, self._parts))
 
     def sys_state_set(self, key: str, value: Data, *, name: str | None = None, unstable: bool = False) -> None:
         """Gives a state key a value.
@@ -427,15 +459,16 @@ class VM:
         Traceback (most recent call last):
         TypeError: value must be bytes, not int
         """
-        self.call(f"set {text('key', key)} {data('value', value)}{named(name, unstable)}")
+        given = lent_text("key", key), lent_data("value", value), lent_name(name), truth("unstable", unstable)
+        self._made(self._calls["state_set"](self._session, *given))
 
     def sys_state_clear(self, key: str, *, name: str | None = None) -> None:
         """Takes a state key's value away."""
-        self.call(f"clear {text('key', key)}{named(name)}")
+        self._made(self._calls["state_clear"](self._session, lent_text("key", key), lent_name(name)))
 
     def sys_state_clear_all(self, *, name: str | None = None) -> None:
         """Takes each state key's value away."""
-        self.call(f"clear_all{named(name)}")
+        self._made(self._calls["state_clear_all"](self._session, lent_name(name)))
 
     def sys_call(
         self,
@@ -456,9 +489,10 @@ class VM:
         >>> vm.sys_call("Greeter", "greet", b"Ada", headers=[("lang", "en")])
         (17, 18)
         """
-        options = call_options(key, idempotency_key, scope, limit_key, headers, name, unstable)
-        first, second = self.call(f"call {callee(service, handler, value)}{options}").split()
-        return int(first), int(second)
+        target = lent_target(service, handler, key, idempotency_key, scope, limit_key, headers)
+        given = lent_data("value", value), lent_name(name), truth("unstable", unstable)
+        replied = self._made(self._calls["call"](self._session, target, *given))
+        return replied.first, replied.second
 
     def sys_call_with_deadline(
         self,
@@ -482,10 +516,10 @@ class VM:
         >>> vm.do_await(first_completed(answer, deadline))
         Waiting(input=True, run=False)
         """
-        options = call_options(key, idempotency_key, scope, limit_key, headers, name, unstable)
-        until = whole("wake_up_time", wake_up_time)
-        first, second, third = self.call(f"call_with_deadline {callee(service, handler, value)} {until}{options}").split()
-        return int(first), int(second), int(third)
+        target = lent_target(service, handler, key, idempotency_key, scope, limit_key, headers)
+        given = lent_data("value", value), integer("wake_up_time", wake_up_time), lent_name(name), truth("unstable", unstable)
+        replied = self._made(self._calls["call_with_deadline"](self._session, target, *given))
+        return replied.first, replied.second, replied.third
 
     def sys_send(
         self,
@@ -507,9 +541,10 @@ class VM:
         >>> vm.sys_send("Greeter", "greet", b"Ada", at=1000)
         17
         """
-        options = call_options(key, idempotency_key, scope, limit_key, headers, None, False)
-        more = f"{number('at', 'at', at)}{named(name, unstable)}"
-        return int(self.call(f"send {callee(service, handler, value)}{options}{more}"))
+        target = lent_target(service, handler, key, idempotency_key, scope, limit_key, headers)
+        time = 0 if at is None else integer("at", at)
+        given = lent_data("value", value), time, lent_name(name), truth("unstable", unstable)
+        return self._made(self._calls["send"](self._session, target, *given)).first
 
     def sys_awakeable(self) -> Awakeable:
         """Makes an awakeable.
@@ -517,20 +552,21 @@ class VM:
         >>> vm.sys_awakeable()
         Awakeable(handle=17, id='sign_1YWJjAAAAEQ')
         """
-        handle, _, rest = self.call("awakeable").partition(" ")
-        return Awakeable(int(handle), texts(rest)[0])
+        return Awakeable(self._made(self._calls["awakeable"](self._session)).first, self._parts.text(0))
 
     def create_signal_handle(self, name: str) -> int:
         """A handle for the signal of this name."""
-        return int(self.call(f"signal {text('name', name)}"))
+        return self._made(self._calls["signal"](self._session, lent_text("name", name))).first
 
     def sys_complete_awakeable(self, id: str, value: Data | Failure, *, unstable: bool = False) -> None:
         """Gives the awakeable of this id its result, bytes or a `Failure`."""
-        self.call(f"complete_awakeable {text('id', id)} {given('value', value)}{flag('unstable', unstable)}")
+        given = lent_text("id", id), lent_value("value", value), truth("unstable", unstable)
+        self._made(self._calls["complete_awakeable"](self._session, *given))
 
     def sys_complete_signal(self, invocation_id: str, name: str, value: Data | Failure) -> None:
         """Sends a named signal to another invocation."""
-        self.call(f"complete_signal {text('invocation_id', invocation_id)} {text('name', name)} {given('value', value)}")
+        given = lent_text("invocation_id", invocation_id), lent_text("name", name), lent_value("value", value)
+        self._made(self._calls["complete_signal"](self._session, *given))
 
     def sys_run(self, name: str) -> Run:
         """Calls a run, a side effect whose result is kept; an await says when to execute it.
@@ -542,8 +578,8 @@ class VM:
         ExecuteRun(handle=17)
         >>> vm.propose_run_completion(run.handle, b"paid")
         """
-        handle, replayed = self.call(f"run {text('name', name)}").split()
-        return Run(int(handle), replayed == "true")
+        replied = self._made(self._calls["run"](self._session, lent_text("name", name)))
+        return Run(replied.first, replied.second == 1)
 
     def propose_run_completion(self, handle: int, result: Data | Failure | Retryable, *, policy: RetryPolicy = retry_forever()) -> None:
         """Gives the result of a run that an await asked to execute: bytes, a `Failure`, or a `Retryable`, for which the policy decides whether
@@ -556,25 +592,29 @@ class VM:
         Traceback (most recent call last):
         palqytun.errors.VMError: 503 later
         """
-        if not isinstance(policy, RetryPolicy):
-            raise TypeError(f"policy must be a RetryPolicy, not {type(policy).__name__}")
-        self.call(f"propose {whole('handle', handle, HANDLE)} {tried('result', result)} policy={policy}")
+        under, of = lent_policy(policy), integer("handle", handle, HANDLE)
+        if isinstance(result, Retryable):
+            after = integer("result.duration", result.duration)
+            self._made(self._calls["propose_retryable"](self._session, of, after, lent_retryable("result", result), under))
+        else:
+            self._made(self._calls["propose"](self._session, of, lent_value("result", result), under))
 
     def sys_cancel_invocation(self, invocation_id: str) -> None:
         """Sends the built-in cancel signal to another invocation."""
-        self.call(f"cancel {text('invocation_id', invocation_id)}")
+        self._made(self._calls["cancel_invocation"](self._session, lent_text("invocation_id", invocation_id)))
 
     def sys_get_promise(self, key: str) -> int:
         """Awaits a promise of the workflow; answers the handle of its value."""
-        return int(self.call(f"get_promise {text('key', key)}"))
+        return self._made(self._calls["get_promise"](self._session, lent_text("key", key))).first
 
     def sys_peek_promise(self, key: str) -> int:
         """Looks whether a promise of the workflow is completed; answers the handle of its value, or of `VOID`."""
-        return int(self.call(f"peek_promise {text('key', key)}"))
+        return self._made(self._calls["peek_promise"](self._session, lent_text("key", key))).first
 
     def sys_complete_promise(self, key: str, value: Data | Failure, *, unstable: bool = False) -> int:
         """Completes a promise of the workflow; answers the handle of `VOID`, or of a `Failure` if it had been completed before."""
-        return int(self.call(f"complete_promise {text('key', key)} {given('value', value)}{flag('unstable', unstable)}"))
+        given = lent_text("key", key), lent_value("value", value), truth("unstable", unstable)
+        return self._made(self._calls["complete_promise"](self._session, *given)).first
 
     def sys_attach_invocation(self, target: Target) -> int:
         """Attaches to another invocation, an `InvocationId`, `WorkflowId` or `IdempotencyId`; answers the handle of its result.
@@ -582,15 +622,15 @@ class VM:
         >>> vm.sys_attach_invocation(WorkflowId("signup", "ada"))
         17
         """
-        return int(self.call(f"attach {target_of(target)}"))
+        return self._made(self._calls["attach"](self._session, lent_invocation(target))).first
 
     def sys_get_invocation_output(self, target: Target) -> int:
         """Looks whether another invocation has an output; answers the handle of it, or of `VOID`."""
-        return int(self.call(f"get_output {target_of(target)}"))
+        return self._made(self._calls["get_output"](self._session, lent_invocation(target))).first
 
     def sys_write_output(self, value: Data | Failure, *, unstable: bool = False) -> None:
         """The handler's result, bytes or a `Failure`."""
-        self.call(f"write_output {given('value', value)}{flag('unstable', unstable)}")
+        self._made(self._calls["write_output"](self._session, lent_value("value", value), truth("unstable", unstable)))
 
     def sys_end(self) -> None:
         """The handler ends; its last call.
@@ -601,7 +641,7 @@ class VM:
         Traceback (most recent call last):
         palqytun.errors.Closed: 598 ClosedError
         """
-        self.call("end")
+        self._made(self._calls["end"](self._session))
 
     def state(self) -> State:
         """`WaitingPreFlight`, `Replaying`, `Processing` or `Closed`.
@@ -609,7 +649,7 @@ class VM:
         >>> vm.state()
         'Processing'
         """
-        return cast(State, self.call("state"))
+        return _STATES[self._made(self._calls["state"](self._session)).first]
 
     def last_command_index(self) -> int:
         """The index of the last command; -1 before any.
@@ -617,4 +657,5 @@ class VM:
         >>> vm.last_command_index()
         0
         """
-        return int(self.call("index"))
+        replied = self._made(self._calls["last_command_index"](self._session))
+        return replied.number if replied.kind == _library.INDEX else -1

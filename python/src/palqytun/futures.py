@@ -2,9 +2,15 @@
 
 from __future__ import annotations
 
-from palqytun._words import HANDLE, whole
+from typing import Self
+
+from palqytun._words import HANDLE, integer
 
 __all__ = ["Future", "all_completed", "all_succeeded_or_first_failed", "first_completed", "first_succeeded_or_all_failed", "tree", "unknown"]
+
+
+Nodes = tuple[tuple[int, int], ...]
+"""The nodes of a tree, each behind those of its children: a kind and how many children, or 0 and a handle."""
 
 
 class Future(str):
@@ -14,42 +20,56 @@ class Future(str):
     'fc(17,ac(18,19))'
     """
 
-    __slots__ = ()
+    __slots__ = ("nodes",)
+    nodes: Nodes
+
+    def __new__(cls, spelling: str, nodes: Nodes) -> Self:
+        made = super().__new__(cls, spelling)
+        made.nodes = nodes
+        return made
 
 
-def tree(name: str, future: object) -> str:
-    """A handle or a future, as a line has it."""
-    if isinstance(future, Future):
-        return future
+def handle_of(name: str, future: object) -> int:
+    """A handle that stands for itself."""
     if isinstance(future, int) and not isinstance(future, bool):
-        return whole(name, future, HANDLE)
+        return integer(name, future, HANDLE)
     raise TypeError(f"{name} must be a handle or a Future, not {type(future).__name__}")
 
 
-def _over(kind: str, children: tuple[int | Future, ...]) -> Future:
-    return Future(f"{kind}({','.join(tree('each child', it) for it in children)})")
+def tree(name: str, future: object) -> Future:
+    """A handle or a future."""
+    if isinstance(future, Future):
+        return future
+    handle = handle_of(name, future)
+    return Future(str(handle), ((0, handle),))
+
+
+def _over(word: str, kind: int, children: tuple[int | Future, ...]) -> Future:
+    trees = [tree("each child", it) for it in children]
+    below = [node for it in trees for node in it.nodes]
+    return Future(f"{word}({','.join(trees)})", (*below, (kind, len(trees))))
 
 
 def first_completed(*children: int | Future) -> Future:
     """Awaited until some child has an outcome."""
-    return _over("fc", children)
+    return _over("fc", 1, children)
 
 
 def all_completed(*children: int | Future) -> Future:
     """Awaited until all children have an outcome."""
-    return _over("ac", children)
+    return _over("ac", 2, children)
 
 
 def first_succeeded_or_all_failed(*children: int | Future) -> Future:
     """Awaited until some child succeeds, or all have failed."""
-    return _over("fsaf", children)
+    return _over("fsaf", 3, children)
 
 
 def all_succeeded_or_first_failed(*children: int | Future) -> Future:
     """Awaited until all children succeed, or some child has failed."""
-    return _over("asff", children)
+    return _over("asff", 4, children)
 
 
 def unknown(*children: int | Future) -> Future:
     """Some way of the caller's own: asked again at each outcome of a child."""
-    return _over("un", children)
+    return _over("un", 5, children)

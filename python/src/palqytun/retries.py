@@ -2,15 +2,27 @@
 
 from __future__ import annotations
 
+from typing import Self
+
 from palqytun._words import COUNT, flag, number, whole
 
 __all__ = ["RetryPolicy", "retry_exponential", "retry_fixed", "retry_forever", "retry_never"]
 
 
+Numbers = tuple[int, int, int, int, bool, int, bool, int, bool, int, bool]
+"""The fields of a policy as `palqytun.h` has them."""
+
+
 class RetryPolicy(str):
     """When a run whose try failed is tried again, as a line spells it. The four functions of this module make the policies."""
 
-    __slots__ = ()
+    __slots__ = ("numbers",)
+    numbers: Numbers
+
+    def __new__(cls, spelling: str, numbers: Numbers) -> Self:
+        made = super().__new__(cls, spelling)
+        made.numbers = numbers
+        return made
 
 
 def _limits(attempts: int | None, duration: int | None, pause: bool) -> str:
@@ -18,14 +30,26 @@ def _limits(attempts: int | None, duration: int | None, pause: bool) -> str:
     return most + flag("pause", pause)
 
 
+def _numbers(
+    kind: int,
+    growth: tuple[int, int, int] = (0, 0, 0),
+    interval: int | None = None,
+    attempts: int | None = None,
+    duration: int | None = None,
+    pause: bool = False,
+) -> Numbers:
+    bounds = interval is not None, interval or 0, attempts is not None, attempts or 0, duration is not None, duration or 0
+    return (kind, *growth, *bounds, pause)
+
+
 def retry_forever() -> RetryPolicy:
     """Tried again as often as it fails; the default."""
-    return RetryPolicy("infinite")
+    return RetryPolicy("infinite", _numbers(0))
 
 
 def retry_never() -> RetryPolicy:
     """Never tried again: the error is the run's result."""
-    return RetryPolicy("none")
+    return RetryPolicy("none", _numbers(1))
 
 
 def retry_fixed(interval: int | None = None, *, attempts: int | None = None, duration: int | None = None, pause: bool = False) -> RetryPolicy:
@@ -36,7 +60,7 @@ def retry_fixed(interval: int | None = None, *, attempts: int | None = None, dur
     'fixed(interval=500 attempts=3)'
     """
     words = number("interval", "interval", interval) + _limits(attempts, duration, pause)
-    return RetryPolicy(f"fixed({words.lstrip()})")
+    return RetryPolicy(f"fixed({words.lstrip()})", _numbers(2, (0, 0, 0), interval, attempts, duration, pause))
 
 
 def retry_exponential(
@@ -57,4 +81,5 @@ def retry_exponential(
     """
     factor = f"{whole('numerator', numerator, COUNT)}/{whole('denominator', denominator, COUNT, least=1)}"
     words = f"initial={whole('initial', initial)} factor={factor}{number('interval', 'longest', longest)}"
-    return RetryPolicy(f"exp({words}{_limits(attempts, duration, pause)})")
+    growth = initial, numerator, denominator
+    return RetryPolicy(f"exp({words}{_limits(attempts, duration, pause)})", _numbers(3, growth, longest, attempts, duration, pause))

@@ -9,4 +9,4 @@ use Rattle.typed_calls.proofs.nodes.tree_over.Goals as goal
 pub returns-in-Ok-clause-ok : goal.returns-in-Ok-clause-ok
 returns-in-Ok-clause-ok c =
     let fits : c.in-Some-checked_sub.at + c.args.node.number ≡ length c.args.trees.now.items = grind (arith, common_steps) in
-    rw (c.node_over.ensures, c.from_vec.ensures, c.in-Ok.ensures.items, c.in-Ok.ensures.tail) (over c.in-Some.kind c.args.trees.now.items c.in-Some-checked_sub.at c.args.node c.in-Some.ensures fits)
+    rw (c.node_over.ensures, c.from_vec.ensures, c.in-Ok.ensures.items, c.in-Ok.ensures.tail) (over c.in-Some.kind c.args.trees.now.items c.in-Some-checked_sub.at c.args.node c.in-Some.ensures.numbered fits)

@@ -1,8 +1,12 @@
+use Rattle.std.proofs.Common.{◌∙◌}
 use Rattle.typed_calls.proofs.queries.InputCallVmCall.make.Goals as goal
 
 pub returns : goal.returns
-returns c = record {
-  given = c.sys_input.result;
-  calls = c.sys_input.ensures.does;
-  told = c.input.ensures;
-}
+returns c = (
+  record {
+    given = c.sys_input.result;
+    calls = c.sys_input.ensures.does;
+    told = c.keep.ensures.kept ∙ c.input.ensures;
+  },
+  c.keep.ensures.told,
+)

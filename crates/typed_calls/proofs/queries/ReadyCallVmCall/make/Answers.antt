@@ -1,5 +1,8 @@
-use Rattle.std.proofs.Common.{refl}
+use Rattle.std.proofs.Common.{◌∙◌, refl}
 use Rattle.typed_calls.proofs.queries.ReadyCallVmCall.make.Goals as goal
 
 pub returns : goal.returns
-returns c = (record { given = c.is_ready_to_execute.result; ready = c.is_ready_to_execute.ensures; told = c.ready.ensures }, refl)
+returns c = (
+  (record { given = c.is_ready_to_execute.result; ready = c.is_ready_to_execute.ensures; told = c.keep.ensures.kept ∙ c.ready.ensures }, refl),
+  c.keep.ensures.told,
+)

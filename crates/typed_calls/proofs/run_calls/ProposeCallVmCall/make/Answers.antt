@@ -1,8 +1,15 @@
 use Rattle.typed_calls.proofs.run_calls.ProposeCallVmCall.make.Goals as goal
 
-pub returns : goal.returns
-returns c = record {
-  given = c.propose_run_completion.result;
-  calls = rw (c.settled.ensures, c.in_ok-value.ensures.ok) at c.propose_run_completion.ensures;
-  told = c.ended.ensures;
-}
+pub returns-in-Ok : goal.returns-in-Ok
+returns-in-Ok c = (
+  (
+    c.in-Some.policy,
+    c.in-Some.ensures,
+    record {
+      given = c.propose_run_completion.result;
+      calls = rw (c.settled.ensures, c.in-Ok.ensures.ok) at c.propose_run_completion.ensures;
+      told = c.keep_ended.ensures.kept;
+    },
+  ),
+  c.keep_ended.ensures.told,
+)
