@@ -203,7 +203,6 @@ class Handlers(support.OnADatabase):
         async def go():
             async with Runtime(runtime_app.app, self.url, keep=0.2, lease=0.3) as runtime:
                 id = await runtime.send("S/echo", 1)
-                await runtime.result(id)
                 while await runtime.rows("SELECT 1 FROM journal WHERE invocation=?", id):
                     await asyncio.sleep(0.05)
                 assert await runtime.rows("SELECT 1 FROM invocations") == []

@@ -3,11 +3,11 @@
 from __future__ import annotations
 
 import asyncio
-import contextlib
 import inspect
 import time
 import traceback
-from collections.abc import Callable, Iterator
+from collections.abc import Callable
+from types import TracebackType
 from typing import Any, Protocol
 
 from .. import core
@@ -44,21 +44,53 @@ class HandlerFailed(Exception):
         self.error = error
 
 
-@contextlib.contextmanager
-def _handlers_own() -> Iterator[None]:
-    """What is raised here is the handler's, and not the runtime's."""
-    try:
-        yield
-    except CaughtTooMuch:
-        raise
-    except Exception as error:
-        raise HandlerFailed(error) from error
+class _HandlersOwn:
+    """What is raised within is the handler's, and not the runtime's. It is entered several times a step, so it is no generator."""
+
+    def __enter__(self) -> None:
+        pass
+
+    def __exit__(self, kind: type[BaseException] | None, error: BaseException | None, trace: TracebackType | None) -> None:
+        if isinstance(error, Exception) and not isinstance(error, CaughtTooMuch):
+            raise HandlerFailed(error) from error
+
+
+_handlers_own = _HandlersOwn()
+
+
+class Bell:
+    """Rings if something came for the invocation (`poked`), or a run is done. A wait is one future, and no task for `asyncio.wait`: each step
+    waits."""
+
+    def __init__(self) -> None:
+        self.poked = False
+        self._waiter: asyncio.Future[None] | None = None
+
+    def poke(self) -> None:
+        self.poked = True
+        self.ring()
+
+    def ring(self, _: object = None) -> None:
+        if self._waiter is not None and not self._waiter.done():
+            self._waiter.set_result(None)
+
+    async def heard(self, patience: float | None) -> None:
+        """Waits until it rings, or for so many seconds."""
+        loop = asyncio.get_running_loop()
+        self._waiter = loop.create_future()
+        timer = None if patience is None else loop.call_later(patience, self.ring)
+        try:
+            await self._waiter
+        finally:
+            self._waiter = None
+            if timer is not None:
+                timer.cancel()
 
 
 class Attempt:
     def __init__(self, worker: Worker, claim: Claim):
         self.worker, self.claim = worker, claim
-        self.poked = asyncio.Event()  # something came for the invocation
+        self.bell = Bell()
         self._executing: dict[asyncio.Task[Any], int] = {}
         self._waiting = bytearray()  # output that isn't stored yet
         self._written = 0  # how many bytes of output were handed to the store
@@ -101,7 +133,7 @@ class Attempt:
         return None
 
     async def _drive(self, input: core.Input) -> Exception | None:
-        with _handlers_own():
+        with _handlers_own:
             handler = self.worker.app.find(self.claim.service, self.claim.handler)
         context = Context(self._vm, input, self.worker.app, self.claim.exclusive)
         codec = self.worker.app.codec
@@ -124,7 +156,7 @@ class Attempt:
             context.end()
         failure = main.failure
         ends: bytes | core.Failure
-        with _handlers_own():
+        with _handlers_own:
             ends = codec.encode(main.value) if failure is None else given_failure(failure)
         self._vm.sys_write_output(ends)
         self._vm.sys_end()
@@ -134,7 +166,7 @@ class Attempt:
         """Until the handler is done: its coroutines run, and then what they await is awaited."""
         thrown = None
         while True:
-            with _handlers_own():
+            with _handlers_own:
                 with context.entered():
                     tasks.run(thrown)
                 if tasks.main.done:
@@ -155,8 +187,9 @@ class Attempt:
         while True:
             answer = self._vm.do_await(tree)
             if isinstance(answer, core.ExecuteRun):
-                action = context.actions[answer.handle]
-                self._executing[asyncio.create_task(self._execute(action))] = answer.handle
+                task = asyncio.create_task(self._execute(context.actions[answer.handle]))
+                task.add_done_callback(self.bell.ring)
+                self._executing[task] = answer.handle
             elif answer is True:
                 return
             else:
@@ -185,7 +218,7 @@ class Attempt:
         if self._waiting and not (self._executing and journal.only_runs(bytes(self._waiting))):
             if await self._store():
                 return
-        if self.poked.is_set():
+        if self.bell.poked:
             await self._pull()
             return
         patience = self.worker.patience
@@ -196,19 +229,20 @@ class Attempt:
 
     async def _wait(self, patience: float | None, context: Context) -> None:
         """Until a run has a result, or something comes, or patience is over."""
-        poked = asyncio.create_task(self.poked.wait())
-        try:
-            done, _ = await asyncio.wait([poked, *self._executing], timeout=patience, return_when=asyncio.FIRST_COMPLETED)
-        finally:
-            poked.cancel()
-        if not done:
+        if not self.bell.poked and not self._done():
+            await self.bell.heard(patience)
+        done = self._done()
+        if not done and not self.bell.poked:
             self._vm.notify_input_closed()
-        for task in done - {poked}:
+        for task in done:
             handle = self._executing.pop(task)
             self._vm.propose_run_completion(handle, task.result(), policy=context.actions[handle].policy)
 
+    def _done(self) -> list[asyncio.Task[Any]]:
+        return [task for task in self._executing if task.done()]
+
     async def _pull(self) -> None:
-        self.poked.clear()
+        self.bell.poked = False
         self._feed(await self.worker.write(lambda db: storing.pull(db, self.claim), self.claim))
 
     async def _store(self) -> bool:

@@ -8,9 +8,10 @@ import time
 import typing
 import uuid
 import weakref
-from collections.abc import Awaitable, Callable, Coroutine, Iterator, MutableMapping
-from contextlib import contextmanager
+from collections.abc import Awaitable, Callable, Coroutine, MutableMapping
+from contextlib import AbstractContextManager
 from dataclasses import dataclass
+from types import TracebackType
 from typing import Any, Generic, NoReturn, TypeVar, cast, overload
 
 from .. import core
@@ -103,6 +104,21 @@ class Promise(Generic[T]):
         return self.resolve(TerminalError(message, code))
 
 
+class _Entered(AbstractContextManager[None]):
+    """The handler's own code runs. It is entered once a step, so it is no generator."""
+
+    def __init__(self, context: Context):
+        self._context = context
+
+    def __enter__(self) -> None:
+        self._context._in_handler = True
+
+    def __exit__(self, kind: type[BaseException] | None, error: BaseException | None, trace: TracebackType | None) -> None:
+        self._context._in_handler = False
+        if kind is None and self._context.refused is not None:
+            raise CaughtTooMuch()
+
+
 class Context:
     """The calls of a handler in one attempt."""
 
@@ -116,19 +132,13 @@ class Context:
         self.tasks: Tasks | None = None
         self.refused: BaseException | None = None
         self._in_handler = False
+        self._entered = _Entered(self)
 
     # ---- what the attempt does with it
 
-    @contextmanager
-    def entered(self) -> Iterator[None]:
+    def entered(self) -> AbstractContextManager[None]:
         """The handler's own code runs."""
-        self._in_handler = True
-        try:
-            yield
-        finally:
-            self._in_handler = False
-        if self.refused is not None:
-            raise CaughtTooMuch()
+        return self._entered
 
     def end(self) -> Exception | None:
         """The attempt is over. Coroutines that wait are closed: their `finally` parts run, and may not use the context any more. Answers

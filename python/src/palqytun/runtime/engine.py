@@ -101,7 +101,7 @@ class Engine:
     def _touch(self, invocation: str) -> None:
         attempt = self.live.get(invocation)
         if attempt is not None:
-            attempt.poked.set()
+            attempt.bell.poke()
         else:
             self._wake(0)
 
@@ -270,7 +270,7 @@ class Engine:
         finally:
             if self.live.get(invocation) is attempt:
                 del self.live[invocation]
-            if attempt.poked.is_set():
+            if attempt.bell.poked:
                 self._wake(0)
             self._look_for_more()
 

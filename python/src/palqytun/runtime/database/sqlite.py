@@ -2,10 +2,10 @@
 
 from __future__ import annotations
 
-import contextlib
 import fcntl
 import sqlite3
-from collections.abc import Callable, Iterable, Iterator, Sequence
+from collections.abc import Callable, Iterable, Sequence
+from types import TracebackType
 from typing import Any
 
 from . import Conflict, Lost
@@ -21,19 +21,21 @@ class InUse(Exception):
         super().__init__(f"another worker uses {path}; several workers need PostgreSQL")
 
 
-@contextlib.contextmanager
-def _named() -> Iterator[None]:
-    """Errors of SQLite as those of `Database`."""
-    try:
-        yield
-    except sqlite3.IntegrityError:
-        raise
-    except sqlite3.OperationalError as error:
-        if "locked" in str(error) or "busy" in str(error):
+class _Named:
+    """Errors of SQLite as those of `Database`. It is entered for each statement, so it is no generator."""
+
+    def __enter__(self) -> None:
+        pass
+
+    def __exit__(self, kind: type[BaseException] | None, error: BaseException | None, trace: TracebackType | None) -> None:
+        if not isinstance(error, sqlite3.Error) or isinstance(error, sqlite3.IntegrityError):
+            return
+        if isinstance(error, sqlite3.OperationalError) and ("locked" in str(error) or "busy" in str(error)):
             raise Conflict(str(error)) from error
         raise Lost(str(error)) from error
-    except sqlite3.Error as error:
-        raise Lost(str(error)) from error
+
+
+_named = _Named()
 
 
 class SQLite:
@@ -52,7 +54,7 @@ class SQLite:
                 self._lock.close()
                 raise InUse(path) from None
         try:
-            with _named():
+            with _named:
                 self._connection = sqlite3.connect(path, isolation_level=None, timeout=10, cached_statements=500, check_same_thread=False)
                 self._connection.execute("PRAGMA journal_mode=WAL")
                 self._connection.execute(f"PRAGMA synchronous={synchronous}")
@@ -77,31 +79,31 @@ class SQLite:
             raise
 
     def begin(self) -> None:
-        with _named():
+        with _named:
             self._connection.execute("BEGIN IMMEDIATE")
 
     def commit(self) -> None:
-        with _named():
+        with _named:
             self._connection.execute("COMMIT")
 
     def rollback(self) -> None:
-        with _named():
+        with _named:
             if self._connection.in_transaction:
                 self._connection.execute("ROLLBACK")
 
     def rows(self, sql: str, values: Sequence[object] = ()) -> list[Any]:
-        with _named():
+        with _named:
             return self._connection.execute(sql, tuple(values)).fetchall()
 
     def change(self, sql: str, values: Sequence[object] = ()) -> int:
-        with _named():
+        with _named:
             return self._connection.execute(sql, tuple(values)).rowcount
 
     def put(self, sql: str, values: Sequence[object] = ()) -> None:
         self.change(sql, values)
 
     def many(self, sql: str, values: Iterable[Sequence[object]]) -> None:
-        with _named():
+        with _named:
             self._connection.executemany(sql, values)
 
     def notify(self, word: str) -> None:
