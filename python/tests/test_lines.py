@@ -1,9 +1,9 @@
-"""Each method writes the line that docs/VMSCRIPT.md has for its call, with all that it was given, and the VM reads it."""
+"""Each method does what the line does that docs/VMSCRIPT.md has for its call, with all that it was given: two VMs, one by each, are left alike."""
 
 import unittest
 
-from attempt import CONTENT_TYPE, input_frame, start
-from palqytun import VM, BadLine, Failure, IdempotencyId, InvocationId, Retryable, VMError, WorkflowId
+from attempt import CONTENT_TYPE, begun, input_frame, start
+from palqytun import VM, Failure, IdempotencyId, InvocationId, Retryable, VMError, WorkflowId
 from palqytun import all_completed, all_succeeded_or_first_failed, first_completed, first_succeeded_or_all_failed, unknown
 from palqytun import retry_exponential, retry_fixed, retry_forever, retry_never
 
@@ -92,31 +92,21 @@ LINES = [
 ]
 
 
-class Recorded(VM):
-    """A VM that keeps the lines that it was sent, for each the answer."""
-
-    def line(self, line: str) -> str:
-        answer = super().line(line)
-        self.__dict__.setdefault("sent", []).append((line, answer))
-        return answer
-
-
 class Lines(unittest.TestCase):
     def test_each_method(self) -> None:
         for call, line in LINES:
-            with self.subTest(line), Recorded(CONTENT_TYPE) as vm:
-                vm.notify_input(start() + input_frame())
-                vm.sys_input()
-                vm.sent.clear()
+            with self.subTest(line), begun() as vm, begun() as other:
                 try:
                     call(vm)
-                except VMError:
-                    pass  # The VM has read the line, and refuses the call.
-                except BadLine as error:
-                    self.fail(str(error))
-                sent, answer = vm.sent[0]
-                self.assertEqual(sent, line)
-                self.assertNotEqual(answer, "bad")
+                    refused = None
+                except VMError as error:
+                    refused = str(error.code)
+                kind, _, rest = other.line(line).partition(" ")
+                self.assertIn(kind, ("ok", "err"))
+                self.assertEqual(refused, rest.partition(" ")[0] if kind == "err" else None)
+                self.assertEqual(vm.take_output(), other.take_output())
+                for state in ("state", "index", "ready"):
+                    self.assertEqual(vm.line(state), other.line(state))
 
     def test_all_methods_are_here(self) -> None:
         """But those whose bytes go as they are, or that send what they are given, and the one that begins."""
@@ -125,9 +115,16 @@ class Lines(unittest.TestCase):
         self.assertEqual(names - called, {"free", "line", "call", "notify_input", "take_output", "sys_input"})
 
     def test_a_vm(self) -> None:
-        with Recorded(CONTENT_TYPE, cancel="both", checks="off", awaiting="never", mismatch="pause", replay="off", delivery="overwrite", seed=7) as vm:
-            words = "cancel=both checks=off awaiting=never mismatch=pause replay=off delivery=overwrite seed=7"
-            self.assertEqual(vm.sent, [(f'vm "{CONTENT_TYPE}" {words}', "ok V7")])
+        options = dict(cancel="both", checks="off", awaiting="never", mismatch="pause", replay="off", delivery="overwrite", seed=7)
+        words = "cancel=both checks=off awaiting=never mismatch=pause replay=off delivery=overwrite seed=7"
+        with VM(CONTENT_TYPE, **options) as vm, VM(CONTENT_TYPE) as other:
+            self.assertEqual(other.line(f'vm "{CONTENT_TYPE}" {words}'), "ok V7")
+            for made in (vm, other):
+                made.notify_input(start() + input_frame())
+            self.assertEqual(vm.sys_input(), other.sys_input())
+            for made in (vm, other):
+                made.sys_call("S", "h", b"v")
+            self.assertEqual(vm.take_output(), other.take_output())
 
 
 if __name__ == "__main__":

@@ -125,7 +125,7 @@ module _ (version : Version) (n : ℕ) (u : List ℕ) (first : View) (es : List 
   pub going_done : left ≤ 0 → (before : List (List ℕ)) → Holds first (before ++ es) → Stores version n u (before ++ es) fed (before ++ entries) feed rest × Holds now (before ++ entries)
   going_done none before h = (stands_done version n u (before ++ es) fed left (before ++ entries) feed rest (g.stands before h) none, g.holds before h)
 
-  pub going_fault : (f : RoundFault) → NextFaultsBy rest now f → 0 < left → (before : List (List ℕ)) → Holds first (before ++ es) → FirstFault (take n (written_from u)) (before ++ es) f
+  pub going_fault : (f : RoundFault) → NextFaultsBy rest now f → 0 < left → (before : List (List ℕ)) → Holds first (before ++ es) → FirstFault version (take n (written_from u)) (before ++ es) f
   going_fault f h some before begun =
       let has : HasFault h.raw (before ++ entries) f = record { item = h.has.item; is = h.has.is; fault = sym (storing_is now (before ++ entries) (g.holds before begun) h.has.item) ∙ h.has.fault } in
       let next : NextFaults rest (before ++ entries) f = record { raw = h.raw; rest = h.rest; next = h.next; has = has } in

@@ -73,8 +73,8 @@ StoresNext version n unstored unstored' old entries feed new entries' feed' =
 
 -- it is out of memory, or the fault of the first that has one, behind each journal that is known
 -- and ends with these entries
-abbrev pub IsStoringFault : ℕ → List ℕ → View → List (List ℕ) → RoundFault → Type 0
-IsStoringFault n unstored old entries f =
+abbrev pub IsStoringFault : Version → ℕ → List ℕ → View → List (List ℕ) → RoundFault → Type 0
+IsStoringFault version n unstored old entries f =
     (f ≡ round_fault.Memory)
     ⊎ ((before : List (List ℕ)) → Holds old (before ++ entries)
-    → FirstFault (take n (written_from unstored)) (before ++ entries) f)
+    → FirstFault version (take n (written_from unstored)) (before ++ entries) f)

@@ -335,7 +335,7 @@ pub fn store_from(
 ) -> Result<(), RoundFault>
     ensures ok { OnOk result (StoresNext version n unstored.old unstored.new
         journal.old entries.old.items feed.old.items journal.new entries.new.items feed.new.items) }
-    ensures err { IfErr result (λ f. IsStoringFault n unstored.old journal.old entries.old.items f) }
+    ensures err { IfErr result (λ f. IsStoringFault version n unstored.old journal.old entries.old.items f) }
     ensures kept { IsSameKept journal.old journal.new }
 {
     let mut left = n;
